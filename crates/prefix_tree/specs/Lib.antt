@@ -1,0 +1,5 @@
+pub mod Trees
+pub mod Shapes
+pub mod Counts
+pub mod Coding
+pub mod PartsOf
