@@ -1,0 +1,35 @@
+-- A view kept as runs of pages.
+use Rattle.std.specs.Prelude.{◌≡◌, ◌≢◌, ℕ, ◌+◌, ◌^◌, ◌<◌, ◌≤◌, Bool, ◌&&◌, nat_le, nat_lt, cond, List, [], ◌∷◌, ⊤}
+use Rattle.pmp_encoding.specs.declared.perm.Perm.{Perm}
+use Rattle.pmp_encoding.specs.declared.perm.Perm.TheVariants.{NoAccess}
+use Rattle.permission_map.specs.declared.runs.Run.{Run}
+
+-- the first page behind a run
+abbrev pub end_of : Run → ℕ
+end_of run = run.first + run.count
+
+-- a run that comes behind the page `at`, where the page before it has the permission `before`
+pub record IsRunAfter (at : ℕ) (before : Perm) (run : Run) : Type 0 where
+  pub rising : at ≤ run.first
+  pub maximal : at ≡ run.first → run.perm ≢ before
+  pub some : 0 < run.count
+  pub allows : run.perm ≢ NoAccess
+  pub inside : end_of run ≤ 2 ^ 44
+
+-- runs by rising page, from `at` on, no two of which could be one: each starts behind the end of the one before it, or has another permission
+abbrev pub AreRunsAfter : ℕ → Perm → List Run → Type 0
+AreRunsAfter at before [] = ⊤
+AreRunsAfter at before (run ∷ runs) = IsRunAfter at before run × AreRunsAfter (end_of run) run.perm runs
+
+-- the maximal runs of some view of the space's 2 ^ 44 pages, by rising page
+abbrev pub AreRuns : List Run → Type 0
+AreRuns runs = AreRunsAfter 0 NoAccess runs
+
+-- whether a page is one of the `count` pages from `first` on
+abbrev pub in_range : ℕ → ℕ → ℕ → Bool
+in_range first count page = nat_le first page && nat_lt page (first + count)
+
+-- the permission of each page: that of the run that has it, or none
+abbrev pub view_of_runs : List Run → ℕ → Perm
+view_of_runs [] page = NoAccess
+view_of_runs (run ∷ runs) page = cond (in_range run.first run.count page) run.perm (view_of_runs runs page)
