@@ -1,5 +1,5 @@
 -- Trees of blocks of one permission, and the views that they give.
-use Rattle.std.specs.Prelude.{◌≡◌, ℕ, zero, suc, ◌+◌, ◌-◌, ◌^◌, ◌<◌, cond, ltb}
+use Rattle.std.specs.Prelude.{◌≡◌, ◌≢◌, ℕ, zero, suc, ◌+◌, ◌-◌, ◌^◌, ◌<◌, cond, ltb}
 use Rattle.pmp_encoding.specs.declared.perm.Perm.{Perm}
 
 -- a block of one permission, or one split into a lower and an upper half
@@ -17,10 +17,11 @@ TreeMeansAt view (suc k) first (Split lower upper) = TreeMeansAt view k first lo
 abbrev pub TreeMeans : (ℕ → Perm) → PermTree → Type 0
 TreeMeans view tree = TreeMeansAt view 44 0 tree
 
--- the permission of a page of a block of 2 ^ k pages, by its place in the block
+-- the permission of a page of a block of 2 ^ k pages, by its place in the block; a tree that fits is not split below a page
 abbrev pub perm_in : PermTree → ℕ → ℕ → Perm
 perm_in (Uniform q) k i = q
-perm_in (Split lower upper) k i = cond (ltb i (2 ^ (k - 1))) (perm_in lower (k - 1) i) (perm_in upper (k - 1) (i - 2 ^ (k - 1)))
+perm_in (Split lower upper) zero i = perm_in lower zero i
+perm_in (Split lower upper) (suc k) i = cond (ltb i (2 ^ k)) (perm_in lower k i) (perm_in upper k (i - 2 ^ k))
 
 -- the view of the tree of the whole space
 abbrev pub view_of_tree : PermTree → ℕ → Perm
@@ -36,3 +37,15 @@ Fits (suc k) (Split lower upper) = Fits k lower × Fits k upper
 abbrev pub IsCanonical : PermTree → Type 0
 IsCanonical (Uniform q) = Unit {0}
 IsCanonical (Split lower upper) = ((q : Perm) → lower ≡ Uniform q → upper ≡ Uniform q → ⊥) × IsCanonical lower × IsCanonical upper
+
+-- each split block has pages of two permissions
+abbrev pub SplitsOnlyMixedAt : (ℕ → Perm) → ℕ → ℕ → PermTree → Type 0
+SplitsOnlyMixedAt view k first (Uniform q) = Unit {0}
+SplitsOnlyMixedAt view zero first (Split lower upper) = ⊥
+SplitsOnlyMixedAt view (suc k) first (Split lower upper) =
+    ((i : ℕ) × (j : ℕ) × (i < 2 ^ suc k) × (j < 2 ^ suc k) × (view (first + i) ≢ view (first + j)))
+    × SplitsOnlyMixedAt view k first lower
+    × SplitsOnlyMixedAt view k (first + 2 ^ k) upper
+
+abbrev pub SplitsOnlyMixed : (ℕ → Perm) → PermTree → Type 0
+SplitsOnlyMixed view tree = SplitsOnlyMixedAt view 44 0 tree

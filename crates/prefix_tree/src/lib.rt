@@ -2,7 +2,9 @@
 #![tactic(auto)]
 
 mod blocks;
+mod laws;
 mod trees;
 
 pub use blocks::{Block, Parts};
+pub use laws::{canonical_law, meaning_law};
 pub use trees::Tree;
