@@ -3,3 +3,4 @@ pub mod Shapes
 pub mod Counts
 pub mod Coding
 pub mod PartsOf
+pub mod Joined

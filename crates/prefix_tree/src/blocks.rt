@@ -1,14 +1,19 @@
-ghost use Rattle.std.specs.Prelude.{◌≡◌, ℕ};
+ghost use Rattle.std.specs.Prelude.{◌≡◌, ℕ, IfOk};
 
 use pmp_encoding::Perm;
+use std::alloc::{AllocError, Global};
 use std::rc::Rc;
 
-/// What is kept of a split block, so that a new version need not be walked.
+/// What is counted in a split block, so that a new version need not walk the halves that it shares.
 #[derive(Clone, Copy)]
 pub struct Summary {
+    /// The permission of the first page.
     pub first: Perm,
+    /// The permission of the last page.
     pub last: Perm,
+    /// How many runs start behind the first page.
     pub starts: u64,
+    /// How many blocks are split, this one among them.
     pub branches: u64,
 }
 
@@ -29,8 +34,10 @@ pub enum Parts<'a> {
 }
 
 impl Block {
-    ghost use Rattle.prefix_tree.specs.Shapes.{shape_of};
+    ghost use Rattle.prefix_tree.specs.Counts.{splits, first_perm, last_perm, starts_inside};
+    ghost use Rattle.prefix_tree.specs.Shapes.{shape_of, IsSummed};
     ghost use Rattle.prefix_tree.specs.PartsOf.{IsPartsOf};
+    ghost use Rattle.prefix_tree.specs.Joined.{one_perm};
 
     /// The permission of the block, or its two halves.
     pub fn parts(&self) -> Parts<'_>
@@ -39,6 +46,47 @@ impl Block {
         match self {
             Block::Leaf(perm) => Parts::Leaf(*perm),
             Block::Branch(halves, _) => Parts::Halves(&halves.0, &halves.1),
+        }
+    }
+
+    /// The one permission of a block that is not split.
+    pub fn one_perm(&self) -> Option<Perm>
+        ensures { result ≡ one_perm (shape_of self.now) }
+    {
+        match self {
+            Block::Leaf(perm) => Some(*perm),
+            Block::Branch(..) => None,
+        }
+    }
+
+    /// What is counted in the block.
+    pub fn summary(&self) -> Summary
+        requires { IsSummed self.now }
+        ensures first { result.first ≡ first_perm (shape_of self.now) }
+        ensures last { result.last ≡ last_perm (shape_of self.now) }
+        ensures starts { result.starts ≡ starts_inside (shape_of self.now) }
+        ensures branches { result.branches ≡ splits (shape_of self.now) }
+    {
+        match self {
+            Block::Leaf(perm) => Summary {
+                first: *perm,
+                last: *perm,
+                starts: 0,
+                branches: 0,
+            },
+            Block::Branch(_, summary) => *summary,
+        }
+    }
+
+    /// Another owner of the same block. It takes no memory.
+    pub fn share(&self) -> Result<Block, AllocError>
+        requires { IsSummed self.now }
+        ensures shape { IfOk result (λ b. shape_of b ≡ shape_of self.now) }
+        ensures summed { IfOk result (λ b. IsSummed b) }
+    {
+        match self {
+            Block::Leaf(perm) => Ok(Block::Leaf(*perm)),
+            Block::Branch(halves, summary) => Ok(Block::Branch(halves.clone()?, *summary)),
         }
     }
 }
