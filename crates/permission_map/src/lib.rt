@@ -1,8 +1,11 @@
 //! A view of the physical address space, a permission for each page, kept as its maximal runs.
 #![tactic(auto)]
 
+mod laws;
 mod map;
 mod runs;
+mod searching;
 
-pub use map::PermissionMap;
+pub use laws::same_runs_law;
+pub use map::{Memory, PermissionMap};
 pub use runs::Run;

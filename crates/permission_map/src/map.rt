@@ -1,10 +1,23 @@
-ghost use Rattle.std.specs.Prelude.{◌≡◌, ◌≤◌, ℕ, [], length};
+ghost use Rattle.std.specs.Prelude.{◌≡◌, ◌≤◌, ◌<◌, ◌+◌, ◌%◌, ◌^◌, ℕ, [], length, IfOk, IfSome, IfNone};
+ghost use Rattle.pmp_encoding.specs.declared.perm.Perm.{Perm};
 ghost use Rattle.pmp_encoding.specs.declared.perm.Perm.TheVariants.{NoAccess};
 ghost use Rattle.permission_map.specs.Runs.{AreRuns, view_of_runs};
 
 use crate::runs::Run;
+use crate::searching::next;
+
+/// A growth was refused.
+pub type Memory = AllocError;
+
+fn pages_of(log2: u32) -> u64
+    requires { log2 ≤ 44 }
+    ensures { result ≡ 2 ^ log2 }
+{
+    1 << log2
+}
+
 use pmp_encoding::Perm;
-use std::alloc::Global;
+use std::alloc::{AllocError, Global};
 use std::marker::Model;
 
 /// A permission for each page of the space, seen as its maximal runs of a permission other than none.
@@ -44,5 +57,44 @@ impl PermissionMap {
         ensures most { length self.now ≤ 4096 }
     {
         self.runs.as_slice()
+    }
+
+    /// The permission of a page.
+    pub fn get(&self, page: u64) -> Perm
+        requires { page < 2 ^ 44 }
+        ensures { result ≡ view_of_runs self.now page }
+    {
+        match next(self.runs.as_slice(), page) {
+            Some(run) if run.first <= page => run.perm,
+            _ => Perm::NoAccess,
+        }
+    }
+
+    /// The permission that all pages of the aligned block of `2 ^ log2` pages from `first` on have, where they have one.
+    pub fn uniform(&self, first: u64, log2: u32) -> Option<Perm>
+        requires aligned { first % 2 ^ log2 ≡ 0 }
+        requires inside { first + 2 ^ log2 ≤ 2 ^ 44 }
+        ensures some { IfSome result (λ perm. (i : ℕ) → i < 2 ^ log2 → view_of_runs self.now (first + i) ≡ perm) }
+        ensures none { IfNone result ((perm : Perm) → ((i : ℕ) → i < 2 ^ log2 → view_of_runs self.now (first + i) ≡ perm) → ⊥) }
+    {
+        let end = first + pages_of(log2);
+        let Some(run) = next(self.runs.as_slice(), first) else {
+            return Some(Perm::NoAccess);
+        };
+        if run.first >= end {
+            return Some(Perm::NoAccess);
+        }
+        if run.first > first || run.first + run.count < end {
+            return None;
+        }
+        Some(run.perm)
+    }
+
+    /// A copy of the map.
+    pub fn try_clone(&self) -> Result<PermissionMap, Memory>
+        ensures { IfOk result (λ copy. copy ≡ self.now) }
+    {
+        let runs = Vec::from_slice(*self.runs.allocator(), self.runs.as_slice())?;
+        Ok(PermissionMap { runs })
     }
 }

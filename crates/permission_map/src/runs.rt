@@ -10,3 +10,22 @@ pub struct Run {
     /// What supervisor and user may do there.
     pub perm: Perm,
 }
+
+impl Run {
+    ghost use Rattle.std.specs.Prelude.{◌≡◌, nat_le, nat_lt};
+    ghost use Rattle.permission_map.specs.Runs.{end_of};
+
+    /// Whether it ends at the page or before.
+    pub(crate) fn is_over(&self, page: u64) -> bool
+        ensures { result ≡ nat_le (end_of self.now) page }
+    {
+        self.first <= page && self.count <= page - self.first
+    }
+
+    /// Whether it neither meets nor touches the pages from this one on.
+    pub(crate) fn is_clear_of(&self, page: u64) -> bool
+        ensures { result ≡ nat_lt (end_of self.now) page }
+    {
+        self.first < page && self.count < page - self.first
+    }
+}
