@@ -1,0 +1,26 @@
+-- Sets of permissions, as numbers of six bits.
+use Rattle.std.specs.Prelude.{ℕ, ◌+◌, ◌*◌, Bool, ◌==◌, if◌then◌else◌}
+use Rattle.std.specs.Int.{bit_at}
+use Rattle.pmp_encoding.specs.declared.perm.Perm.{Perm}
+use Rattle.pmp_encoding.specs.declared.perm.Perm.TheVariants.{NoAccess, Read, ReadWrite, Execute, ReadExecute, ReadWriteExecute}
+
+-- the place of a permission in the fixed order
+abbrev pub place_of : Perm → ℕ
+place_of NoAccess = 0
+place_of Read = 1
+place_of ReadWrite = 2
+place_of Execute = 3
+place_of ReadExecute = 4
+place_of ReadWriteExecute = 5
+
+-- whether the permission is in the set: its bit is set
+abbrev pub has : ℕ → Perm → Bool
+has bits p = bit_at bits (place_of p) == 1
+
+-- the number of the set of these permissions
+abbrev pub bit_of : Bool → ℕ
+bit_of b = if b then 1 else 0
+
+abbrev pub set_of : (Perm → Bool) → ℕ
+set_of f =
+    bit_of (f NoAccess) + 2 * bit_of (f Read) + 4 * bit_of (f ReadWrite) + 8 * bit_of (f Execute) + 16 * bit_of (f ReadExecute) + 32 * bit_of (f ReadWriteExecute)

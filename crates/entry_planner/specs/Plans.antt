@@ -1,0 +1,51 @@
+-- What a plan keeps of each split block: its least number and the set of the permissions under which it costs that.
+use Rattle.std.specs.Prelude.{ℕ, zero, suc, ◌+◌, List, [], ◌∷◌, ◌++◌, ◌&&◌, ◌||◌, if◌then◌else◌}
+use Rattle.pmp_encoding.specs.declared.perm.Perm.{Perm}
+use Rattle.pmp_match.specs.Bounds.{BoundTree, Leaf, Branch}
+use Rattle.entry_planner.specs.declared.costs.BlockCost.{BlockCost}
+use Rattle.entry_planner.specs.declared.costs.HalfPerms.{HalfPerms}
+use Rattle.entry_planner.specs.Trees.{PermTree, Uniform, Split}
+use Rattle.entry_planner.specs.Best.{is_best, least_cost}
+use Rattle.entry_planner.specs.PermSets.{has, set_of}
+
+-- how many split blocks the tree has
+abbrev pub branches_of : PermTree → ℕ
+branches_of (Uniform q) = 0
+branches_of (Split lower upper) = 1 + (branches_of lower + branches_of upper)
+
+-- a block's least number, and its best permissions
+abbrev pub block_cost : PermTree → BlockCost
+block_cost tree = record { least = least_cost tree; best = record { bits = set_of (is_best tree) } }
+
+-- those of the split blocks in preorder: the block, its lower half's, its upper half's
+abbrev pub costs_in : PermTree → List BlockCost
+costs_in (Uniform q) = []
+costs_in (Split lower upper) = block_cost (Split lower upper) ∷ (costs_in lower ++ costs_in upper)
+
+-- the permissions that are best for both halves, and for either
+abbrev pub half_perms : PermTree → PermTree → HalfPerms
+half_perms lower upper =
+    record {
+      both = record { bits = set_of (λ p. is_best lower p && is_best upper p) };
+      either = record { bits = set_of (λ p. is_best lower p || is_best upper p) };
+    }
+
+-- those of the split blocks in preorder
+abbrev pub half_perms_in : PermTree → List HalfPerms
+half_perms_in (Uniform q) = []
+half_perms_in (Split lower upper) = half_perms lower upper ∷ (half_perms_in lower ++ half_perms_in upper)
+
+-- what a block costs where p stands round about
+abbrev pub cost_of : BlockCost → Perm → ℕ
+cost_of c p = c.least + (if has c.best.bits p then 0 else 1)
+
+-- what the i-th block of the list costs
+abbrev pub cost_in : List BlockCost → ℕ → Perm → ℕ
+cost_in [] i p = 0
+cost_in (c ∷ costs) zero p = cost_of c p
+cost_in (c ∷ costs) (suc i) p = cost_in costs i p
+
+-- the tree with the costs of a list that has its split blocks in preorder from the i-th on
+abbrev pub costed : List BlockCost → ℕ → PermTree → BoundTree
+costed costs i (Uniform q) = Leaf q
+costed costs i (Split lower upper) = Branch (cost_in costs i) (costed costs (i + 1) lower) (costed costs (i + 1 + branches_of lower) upper)

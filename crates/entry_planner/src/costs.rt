@@ -1,0 +1,94 @@
+use pmp_encoding::Perm;
+use std::alloc::AllocError;
+
+use crate::block::{Block, Parts};
+use crate::perm_set::PermSet;
+
+/// What a block costs: the least number of entries, and the permissions under which it costs that.
+/// Under each other permission it costs one more.
+#[derive(Clone, Copy, PartialEq, Eq, Debug)]
+pub struct BlockCost {
+    pub least: u32,
+    pub best: PermSet,
+}
+
+/// The permissions that are best for both halves of a split block, and for either.
+#[derive(Clone, Copy, PartialEq, Eq, Debug)]
+pub struct HalfPerms {
+    pub both: PermSet,
+    pub either: PermSet,
+}
+
+ghost use Rattle.std.specs.Prelude.{◌≡◌, ◌+◌, ◌<◌, ◌^◌, ◌++◌, IfOk, OnOk};
+ghost use Rattle.entry_planner.specs.Best.{is_best, least_cost};
+ghost use Rattle.entry_planner.specs.PermSets.{set_of};
+ghost use Rattle.entry_planner.specs.Plans.{block_cost, half_perms, costs_in, half_perms_in, branches_of};
+ghost use Rattle.entry_planner.specs.Shapes.{shape_of};
+ghost use Rattle.entry_planner.specs.Trees.{PermTree, Uniform, Split};
+
+/// A block of one permission costs nothing under that one.
+fn cost_of_uniform(perm: Perm) -> BlockCost
+    ensures { result ≡ block_cost (Uniform perm) }
+{
+    BlockCost {
+        least: 0,
+        best: PermSet::only(perm),
+    }
+}
+
+fn perms_of_halves(lower: BlockCost, upper: BlockCost) -> HalfPerms
+    ensures { (low high : PermTree) → lower ≡ block_cost low → upper ≡ block_cost high → result ≡ half_perms low high }
+{
+    HalfPerms {
+        both: lower.best.intersection(upper.best),
+        either: lower.best.union(upper.best),
+    }
+}
+
+/// What a split block costs, whose halves cost so many together under their best permissions.
+fn cost_of_split(together: u32, perms: HalfPerms) -> BlockCost
+    requires { together + 1 < 2 ^ 32 }
+    ensures { (low high : PermTree) → together ≡ least_cost low + least_cost high → perms ≡ half_perms low high → result ≡ block_cost (Split low high) }
+{
+    if perms.both.is_empty() {
+        BlockCost {
+            least: together + 1,
+            best: perms.either,
+        }
+    } else {
+        BlockCost {
+            least: together,
+            best: perms.both,
+        }
+    }
+}
+
+/// Appends the costs of the split blocks of a block, and their halves' permissions, in preorder.
+pub fn add_costs(
+    block: &Block,
+    costs: &mut Vec<BlockCost>,
+    halves: &mut Vec<HalfPerms>,
+) -> Result<BlockCost, AllocError>
+    requires { branches_of (shape_of block.now) < 2 ^ 32 }
+    ensures own { IfOk result (λ cost. cost ≡ block_cost (shape_of block.now)) }
+    ensures costs { OnOk result (costs.new.items ≡ costs.old.items ++ costs_in (shape_of block.now)) }
+    ensures halves { OnOk result (halves.new.items ≡ halves.old.items ++ half_perms_in (shape_of block.now)) }
+{
+    match block.parts() {
+        Parts::Leaf(perm) => Ok(cost_of_uniform(perm)),
+        Parts::Halves(lower, upper) => {
+            let at = costs.len();
+            let there = halves.len();
+            let unknown = cost_of_uniform(Perm::NoAccess);
+            costs.push(unknown)?;
+            halves.push(perms_of_halves(unknown, unknown))?;
+            let low = add_costs(lower, costs, halves)?;
+            let high = add_costs(upper, costs, halves)?;
+            let perms = perms_of_halves(low, high);
+            let cost = cost_of_split(low.least + high.least, perms);
+            costs[at] = cost;
+            halves[there] = perms;
+            Ok(cost)
+        }
+    }
+}

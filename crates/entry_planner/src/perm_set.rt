@@ -1,0 +1,96 @@
+use pmp_encoding::Perm;
+
+/// A set of permissions: a bit for each, in the fixed order, that of no access lowest.
+#[derive(Clone, Copy, PartialEq, Eq, Debug)]
+pub struct PermSet {
+    bits: u8,
+}
+
+/// The place of a permission in the fixed order.
+fn place_of(perm: Perm) -> u32
+    ensures { result ≡ place_of perm }
+{
+    match perm {
+        Perm::NoAccess => 0,
+        Perm::Read => 1,
+        Perm::ReadWrite => 2,
+        Perm::Execute => 3,
+        Perm::ReadExecute => 4,
+        Perm::ReadWriteExecute => 5,
+    }
+}
+
+ghost use Rattle.std.specs.Prelude.{◌≡◌, ◌<◌, ℕ, bit_and, bit_or, false, true, IfSome, IfNone, ◌==◌};
+ghost use Rattle.pmp_encoding.specs.declared.perm.Perm.{Perm};
+ghost use Rattle.pmp_encoding.specs.Perms.{perm_eq};
+ghost use Rattle.entry_planner.specs.PermSets.{place_of, has, set_of};
+
+impl PermSet {
+    /// The set of one permission.
+    pub fn only(perm: Perm) -> PermSet
+        ensures { result.bits ≡ set_of (perm_eq perm) }
+    {
+        let bits = match perm {
+            Perm::NoAccess => 0x01,
+            Perm::Read => 0x02,
+            Perm::ReadWrite => 0x04,
+            Perm::Execute => 0x08,
+            Perm::ReadExecute => 0x10,
+            Perm::ReadWriteExecute => 0x20,
+        };
+        PermSet { bits }
+    }
+
+    /// The permissions of both sets.
+    pub fn intersection(self, other: PermSet) -> PermSet
+        ensures { result.bits ≡ bit_and self.bits other.bits }
+    {
+        PermSet {
+            bits: self.bits & other.bits,
+        }
+    }
+
+    /// The permissions of either set.
+    pub fn union(self, other: PermSet) -> PermSet
+        ensures { result.bits ≡ bit_or self.bits other.bits }
+    {
+        PermSet {
+            bits: self.bits | other.bits,
+        }
+    }
+
+    pub fn contains(self, perm: Perm) -> bool
+        ensures { result ≡ has self.bits perm }
+    {
+        (self.bits >> place_of(perm)) & 1 == 1
+    }
+
+    pub fn is_empty(self) -> bool
+        ensures { result ≡ (self.bits == 0) }
+    {
+        self.bits == 0
+    }
+
+    /// The first permission of the set in the fixed order.
+    pub fn first(self) -> Option<Perm>
+        ensures some { IfSome result (λ p. has self.bits p ≡ true) }
+        ensures first { IfSome result (λ p. (q : Perm) → place_of q < place_of p → has self.bits q ≡ false) }
+        ensures none { IfNone result ((q : Perm) → has self.bits q ≡ false) }
+    {
+        if self.contains(Perm::NoAccess) {
+            Some(Perm::NoAccess)
+        } else if self.contains(Perm::Read) {
+            Some(Perm::Read)
+        } else if self.contains(Perm::ReadWrite) {
+            Some(Perm::ReadWrite)
+        } else if self.contains(Perm::Execute) {
+            Some(Perm::Execute)
+        } else if self.contains(Perm::ReadExecute) {
+            Some(Perm::ReadExecute)
+        } else if self.contains(Perm::ReadWriteExecute) {
+            Some(Perm::ReadWriteExecute)
+        } else {
+            None
+        }
+    }
+}
