@@ -2,14 +2,14 @@
 use Rattle.std.proofs.Common.{◌≡◌, ℕ, ◌+◌, ◌^◌, ◌<◌, ◌≤◌, List, [], ◌∷◌, ◌++◌, length, Bool, true, false, not, ◌==◌, ◌&&◌, ◌||◌, if◌then◌else◌, refl, sym, ap, ◌∙◌, arith, bit_and, bit_or, slice_set, append_assoc}
 use Rattle.std.proofs.Math.Path.{ap₂}
 use Rattle.std.proofs.Math.Seq.{set-append_seam}
-use Rattle.pmp_encoding.specs.declared.perm.Perm.{Perm}
 use Rattle.entry_planner.specs.declared.costs.BlockCost.{BlockCost}
 use Rattle.entry_planner.specs.declared.costs.HalfPerms.{HalfPerms}
 use Rattle.entry_planner.specs.declared.perm_set.PermSet.{PermSet}
-use Rattle.entry_planner.specs.Trees.{PermTree, Uniform, Split}
+use Rattle.prefix_tree.specs.Trees.{PermTree, Uniform, Split}
+use Rattle.prefix_tree.specs.Counts.{splits}
 use Rattle.entry_planner.specs.Best.{any_of, is_best, least_cost}
 use Rattle.entry_planner.specs.PermSets.{set_of}
-use Rattle.entry_planner.specs.Plans.{branches_of, block_cost, half_perms, costs_in, half_perms_in}
+use Rattle.entry_planner.specs.Plans.{block_cost, half_perms, costs_in, half_perms_in}
 use Rattle.entry_planner.proofs.Sets.{bit_and-sets, bit_or-sets, set_of-empty}
 
 pub half_perms_are :
@@ -49,7 +49,7 @@ split_meets low high together perms sum are some =
     true_from true h = refl
     true_from false h = cc
 
-pub least_le_branches : (tree : PermTree) → least_cost tree ≤ branches_of tree
+pub least_le_branches : (tree : PermTree) → least_cost tree ≤ splits tree
 least_le_branches (Uniform q) = omega arith
 least_le_branches (Split lower upper) =
     omega (arith, least_le_branches lower, least_le_branches upper, at_most_one (any_of (λ q. is_best lower q && is_best upper q)))
@@ -60,10 +60,10 @@ least_le_branches (Split lower upper) =
 
 -- so the numbers fit their type
 pub halves_fit :
-    (tree low high : PermTree) (lower upper : BlockCost) → tree ≡ Split low high → branches_of tree < 2 ^ 32 → lower ≡ block_cost low → upper ≡ block_cost high
+    (tree low high : PermTree) (lower upper : BlockCost) → tree ≡ Split low high → splits tree < 2 ^ 32 → lower ≡ block_cost low → upper ≡ block_cost high
     → lower.least + upper.least + 1 < 2 ^ 32
 halves_fit tree low high lower upper split fit l u =
-    let count : branches_of tree ≡ 1 + (branches_of low + branches_of high) = ap branches_of split in
+    let count : splits tree ≡ 1 + (splits low + splits high) = ap splits split in
     let a : lower.least ≡ least_cost low = ap (λ c. c.least) l in
     let b : upper.least ≡ least_cost high = ap (λ c. c.least) u in
     omega (arith, least_le_branches low, least_le_branches high)

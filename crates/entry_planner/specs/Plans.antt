@@ -1,17 +1,24 @@
 -- What a plan keeps of each split block: its least number and the set of the permissions under which it costs that.
-use Rattle.std.specs.Prelude.{ℕ, zero, suc, ◌+◌, List, [], ◌∷◌, ◌++◌, ◌&&◌, ◌||◌, if◌then◌else◌}
+use Rattle.std.specs.Prelude.{ℕ, zero, suc, ◌+◌, ◌^◌, ◌<◌, List, [], ◌∷◌, ◌++◌, length, All, ◌&&◌, ◌||◌, if◌then◌else◌}
 use Rattle.pmp_encoding.specs.declared.perm.Perm.{Perm}
+use Rattle.pmp_encoding.specs.declared.region.Entry.{Entry}
 use Rattle.pmp_match.specs.Bounds.{BoundTree, Leaf, Branch}
 use Rattle.entry_planner.specs.declared.costs.BlockCost.{BlockCost}
 use Rattle.entry_planner.specs.declared.costs.HalfPerms.{HalfPerms}
-use Rattle.entry_planner.specs.Trees.{PermTree, Uniform, Split}
+use Rattle.prefix_tree.specs.Trees.{PermTree, Uniform, Split}
+use Rattle.prefix_tree.specs.Counts.{splits}
 use Rattle.entry_planner.specs.Best.{is_best, least_cost}
 use Rattle.entry_planner.specs.PermSets.{has, set_of}
 
--- how many split blocks the tree has
-abbrev pub branches_of : PermTree → ℕ
-branches_of (Uniform q) = 0
-branches_of (Split lower upper) = 1 + (branches_of lower + branches_of upper)
+-- a list of entries, and what each split block of a tree costs, in preorder
+pub record Planned : Type 0 where
+  pub entries : List Entry
+  pub costs : List BlockCost
+
+-- the numbers that a plan answers fit 32 bits
+pub record AreSmall (plan : Planned) : Type 0 where
+  pub entries : length plan.entries < 2 ^ 32
+  pub costs : All (λ c. c.least + 1 < 2 ^ 32) plan.costs
 
 -- a block's least number, and its best permissions
 abbrev pub block_cost : PermTree → BlockCost
@@ -48,4 +55,4 @@ cost_in (c ∷ costs) (suc i) p = cost_in costs i p
 -- the tree with the costs of a list that has its split blocks in preorder from the i-th on
 abbrev pub costed : List BlockCost → ℕ → PermTree → BoundTree
 costed costs i (Uniform q) = Leaf q
-costed costs i (Split lower upper) = Branch (cost_in costs i) (costed costs (i + 1) lower) (costed costs (i + 1 + branches_of lower) upper)
+costed costs i (Split lower upper) = Branch (cost_in costs i) (costed costs (i + 1) lower) (costed costs (i + 1 + splits lower) upper)

@@ -1,8 +1,7 @@
-use pmp_encoding::Perm;
-use std::alloc::AllocError;
-
-use crate::block::{Block, Parts};
 use crate::perm_set::PermSet;
+use pmp_encoding::Perm;
+use prefix_tree::{Block, Parts};
+use std::alloc::AllocError;
 
 /// What a block costs: the least number of entries, and the permissions under which it costs that.
 /// Under each other permission it costs one more.
@@ -22,9 +21,24 @@ pub struct HalfPerms {
 ghost use Rattle.std.specs.Prelude.{◌≡◌, ◌+◌, ◌<◌, ◌^◌, ◌++◌, IfOk, OnOk};
 ghost use Rattle.entry_planner.specs.Best.{is_best, least_cost};
 ghost use Rattle.entry_planner.specs.PermSets.{set_of};
-ghost use Rattle.entry_planner.specs.Plans.{block_cost, half_perms, costs_in, half_perms_in, branches_of};
-ghost use Rattle.entry_planner.specs.Shapes.{shape_of};
-ghost use Rattle.entry_planner.specs.Trees.{PermTree, Uniform, Split};
+ghost use Rattle.entry_planner.specs.Plans.{block_cost, cost_of, half_perms, costs_in, half_perms_in};
+ghost use Rattle.prefix_tree.specs.Counts.{splits};
+ghost use Rattle.prefix_tree.specs.Shapes.{shape_of};
+ghost use Rattle.prefix_tree.specs.Trees.{PermTree, Uniform, Split};
+
+impl BlockCost {
+    /// What the block costs where a permission stands round about.
+    pub fn under(self, perm: Perm) -> u32
+        requires { self.least + 1 < 2 ^ 32 }
+        ensures { result ≡ cost_of self perm }
+    {
+        if self.best.contains(perm) {
+            self.least
+        } else {
+            self.least + 1
+        }
+    }
+}
 
 /// A block of one permission costs nothing under that one.
 fn cost_of_uniform(perm: Perm) -> BlockCost
@@ -69,7 +83,7 @@ pub fn add_costs(
     costs: &mut Vec<BlockCost>,
     halves: &mut Vec<HalfPerms>,
 ) -> Result<BlockCost, AllocError>
-    requires { branches_of (shape_of block.now) < 2 ^ 32 }
+    requires { splits (shape_of block.now) < 2 ^ 32 }
     ensures own { IfOk result (λ cost. cost ≡ block_cost (shape_of block.now)) }
     ensures costs { OnOk result (costs.new.items ≡ costs.old.items ++ costs_in (shape_of block.now)) }
     ensures halves { OnOk result (halves.new.items ≡ halves.old.items ++ half_perms_in (shape_of block.now)) }

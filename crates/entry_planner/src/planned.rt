@@ -1,0 +1,63 @@
+use crate::costs::BlockCost;
+use pmp_encoding::{Entry, Perm};
+use std::marker::Model;
+
+/// The fewest entries of a tree's view, by rising size and then by rising address, and what each split block of the tree costs.
+#[derive(Drop)]
+pub struct Plan {
+    entries: Vec<Entry>,
+    costs: Vec<BlockCost>,
+}
+
+impl Model for Plan {
+    ghost use Rattle.entry_planner.specs.Plans.{Planned, AreSmall};
+
+    ghost Value = { Planned };
+
+    ghost view = { λ p. record { entries = p.entries.items; costs = p.costs.items } };
+
+    ghost invariant = { λ p. AreSmall (record { entries = p.entries.items; costs = p.costs.items }) };
+}
+
+ghost use Rattle.std.specs.Prelude.{◌≡◌, ◌<◌, length};
+ghost use Rattle.entry_planner.specs.Plans.{AreSmall, cost_in};
+
+impl Plan {
+    /// A plan of these entries and costs.
+    pub(crate) fn new(entries: Vec<Entry>, costs: Vec<BlockCost>) -> Plan
+        requires { AreSmall (record { entries = entries.items; costs = costs.items }) }
+        ensures { result ≡ record { entries = entries.items; costs = costs.items } }
+    {
+        Plan { entries, costs }
+    }
+
+    /// The entries, the smaller before the larger, and those of one size by rising address.
+    pub fn entries(&self) -> &[Entry]
+        ensures { result.now ≡ self.now.entries }
+    {
+        self.entries.as_slice()
+    }
+
+    /// How many entries there are.
+    pub fn needed(&self) -> u32
+        ensures { result ≡ length self.now.entries }
+    {
+        self.entries.len() as u32
+    }
+
+    /// How many split blocks the tree has.
+    pub fn branches(&self) -> usize
+        ensures { result ≡ length self.now.costs }
+    {
+        self.costs.len()
+    }
+
+    /// What the i-th split block costs where a permission stands round about. The tree's split blocks count
+    /// from 0 in preorder: a block, then those of its lower half, then those of its upper half.
+    pub fn cost(&self, i: usize, perm: Perm) -> u32
+        requires { i < length self.now.costs }
+        ensures { result ≡ cost_in self.now.costs i perm }
+    {
+        self.costs[i].under(perm)
+    }
+}
