@@ -1,9 +1,37 @@
--- Which pairs mean nothing.
-use Rattle.std.specs.Prelude.{ℕ, ◌/◌, ◌%◌, ◌^◌, Option, Some, None, nat_le, ◌==◌, if◌then◌else◌}
-use Rattle.pmp_encoding.specs.declared.decoding.EncodingFault.{EncodingFault}
-use Rattle.pmp_encoding.specs.declared.decoding.EncodingFault.TheVariants.{ReservedPerm, Tor, Locked, ReservedBits, AddressBits}
+-- Which pairs mean nothing, and the fault that is named where several stand in one pair.
+use Rattle.std.specs.Prelude.{◌≡◌, ◌≢◌, ℕ, ◌/◌, ◌%◌, ◌^◌, ◌<◌, ◌≤◌, Option, Some, None, nat_le, ◌==◌, if◌then◌else◌}
+use Rattle.pmp_encoding.specs.declared.fault.EncodingFault.{EncodingFault}
+use Rattle.pmp_encoding.specs.declared.fault.EncodingFault.TheVariants.{ReservedPerm, Tor, Locked, ReservedBits, AddressBits, NoSuchCsr}
 
--- the first fault that applies: W without R, mode 1, bit 7, a bit of 6:5, an address register of 2 ^ 54 or more
+abbrev pub fault_number : EncodingFault → ℕ
+fault_number ReservedPerm = 1
+fault_number Tor = 2
+fault_number Locked = 3
+fault_number ReservedBits = 4
+fault_number AddressBits = 5
+fault_number NoSuchCsr = 6
+
+-- the fault stands in the pair: W (bit 1) without R (bit 0); mode 1, TOR, in bits 4:3; L, bit 7; a bit of 6:5;
+-- an address register with a bit above 53. That a CSR is not there is no fault of a pair
+abbrev pub Stands : EncodingFault → ℕ → ℕ → Type 0
+Stands ReservedPerm cfg address = (cfg / 2 % 2 ≡ 1) × (cfg % 2 ≡ 0)
+Stands Tor cfg address = cfg / 8 % 4 ≡ 1
+Stands Locked cfg address = cfg / 128 % 2 ≡ 1
+Stands ReservedBits cfg address = cfg / 32 % 4 ≢ 0
+Stands AddressBits cfg address = 2 ^ 54 ≤ address
+Stands NoSuchCsr cfg address = ⊥
+
+-- a configuration byte and an address register in which no fault stands
+pub record IsFaultless (cfg address : ℕ) : Type 0 where
+  pub byte : cfg < 256
+  pub none : (fault : EncodingFault) → ¬ Stands fault cfg address
+
+-- the fault stands in the pair, and none of a lesser number does
+pub record IsLeastFault (cfg address : ℕ) (fault : EncodingFault) : Type 0 where
+  pub stands : Stands fault cfg address
+  pub least : (other : EncodingFault) → Stands other cfg address → fault_number fault ≤ fault_number other
+
+-- the same, computed for a byte
 abbrev pub fault_of : ℕ → ℕ → Option EncodingFault
 fault_of cfg address =
     if cfg % 4 == 2 then Some ReservedPerm

@@ -6,8 +6,7 @@ ghost use Rattle.pmp_match.specs.Decision.{allows, Allows};
 ghost use Rattle.pmp_match.specs.Judgement.{Judges, judgement, access_fault, misaligned};
 
 use crate::access::{Access, Cause, Kind, Mode};
-use pmp_encoding::Perm;
-use pmp_encoding::{Entry, Region};
+use pmp_encoding::{Entry, Perm, Region};
 
 fn holds(perm: Perm, kind: Kind) -> bool
     ensures { result ≡ holds perm kind }

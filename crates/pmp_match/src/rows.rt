@@ -1,5 +1,6 @@
 ghost use Rattle.std.specs.Prelude.{◌≡◌, ◌+◌, ◌^◌, ◌∷◌, Ok, Err, replicate};
-ghost use Rattle.pmp_encoding.specs.Banks.{MeansList, pairs_of};
+ghost use Rattle.pmp_encoding.specs.Banks.{MeansList};
+ghost use Rattle.pmp_encoding.specs.Registers.{pairs_from};
 ghost use Rattle.pmp_match.specs.declared.access.Mode.TheVariants.{Machine, Supervisor, User};
 ghost use Rattle.pmp_match.specs.declared.access.Cause.TheVariants.{LoadFault, LoadMisaligned};
 ghost use Rattle.pmp_match.specs.Judgement.{judgement};
@@ -26,7 +27,7 @@ pub fn judged_rows()
 
 /// The registers of the boot have the list of the boot.
 pub fn boot_bank()
-    ensures { MeansList (pairs_of 0x1f181b 0 (0x040001FF ∷ 0x2003FFFF ∷ 0x20FFFFFF ∷ replicate 13 0)) boot_list }
+    ensures { MeansList (pairs_from (0x1f181b ∷ replicate 7 0) (0x040001FF ∷ 0x2003FFFF ∷ 0x20FFFFFF ∷ replicate 61 0) 0 16) boot_list }
 {}
 
 /// The list of the boot means its view, at every page.

@@ -1,0 +1,206 @@
+-- Faults of pairs: which pairs have none, and which has the least number.
+use Rattle.std.proofs.Common.{◌≡◌, ◌≢◌, ℕ, ◌+◌, ◌*◌, ◌/◌, ◌%◌, ◌^◌, ◌<◌, ◌≤◌, ⊎_elim, Option, Some, None, Result, Ok, Err, Bool, true, false, cond, nat_eq, nat_le, refl, sym, ap, subst, ◌∙◌, arith, MatchOption, MatchResult, IfOk}
+use Rattle.std.proofs.lemmas.Bool.{eqb-true, eqb-false, leb-true, leb-false}
+use Rattle.pmp_encoding.specs.declared.perm.Perm.{Perm}
+use Rattle.pmp_encoding.specs.declared.perm.Perm.TheVariants.{NoAccess, Read, ReadWrite, Execute, ReadExecute, ReadWriteExecute}
+use Rattle.pmp_encoding.specs.declared.region.Entry.{Entry}
+use Rattle.pmp_encoding.specs.declared.fault.EncodingFault.{EncodingFault}
+use Rattle.pmp_encoding.specs.declared.fault.EncodingFault.TheVariants.{ReservedPerm, Tor, Locked, ReservedBits, AddressBits, NoSuchCsr}
+use Rattle.pmp_encoding.specs.Perms.{bits_of}
+use Rattle.pmp_encoding.specs.Encoding.{IsOff, MeansEntry}
+use Rattle.pmp_encoding.specs.Faults.{fault_number, Stands, IsFaultless, IsLeastFault, fault_of}
+use Rattle.pmp_encoding.proofs.Pairs.{one_entry, not_off}
+
+-- ---- the computed fault
+
+-- what the computed fault says of a byte and an address
+abbrev IsAnswer : ℕ → ℕ → Option EncodingFault → Type 0
+IsAnswer cfg address answer = MatchOption answer (IsFaultless cfg address) (IsLeastFault cfg address)
+
+module _ (cfg address : ℕ) (byte : cfg < 256) where
+  first : cfg % 4 ≡ 2 → IsLeastFault cfg address ReservedPerm
+  first is = record { stands = (omega arith, omega arith); least = go }
+    where
+      go : (other : EncodingFault) → Stands other cfg address → 1 ≤ fault_number other
+      go ReservedPerm s = omega arith
+      go Tor s = omega arith
+      go Locked s = omega arith
+      go ReservedBits s = omega arith
+      go AddressBits s = omega arith
+      go NoSuchCsr s = absurd s
+
+  second : cfg % 4 ≢ 2 → cfg / 8 % 4 ≡ 1 → IsLeastFault cfg address Tor
+  second a is = record { stands = is; least = go }
+    where
+      go : (other : EncodingFault) → Stands other cfg address → 2 ≤ fault_number other
+      go ReservedPerm s = absurd (omega arith)
+      go Tor s = omega arith
+      go Locked s = omega arith
+      go ReservedBits s = omega arith
+      go AddressBits s = omega arith
+      go NoSuchCsr s = absurd s
+
+  third : cfg % 4 ≢ 2 → cfg / 8 % 4 ≢ 1 → 128 ≤ cfg → IsLeastFault cfg address Locked
+  third a b is = record { stands = omega arith; least = go }
+    where
+      go : (other : EncodingFault) → Stands other cfg address → 3 ≤ fault_number other
+      go ReservedPerm s = absurd (omega arith)
+      go Tor s = absurd (b s)
+      go Locked s = omega arith
+      go ReservedBits s = omega arith
+      go AddressBits s = omega arith
+      go NoSuchCsr s = absurd s
+
+  fourth : cfg % 4 ≢ 2 → cfg / 8 % 4 ≢ 1 → cfg < 128 → 32 ≤ cfg → IsLeastFault cfg address ReservedBits
+  fourth a b c is = record { stands = omega arith; least = go }
+    where
+      go : (other : EncodingFault) → Stands other cfg address → 4 ≤ fault_number other
+      go ReservedPerm s = absurd (omega arith)
+      go Tor s = absurd (b s)
+      go Locked s = absurd (omega arith)
+      go ReservedBits s = omega arith
+      go AddressBits s = omega arith
+      go NoSuchCsr s = absurd s
+
+  fifth : cfg % 4 ≢ 2 → cfg / 8 % 4 ≢ 1 → cfg < 32 → 2 ^ 54 ≤ address → IsLeastFault cfg address AddressBits
+  fifth a b c is = record { stands = is; least = go }
+    where
+      go : (other : EncodingFault) → Stands other cfg address → 5 ≤ fault_number other
+      go ReservedPerm s = absurd (omega arith)
+      go Tor s = absurd (b s)
+      go Locked s = absurd (omega arith)
+      go ReservedBits s = absurd (omega arith)
+      go AddressBits s = omega arith
+      go NoSuchCsr s = absurd s
+
+  clean : cfg % 4 ≢ 2 → cfg / 8 % 4 ≢ 1 → cfg < 32 → address < 2 ^ 54 → IsFaultless cfg address
+  clean a b c d = record { byte = byte; none = go }
+    where
+      go : (fault : EncodingFault) → ¬ Stands fault cfg address
+      go ReservedPerm s = omega arith
+      go Tor s = b s
+      go Locked s = omega arith
+      go ReservedBits s = omega arith
+      go AddressBits s = omega arith
+      go NoSuchCsr s = s
+
+  fault_is : IsAnswer cfg address (fault_of cfg address)
+  fault_is = one (nat_eq (cfg % 4) 2) refl
+    where
+      five : cfg % 4 ≢ 2 → cfg / 8 % 4 ≢ 1 → cfg < 32 → (t : Bool) → nat_le (2 ^ 54) address ≡ t → IsAnswer cfg address (cond t (Some AddressBits) None)
+      five a b c true is = fifth a b c (leb-true _ _ is)
+      five a b c false is = clean a b c (leb-false _ _ is)
+
+      four : cfg % 4 ≢ 2 → cfg / 8 % 4 ≢ 1 → cfg < 128 → (t : Bool) → nat_le 32 cfg ≡ t → IsAnswer cfg address (cond t (Some ReservedBits) (cond (nat_le (2 ^ 54) address) (Some AddressBits) None))
+      four a b c true is = fourth a b c (leb-true _ _ is)
+      four a b c false is = five a b (leb-false _ _ is) (nat_le (2 ^ 54) address) refl
+
+      three :
+          cfg % 4 ≢ 2 → cfg / 8 % 4 ≢ 1 → (t : Bool) → nat_le 128 cfg ≡ t
+          → IsAnswer cfg address (cond t (Some Locked) (cond (nat_le 32 cfg) (Some ReservedBits) (cond (nat_le (2 ^ 54) address) (Some AddressBits) None)))
+      three a b true is = third a b (leb-true _ _ is)
+      three a b false is = four a b (leb-false _ _ is) (nat_le 32 cfg) refl
+
+      two :
+          cfg % 4 ≢ 2 → (t : Bool) → nat_eq (cfg / 8 % 4) 1 ≡ t
+          → IsAnswer cfg address (cond t (Some Tor) (cond (nat_le 128 cfg) (Some Locked) (cond (nat_le 32 cfg) (Some ReservedBits) (cond (nat_le (2 ^ 54) address) (Some AddressBits) None))))
+      two a true is = second a (eqb-true _ _ is)
+      two a false is = three a (eqb-false _ _ is) (nat_le 128 cfg) refl
+
+      one :
+          (t : Bool) → nat_eq (cfg % 4) 2 ≡ t
+          → IsAnswer cfg address (cond t (Some ReservedPerm) (cond (nat_eq (cfg / 8 % 4) 1) (Some Tor) (cond (nat_le 128 cfg) (Some Locked) (cond (nat_le 32 cfg) (Some ReservedBits) (cond (nat_le (2 ^ 54) address) (Some AddressBits) None)))))
+      one true is = first (eqb-true _ _ is)
+      one false is = two (eqb-false _ _ is) (nat_eq (cfg / 8 % 4) 1) refl
+
+-- of an answer that the computed fault decides: it is a fault, the least one, exactly where the pair has one
+pub fault_told :
+    {T : Type 0} (cfg address : ℕ) (r : Result T EncodingFault) → cfg < 256 → MatchResult r (λ _. fault_of cfg address ≡ None) (λ f. fault_of cfg address ≡ Some f)
+    → MatchResult r (λ _. IsFaultless cfg address) (IsLeastFault cfg address)
+fault_told cfg address (Ok x) byte h = subst (IsAnswer cfg address) h (fault_is cfg address byte)
+fault_told cfg address (Err f) byte h = subst (IsAnswer cfg address) h (fault_is cfg address byte)
+
+-- ---- a pair that is OFF or means an entry has no fault
+
+-- the bits of a permission below a mode of 0, 2 or 3
+module _ (cfg address mode : ℕ) (perm : Perm) (bits : cfg ≡ mode * 8 + bits_of perm) (short : mode < 4) (known : mode ≢ 1) (small : address < 2 ^ 54) where
+  apart : (p : Perm) → cfg ≡ mode * 8 + bits_of p → ¬ Stands ReservedPerm cfg address
+  apart NoAccess e s = omega arith
+  apart Read e s = omega arith
+  apart ReadWrite e s = omega arith
+  apart Execute e s = omega arith
+  apart ReadExecute e s = omega arith
+  apart ReadWriteExecute e s = omega arith
+
+  within : (p : Perm) → cfg ≡ mode * 8 + bits_of p → (cfg / 8 ≡ mode) × (cfg < 32)
+  within NoAccess e = (omega arith, omega arith)
+  within Read e = (omega arith, omega arith)
+  within ReadWrite e = (omega arith, omega arith)
+  within Execute e = (omega arith, omega arith)
+  within ReadExecute e = (omega arith, omega arith)
+  within ReadWriteExecute e = (omega arith, omega arith)
+
+  mode_faultless : IsFaultless cfg address
+  mode_faultless =
+      let inside = within perm bits in
+      record { byte = omega (arith, inside.1); none = go }
+    where
+      go : (fault : EncodingFault) → ¬ Stands fault cfg address
+      go ReservedPerm s = apart perm bits s
+      go Tor s = let inside = within perm bits in omega (arith, inside.0, s)
+      go Locked s = let inside = within perm bits in omega (arith, inside.1, s)
+      go ReservedBits s = let inside = within perm bits in let none : cfg / 32 % 4 ≡ 0 = omega (arith, inside.1) in s none
+      go AddressBits s = omega (arith, s)
+      go NoSuchCsr s = s
+
+pub off_faultless : (cfg address : ℕ) → IsOff cfg address → IsFaultless cfg address
+off_faultless cfg address off = mode_faultless cfg address 0 off.perm (omega (arith, off.bits)) (omega arith) (omega arith) off.small
+
+pub entry_faultless : (cfg address : ℕ) (e : Entry) → MeansEntry cfg address e → IsFaultless cfg address
+entry_faultless cfg address e p =
+    ⊎_elim (λ a. mode_faultless cfg address 2 e.perm a.bits (omega arith) (omega arith) a.small)
+    (λ a. mode_faultless cfg address 3 e.perm a.bits (omega arith) (omega arith) a.small) p
+
+-- ---- what is decoded is all that there is
+
+-- a fault of a pair is no fault of a faultless one, and the least one is one
+pub one_fault : (cfg address : ℕ) (f g : EncodingFault) → IsLeastFault cfg address f → IsLeastFault cfg address g → f ≡ g
+one_fault cfg address f g p q = same_number f g (omega (arith, p.least g q.stands, q.least f p.stands))
+  where
+    fault_from : ℕ → EncodingFault
+    fault_from n =
+        cond (nat_eq n 1) ReservedPerm
+        (cond (nat_eq n 2) Tor (cond (nat_eq n 3) Locked (cond (nat_eq n 4) ReservedBits (cond (nat_eq n 5) AddressBits NoSuchCsr))))
+
+    fault_from_number : (f : EncodingFault) → fault_from (fault_number f) ≡ f
+    fault_from_number ReservedPerm = refl
+    fault_from_number Tor = refl
+    fault_from_number Locked = refl
+    fault_from_number ReservedBits = refl
+    fault_from_number AddressBits = refl
+    fault_from_number NoSuchCsr = refl
+
+    same_number : (f g : EncodingFault) → fault_number f ≡ fault_number g → f ≡ g
+    same_number f g h = sym (fault_from_number f) ∙ ap fault_from h ∙ fault_from_number g
+
+abbrev IsMeaning : ℕ → ℕ → Option Entry → Type 0
+IsMeaning cfg address o = MatchOption o (IsOff cfg address) (MeansEntry cfg address)
+
+pub entry_decoded :
+    (cfg address : ℕ) (r : Result (Option Entry) EncodingFault) → MatchResult r (λ _. IsFaultless cfg address) (IsLeastFault cfg address) → IfOk r (IsMeaning cfg address) → (e : Entry) → MeansEntry cfg address e
+    → r ≡ Ok (Some e)
+entry_decoded cfg address (Err f) fault meaning e p = absurd ((entry_faultless cfg address e p).none f fault.stands)
+entry_decoded cfg address (Ok None) fault meaning e p = absurd (not_off cfg address e p meaning)
+entry_decoded cfg address (Ok (Some d)) fault meaning e p = ap (λ x. Ok (Some x)) (one_entry cfg address d e meaning p)
+
+pub off_decoded :
+    (cfg address : ℕ) (r : Result (Option Entry) EncodingFault) → MatchResult r (λ _. IsFaultless cfg address) (IsLeastFault cfg address) → IfOk r (IsMeaning cfg address) → IsOff cfg address → r ≡ Ok None
+off_decoded cfg address (Err f) fault meaning off = absurd ((off_faultless cfg address off).none f fault.stands)
+off_decoded cfg address (Ok None) fault meaning off = refl
+off_decoded cfg address (Ok (Some d)) fault meaning off = absurd (not_off cfg address d meaning off)
+
+pub fault_decoded :
+    (cfg address : ℕ) (r : Result (Option Entry) EncodingFault) → MatchResult r (λ _. IsFaultless cfg address) (IsLeastFault cfg address) → (f : EncodingFault)
+    → IsLeastFault cfg address f → r ≡ Err f
+fault_decoded cfg address (Err g) fault f p = ap (λ x. Err x) (one_fault cfg address g f fault p)
+fault_decoded cfg address (Ok o) clean f p = absurd (clean.none f p.stands)

@@ -1,0 +1,8 @@
+-- How many entries a bank has.
+use Rattle.std.specs.Prelude.{ℕ}
+use Rattle.pmp_encoding.specs.declared.limit.Limit.{Limit}
+use Rattle.pmp_encoding.specs.declared.limit.Limit.TheVariants.{Sixteen, SixtyFour}
+
+abbrev pub limit_number : Limit → ℕ
+limit_number Sixteen = 16
+limit_number SixtyFour = 64

@@ -1,0 +1,115 @@
+ghost use Rattle.pmp_encoding.specs.Registers.{AreRegisters};
+
+use crate::decoding::decode;
+use crate::limit::Limit;
+use crate::region::Entry;
+
+/// The PMP registers of a hart: eight configuration words pmpcfg0, pmpcfg2, .. pmpcfg14, of eight bytes each, the
+/// lowest byte first, and 64 address registers. No pair that it holds has a fault, and with a limit of sixteen each
+/// pair past the sixteenth is zero, which is OFF. (RISC-V Privileged Architecture, Physical Memory Protection CSRs)
+#[derive(Clone, Copy, PartialEq, Eq, Debug)]
+pub struct Bank {
+    limit: Limit,
+    words: [u64; 8],
+    addresses: [u64; 64],
+    pub ghost registers: { AreRegisters limit words addresses },
+}
+
+impl Bank {
+    ghost use Rattle.std.specs.Prelude.{◌≡◌, ◌%◌, ◌<◌, ◌≤◌, length, MatchOption, ℕ};
+    ghost use Rattle.pmp_encoding.specs.Encoding.{IsOff, MeansEntry};
+    ghost use Rattle.pmp_encoding.specs.Limits.{limit_number};
+    ghost use Rattle.pmp_encoding.specs.Banks.{limit_of, word_at, cfg_at, address_at, HasList, IsBankOf};
+
+    /// The bank with these entries from place 0 on, each in its canonical pair, and OFF with address 0 after them.
+    pub fn of(entries: &[Entry], limit: Limit) -> Bank
+        requires { length entries.now ≤ limit_number limit }
+        ensures list { HasList result entries.now }
+        ensures registers { IsBankOf result limit entries.now }
+    {
+        let mut words = [0; 8];
+        let mut addresses = [0; 64];
+        for (i, entry) in entries.iter().enumerate() {
+            let (cfg, address) = entry.encode();
+            words[i / 8] = with_byte(words[i / 8], i % 8, cfg);
+            addresses[i] = address;
+        }
+        Bank {
+            limit,
+            words,
+            addresses,
+        }
+    }
+
+    /// How many entries it has.
+    pub fn limit(&self) -> Limit
+        ensures { result ≡ limit_of self.now }
+    {
+        self.limit
+    }
+
+    /// The word pmpcfg(k). There is none of an odd number.
+    pub fn cfg(&self, k: usize) -> u64
+        requires even { k % 2 ≡ 0 }
+        requires there { k < 16 }
+        ensures { result ≡ word_at self.now k }
+    {
+        self.words[k / 2]
+    }
+
+    /// The word pmpcfg0, of the places 0 to 7.
+    pub fn cfg0(&self) -> u64
+        ensures { result ≡ word_at self.now 0 }
+    {
+        self.words[0]
+    }
+
+    /// The word pmpcfg2, of the places 8 to 15.
+    pub fn cfg2(&self) -> u64
+        ensures { result ≡ word_at self.now 2 }
+    {
+        self.words[1]
+    }
+
+    /// The address register of place i.
+    pub fn addr(&self, i: usize) -> u64
+        requires { i < 64 }
+        ensures { result ≡ address_at self.now i }
+    {
+        self.addresses[i]
+    }
+
+    /// The entry that the pair of place i means, or `None` where it is OFF.
+    pub fn entry(&self, i: usize) -> Option<Entry>
+        requires { i < 64 }
+        ensures { MatchOption result (IsOff (cfg_at self.now i) (address_at self.now i)) (MeansEntry (cfg_at self.now i) (address_at self.now i)) }
+    {
+        let cfg = byte_of(self.words[i / 8], i % 8);
+        match decode(cfg, self.addresses[i]) {
+            Ok(entry) => entry,
+            Err(_) => unreachable!(),
+        }
+    }
+}
+
+ghost use Rattle.std.specs.Prelude.{◌≡◌, ◌≢◌, ◌+◌, ◌*◌, ◌^◌, ◌<◌, ℕ};
+ghost use Rattle.pmp_encoding.specs.Registers.{byte_of};
+
+/// Byte j of a word, the lowest first.
+fn byte_of(word: u64, j: usize) -> u8
+    requires { j < 8 }
+    ensures { result ≡ byte_of word j }
+{
+    ((word >> (8 * j)) % 256) as u8
+}
+
+/// The word with the byte put above all others.
+fn with_byte(word: u64, j: usize, byte: u8) -> u64
+    requires place { j < 8 }
+    requires above { word < 2 ^ (8 * j) }
+    ensures here { byte_of result j ≡ byte }
+    ensures others { (k : ℕ) → k ≢ j → byte_of result k ≡ byte_of word k }
+    ensures small { result < 2 ^ (8 * (j + 1)) }
+{
+    word + (u64::from(byte) << (8 * j))
+}
