@@ -1,0 +1,19 @@
+-- What is measured of an enclave, and the digest of it.
+use Rattle.std.specs.Prelude.{ℕ, List, ◌++◌}
+use Rattle.std.specs.List.{concat}
+use Rattle.byteorder.specs.Endian.{little_bytes}
+use Rattle.sha2.specs.Sha256.{sha256}
+use Rattle.measurement.specs.declared.measured.Layout.{Layout}
+
+-- the four numbers of a layout, each as eight bytes, the lowest first. The base is not among them
+abbrev pub layout_bytes : Layout → List ℕ
+layout_bytes layout =
+    little_bytes 8 layout.text_pages ++ little_bytes 8 layout.data_pages ++ little_bytes 8 layout.shared_count ++ little_bytes 8 layout.entry_offset
+
+-- the measured bytes: the layout, then the bytes of each private page, by rising address
+abbrev pub measured_bytes : Layout → List (List ℕ) → List ℕ
+measured_bytes layout pages = layout_bytes layout ++ concat pages
+
+-- the digest of an enclave of that layout and those pages (FIPS 180-4)
+abbrev pub digest_of : Layout → List (List ℕ) → List ℕ
+digest_of layout pages = sha256 (measured_bytes layout pages)

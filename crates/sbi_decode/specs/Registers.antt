@@ -1,0 +1,16 @@
+-- The integer registers of RV64: x1 to x31, and x0, which is always zero.
+use Rattle.std.specs.Prelude.{ℕ, zero, suc, List, replicate, slice_index}
+
+-- a register file: the program counter, and x1 to x31 in that order
+pub record RegisterFile : Type 0 where
+  pub pc : ℕ
+  pub xs : List ℕ
+
+-- the value of xn
+abbrev pub x_of : RegisterFile → ℕ → ℕ
+x_of file zero = 0
+x_of file (suc n) = slice_index file.xs n
+
+-- every register zero
+abbrev pub zeros : RegisterFile
+zeros = record { pc = 0; xs = replicate 31 0 }

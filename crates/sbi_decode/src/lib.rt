@@ -1,0 +1,25 @@
+//! The integer registers of an RV64 hart, and the monitor's call that they name.
+//!
+//! The calls are made as the RISC-V Supervisor Binary Interface has it (section Binary Encoding): the extension id in
+//! a7, the function id in a6, the arguments from a0 on. The contract for the layer above: [`decode`] answers just the
+//! call that a7, a6 and a0 to a5 name, and [`NotSupported`] exactly where they name none. Nothing here takes memory.
+//!
+//! ```
+//! let mut registers = Registers::new();
+//! registers.set(17, EXTENSION_ID);
+//! registers.set(16, 5);
+//! registers.set(10, 9);
+//! match decode(&registers) { Ok(Call::Exit { value }) => .., .. }
+//! ```
+#![tactic(auto)]
+
+mod calls;
+mod decoding;
+mod registers;
+
+pub use calls::{Call, EXTENSION_ID, NotSupported};
+pub use decoding::decode;
+pub use registers::Registers;
+
+#[cfg(test)]
+mod tests;
