@@ -1,0 +1,8 @@
+use Rattle.std.proofs.Common.{◌≡◌, ◌+◌, drop, not}
+use Rattle.std.specs.Prelude.{◌==◌}
+use Rattle.std.specs.List.{prefix_len}
+use Rattle.hart_sim.specs.Words.{is_blank}
+use Rattle.hart_sim.proofs.lexical.blanks_len.Given as goal
+
+abbrev pub invariant-loop-i : goal.invariant-loop-i
+invariant-loop-i l = l.i + prefix_len (is_blank) (drop l.i l.text) ≡ prefix_len (is_blank) l.text
