@@ -40,7 +40,7 @@ impl Measure {
     pub fn page(&mut self, page: &[u8; 4096])
         ensures { (layout : Layout) (pages : List (List ℕ)) → HasMeasured self.old layout pages → HasMeasured self.new layout (pages ++ page.now ∷ []) }
     {
-        self.hasher.update(page.as_slice());
+        self.hasher.update(&page[..]);
     }
 
     /// The SHA-256 digest of the layout and of all pages that were taken in.

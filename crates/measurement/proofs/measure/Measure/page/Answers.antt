@@ -10,4 +10,4 @@ longer start pages page =
     ap (λ xs. start ++ xs) (concat-append pages (page ∷ []) ∙ ap (λ xs. concat pages ++ xs) (append-nil page)) ∙ sym (append_assoc start (concat pages) page)
 
 pub returns : goal.returns
-returns c = λ layout pages held. rw (← c.as_slice.ensures, longer (layout_bytes layout) pages c.as_slice.result.now) (c.update.ensures _ held)
+returns c = λ layout pages held. rw (longer (layout_bytes layout) pages c.args.page.now) (c.update.ensures _ held)
