@@ -4,3 +4,4 @@ pub mod Counts
 pub mod Coding
 pub mod PartsOf
 pub mod Joined
+pub mod Slices

@@ -2,6 +2,7 @@
 #![tactic(auto)]
 
 mod blocks;
+mod building;
 mod joining;
 mod laws;
 mod trees;

@@ -1,0 +1,4 @@
+use Rattle.prefix_tree.proofs.building.+build_block.Given as goal
+
+abbrev pub decreases-build_block : goal.decreases-build_block
+decreases-build_block l = l.height

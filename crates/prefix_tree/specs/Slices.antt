@@ -1,0 +1,16 @@
+-- Runs that meet a block.
+use Rattle.std.specs.Prelude.{ℕ, ◌<◌, ◌≤◌, List, [], ◌∷◌, ⊤}
+use Rattle.permission_map.specs.declared.runs.Run.{Run}
+use Rattle.permission_map.specs.Runs.{end_of}
+
+-- a run from page `at` on that has a page from `low` on and before `high`
+pub record MeetsBehind (at low high : ℕ) (run : Run) : Type 0 where
+  pub rising : at ≤ run.first
+  pub some : 0 < run.count
+  pub begins : run.first < high
+  pub ends : low < end_of run
+
+-- runs by rising page, from `at` on, each of which has a page from `low` on and before `high`
+abbrev pub MeetBehind : ℕ → ℕ → ℕ → List Run → Type 0
+MeetBehind at low high [] = ⊤
+MeetBehind at low high (run ∷ runs) = MeetsBehind at low high run × MeetBehind (end_of run) low high runs
