@@ -3,8 +3,9 @@ use Rattle.std.proofs.Common.{◌≡◌, ℕ, suc, ◌+◌, ◌-◌, ◌^◌, �
 use Rattle.std.proofs.lemmas.Bool.{cases_lt, lt-ltb, le-ltb, le-leb, lt-leb, and_left, and_right}
 use Rattle.std.proofs.lemmas.List.Recursion.{is_count_by}
 use Rattle.pmp_encoding.specs.declared.perm.Perm.TheVariants.{NoAccess}
+use Rattle.pmp_encoding.specs.declared.perm.Perm.{Perm}
 use Rattle.permission_map.specs.declared.runs.Run.{Run}
-use Rattle.permission_map.specs.Runs.{end_of, in_range, view_of_runs}
+use Rattle.permission_map.specs.Runs.{end_of, in_range, view_of_runs, AreRunsAfter}
 use Rattle.prefix_tree.specs.Trees.{PermTree, TreeMeansAt}
 use Rattle.prefix_tree.specs.Slices.{MeetBehind}
 use Rattle.prefix_tree.specs.Joined.{joined}
@@ -141,3 +142,11 @@ cut_means runs h k first high lower upper e meet ml mu =
     (λ i h. lower_view first high middle (first + i) runs meet (omega arith)) ml)
     (means_along (view_of_runs (drop (count_by (ends_before middle) runs) runs)) (view_of_runs runs) k middle upper
     (λ i h. upper_view first high middle (middle + i) runs meet (omega arith)) mu))
+
+-- the runs of a map meet the whole space
+pub runs_meet : (at : ℕ) (before : Perm) (runs : List Run) → AreRunsAfter at before runs → MeetBehind at 0 (0 + 2 ^ 44) runs
+runs_meet at before [] are = tt
+runs_meet at before (run ∷ runs) are =
+    let inside = are.0.inside in
+    let some = are.0.some in
+    (record { rising = are.0.rising; some = are.0.some; begins = omega arith; ends = omega arith }, runs_meet (end_of run) run.perm runs are.1)

@@ -5,3 +5,4 @@ pub mod Joins
 pub mod Cut
 pub mod Halved
 pub mod RunCount
+pub mod Edges

@@ -1,7 +1,7 @@
 -- How many runs a view has, counted page by page, in a tree and in a list of runs.
-use Rattle.std.proofs.Common.{◌≡◌, ◌≢◌, ℕ, zero, suc, ◌+◌, ◌-◌, ◌*◌, ◌^◌, ◌<◌, ◌≤◌, ◌⊎◌, inl, inr, ⊎_elim, List, [], ◌∷◌, length, Bool, true, false, cond, if◌then◌else◌, refl, sym, ap, ap₂, ◌∙◌, arith, pow-suc, pow_pos}
-use Rattle.std.specs.Prelude.{⊤, ◌||◌}
-use Rattle.std.proofs.lemmas.Bool.{cases_lt, ltb-true, ltb-false, lt-ltb, le-ltb, le-leb, lt-leb, and_left, and_right, and_from}
+use Rattle.std.proofs.Common.{◌≡◌, ◌≢◌, ℕ, zero, suc, ◌+◌, ◌-◌, ◌^◌, ◌<◌, ◌≤◌, List, [], ◌∷◌, length, Bool, true, false, if◌then◌else◌, refl, sym, ap, ap₂, ◌∙◌, arith, pow-suc, pow_pos}
+use Rattle.std.specs.Prelude.{◌||◌}
+use Rattle.std.proofs.lemmas.Bool.{lt-ltb, le-ltb, le-leb, lt-leb, and_left, and_right, and_from}
 use Rattle.pmp_encoding.specs.declared.perm.Perm.{Perm}
 use Rattle.pmp_encoding.specs.declared.perm.Perm.TheVariants.{NoAccess, Read, ReadWrite, Execute, ReadExecute, ReadWriteExecute}
 use Rattle.pmp_encoding.specs.Perms.{perm_eq}
@@ -10,7 +10,7 @@ use Rattle.permission_map.specs.Runs.{end_of, in_range, view_of_runs, IsRunAfter
 use Rattle.permission_map.specs.Views.{SameView}
 use Rattle.prefix_tree.specs.Trees.{PermTree, Uniform, Split, TreeMeansAt, TreeMeans}
 use Rattle.prefix_tree.specs.Counts.{first_perm, last_perm, starts, starts_inside, runs_in}
-use Rattle.prefix_tree.proofs.SamePerm.{perm_eq-true, perm_eq-same}
+use Rattle.prefix_tree.proofs.SamePerm.{not_same}
 
 -- how many runs start in the n pages from `at` on, where the page before has the permission `before`
 abbrev starts_over : (ℕ → Perm) → Perm → ℕ → ℕ → ℕ
@@ -34,13 +34,6 @@ or_false : (s t : Bool) → s ≡ false → t ≡ false → s || t ≡ false
 or_false false false e f = refl
 or_false false true e f = f
 or_false true t e f = absurd (let h : true ≡ false = e in cc)
-
-not_same : (p q : Perm) → p ≢ q → perm_eq p q ≡ false
-not_same p q apart = go (perm_eq p q) refl
-  where
-    go : (t : Bool) → perm_eq p q ≡ t → t ≡ false
-    go true is = absurd (apart (perm_eq-true p q is))
-    go false is = refl
 
 starts_one : (p q : Perm) → q ≢ NoAccess → q ≢ p → starts p q ≡ 1
 starts_one p q some other = ap (λ t. if t then 0 else 1) (or_false (perm_eq q NoAccess) (perm_eq q p) (not_same q NoAccess some) (not_same q p other))
@@ -181,8 +174,8 @@ run_counts v before at g m run runs are e same rest =
     let cut : starts_over v before at (g + (run.count + m)) ≡ starts_over v before at g + starts_over v (last_over v before at g) (at + g) (run.count + m) =
     starts_over-append v before at g (run.count + m) in
     let cut' :
-      starts_over v (last_over v before at g) (at + g) (run.count + m)
-      ≡ starts_over v (last_over v before at g) (at + g) run.count + starts_over v (last_over v (last_over v before at g) (at + g) run.count) (at + g + run.count) m =
+    starts_over v (last_over v before at g) (at + g) (run.count + m)
+    ≡ starts_over v (last_over v before at g) (at + g) run.count + starts_over v (last_over v (last_over v before at g) (at + g) run.count) (at + g + run.count) m =
     starts_over-append v l (at + g) run.count m in
     omega arith
 

@@ -1,5 +1,5 @@
 -- Permissions of the same bits are the same.
-use Rattle.std.proofs.Common.{◌≡◌, ℕ, ◌==◌, true, cond, refl, sym, ap, ◌∙◌}
+use Rattle.std.proofs.Common.{◌≡◌, ◌≢◌, ℕ, ◌==◌, Bool, true, false, cond, refl, sym, ap, ◌∙◌}
 use Rattle.std.proofs.lemmas.Bool.{eqb-true, eq-eqb}
 use Rattle.pmp_encoding.specs.declared.perm.Perm.{Perm}
 use Rattle.pmp_encoding.specs.declared.perm.Perm.TheVariants.{NoAccess, Read, ReadWrite, Execute, ReadExecute, ReadWriteExecute}
@@ -21,3 +21,10 @@ perm_eq-true p q h = sym (perm_from_bits p) ∙ ap perm_from (eqb-true (bits_of 
 
 pub perm_eq-same : (p q : Perm) → p ≡ q → perm_eq p q ≡ true
 perm_eq-same p q e = eq-eqb (bits_of p) (bits_of q) (ap bits_of e)
+
+pub not_same : (p q : Perm) → p ≢ q → perm_eq p q ≡ false
+not_same p q apart = go (perm_eq p q) refl
+  where
+    go : (t : Bool) → perm_eq p q ≡ t → t ≡ false
+    go true is = absurd (apart (perm_eq-true p q is))
+    go false is = refl

@@ -10,6 +10,11 @@ abbrev pub splits : PermTree → ℕ
 splits (Uniform q) = 0
 splits (Split lower upper) = 1 + (splits lower + splits upper)
 
+-- how many blocks are not split
+abbrev pub leaves : PermTree → ℕ
+leaves (Uniform q) = 1
+leaves (Split lower upper) = leaves lower + leaves upper
+
 -- how often a page's block is split at most
 abbrev pub depth : PermTree → ℕ
 depth (Uniform q) = 0

@@ -53,7 +53,12 @@ fn uniform_perm(runs: &[Run], first: u64, height: u32) -> Option<Perm>
 }
 
 /// The block of the 2^height pages from `first` on, from the runs that meet it.
-fn build_block(alloc: Global, runs: &[Run], first: u64, height: u32) -> Result<Block, AllocError>
+pub fn build_block(
+    alloc: Global,
+    runs: &[Run],
+    first: u64,
+    height: u32,
+) -> Result<Block, AllocError>
     requires height { height ≤ 44 }
     requires first { first + 2 ^ height ≤ 2 ^ 44 }
     requires runs { MeetBehind 0 first (first + 2 ^ height) runs.now }

@@ -9,4 +9,4 @@ mod trees;
 
 pub use blocks::{Block, Parts};
 pub use laws::{canonical_law, meaning_law};
-pub use trees::Tree;
+pub use trees::{Tree, build};

@@ -1,9 +1,13 @@
-ghost use Rattle.std.specs.Prelude.{◌≡◌, ◌≤◌, ◌*◌};
+ghost use Rattle.std.specs.Prelude.{◌≡◌, ◌≤◌, ◌*◌, ◌+◌, IfOk};
+ghost use Rattle.permission_map.specs.Runs.{view_of_runs};
+ghost use Rattle.prefix_tree.specs.Trees.{TreeMeans, Fits, IsCanonical};
+ghost use Rattle.prefix_tree.specs.Counts.{splits, leaves};
 ghost use Rattle.prefix_tree.specs.Shapes.{shape_of};
-ghost use Rattle.prefix_tree.specs.Trees.{Fits, IsCanonical};
-ghost use Rattle.prefix_tree.specs.Counts.{splits};
 
 use crate::blocks::Block;
+use crate::building::build_block;
+use permission_map::{Memory, PermissionMap};
+use std::alloc::Global;
 use std::marker::Model;
 
 /// The tree of the 2^44 pages of the space. Contracts see its shape.
@@ -27,6 +31,15 @@ impl Model for Tree {
     ghost invariant = { λ t. IsRoot t.root };
 }
 
+/// The tree of the map's view.
+pub fn build(alloc: Global, map: &PermissionMap) -> Result<Tree, Memory>
+    ensures means { IfOk result (λ t. TreeMeans (view_of_runs map.now) t) }
+    ensures canonical { IfOk result (λ t. IsCanonical t) }
+{
+    let root = build_block(alloc, map.ranges(), 0, 44)?;
+    Ok(Tree { root })
+}
+
 impl Tree {
     /// The block of the whole space.
     pub fn root(&self) -> &Block
@@ -38,12 +51,12 @@ impl Tree {
     }
 
     /// The number of split blocks.
+    #[tactic(auto, using(crate::proofs::Edges::splits_most, crate::proofs::Edges::leaves_splits))]
     pub fn branches(&self) -> u64
-        ensures { result ≡ splits self.now }
+        ensures value { result ≡ splits self.now }
+        ensures leaves { leaves self.now ≡ result + 1 }
+        ensures most { result ≤ 44 * 8192 }
     {
-        match &self.root {
-            Block::Leaf(_) => 0,
-            Block::Branch(_, summary) => summary.branches,
-        }
+        self.root.summary().branches
     }
 }
