@@ -1,3 +1,7 @@
 pub mod Rising
 pub mod Determined
 pub mod Searched
+pub mod Seams
+pub mod Parted
+pub mod Overwritten
+pub mod Answered

@@ -7,6 +7,7 @@ use Rattle.pmp_encoding.specs.declared.perm.Perm.{Perm}
 use Rattle.pmp_encoding.specs.declared.perm.Perm.TheVariants.{NoAccess}
 use Rattle.permission_map.specs.declared.runs.Run.{Run}
 use Rattle.permission_map.specs.Runs.{end_of, AreRunsAfter, in_range, view_of_runs}
+use Rattle.permission_map.specs.Overwriting.{last_end, last_perm}
 
 -- ---- a page and a range
 
@@ -51,15 +52,6 @@ view_differs at p (run ∷ runs) are some same =
     (cases_eq at run.first)
 
 -- ---- one list after another
-
--- the end of the last run, and its permission
-abbrev pub last_end : ℕ → List Run → ℕ
-last_end at [] = at
-last_end at (run ∷ runs) = last_end (end_of run) runs
-
-abbrev pub last_perm : Perm → List Run → Perm
-last_perm p [] = p
-last_perm p (run ∷ runs) = last_perm run.perm runs
 
 pub runs_first : (at : ℕ) (p : Perm) (xs ys : List Run) → AreRunsAfter at p (xs ++ ys) → AreRunsAfter at p xs
 runs_first at p [] ys are = tt

@@ -1,3 +1,4 @@
 pub mod Runs
 pub mod Views
 pub mod Searching
+pub mod Overwriting

@@ -1,10 +1,21 @@
-ghost use Rattle.std.specs.Prelude.{◌≡◌, ◌≤◌, ◌<◌, ◌+◌, ◌%◌, ◌^◌, ℕ, [], length, IfOk, IfSome, IfNone};
+ghost use Rattle.std.specs.Prelude.{◌≡◌, ◌≤◌, ◌<◌, ◌+◌, ◌%◌, ◌^◌, ◌↔◌, ℕ, List, [], length, Err, OnOk, OnErr, IfOk, IfSome, IfNone};
 ghost use Rattle.pmp_encoding.specs.declared.perm.Perm.{Perm};
 ghost use Rattle.pmp_encoding.specs.declared.perm.Perm.TheVariants.{NoAccess};
+ghost use Rattle.permission_map.specs.declared.runs.Run.{Run};
+ghost use Rattle.permission_map.specs.declared.fault.MapFault as MapFault;
 ghost use Rattle.permission_map.specs.Runs.{AreRuns, view_of_runs};
+ghost use Rattle.permission_map.specs.Overwriting.{AreOverwritten};
 
+use crate::fault::MapFault;
+use crate::overwriting::overwrite;
 use crate::runs::Run;
 use crate::searching::next;
+use pmp_encoding::Perm;
+use std::alloc::{AllocError, Global};
+use std::marker::Model;
+
+/// The pages of the physical address space.
+const PAGES: u64 = 1 << 44;
 
 /// A growth was refused.
 pub type Memory = AllocError;
@@ -15,10 +26,6 @@ fn pages_of(log2: u32) -> u64
 {
     1 << log2
 }
-
-use pmp_encoding::Perm;
-use std::alloc::{AllocError, Global};
-use std::marker::Model;
 
 /// A permission for each page of the space, seen as its maximal runs of a permission other than none.
 #[derive(Drop)]
@@ -96,5 +103,20 @@ impl PermissionMap {
     {
         let runs = Vec::from_slice(*self.runs.allocator(), self.runs.as_slice())?;
         Ok(PermissionMap { runs })
+    }
+
+    /// Sets the permission of the `count` pages from `first` on. On an error the map stays as it was.
+    pub fn set_range(&mut self, first: u64, count: u64, perm: Perm) -> Result<(), MapFault>
+        ensures done { OnOk result (AreOverwritten self.old first count perm self.new) }
+        ensures kept { OnErr result (self.new ≡ self.old) }
+        ensures nothing { count ≡ 0 → self.new ≡ self.old }
+        ensures past_end { (result ≡ Err MapFault.PastEnd) ↔ (2 ^ 44 < first + count) }
+        ensures too_many { (result ≡ Err MapFault.TooManyRanges) ↔ ((first + count ≤ 2 ^ 44) × ((runs : List Run) × AreOverwritten self.old first count perm runs × (4096 < length runs))) }
+        ensures memory { result ≡ Err MapFault.Memory → (runs : List Run) × AreOverwritten self.old first count perm runs × (length self.old < length runs) × (length runs ≤ 4096) }
+    {
+        if first > PAGES || count > PAGES - first {
+            return Err(MapFault::PastEnd);
+        }
+        overwrite(&mut self.runs, first, count, perm)
     }
 }

@@ -27,3 +27,23 @@ pub(crate) fn next(runs: &[Run], page: u64) -> Option<Run>
         None
     }
 }
+
+/// How many of the runs neither meet nor touch the pages from this one on.
+pub(crate) fn clear_of(runs: &[Run], first: u64) -> usize
+    requires { AreRuns runs.now }
+    ensures bound { result ≤ length runs.now }
+    ensures front { All (λ run. end_of run < first) (take result runs.now) }
+    ensures rest { All (λ run. first ≤ end_of run) (drop result runs.now) }
+{
+    runs.partition_point(|run| run.is_clear_of(first))
+}
+
+/// How many of the runs begin at the page or before.
+pub(crate) fn begun(runs: &[Run], page: u64) -> usize
+    requires { AreRuns runs.now }
+    ensures bound { result ≤ length runs.now }
+    ensures front { All (λ run. run.first ≤ page) (take result runs.now) }
+    ensures rest { All (λ run. page < run.first) (drop result runs.now) }
+{
+    runs.partition_point(|run| run.first <= page)
+}
