@@ -1,6 +1,8 @@
 -- Numbers and permissions as words.
-use Rattle.std.specs.Prelude.{◌≡◌, ℕ, ◌+◌, ◌-◌, ◌*◌, ◌^◌, ◌<◌, ◌≤◌, Bool, true, false, ◌||◌, ◌&&◌, ◌==◌, nat_lt, nat_le, if◌then◌else◌, List, [], ◌∷◌, length, Option, Some, None, fold}
+use Rattle.std.specs.Prelude.{◌≡◌, ℕ, ◌+◌, ◌-◌, ◌*◌, ◌^◌, ◌<◌, ◌≤◌, Bool, true, false, ◌||◌, ◌&&◌, ◌==◌, nat_lt, nat_le, if◌then◌else◌, List, [], ◌∷◌, length, Option, Some, None, fold, codes, bytes_eq}
 use Rattle.std.specs.List.{list_all}
+use Rattle.pmp_encoding.specs.declared.perm.Perm.{Perm}
+use Rattle.pmp_encoding.specs.declared.perm.Perm.TheVariants.{NoAccess, Read, ReadWrite, Execute, ReadExecute, ReadWriteExecute}
 
 -- the value of a digit, 16 for a byte that is none
 abbrev pub digit_of : ℕ → ℕ
@@ -23,3 +25,14 @@ abbrev pub number_of : List ℕ → Option ℕ
 number_of [] = None
 number_of (first ∷ []) = numeral_of 10 (first ∷ [])
 number_of (first ∷ second ∷ digits) = if first == 48 && (second == 120 || second == 88) then numeral_of 16 digits else numeral_of 10 (first ∷ second ∷ digits)
+
+-- the permission that a word names
+abbrev pub permission_of : List ℕ → Option Perm
+permission_of word =
+    if bytes_eq word (codes "none") then Some NoAccess
+    else if bytes_eq word (codes "r") then Some Read
+    else if bytes_eq word (codes "rw") then Some ReadWrite
+    else if bytes_eq word (codes "x") then Some Execute
+    else if bytes_eq word (codes "rx") then Some ReadExecute
+    else if bytes_eq word (codes "rwx") then Some ReadWriteExecute
+    else None

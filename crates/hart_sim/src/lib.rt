@@ -1,8 +1,12 @@
 //! A modelled RV64 hart: its streams and the lines of its trace.
 #![tactic(auto)]
 
+mod event;
 mod lexical;
 mod streams;
+mod trace;
 
-pub use lexical::{NotUnderstood, Words, number};
+pub use event::Event;
+pub use lexical::{NotUnderstood, Words, number, permission};
 pub use streams::{Counted, DeviceFault, RunFault, Sink, Source, write_whole};
+pub use trace::parse_line;

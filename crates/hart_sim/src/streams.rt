@@ -4,7 +4,7 @@
 
 ghost use Rattle.std.specs.Prelude.{◌≡◌, ℕ, ◌+◌, ◌-◌, ◌^◌, ◌<◌, ◌≤◌, ◌⊎◌, ◌↔◌, List, Bool, IsTrue, Option, IfOk, IfErr, MatchResult, length, take};
 ghost use Rattle.std.specs.Io.KnownBytes.{ReadConsumes, WriteAppends, Appends};
-ghost use Rattle.hart_sim.specs.Streams.{TakesNone};
+ghost use Rattle.hart_sim.specs.Streams.{TakesNone, inner_of, failures_of};
 
 use std::io::{Read, Write};
 
@@ -75,8 +75,8 @@ pub struct Counted<T> {
 impl<T> Counted<T> {
     /// The device over a reader or writer that has not failed yet.
     pub fn new(inner: T) -> Counted<T>
-        ensures inner { result.inner ≡ inner }
-        ensures failures { result.failures ≡ 0 }
+        ensures inner { inner_of result ≡ inner }
+        ensures failures { failures_of result ≡ 0 }
     {
         Counted {
             inner,
@@ -87,7 +87,7 @@ impl<T> Counted<T> {
 
     /// The reader or writer again.
     pub fn into_inner(self) -> T
-        ensures { result ≡ self.inner }
+        ensures { result ≡ inner_of self }
     {
         let Counted {
             inner,
