@@ -5,3 +5,4 @@ pub mod Seams
 pub mod Parted
 pub mod Overwritten
 pub mod Answered
+pub mod Counted

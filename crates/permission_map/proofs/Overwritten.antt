@@ -11,13 +11,13 @@ use Rattle.permission_map.proofs.Rising.{range_above, range_past, range_has, vie
 use Rattle.permission_map.proofs.Seams.{view_only}
 
 -- the view with the range overwritten, below, in and behind it
-changed_below : (view : ℕ → Perm) (first count : ℕ) (perm : Perm) (page : ℕ) → page < first → overwritten view first count perm page ≡ view page
+pub changed_below : (view : ℕ → Perm) (first count : ℕ) (perm : Perm) (page : ℕ) → page < first → overwritten view first count perm page ≡ view page
 changed_below view first count perm page h = cond-false (in_range first count page) perm (view page) (range_above first count page h)
 
-changed_past : (view : ℕ → Perm) (first count : ℕ) (perm : Perm) (page : ℕ) → first + count ≤ page → overwritten view first count perm page ≡ view page
+pub changed_past : (view : ℕ → Perm) (first count : ℕ) (perm : Perm) (page : ℕ) → first + count ≤ page → overwritten view first count perm page ≡ view page
 changed_past view first count perm page h = cond-false (in_range first count page) perm (view page) (range_past first count page h)
 
-changed_in : (view : ℕ → Perm) (first count : ℕ) (perm : Perm) (page : ℕ) → first ≤ page → page < first + count → overwritten view first count perm page ≡ perm
+pub changed_in : (view : ℕ → Perm) (first count : ℕ) (perm : Perm) (page : ℕ) → first ≤ page → page < first + count → overwritten view first count perm page ≡ perm
 changed_in view first count perm page h k = cond-true (in_range first count page) perm (view page) (range_has first count page h k)
 
 -- wherever the new run takes in the old view, the overwritten view has its permission

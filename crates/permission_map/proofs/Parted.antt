@@ -28,7 +28,7 @@ at_back P runs i d some inside all =
     let low : i - 1 < i = omega arith in
     rw (get_or-take i runs (i - 1) d low) at (All-get_or P (take i runs) (i - 1) d (omega (arith, length-take i runs)) all)
 
-all_later : (first at : ℕ) (p : Perm) (runs : List Run) → AreRunsAfter at p runs → first ≤ at → AllByRecursion (λ run. first ≤ run.first) runs
+pub all_later : (first at : ℕ) (p : Perm) (runs : List Run) → AreRunsAfter at p runs → first ≤ at → AllByRecursion (λ run. first ≤ run.first) runs
 all_later first at p [] are low = tt
 all_later first at p (run ∷ runs) are low =
     let begin : at ≤ run.first = are.0.rising in

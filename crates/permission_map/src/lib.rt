@@ -9,6 +9,6 @@ mod runs;
 mod searching;
 
 pub use fault::MapFault;
-pub use laws::same_runs_law;
+pub use laws::{runs_law, same_runs_law};
 pub use map::{Memory, PermissionMap};
 pub use runs::Run;
