@@ -1,3 +1,4 @@
 pub mod Numbers
 pub mod CostBytes
 pub mod Headers
+pub mod Spelled

@@ -2,3 +2,4 @@ pub mod Costs
 pub mod Spelling
 pub mod Tags
 pub mod Faults
+pub mod Written

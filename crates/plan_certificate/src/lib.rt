@@ -21,8 +21,10 @@ mod fault;
 mod header;
 mod parts;
 mod reader;
+mod writing;
 
 pub use fault::ReadFault;
 pub use header::{Header, Version};
 pub use parts::{Costs, EntryBytes};
 pub use reader::{Reader, Tag};
+pub use writing::write;

@@ -1,0 +1,24 @@
+-- The certificate that is written: each entry stands as its canonical pair.
+use Rattle.std.specs.Prelude.{ℕ, List, ◌++◌, length}
+use Rattle.std.specs.List.{flat_map}
+use Rattle.pmp_encoding.specs.declared.limit.Limit.{Limit}
+use Rattle.pmp_encoding.specs.declared.limit.Limit.TheVariants.{Sixteen, SixtyFour}
+use Rattle.pmp_encoding.specs.declared.region.Entry.{Entry}
+use Rattle.pmp_encoding.specs.Encoding.{cfg_of, address_of}
+use Rattle.pmp_match.specs.Bounds.{BoundTree}
+use Rattle.plan_certificate.specs.declared.header.Version.{Version}
+use Rattle.plan_certificate.specs.declared.header.Version.TheVariants.{One, Two}
+use Rattle.plan_certificate.specs.Spelling.{pair_bytes, header_bytes, node_bytes}
+
+-- sixteen entries are the first form, sixty-four the second
+abbrev pub version_for : Limit → Version
+version_for Sixteen = One
+version_for SixtyFour = Two SixtyFour
+
+abbrev pub entry_bytes : Entry → List ℕ
+entry_bytes e = pair_bytes (cfg_of e, address_of e)
+
+-- the header, the entries in their order, and the root
+abbrev pub certificate_bytes : Version → List Entry → BoundTree → List ℕ
+certificate_bytes version entries tree =
+    header_bytes (record { version = version; count = length entries }) ++ (flat_map entry_bytes entries ++ node_bytes tree)
