@@ -6,3 +6,4 @@ pub mod Cut
 pub mod Halved
 pub mod RunCount
 pub mod Edges
+pub mod Overwritten

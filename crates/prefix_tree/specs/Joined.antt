@@ -25,3 +25,12 @@ joined_by (Some q) lower upper = Uniform q
 
 abbrev pub joined : PermTree → PermTree → PermTree
 joined lower upper = joined_by (shared_perm lower upper) lower upper
+
+-- the halves of a block, which are of its permission where it is not split
+abbrev pub lower_half : PermTree → PermTree
+lower_half (Uniform q) = Uniform q
+lower_half (Split lower upper) = lower
+
+abbrev pub upper_half : PermTree → PermTree
+upper_half (Uniform q) = Uniform q
+upper_half (Split lower upper) = upper

@@ -5,3 +5,4 @@ pub mod Coding
 pub mod PartsOf
 pub mod Joined
 pub mod Slices
+pub mod Overlaps

@@ -5,6 +5,7 @@ mod blocks;
 mod building;
 mod joining;
 mod laws;
+mod overwriting;
 mod trees;
 
 pub use blocks::{Block, Parts};
