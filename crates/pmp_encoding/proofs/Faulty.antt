@@ -1,6 +1,5 @@
 -- Faults of pairs: which pairs have none, and which has the least number.
-use Rattle.std.proofs.Common.{◌≡◌, ◌≢◌, ℕ, ◌+◌, ◌*◌, ◌/◌, ◌%◌, ◌^◌, ◌<◌, ◌≤◌, ⊎_elim, Option, Some, None, Result, Ok, Err, Bool, true, false, cond, nat_eq, nat_le, refl, sym, ap, subst, ◌∙◌, arith, MatchOption, MatchResult, IfOk}
-use Rattle.std.proofs.lemmas.Bool.{eqb-true, eqb-false, leb-true, leb-false}
+use Rattle.std.proofs.Common.{◌≡◌, ◌≢◌, ℕ, ◌+◌, ◌*◌, ◌/◌, ◌%◌, ◌^◌, ◌<◌, ⊎_elim, Option, Some, None, Result, Ok, Err, cond, nat_eq, refl, sym, ap, ◌∙◌, arith, MatchOption, MatchResult, IfOk}
 use Rattle.pmp_encoding.specs.declared.perm.Perm.{Perm}
 use Rattle.pmp_encoding.specs.declared.perm.Perm.TheVariants.{NoAccess, Read, ReadWrite, Execute, ReadExecute, ReadWriteExecute}
 use Rattle.pmp_encoding.specs.declared.region.Entry.{Entry}
@@ -8,117 +7,8 @@ use Rattle.pmp_encoding.specs.declared.fault.EncodingFault.{EncodingFault}
 use Rattle.pmp_encoding.specs.declared.fault.EncodingFault.TheVariants.{ReservedPerm, Tor, Locked, ReservedBits, AddressBits, NoSuchCsr}
 use Rattle.pmp_encoding.specs.Perms.{bits_of}
 use Rattle.pmp_encoding.specs.Encoding.{IsOff, MeansEntry}
-use Rattle.pmp_encoding.specs.Faults.{fault_number, Stands, IsFaultless, IsLeastFault, fault_of}
+use Rattle.pmp_encoding.specs.Faults.{fault_number, Stands, IsFaultless, IsLeastFault}
 use Rattle.pmp_encoding.proofs.Pairs.{one_entry, not_off}
-
--- ---- the computed fault
-
--- what the computed fault says of a byte and an address
-abbrev IsAnswer : ℕ → ℕ → Option EncodingFault → Type 0
-IsAnswer cfg address answer = MatchOption answer (IsFaultless cfg address) (IsLeastFault cfg address)
-
-module _ (cfg address : ℕ) (byte : cfg < 256) where
-  first : cfg % 4 ≡ 2 → IsLeastFault cfg address ReservedPerm
-  first is = record { stands = (omega arith, omega arith); least = go }
-    where
-      go : (other : EncodingFault) → Stands other cfg address → 1 ≤ fault_number other
-      go ReservedPerm s = omega arith
-      go Tor s = omega arith
-      go Locked s = omega arith
-      go ReservedBits s = omega arith
-      go AddressBits s = omega arith
-      go NoSuchCsr s = absurd s
-
-  second : cfg % 4 ≢ 2 → cfg / 8 % 4 ≡ 1 → IsLeastFault cfg address Tor
-  second a is = record { stands = is; least = go }
-    where
-      go : (other : EncodingFault) → Stands other cfg address → 2 ≤ fault_number other
-      go ReservedPerm s = absurd (omega arith)
-      go Tor s = omega arith
-      go Locked s = omega arith
-      go ReservedBits s = omega arith
-      go AddressBits s = omega arith
-      go NoSuchCsr s = absurd s
-
-  third : cfg % 4 ≢ 2 → cfg / 8 % 4 ≢ 1 → 128 ≤ cfg → IsLeastFault cfg address Locked
-  third a b is = record { stands = omega arith; least = go }
-    where
-      go : (other : EncodingFault) → Stands other cfg address → 3 ≤ fault_number other
-      go ReservedPerm s = absurd (omega arith)
-      go Tor s = absurd (b s)
-      go Locked s = omega arith
-      go ReservedBits s = omega arith
-      go AddressBits s = omega arith
-      go NoSuchCsr s = absurd s
-
-  fourth : cfg % 4 ≢ 2 → cfg / 8 % 4 ≢ 1 → cfg < 128 → 32 ≤ cfg → IsLeastFault cfg address ReservedBits
-  fourth a b c is = record { stands = omega arith; least = go }
-    where
-      go : (other : EncodingFault) → Stands other cfg address → 4 ≤ fault_number other
-      go ReservedPerm s = absurd (omega arith)
-      go Tor s = absurd (b s)
-      go Locked s = absurd (omega arith)
-      go ReservedBits s = omega arith
-      go AddressBits s = omega arith
-      go NoSuchCsr s = absurd s
-
-  fifth : cfg % 4 ≢ 2 → cfg / 8 % 4 ≢ 1 → cfg < 32 → 2 ^ 54 ≤ address → IsLeastFault cfg address AddressBits
-  fifth a b c is = record { stands = is; least = go }
-    where
-      go : (other : EncodingFault) → Stands other cfg address → 5 ≤ fault_number other
-      go ReservedPerm s = absurd (omega arith)
-      go Tor s = absurd (b s)
-      go Locked s = absurd (omega arith)
-      go ReservedBits s = absurd (omega arith)
-      go AddressBits s = omega arith
-      go NoSuchCsr s = absurd s
-
-  clean : cfg % 4 ≢ 2 → cfg / 8 % 4 ≢ 1 → cfg < 32 → address < 2 ^ 54 → IsFaultless cfg address
-  clean a b c d = record { byte = byte; none = go }
-    where
-      go : (fault : EncodingFault) → ¬ Stands fault cfg address
-      go ReservedPerm s = omega arith
-      go Tor s = b s
-      go Locked s = omega arith
-      go ReservedBits s = omega arith
-      go AddressBits s = omega arith
-      go NoSuchCsr s = s
-
-  fault_is : IsAnswer cfg address (fault_of cfg address)
-  fault_is = one (nat_eq (cfg % 4) 2) refl
-    where
-      five : cfg % 4 ≢ 2 → cfg / 8 % 4 ≢ 1 → cfg < 32 → (t : Bool) → nat_le (2 ^ 54) address ≡ t → IsAnswer cfg address (cond t (Some AddressBits) None)
-      five a b c true is = fifth a b c (leb-true _ _ is)
-      five a b c false is = clean a b c (leb-false _ _ is)
-
-      four : cfg % 4 ≢ 2 → cfg / 8 % 4 ≢ 1 → cfg < 128 → (t : Bool) → nat_le 32 cfg ≡ t → IsAnswer cfg address (cond t (Some ReservedBits) (cond (nat_le (2 ^ 54) address) (Some AddressBits) None))
-      four a b c true is = fourth a b c (leb-true _ _ is)
-      four a b c false is = five a b (leb-false _ _ is) (nat_le (2 ^ 54) address) refl
-
-      three :
-          cfg % 4 ≢ 2 → cfg / 8 % 4 ≢ 1 → (t : Bool) → nat_le 128 cfg ≡ t
-          → IsAnswer cfg address (cond t (Some Locked) (cond (nat_le 32 cfg) (Some ReservedBits) (cond (nat_le (2 ^ 54) address) (Some AddressBits) None)))
-      three a b true is = third a b (leb-true _ _ is)
-      three a b false is = four a b (leb-false _ _ is) (nat_le 32 cfg) refl
-
-      two :
-          cfg % 4 ≢ 2 → (t : Bool) → nat_eq (cfg / 8 % 4) 1 ≡ t
-          → IsAnswer cfg address (cond t (Some Tor) (cond (nat_le 128 cfg) (Some Locked) (cond (nat_le 32 cfg) (Some ReservedBits) (cond (nat_le (2 ^ 54) address) (Some AddressBits) None))))
-      two a true is = second a (eqb-true _ _ is)
-      two a false is = three a (eqb-false _ _ is) (nat_le 128 cfg) refl
-
-      one :
-          (t : Bool) → nat_eq (cfg % 4) 2 ≡ t
-          → IsAnswer cfg address (cond t (Some ReservedPerm) (cond (nat_eq (cfg / 8 % 4) 1) (Some Tor) (cond (nat_le 128 cfg) (Some Locked) (cond (nat_le 32 cfg) (Some ReservedBits) (cond (nat_le (2 ^ 54) address) (Some AddressBits) None)))))
-      one true is = first (eqb-true _ _ is)
-      one false is = two (eqb-false _ _ is) (nat_eq (cfg / 8 % 4) 1) refl
-
--- of an answer that the computed fault decides: it is a fault, the least one, exactly where the pair has one
-pub fault_told :
-    {T : Type 0} (cfg address : ℕ) (r : Result T EncodingFault) → cfg < 256 → MatchResult r (λ _. fault_of cfg address ≡ None) (λ f. fault_of cfg address ≡ Some f)
-    → MatchResult r (λ _. IsFaultless cfg address) (IsLeastFault cfg address)
-fault_told cfg address (Ok x) byte h = subst (IsAnswer cfg address) h (fault_is cfg address byte)
-fault_told cfg address (Err f) byte h = subst (IsAnswer cfg address) h (fault_is cfg address byte)
 
 -- ---- a pair that is OFF or means an entry has no fault
 

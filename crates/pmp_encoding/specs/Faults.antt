@@ -1,5 +1,5 @@
 -- Which pairs mean nothing, and the fault that is named where several stand in one pair.
-use Rattle.std.specs.Prelude.{◌≡◌, ◌≢◌, ℕ, ◌/◌, ◌%◌, ◌^◌, ◌<◌, ◌≤◌, Option, Some, None, nat_le, ◌==◌, if◌then◌else◌}
+use Rattle.std.specs.Prelude.{◌≡◌, ◌≢◌, ℕ, ◌/◌, ◌%◌, ◌^◌, ◌<◌, ◌≤◌}
 use Rattle.pmp_encoding.specs.declared.fault.EncodingFault.{EncodingFault}
 use Rattle.pmp_encoding.specs.declared.fault.EncodingFault.TheVariants.{ReservedPerm, Tor, Locked, ReservedBits, AddressBits, NoSuchCsr}
 
@@ -30,13 +30,3 @@ pub record IsFaultless (cfg address : ℕ) : Type 0 where
 pub record IsLeastFault (cfg address : ℕ) (fault : EncodingFault) : Type 0 where
   pub stands : Stands fault cfg address
   pub least : (other : EncodingFault) → Stands other cfg address → fault_number fault ≤ fault_number other
-
--- the same, computed for a byte
-abbrev pub fault_of : ℕ → ℕ → Option EncodingFault
-fault_of cfg address =
-    if cfg % 4 == 2 then Some ReservedPerm
-    else if cfg / 8 % 4 == 1 then Some Tor
-    else if nat_le 128 cfg then Some Locked
-    else if nat_le 32 cfg then Some ReservedBits
-    else if nat_le (2 ^ 54) address then Some AddressBits
-    else None

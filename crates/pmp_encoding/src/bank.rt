@@ -1,6 +1,8 @@
 ghost use Rattle.pmp_encoding.specs.Registers.{AreRegisters};
 
+use crate::csr::{Csr, csr_of, fault_of_word};
 use crate::decoding::decode;
+use crate::fault::EncodingFault;
 use crate::limit::Limit;
 use crate::region::Entry;
 
@@ -16,9 +18,10 @@ pub struct Bank {
 }
 
 impl Bank {
-    ghost use Rattle.std.specs.Prelude.{◌≡◌, ◌%◌, ◌<◌, ◌≤◌, length, MatchOption, ℕ};
+    ghost use Rattle.std.specs.Prelude.{◌≡◌, ◌%◌, ◌*◌, ◌^◌, ◌<◌, ◌≤◌, ◌↔◌, length, MatchOption, MatchResult, OnOk, OnErr, ℕ};
     ghost use Rattle.pmp_encoding.specs.Encoding.{IsOff, MeansEntry};
     ghost use Rattle.pmp_encoding.specs.Limits.{limit_number};
+    ghost use Rattle.pmp_encoding.specs.Csrs.{IsCfgCsr, IsAddressCsr, IsCsr, IsFaultlessWord, IsFaultOfWord, WritesWord, WritesAddress};
     ghost use Rattle.pmp_encoding.specs.Banks.{limit_of, word_at, cfg_at, address_at, HasList, IsBankOf};
 
     /// The bank with these entries from place 0 on, each in its canonical pair, and OFF with address 0 after them.
@@ -54,7 +57,8 @@ impl Bank {
         requires there { k < 16 }
         ensures { result ≡ word_at self.now k }
     {
-        self.words[k / 2]
+        let word = k / 2;
+        self.words[word]
     }
 
     /// The word pmpcfg0, of the places 0 to 7.
@@ -85,10 +89,63 @@ impl Bank {
         ensures { MatchOption result (IsOff (cfg_at self.now i) (address_at self.now i)) (MeansEntry (cfg_at self.now i) (address_at self.now i)) }
     {
         let cfg = byte_of(self.words[i / 8], i % 8);
-        match decode(cfg, self.addresses[i]) {
+        match decode(cfg, self.addr(i)) {
             Ok(entry) => entry,
             Err(_) => unreachable!(),
         }
+    }
+
+    /// Writes the CSR of this number, as the instruction csrw does. A configuration word with a fault answers the
+    /// fault of its lowest byte that has one, an address of 2^54 or more `AddressBits`, and a number that no CSR of
+    /// the bank has `NoSuchCsr`; each refusal leaves the bank as it was.
+    pub fn write_csr(&mut self, number: u16, value: u64) -> Result<(), EncodingFault>
+        ensures unknown { (result ≡ Err EncodingFault.NoSuchCsr) ↔ (¬ IsCsr (limit_of self.old) number) }
+        ensures wide { (result ≡ Err EncodingFault.AddressBits) ↔ ((i : ℕ) × IsAddressCsr (limit_of self.old) number i × (2 ^ 54 ≤ value)) }
+
+        // A configuration word.
+        ensures word { (k : ℕ) → IsCfgCsr (limit_of self.old) number k → MatchResult result (λ _. IsFaultlessWord value) (IsFaultOfWord value) }
+        ensures word_written { OnOk result ((k : ℕ) → IsCfgCsr (limit_of self.old) number k → WritesWord self.old self.new k value) }
+
+        // An address register.
+        ensures address { (i : ℕ) → IsAddressCsr (limit_of self.old) number i → MatchResult result (λ _. value < 2 ^ 54) (λ f. f ≡ EncodingFault.AddressBits) }
+        ensures address_written { OnOk result ((i : ℕ) → IsAddressCsr (limit_of self.old) number i → WritesAddress self.old self.new i value) }
+
+        ensures err { OnErr result (self.new ≡ self.old) }
+    {
+        match csr_of(self.limit, number) {
+            Some(Csr::Cfg(k)) => {
+                if let Some(fault) = fault_of_word(value) {
+                    return Err(fault);
+                }
+                self.put_word(k, value);
+                Ok(())
+            }
+            Some(Csr::Address(i)) => {
+                if value >= 1 << 54 {
+                    return Err(EncodingFault::AddressBits);
+                }
+                self.put_address(i, value);
+                Ok(())
+            }
+            None => Err(EncodingFault::NoSuchCsr),
+        }
+    }
+
+    fn put_word(&mut self, k: usize, value: u64)
+        requires even { k % 2 ≡ 0 }
+        requires there { 4 * k < limit_number (limit_of self.old) }
+        requires clean { IsFaultlessWord value }
+        ensures { WritesWord self.old self.new k value }
+    {
+        self.words[k / 2] = value;
+    }
+
+    fn put_address(&mut self, place: usize, value: u64)
+        requires there { place < limit_number (limit_of self.old) }
+        requires small { value < 2 ^ 54 }
+        ensures { WritesAddress self.old self.new place value }
+    {
+        self.addresses[place] = value;
     }
 }
 
@@ -96,7 +153,7 @@ ghost use Rattle.std.specs.Prelude.{◌≡◌, ◌≢◌, ◌+◌, ◌*◌, ◌^
 ghost use Rattle.pmp_encoding.specs.Registers.{byte_of};
 
 /// Byte j of a word, the lowest first.
-fn byte_of(word: u64, j: usize) -> u8
+pub(crate) fn byte_of(word: u64, j: usize) -> u8
     requires { j < 8 }
     ensures { result ≡ byte_of word j }
 {

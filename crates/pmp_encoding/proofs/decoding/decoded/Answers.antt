@@ -1,5 +1,5 @@
 -- Bits of no permission have W without R.
-use Rattle.std.proofs.Common.{◌≡◌, ◌%◌, arith, eq-eqb}
+use Rattle.std.proofs.Common.{◌≡◌, ◌%◌, arith}
 use Rattle.pmp_encoding.specs.declared.perm.Perm.TheVariants.{NoAccess, Read, ReadWrite, Execute, ReadExecute, ReadWriteExecute}
 use Rattle.pmp_encoding.proofs.decoding.decoded.Goals as goal
 
@@ -7,4 +7,4 @@ pub returns-in_default-from_bits-clause-fault : goal.returns-in_default-from_bit
 returns-in_default-from_bits-clause-fault c =
     let none = c.in_default-from_bits.ensures.none in
     let reserved : c.args.cfg % 4 ≡ 2 = omega (arith, none NoAccess, none Read, none ReadWrite, none Execute, none ReadExecute, none ReadWriteExecute) in
-    rw (eq-eqb (c.args.cfg % 4) 2 reserved)
+    absurd (c.in_default.ensures.clear.0 reserved)
