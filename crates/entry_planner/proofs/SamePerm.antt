@@ -1,0 +1,49 @@
+-- When two permissions are the same.
+use Rattle.std.proofs.Common.{◌≡◌, ℕ, Bool, true, false, not, cond, ◌==◌, refl, sym, ap, ◌∙◌}
+use Rattle.std.proofs.lemmas.Bool.{eqb-true, eq-eqb}
+use denote.Enum.Bare.{sameb}
+use Rattle.pmp_encoding.specs.contracts.perm.Perm.{the_type}
+use Rattle.pmp_encoding.specs.declared.perm.Perm.{Perm}
+use Rattle.pmp_encoding.specs.declared.perm.Perm.TheVariants.{NoAccess, Read, ReadWrite, Execute, ReadExecute, ReadWriteExecute}
+use Rattle.pmp_encoding.specs.Perms.{bits_of, perm_eq}
+
+-- equal bits are equal permissions
+abbrev perm_from : ℕ → Perm
+perm_from bits = cond (bits == 0) NoAccess (cond (bits == 1) Read (cond (bits == 3) ReadWrite (cond (bits == 4) Execute (cond (bits == 5) ReadExecute ReadWriteExecute))))
+
+perm_from_bits : (p : Perm) → perm_from (bits_of p) ≡ p
+perm_from_bits NoAccess = refl
+perm_from_bits Read = refl
+perm_from_bits ReadWrite = refl
+perm_from_bits Execute = refl
+perm_from_bits ReadExecute = refl
+perm_from_bits ReadWriteExecute = refl
+
+pub perm_eq-true : (p q : Perm) → perm_eq p q ≡ true → p ≡ q
+perm_eq-true p q h = sym (perm_from_bits p) ∙ ap perm_from (eqb-true (bits_of p) (bits_of q) h) ∙ perm_from_bits q
+
+pub perm_eq-same : (p : Perm) → perm_eq p p ≡ true
+perm_eq-same p = eq-eqb (bits_of p) (bits_of p) refl
+
+pub perm_eq-false : (p q : Perm) → (p ≡ q → ⊥) → perm_eq p q ≡ false
+perm_eq-false p q differ = go (perm_eq p q) refl
+  where
+    go : (t : Bool) → perm_eq p q ≡ t → perm_eq p q ≡ false
+    go true is = absurd (differ (perm_eq-true p q is))
+    go false is = is
+
+-- the test `!=` of the code
+sameb-same : (p : Perm) → sameb the_type p p ≡ true
+sameb-same NoAccess = refl
+sameb-same Read = refl
+sameb-same ReadWrite = refl
+sameb-same Execute = refl
+sameb-same ReadExecute = refl
+sameb-same ReadWriteExecute = refl
+
+pub perm_eq-other : (p q : Perm) (t : Bool) → t ≡ not (sameb the_type p q) → t ≡ true → perm_eq p q ≡ false
+perm_eq-other p q t is holds = perm_eq-false p q (λ same. go (sameb the_type p q) (sym is ∙ holds) (ap (sameb the_type p) (sym same) ∙ sameb-same p))
+  where
+    go : (b : Bool) → not b ≡ true → b ≡ true → ⊥
+    go true h k = cc
+    go false h k = cc

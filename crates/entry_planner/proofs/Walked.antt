@@ -1,0 +1,95 @@
+-- What a walk down a split block adds, from what it adds in the halves.
+use Rattle.std.proofs.Common.{◌≡◌, ℕ, suc, ◌+◌, ◌-◌, ◌^◌, List, ◌++◌, length, take, drop, get_or, refl, sym, ap, subst, ◌∙◌, arith, append_assoc, if◌then◌else◌}
+use Rattle.std.proofs.lemmas.Grind.{common_steps}
+use Rattle.std.proofs.lemmas.List.{append_cancel_left}
+use Rattle.pmp_encoding.specs.declared.perm.Perm.{Perm}
+use Rattle.pmp_encoding.specs.declared.region.Entry.{Entry}
+use Rattle.pmp_encoding.specs.Perms.{perm_eq}
+use Rattle.prefix_tree.specs.Trees.{PermTree, Split, Fits}
+use Rattle.entry_planner.specs.declared.costs.HalfPerms.{HalfPerms}
+use Rattle.entry_planner.specs.Costs.{cost}
+use Rattle.entry_planner.specs.Placing.{ArePages, IsCheap, IsPlacedAt, Turns}
+use Rattle.entry_planner.specs.Plans.{half_perms, half_perms_in}
+use Rattle.entry_planner.proofs.BlockPages.{lower_pages, upper_pages}
+
+-- ---- the halves are a size smaller
+
+pub halves_fit_in : (tree low high : PermTree) (k j : ℕ) → tree ≡ Split low high → j + 1 ≡ k → Fits k tree → Fits j low × Fits j high
+halves_fit_in tree low high k j split height fits =
+    let up : k ≡ suc j = omega arith in
+    let F : PermTree → Type 0 = λ t. Fits (suc j) t in
+    let G : ℕ → Type 0 = λ n. Fits n tree in
+    subst F split (subst G up fits)
+
+pub lower_are_pages : (k j first : ℕ) → j + 1 ≡ k → ArePages k first → ArePages j first
+lower_are_pages k j first height pages =
+    let up : k ≡ suc j = omega arith in
+    let P : ℕ → Type 0 = λ n. ArePages n first in
+    lower_pages j first (subst P up pages)
+
+pub upper_are_pages : (k j first : ℕ) → j + 1 ≡ k → ArePages k first → ArePages j (first + 2 ^ j)
+upper_are_pages k j first height pages =
+    let up : k ≡ suc j = omega arith in
+    let P : ℕ → Type 0 = λ n. ArePages n first in
+    upper_pages j first (subst P up pages)
+
+-- ---- what the list of the halves' permissions has
+
+abbrev BeginsWith : List HalfPerms → PermTree → Type 0
+BeginsWith halves tree = (rest : List HalfPerms) × (halves ≡ half_perms_in tree ++ rest)
+
+pub first_is : (halves : List HalfPerms) (tree low high : PermTree) (d : HalfPerms) → tree ≡ Split low high → BeginsWith halves tree → get_or halves 0 d ≡ half_perms low high
+first_is halves tree low high d split begins = ap (λ l. get_or l 0 d) begins.1 ∙ ap (λ t. get_or (half_perms_in t ++ begins.0) 0 d) split
+
+others_are :
+    (halves : List HalfPerms) (tree low high : PermTree) → tree ≡ Split low high → (begins : BeginsWith halves tree)
+    → take (length halves - 1) (drop 1 halves) ≡ half_perms_in low ++ (half_perms_in high ++ begins.0)
+others_are halves tree low high split begins =
+    whole halves
+    ∙ ap (drop 1) begins.1
+    ∙ ap (λ t. drop 1 (half_perms_in t ++ begins.0)) split
+    ∙ append_assoc (half_perms_in low) (half_perms_in high) begins.0
+  where
+    whole : (l : List HalfPerms) → take (length l - 1) (drop 1 l) ≡ drop 1 l
+    whole l = grind (arith, common_steps)
+
+pub lower_begins :
+    (halves : List HalfPerms) (tree low high : PermTree) → tree ≡ Split low high → BeginsWith halves tree
+    → BeginsWith (take (length halves - 1) (drop 1 halves)) low
+lower_begins halves tree low high split begins = (half_perms_in high ++ begins.0, others_are halves tree low high split begins)
+
+pub upper_begins :
+    (halves rest : List HalfPerms) (tree low high : PermTree) → tree ≡ Split low high → BeginsWith halves tree
+    → take (length halves - 1) (drop 1 halves) ≡ half_perms_in low ++ rest → BeginsWith rest high
+upper_begins halves rest tree low high split begins same =
+    (begins.0, append_cancel_left (half_perms_in low) rest (half_perms_in high ++ begins.0) (sym same ∙ others_are halves tree low high split begins))
+
+-- ---- the entries that are added
+
+abbrev AddsPlaced : ℕ → ℕ → Perm → PermTree → List Entry → List Entry → Type 0
+AddsPlaced k first p tree old new = (placed : List Entry) × (new ≡ old ++ placed) × IsPlacedAt k first p tree placed
+
+abbrev AddsOwn : ℕ → ℕ → Perm → Perm → List Entry → List Entry → Type 0
+AddsOwn k first p q old new = (own : List Entry) × (new ≡ old ++ own) × Turns k first p q own × (length own ≡ (if perm_eq q p then 0 else 1))
+
+pub split_placed :
+    (tree low high : PermTree) (k i j first lower upper : ℕ) (p q : Perm) (a b c d : List Entry) → tree ≡ Split low high → i + 1 ≡ k → j + 1 ≡ k → lower ≡ first
+    → upper ≡ first + 2 ^ (k - 1) → IsCheap low high p q → AddsPlaced i lower q low a b → AddsPlaced j upper q high b c → AddsOwn k first p q c d
+    → AddsPlaced k first p tree a d
+split_placed tree low high k i j first lower upper p q a b c d split low_height height at_lower at_upper cheap l h o =
+    let up : k ≡ suc j = omega arith in
+    let down : k - 1 ≡ j = omega arith in
+    let level : i ≡ j = omega arith in
+    let low_placed : IsPlacedAt j first q low l.0 =
+    (let P : ℕ → Type 0 = λ n. IsPlacedAt i n q low l.0 in let Q : ℕ → Type 0 = λ n. IsPlacedAt n first q low l.0 in subst Q level (subst P at_lower l.2)) in
+    let high_placed : IsPlacedAt j (first + 2 ^ j) q high h.0 =
+    (let P : ℕ → Type 0 = λ n. IsPlacedAt j n q high h.0 in subst P (at_upper ∙ ap (λ n. first + 2 ^ n) down) h.2) in
+    let own : Turns (suc j) first p q o.0 = (let P : ℕ → Type 0 = λ n. Turns n first p q o.0 in subst P up o.2) in
+    let count : length o.0 + (cost low q + cost high q) ≡ cost (Split low high) p = ap (λ n. n + (cost low q + cost high q)) o.3 ∙ cheap in
+    let whole : IsPlacedAt (suc j) first p (Split low high) (l.0 ++ (h.0 ++ o.0)) = (q, l.0, h.0, o.0, refl, own, count, low_placed, high_placed) in
+    let T : PermTree → Type 0 = λ t. IsPlacedAt (suc j) first p t (l.0 ++ (h.0 ++ o.0)) in
+    let N : ℕ → Type 0 = λ n. IsPlacedAt n first p tree (l.0 ++ (h.0 ++ o.0)) in (
+      l.0 ++ (h.0 ++ o.0),
+      o.1 ∙ ap (λ x. x ++ o.0) (h.1 ∙ ap (λ x. x ++ h.0) l.1) ∙ append_assoc (a ++ l.0) h.0 o.0 ∙ append_assoc a l.0 (h.0 ++ o.0),
+      subst N (sym up) (subst T (sym split) whole),
+    )

@@ -1,0 +1,133 @@
+use pmp_encoding::{Entry, Perm, Region};
+use prefix_tree::{Block, Parts};
+use std::alloc::AllocError;
+
+use crate::costs::HalfPerms;
+
+/// An aligned block of 2^log2 pages.
+#[derive(Clone, Copy)]
+pub struct Pages {
+    pub first: u64,
+    pub log2: u32,
+}
+
+ghost use Rattle.std.specs.Prelude.{◌≡◌, ◌+◌, ◌-◌, ◌*◌, ◌≤◌, ◌<◌, ◌^◌, ◌++◌, List, length, IfOk, OnOk, if◌then◌else◌};
+ghost use Rattle.pmp_encoding.specs.Perms.{perm_eq};
+ghost use Rattle.pmp_encoding.specs.declared.region.Entry.{Entry};
+ghost use Rattle.prefix_tree.specs.Shapes.{shape_of};
+ghost use Rattle.prefix_tree.specs.Trees.{PermTree, Fits};
+ghost use Rattle.entry_planner.specs.declared.costs.HalfPerms.{HalfPerms};
+ghost use Rattle.entry_planner.specs.Placing.{ArePages, IsCheap, IsPlacedAt, Turns};
+ghost use Rattle.entry_planner.specs.Plans.{half_perms, half_perms_in};
+
+/// How many pages such a block has.
+fn pages_of(log2: u32) -> u64
+    requires { log2 ≤ 44 }
+    ensures { result ≡ 2 ^ log2 }
+{
+    1 << log2
+}
+
+impl Pages {
+    fn lower(self) -> Pages
+        requires split { 0 < self.log2 }
+        requires pages { ArePages self.log2 self.first }
+        ensures first { result.first ≡ self.first }
+        ensures log2 { result.log2 + 1 ≡ self.log2 }
+        ensures pages { ArePages result.log2 result.first }
+    {
+        Pages {
+            first: self.first,
+            log2: self.log2 - 1,
+        }
+    }
+
+    fn upper(self) -> Pages
+        requires split { 0 < self.log2 }
+        requires pages { ArePages self.log2 self.first }
+        ensures first { result.first ≡ self.first + 2 ^ (self.log2 - 1) }
+        ensures log2 { result.log2 + 1 ≡ self.log2 }
+        ensures pages { ArePages result.log2 result.first }
+    {
+        Pages {
+            first: self.first + pages_of(self.log2 - 1),
+            log2: self.log2 - 1,
+        }
+    }
+
+    /// The region of these pages.
+    fn region(self) -> Region
+        requires { ArePages self.log2 self.first }
+        ensures base { result.base ≡ self.first * 4096 }
+        ensures log2 { result.log2 ≡ self.log2 + 12 }
+    {
+        Region {
+            base: self.first * 4096,
+            log2: self.log2 + 12,
+        }
+    }
+}
+
+/// The permission under which the halves of a split block stand: the first that is best for both, where there
+/// is one and the inherited permission is best for neither; else the inherited one.
+fn chosen(perms: HalfPerms, inherited: Perm) -> Perm
+    ensures { (low high : PermTree) → perms ≡ half_perms low high → IsCheap low high inherited result }
+{
+    if perms.either.contains(inherited) {
+        return inherited;
+    }
+    match perms.both.first() {
+        Some(perm) => perm,
+        None => inherited,
+    }
+}
+
+/// Adds the entry that gives a block another permission than the inherited one.
+fn turn(
+    pages: Pages,
+    inherited: Perm,
+    perm: Perm,
+    entries: &mut Vec<Entry>,
+) -> Result<(), AllocError>
+    requires { ArePages pages.log2 pages.first }
+    ensures { OnOk result ((own : List Entry) × (entries.new.items ≡ entries.old.items ++ own) × Turns pages.log2 pages.first inherited perm own × (length own ≡ (if perm_eq perm inherited then 0 else 1))) }
+{
+    if perm != inherited {
+        let region = pages.region();
+        entries.push(Entry { region, perm })?;
+    }
+    Ok(())
+}
+
+/// Adds the entries of a block that stands under a permission. The halves' permissions of its split blocks
+/// come first in the list; what comes after them is handed back.
+pub fn place<'a>(
+    block: &Block,
+    pages: Pages,
+    inherited: Perm,
+    halves: &'a [HalfPerms],
+    entries: &mut Vec<Entry>,
+) -> Result<&'a [HalfPerms], AllocError>
+    requires fits { Fits pages.log2 (shape_of block.now) }
+    requires pages { ArePages pages.log2 pages.first }
+    requires halves { (rest : List HalfPerms) × (halves.now ≡ half_perms_in (shape_of block.now) ++ rest) }
+    ensures rest { IfOk result (λ rest. halves.now ≡ half_perms_in (shape_of block.now) ++ rest.now) }
+    ensures placed { OnOk result ((placed : List Entry) × (entries.new.items ≡ entries.old.items ++ placed) × IsPlacedAt pages.log2 pages.first inherited (shape_of block.now) placed) }
+{
+    match block.parts() {
+        Parts::Leaf(perm) => {
+            turn(pages, inherited, perm, entries)?;
+            Ok(halves)
+        }
+        Parts::Halves(lower, upper) => {
+            let [perms, rest @ ..] = halves else {
+                unreachable!();
+            };
+            let perm = chosen(*perms, inherited);
+            let rest = place(lower, pages.lower(), perm, rest, entries)?;
+            let rest = place(upper, pages.upper(), perm, rest, entries)?;
+            turn(pages, inherited, perm, entries)?;
+            Ok(rest)
+        }
+    }
+}
