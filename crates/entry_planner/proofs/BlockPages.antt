@@ -36,7 +36,6 @@ upper_pages k first pages =
       inside = (let inside = pages.inside in omega arith);
     }
 
-
 -- no block of pages is larger than the space
 pub pages_small : (k first : ℕ) → ArePages k first → k ≤ 44
 pages_small k first pages = power_order k 44 (let inside = pages.inside in omega arith)

@@ -1,8 +1,7 @@
+use crate::costs::HalfPerms;
 use pmp_encoding::{Entry, Perm, Region};
 use prefix_tree::{Block, Parts};
 use std::alloc::AllocError;
-
-use crate::costs::HalfPerms;
 
 /// An aligned block of 2^log2 pages.
 #[derive(Clone, Copy)]

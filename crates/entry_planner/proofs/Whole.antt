@@ -1,0 +1,192 @@
+-- The entries that are placed in the whole space, in order, are fewest, and the costs are the bound that shows it.
+use Rattle.std.proofs.Common.{◌≡◌, ℕ, zero, suc, ◌+◌, ◌^◌, ◌<◌, ◌≤◌, List, [], ◌∷◌, ◌++◌, length, All, Bool, true, false, if◌then◌else◌, IsPermutation, refl, sym, ap, subst, ◌∙◌, arith, append_assoc, length-append}
+use Rattle.std.specs.List.{AllByRecursion}
+use Rattle.std.proofs.Math.Path.{ap₂}
+use Rattle.std.proofs.lemmas.List.{append-nil}
+use Rattle.std.proofs.lemmas.List.Elements.{All-from_recursion}
+use Rattle.std.proofs.lemmas.List.Sorted.{All-permutation, length_permutation}
+use Rattle.pmp_encoding.specs.declared.perm.Perm.{Perm}
+use Rattle.pmp_encoding.specs.declared.perm.Perm.TheVariants.{NoAccess}
+use Rattle.pmp_encoding.specs.declared.region.Entry.{Entry}
+use Rattle.pmp_match.specs.Bounds.{IsSoundAt, bound_of}
+use Rattle.pmp_match.specs.Meaning.{View, Means}
+use Rattle.pmp_match.proofs.Meant.{least}
+use Rattle.prefix_tree.specs.Counts.{splits}
+use Rattle.prefix_tree.specs.Trees.{PermTree, Uniform, Split, Fits, TreeMeansAt, view_of_tree}
+use Rattle.prefix_tree.proofs.Meant.{means_perm_in}
+use Rattle.entry_planner.specs.declared.costs.BlockCost.{BlockCost}
+use Rattle.entry_planner.specs.Best.{is_best, least_cost}
+use Rattle.entry_planner.specs.Costs.{cost, bounds_of}
+use Rattle.entry_planner.specs.Order.{AreInOrder}
+use Rattle.entry_planner.specs.Placing.{IsPlaced}
+use Rattle.entry_planner.specs.Plans.{AreSmall, Planned, block_cost, cost_in, cost_of, costed, costs_in}
+use Rattle.entry_planner.proofs.BestCosts.{cost_is}
+use Rattle.entry_planner.proofs.BlockCosts.{least_le_branches}
+use Rattle.entry_planner.proofs.CostLemmas.{bound_of-bounds_of, costs_sound, least_le}
+use Rattle.entry_planner.proofs.Placed.{IsPart, AreParts, All_weaker, placed_within, placed_count, placed_means}
+use Rattle.entry_planner.proofs.Sets.{has-set_of}
+use Rattle.entry_planner.proofs.Sorted.{sizes_rise}
+
+-- ---- the entries
+
+-- the entries are those that are placed, in some order
+abbrev pub AreListed : PermTree → List Entry → Type 0
+AreListed tree entries = (placed : List Entry) × IsPlaced tree placed × IsPermutation placed entries
+
+own_means : (tree : PermTree) → Fits 44 tree → TreeMeansAt (view_of_tree tree) 44 0 tree
+own_means tree fits = means_perm_in (view_of_tree tree) 44 0 tree fits (λ i h. let e : 0 + i ≡ i = omega arith in ap (view_of_tree tree) e)
+
+pub listed_means : (tree : PermTree) (entries : List Entry) → Fits 44 tree → AreListed tree entries → AreInOrder entries → Means entries (view_of_tree tree)
+listed_means tree entries fits listed order =
+    placed_means (view_of_tree tree) tree listed.0 entries (own_means tree fits) listed.1 listed.2 (sizes_rise entries order)
+
+pub listed_count : (tree : PermTree) (entries : List Entry) → AreListed tree entries → length entries ≡ cost tree NoAccess
+listed_count tree entries listed = length_permutation listed.0 entries listed.2 ∙ placed_count tree 44 0 NoAccess listed.0 listed.1
+
+pub listed_least :
+    (tree : PermTree) (entries : List Entry) → Fits 44 tree → AreListed tree entries → (others : List Entry) → Means others (view_of_tree tree)
+    → length entries ≤ length others
+listed_least tree entries fits listed others means =
+    let bound : bound_of (bounds_of tree) NoAccess ≤ length others =
+    least (view_of_tree tree) (bounds_of tree) others (costs_sound (view_of_tree tree) tree 44 0 (own_means tree fits)) means in
+    omega (arith, listed_count tree entries listed, bound_of-bounds_of tree NoAccess)
+
+pub listed_pages : (tree : PermTree) (entries : List Entry) → AreListed tree entries → All (λ e. 12 ≤ e.region.log2) entries
+listed_pages tree entries listed =
+    let parts : AreParts 0 44 listed.0 = placed_within tree 44 0 NoAccess listed.0 listed.1 in
+    All-permutation (λ e. 12 ≤ e.region.log2) listed.0 entries listed.2
+    (All-from_recursion (λ e. 12 ≤ e.region.log2) listed.0 (All_weaker (IsPart 0 44) (λ e. 12 ≤ e.region.log2) (λ e h. h.1) listed.0 parts))
+
+-- ---- the numbers fit their types
+
+abbrev IsSmall : BlockCost → Type 0
+IsSmall c = c.least + 1 < 2 ^ 32
+
+both_small : (a b : List BlockCost) → AllByRecursion IsSmall a → AllByRecursion IsSmall b → AllByRecursion IsSmall (a ++ b)
+both_small [] b h k = k
+both_small (c ∷ a) b h k = (h.0, both_small a b h.1 k)
+
+costs_small : (tree : PermTree) → splits tree + 1 < 2 ^ 32 → AllByRecursion IsSmall (costs_in tree)
+costs_small (Uniform q) few = tt
+costs_small (Split lower upper) few = (
+  omega (arith, least_le_branches (Split lower upper)),
+  both_small (costs_in lower) (costs_in upper) (costs_small lower (omega arith)) (costs_small upper (omega arith)),
+)
+
+pub are_small :
+    (tree : PermTree) (entries : List Entry) (costs : List BlockCost) → splits tree + 1 < 2 ^ 32 → AreListed tree entries → costs ≡ costs_in tree
+    → AreSmall (record { entries = entries; costs = costs })
+are_small tree entries costs few listed are =
+    record {
+      entries = omega (arith, listed_count tree entries listed, cost_is tree NoAccess, one (is_best tree NoAccess), least_le_branches tree);
+      costs = (let P : List BlockCost → Type 0 = λ l. All IsSmall l in subst P (sym are) (All-from_recursion IsSmall (costs_in tree) (costs_small tree few)));
+    }
+  where
+    one : (b : Bool) → (if b then 0 else 1) ≤ 1
+    one true = omega arith
+    one false = omega arith
+
+-- ---- the costs are a sound bound
+
+pub length-costs_in : (tree : PermTree) → length (costs_in tree) ≡ splits tree
+length-costs_in (Uniform q) = refl
+length-costs_in (Split lower upper) =
+    omega (arith, length-append (costs_in lower) (costs_in upper), length-costs_in lower, length-costs_in upper)
+
+-- what a block costs by its number and its set
+pub cost_of-block_cost : (tree : PermTree) (p : Perm) → cost_of (block_cost tree) p ≡ cost tree p
+cost_of-block_cost tree p = ap (λ t. least_cost tree + unless t) (has-set_of (is_best tree) p) ∙ sym (cost_is tree p)
+  where
+    unless : Bool → ℕ
+    unless t = if t then 0 else 1
+
+-- the list has the costs of the tree's split blocks from the i-th on
+record StandsAt (costs : List BlockCost) (i : ℕ) (tree : PermTree) : Type 0 where
+  before : List BlockCost
+  after : List BlockCost
+  split : costs ≡ before ++ (costs_in tree ++ after)
+  place : length before ≡ i
+
+lower_stands : (costs : List BlockCost) (i : ℕ) (lower upper : PermTree) → StandsAt costs i (Split lower upper) → StandsAt costs (i + 1) lower
+lower_stands costs i lower upper s =
+    let own : BlockCost = block_cost (Split lower upper) in
+    record {
+      before = s.before ++ own ∷ [];
+      after = costs_in upper ++ s.after;
+      split =
+          s.split
+          ∙ ap (λ l. s.before ++ own ∷ l) (append_assoc (costs_in lower) (costs_in upper) s.after)
+          ∙ sym (append_assoc s.before (own ∷ []) (costs_in lower ++ (costs_in upper ++ s.after)));
+      place = length-append s.before (own ∷ []) ∙ ap (λ n. n + 1) s.place;
+    }
+
+upper_stands : (costs : List BlockCost) (i : ℕ) (lower upper : PermTree) → StandsAt costs i (Split lower upper) → StandsAt costs (i + 1 + splits lower) upper
+unfolding lower_stands
+upper_stands costs i lower upper s =
+    let low = lower_stands costs i lower upper s in
+    record {
+      before = low.before ++ costs_in lower;
+      after = s.after;
+      split = low.split ∙ sym (append_assoc low.before (costs_in lower) (costs_in upper ++ s.after));
+      place = length-append low.before (costs_in lower) ∙ ap₂ (λ m n. m + n) low.place (length-costs_in lower);
+    }
+
+cost_in-stands : (costs : List BlockCost) (i : ℕ) (lower upper : PermTree) (p : Perm) → StandsAt costs i (Split lower upper) → cost_in costs i p ≡ cost (Split lower upper) p
+cost_in-stands costs i lower upper p s =
+    ap₂ (λ l n. cost_in l n p) s.split (sym s.place)
+    ∙ at s.before (block_cost (Split lower upper)) (costs_in lower ++ costs_in upper ++ s.after)
+    ∙ cost_of-block_cost (Split lower upper) p
+  where
+    at : (before : List BlockCost) (c : BlockCost) (after : List BlockCost) → cost_in (before ++ c ∷ after) (length before) p ≡ cost_of c p
+    at [] c after = refl
+    at (d ∷ before) c after = at before c after
+
+bound_of-costed : (costs : List BlockCost) (i : ℕ) (tree : PermTree) (p : Perm) → StandsAt costs i tree → bound_of (costed costs i tree) p ≡ cost tree p
+bound_of-costed costs i (Uniform q) p s = refl
+bound_of-costed costs i (Split lower upper) p s = cost_in-stands costs i lower upper p s
+
+costed_sound :
+    (view : View) (costs : List BlockCost) (i : ℕ) (tree : PermTree) (k first : ℕ) → StandsAt costs i tree → TreeMeansAt view k first tree
+    → IsSoundAt view k first (costed costs i tree)
+costed_sound view costs i (Uniform q) k first s means = means
+costed_sound view costs i (Split lower upper) zero first s means = absurd means
+costed_sound view costs i (Split lower upper) (suc k) first s means =
+    let low = lower_stands costs i lower upper s in
+    let high = upper_stands costs i lower upper s in (
+      costed_sound view costs (i + 1) lower k first low means.0,
+      costed_sound view costs (i + 1 + splits lower) upper k (first + 2 ^ k) high means.1,
+      (λ p.
+          omega (arith, cost_in-stands costs i lower upper p s, bound_of-costed costs (i + 1) lower p low, bound_of-costed costs (i + 1 + splits lower) upper p high)),
+      (λ p q.
+          omega (arith, cost_in-stands costs i lower upper p s, bound_of-costed costs (i + 1) lower q low, bound_of-costed costs (i + 1 + splits lower) upper q high, least_le (λ r. cost lower r + cost upper r) q)),
+    )
+
+whole_stands : (tree : PermTree) (costs : List BlockCost) → costs ≡ costs_in tree → StandsAt costs 0 tree
+whole_stands tree costs are = record { before = []; after = []; split = are ∙ sym (append-nil (costs_in tree)); place = refl }
+
+pub whole_sound : (tree : PermTree) (costs : List BlockCost) → Fits 44 tree → costs ≡ costs_in tree → IsSoundAt (view_of_tree tree) 44 0 (costed costs 0 tree)
+whole_sound tree costs fits are = costed_sound (view_of_tree tree) costs 0 tree 44 0 (whole_stands tree costs are) (own_means tree fits)
+
+pub whole_root :
+    (tree : PermTree) (entries : List Entry) (costs : List BlockCost) → costs ≡ costs_in tree → AreListed tree entries
+    → bound_of (costed costs 0 tree) NoAccess ≡ length entries
+whole_root tree entries costs are listed =
+    bound_of-costed costs 0 tree NoAccess (whole_stands tree costs are) ∙ sym (listed_count tree entries listed)
+
+-- ---- the plan
+
+-- the entries are those that are placed in the tree, in order, and the costs are the tree's
+pub record IsMade (tree : PermTree) (plan : Planned) : Type 0 where
+  pub listed : AreListed tree plan.entries
+  pub order : AreInOrder plan.entries
+  pub costs : plan.costs ≡ costs_in tree
+
+pub made :
+    (tree shape : PermTree) (entries : List Entry) (none costs : List BlockCost) (plan : Planned) → shape ≡ tree → AreListed shape entries → AreInOrder entries
+    → none ≡ [] → costs ≡ none ++ costs_in shape → plan ≡ record { entries = entries; costs = costs } → IsMade tree plan
+made tree shape entries none costs plan same listed order empty are is =
+    let L : PermTree → Type 0 = λ t. AreListed t entries in
+    let own : IsMade tree (record { entries = entries; costs = costs }) =
+    record { listed = subst L same listed; order = order; costs = are ∙ ap (λ l. l ++ costs_in shape) empty ∙ ap costs_in same } in
+    let M : Planned → Type 0 = IsMade tree in
+    subst M (sym is) own

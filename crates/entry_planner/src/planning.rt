@@ -1,0 +1,54 @@
+ghost use Rattle.std.specs.Prelude.{◌≡◌, ◌≤◌, List, length, All, IfOk, IsPermutation};
+ghost use Rattle.pmp_encoding.specs.declared.perm.Perm.TheVariants.{NoAccess};
+ghost use Rattle.pmp_encoding.specs.declared.region.Entry.{Entry};
+ghost use Rattle.pmp_match.specs.Bounds.{IsSoundBound, bound_of};
+ghost use Rattle.pmp_match.specs.Meaning.{Means};
+ghost use Rattle.prefix_tree.specs.Counts.{splits};
+ghost use Rattle.prefix_tree.specs.Shapes.{shape_of};
+ghost use Rattle.prefix_tree.specs.Trees.{Fits, view_of_tree};
+ghost use Rattle.entry_planner.specs.Order.{AreInOrder};
+ghost use Rattle.entry_planner.specs.Placing.{IsPlaced};
+ghost use Rattle.entry_planner.specs.Plans.{costed, costs_in, half_perms_in};
+
+use crate::costs::{HalfPerms, add_costs};
+use crate::order::put_in_order;
+use crate::placing::{Pages, place};
+use crate::planned::Plan;
+use permission_map::Memory;
+use pmp_encoding::{Entry, Perm};
+use prefix_tree::{Block, Tree};
+use std::alloc::Global;
+
+/// The entries of the whole space, in order.
+fn entries_of(alloc: Global, root: &Block, halves: &[HalfPerms]) -> Result<Vec<Entry>, Memory>
+    requires fits { Fits 44 (shape_of root.now) }
+    requires halves { halves.now ≡ half_perms_in (shape_of root.now) }
+    ensures placed { IfOk result (λ v. (placed : List Entry) × IsPlaced (shape_of root.now) placed × IsPermutation placed v.items) }
+    ensures order { IfOk result (λ v. AreInOrder v.items) }
+{
+    let mut entries = Vec::new(alloc);
+    let space = Pages { first: 0, log2: 44 };
+    let _ = place(root, space, Perm::NoAccess, halves, &mut entries)?;
+    put_in_order(&mut entries)?;
+    Ok(entries)
+}
+
+/// The fewest entries that mean the tree's view.
+pub fn plan(alloc: Global, tree: &Tree) -> Result<Plan, Memory>
+    ensures means { IfOk result (λ plan. Means plan.entries (view_of_tree tree.now)) }
+    ensures least { IfOk result (λ plan. (others : List Entry) → Means others (view_of_tree tree.now) → length plan.entries ≤ length others) }
+    ensures pages { IfOk result (λ plan. All (λ e. 12 ≤ e.region.log2) plan.entries) }
+    ensures order { IfOk result (λ plan. AreInOrder plan.entries) }
+    ensures costs { IfOk result (λ plan. plan.costs ≡ costs_in tree.now) }
+    ensures branches { IfOk result (λ plan. length plan.costs ≡ splits tree.now) }
+    ensures bound { IfOk result (λ plan. IsSoundBound (view_of_tree tree.now) (costed plan.costs 0 tree.now)) }
+    ensures root { IfOk result (λ plan. bound_of (costed plan.costs 0 tree.now) NoAccess ≡ length plan.entries) }
+{
+    let branches = tree.branches() as usize;
+    let root = tree.root();
+    let mut costs = Vec::with_capacity(alloc, branches)?;
+    let mut halves = Vec::with_capacity(alloc, branches)?;
+    let _ = add_costs(root, &mut costs, &mut halves)?;
+    let entries = entries_of(alloc, root, halves.as_slice())?;
+    Ok(Plan::new(entries, costs))
+}
