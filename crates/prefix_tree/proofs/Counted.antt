@@ -39,3 +39,6 @@ splits_small tree fits = splits-fit 43 tree fits
 
 pub starts_inside_small : (tree : PermTree) → Fits 43 tree → starts_inside tree < 2 ^ 43
 starts_inside_small tree fits = starts_inside-fit 43 tree fits
+
+pub starts_inside_whole : (tree : PermTree) → Fits 44 tree → starts_inside tree < 2 ^ 44
+starts_inside_whole tree fits = starts_inside-fit 44 tree fits

@@ -7,3 +7,4 @@ pub mod Halved
 pub mod RunCount
 pub mod Edges
 pub mod Overwritten
+pub mod RunsExist

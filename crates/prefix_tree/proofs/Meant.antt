@@ -2,7 +2,7 @@
 use Rattle.std.proofs.Common.{◌≡◌, ◌≢◌, ℕ, zero, suc, ◌+◌, ◌-◌, ◌*◌, ◌^◌, ◌<◌, ⊎_elim, cond, refl, sym, ap, ◌∙◌, arith, pow-suc, pow_pos}
 use Rattle.std.proofs.lemmas.Bool.{cases_lt, lt-ltb, le-ltb}
 use Rattle.pmp_encoding.specs.declared.perm.Perm.{Perm}
-use Rattle.prefix_tree.specs.Trees.{PermTree, Uniform, Split, TreeMeansAt, perm_in, Fits, IsCanonical, SplitsOnlyMixedAt}
+use Rattle.prefix_tree.specs.Trees.{PermTree, Uniform, Split, TreeMeansAt, TreeMeans, perm_in, view_of_tree, Fits, IsCanonical, SplitsOnlyMixedAt}
 
 -- ---- two views that agree over a block
 
@@ -120,3 +120,7 @@ splits_mixed v k first (Uniform q) canonical means = tt
 splits_mixed v zero first (Split lower upper) canonical means = absurd means
 splits_mixed v (suc k) first (Split lower upper) canonical means =
     (has_two v k first lower upper canonical means, splits_mixed v k first lower canonical.1 means.0, splits_mixed v k (first + 2 ^ k) upper canonical.2 means.1)
+
+-- a tree means its own view
+pub own_means : (tree : PermTree) → Fits 44 tree → TreeMeans (view_of_tree tree) tree
+own_means tree fits = means_perm_in (perm_in tree 44) 44 0 tree fits (λ i h. let e : 0 + i ≡ i = omega arith in ap (perm_in tree 44) e)

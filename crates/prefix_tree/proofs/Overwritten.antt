@@ -1,6 +1,6 @@
 -- A block with some of its pages overwritten.
 use Rattle.std.proofs.Common.{◌≡◌, ℕ, suc, ◌+◌, ◌^◌, ◌≤◌, ◌⊎◌, ⊎_elim, true, false, cond, sym, ap, arith}
-use Rattle.std.proofs.lemmas.Bool.{lt-ltb, le-ltb, le-leb, lt-leb, and_from, and_left, and_right}
+use Rattle.std.proofs.lemmas.Bool.{cases_lt, lt-ltb, le-ltb, le-leb, lt-leb, and_from, and_left, and_right}
 use Rattle.pmp_encoding.specs.declared.perm.Perm.{Perm}
 use Rattle.permission_map.specs.Runs.{in_range}
 use Rattle.permission_map.specs.Views.{overwritten}
@@ -42,13 +42,17 @@ overwritten_means v w h k first tree lower upper e means low high =
 
 -- a block apart from the range stays as it was
 pub apart_means :
-    (v : ℕ → Perm) (k first from count : ℕ) (perm : Perm) (tree : PermTree) → (from + count ≤ first) ⊎ (first + 2 ^ k ≤ from)
+    (v : ℕ → Perm) (k first from count : ℕ) (perm : Perm) (tree : PermTree)
+    → (count ≡ 0) ⊎ ((from + count ≤ first) ⊎ (first + 2 ^ k ≤ from))
     → TreeMeansAt v k first tree → TreeMeansAt (overwritten v from count perm) k first tree
 apart_means v k first from count perm tree apart means =
     means_along v (overwritten v from count perm) k first tree
     (λ i h.
     let out : in_range from count (first + i) ≡ false =
-    ⊎_elim (λ below. and_right _ _ (le-ltb (first + i) (from + count) (omega arith))) (λ above. and_left _ _ (lt-leb from (first + i) (omega arith))) apart in
+    ⊎_elim (λ none. ⊎_elim (λ before. and_left _ _ (lt-leb from (first + i) before)) (λ behind. and_right _ _ (le-ltb (first + i) (from + count) (omega arith))) (cases_lt (first + i) from))
+    (λ outside.
+    ⊎_elim (λ below. and_right _ _ (le-ltb (first + i) (from + count) (omega arith))) (λ above. and_left _ _ (lt-leb from (first + i) (omega arith))) outside)
+    apart in
     sym (ap (λ t. cond t perm (v (first + i))) out))
     means
 
@@ -59,3 +63,10 @@ pub within_means :
 within_means v k first from count perm low high i h =
     let held : in_range from count (first + i) ≡ true = and_from _ _ (le-leb from (first + i) (omega arith)) (lt-ltb (first + i) (from + count) (omega arith)) in
     ap (λ t. cond t perm (v (first + i))) held
+
+-- an empty range changes nothing
+pub overwritten_none : (v : ℕ → Perm) (from count : ℕ) (perm : Perm) (page : ℕ) → count ≡ 0 → overwritten v from count perm page ≡ v page
+overwritten_none v from count perm page none =
+    let out : in_range from count page ≡ false =
+    ⊎_elim (λ before. and_left _ _ (lt-leb from page before)) (λ behind. and_right _ _ (le-ltb page (from + count) (omega arith))) (cases_lt page from) in
+    ap (λ t. cond t perm (v page)) out

@@ -128,23 +128,23 @@ starts_tree v before (suc k) at (Split lower upper) means =
 
 -- ---- the runs of a list
 
-before_runs : (at page : ℕ) (before : Perm) (runs : List Run) → AreRunsAfter at before runs → page < at → view_of_runs runs page ≡ NoAccess
+pub before_runs : (at page : ℕ) (before : Perm) (runs : List Run) → AreRunsAfter at before runs → page < at → view_of_runs runs page ≡ NoAccess
 before_runs at page before [] are lt = refl
 before_runs at page before (run ∷ runs) are lt =
     let out : in_range run.first run.count page ≡ false = and_left _ _ (lt-leb run.first page (omega arith)) in
     rw out (before_runs (end_of run) page run.perm runs are.1 (omega arith))
 
-before_run :
+pub before_run :
     (page : ℕ) (run : Run) (runs : List Run) → AreRunsAfter (end_of run) run.perm runs → page < run.first → view_of_runs (run ∷ runs) page ≡ NoAccess
 before_run page run runs are lt =
     let out : in_range run.first run.count page ≡ false = and_left _ _ (lt-leb run.first page lt) in
     rw out (before_runs (end_of run) page run.perm runs are (omega arith))
 
-in_run : (page : ℕ) (run : Run) (runs : List Run) → run.first ≤ page → page < end_of run → view_of_runs (run ∷ runs) page ≡ run.perm
+pub in_run : (page : ℕ) (run : Run) (runs : List Run) → run.first ≤ page → page < end_of run → view_of_runs (run ∷ runs) page ≡ run.perm
 in_run page run runs low high =
     let held : in_range run.first run.count page ≡ true = and_from _ _ (le-leb run.first page low) (lt-ltb page (run.first + run.count) high) in rw held refl
 
-behind_run : (page : ℕ) (run : Run) (runs : List Run) → end_of run ≤ page → view_of_runs (run ∷ runs) page ≡ view_of_runs runs page
+pub behind_run : (page : ℕ) (run : Run) (runs : List Run) → end_of run ≤ page → view_of_runs (run ∷ runs) page ≡ view_of_runs runs page
 behind_run page run runs far =
     let out : in_range run.first run.count page ≡ false = and_right _ _ (le-ltb page (run.first + run.count) far) in rw out refl
 

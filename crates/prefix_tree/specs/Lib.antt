@@ -6,3 +6,4 @@ pub mod PartsOf
 pub mod Joined
 pub mod Slices
 pub mod Overlaps
+pub mod RunsOf

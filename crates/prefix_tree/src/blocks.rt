@@ -14,7 +14,7 @@ pub struct Summary {
     /// How many runs start behind the first page.
     pub starts: u64,
     /// How many blocks are split, this one among them.
-    pub branches: u64,
+    pub branches: usize,
 }
 
 /// An aligned block of pages: of one permission, or split into two halves that other versions may share.

@@ -1,6 +1,6 @@
 ghost use Rattle.std.specs.Prelude.{◌≡◌, IfOk};
 ghost use Rattle.prefix_tree.specs.Trees.{Fits, Split};
-ghost use Rattle.prefix_tree.specs.Counts.{starts};
+ghost use Rattle.prefix_tree.specs.Counts.{starts, runs_in};
 ghost use Rattle.prefix_tree.specs.Shapes.{shape_of, IsSummed, Sums};
 ghost use Rattle.prefix_tree.specs.Joined.{joined, shared_perm};
 
@@ -65,4 +65,15 @@ fn shared_perm(lower: &Block, upper: &Block) -> Option<Perm>
         return Some(perm);
     }
     None
+}
+
+/// How many runs the whole space has.
+#[tactic(auto, using(crate::proofs::Counted::starts_inside_whole, crate::proofs::Counted::starts_most))]
+pub fn run_count(root: &Block) -> u64
+    requires fits { Fits 44 (shape_of root.now) }
+    requires summed { IsSummed root.now }
+    ensures { result ≡ runs_in (shape_of root.now) }
+{
+    let summary = root.summary();
+    starts_behind(Perm::NoAccess, summary.first) + summary.starts
 }

@@ -32,7 +32,7 @@ fn overlap_of(run: &Run, first: u64, height: u32) -> Overlap
 {
     let end = first + pages_of(height);
     let run_end = run.first + run.count;
-    if run_end <= first || end <= run.first {
+    if run.count == 0 || run_end <= first || end <= run.first {
         return Overlap::Apart;
     }
     if run.first <= first && end <= run_end {

@@ -1,18 +1,32 @@
-ghost use Rattle.std.specs.Prelude.{◌≡◌, ◌≤◌, ◌*◌, ◌+◌, IfOk};
+ghost use Rattle.std.specs.Prelude.{◌≡◌, ◌<◌, ◌≤◌, ◌*◌, ◌+◌, ◌^◌, ◌↔◌, IfOk, OnOk, List, length};
+ghost use Rattle.permission_map.specs.declared.fault.MapFault as MapFault;
+ghost use Rattle.permission_map.specs.declared.runs.Run.{Run};
 ghost use Rattle.permission_map.specs.Runs.{view_of_runs};
-ghost use Rattle.prefix_tree.specs.Trees.{TreeMeans, Fits, IsCanonical};
+ghost use Rattle.permission_map.specs.Views.{overwritten};
+ghost use Rattle.prefix_tree.specs.Trees.{TreeMeans, view_of_tree, Fits, IsCanonical};
+ghost use Rattle.prefix_tree.specs.RunsOf.{AreRunsOf};
 ghost use Rattle.prefix_tree.specs.Counts.{splits, leaves};
 ghost use Rattle.prefix_tree.specs.Shapes.{shape_of};
 
 use crate::blocks::Block;
 use crate::building::build_block;
-use permission_map::{Memory, PermissionMap};
+use crate::joining::run_count;
+use crate::overwriting::overwritten_block;
+use permission_map::{MapFault, Memory, PermissionMap, Run};
+use pmp_encoding::Perm;
 use std::alloc::Global;
 use std::marker::Model;
+
+/// How many pages the space has.
+const PAGES: u64 = 1 << 44;
+
+/// How many runs a view may have.
+const MOST_RUNS: u64 = 4096;
 
 /// The tree of the 2^44 pages of the space. Contracts see its shape.
 #[derive(Drop)]
 pub struct Tree {
+    alloc: Global,
     root: Block,
 }
 
@@ -37,7 +51,7 @@ pub fn build(alloc: Global, map: &PermissionMap) -> Result<Tree, Memory>
     ensures canonical { IfOk result (λ t. IsCanonical t) }
 {
     let root = build_block(alloc, map.ranges(), 0, 44)?;
-    Ok(Tree { root })
+    Ok(Tree { alloc, root })
 }
 
 impl Tree {
@@ -50,9 +64,34 @@ impl Tree {
         &self.root
     }
 
+    /// The tree of the view with the permission in the `count` pages from `first` on. This tree stays, and the new one shares its blocks that do not meet the range.
+    pub fn with_range(&self, first: u64, count: u64, perm: Perm) -> Result<Tree, MapFault>
+        ensures means { IfOk result (λ t. TreeMeans (overwritten (view_of_tree self.now) first count perm) t) }
+        ensures canonical { IfOk result (λ t. IsCanonical t) }
+        ensures nothing { count ≡ 0 → IfOk result (λ t. t ≡ self.now) }
+        ensures past_end { (result ≡ Err MapFault.PastEnd) ↔ (2 ^ 44 < first + count) }
+        ensures too_many { result ≡ Err MapFault.TooManyRanges → (first + count ≤ 2 ^ 44) × ((runs : List Run) × AreRunsOf (overwritten (view_of_tree self.now) first count perm) runs × (4096 < length runs)) }
+        ensures few { OnOk result ((runs : List Run) → AreRunsOf (overwritten (view_of_tree self.now) first count perm) runs → length runs ≤ 4096) }
+    {
+        if first > PAGES || count > PAGES - first {
+            return Err(MapFault::PastEnd);
+        }
+        let run = Run { first, count, perm };
+        let Ok(root) = overwritten_block(self.alloc, &self.root, 0, 44, &run) else {
+            return Err(MapFault::Memory);
+        };
+        if run_count(&root) > MOST_RUNS {
+            return Err(MapFault::TooManyRanges);
+        }
+        Ok(Tree {
+            alloc: self.alloc,
+            root,
+        })
+    }
+
     /// The number of split blocks.
     #[tactic(auto, using(crate::proofs::Edges::splits_most, crate::proofs::Edges::leaves_splits))]
-    pub fn branches(&self) -> u64
+    pub fn branches(&self) -> usize
         ensures value { result ≡ splits self.now }
         ensures leaves { leaves self.now ≡ result + 1 }
         ensures most { result ≤ 44 * 8192 }
