@@ -108,7 +108,7 @@ pub fn write(alloc: Global, tree: &Tree, plan: &Plan, limit: Limit) -> Result<Ve
     ensures spells { IfOk result (λ v. Spells v.items (version_for limit) plan.now.entries (costed plan.now.costs 0 tree.now)) }
 {
     let branches = plan.branches();
-    prove!(tree.branches() == branches as u64);
+    prove!(tree.branches() == branches);
     let header = Header {
         version: version_for(limit),
         count: plan.needed(),
