@@ -27,7 +27,8 @@ fn pages_of(log2: u32) -> u64
     1 << log2
 }
 
-/// A permission for each page of the space, seen as its maximal runs of a permission other than none.
+/// A permission for each page of the space, seen as its maximal runs of a permission other than none. It has at most
+/// 4096 of them.
 #[derive(Drop)]
 pub struct PermissionMap {
     runs: Vec<Run>,
@@ -57,7 +58,7 @@ impl PermissionMap {
         }
     }
 
-    /// The runs, by rising page.
+    /// The maximal runs of a permission other than none, by rising page: at most 4096 of them.
     pub fn ranges(&self) -> &[Run]
         ensures value { result.now ≡ self.now }
         ensures runs { AreRuns self.now }
@@ -66,18 +67,19 @@ impl PermissionMap {
         self.runs.as_slice()
     }
 
-    /// The permission of a page.
+    /// The permission of a page, by its number below `2 ^ 44`.
     pub fn get(&self, page: u64) -> Perm
         requires { page < 2 ^ 44 }
         ensures { result ≡ view_of_runs self.now page }
     {
-        match next(self.runs.as_slice(), page) {
+        match next(&self.runs, page) {
             Some(run) if run.first <= page => run.perm,
             _ => Perm::NoAccess,
         }
     }
 
-    /// The permission that all pages of the aligned block of `2 ^ log2` pages from `first` on have, where they have one.
+    /// The permission that all pages of a block have, or nothing where they have more than one. The block is the
+    /// `2 ^ log2` pages from `first` on, aligned to their number and inside the space.
     pub fn uniform(&self, first: u64, log2: u32) -> Option<Perm>
         requires aligned { first % 2 ^ log2 ≡ 0 }
         requires inside { first + 2 ^ log2 ≤ 2 ^ 44 }
@@ -85,7 +87,7 @@ impl PermissionMap {
         ensures none { IfNone result ((perm : Perm) → ((i : ℕ) → i < 2 ^ log2 → view_of_runs self.now (first + i) ≡ perm) → ⊥) }
     {
         let end = first + pages_of(log2);
-        let Some(run) = next(self.runs.as_slice(), first) else {
+        let Some(run) = next(&self.runs, first) else {
             return Some(Perm::NoAccess);
         };
         if run.first >= end {
@@ -97,15 +99,16 @@ impl PermissionMap {
         Some(run.perm)
     }
 
-    /// A copy of the map.
+    /// A copy of the map. It can fail for want of memory alone.
     pub fn try_clone(&self) -> Result<PermissionMap, Memory>
         ensures { IfOk result (λ copy. copy ≡ self.now) }
     {
-        let runs = Vec::from_slice(*self.runs.allocator(), self.runs.as_slice())?;
+        let runs = Vec::from_slice(*self.runs.allocator(), &self.runs)?;
         Ok(PermissionMap { runs })
     }
 
-    /// Sets the permission of the `count` pages from `first` on. On an error the map stays as it was.
+    /// Sets the permission of the `count` pages from `first` on, and of no other page. On an error the map stays as it
+    /// was; see [`MapFault`] for when each comes. A range of no pages changes nothing.
     pub fn set_range(&mut self, first: u64, count: u64, perm: Perm) -> Result<(), MapFault>
         ensures done { OnOk result (AreOverwritten self.old first count perm self.new) }
         ensures kept { OnErr result (self.new ≡ self.old) }

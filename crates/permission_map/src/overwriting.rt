@@ -161,10 +161,10 @@ pub(crate) fn overwrite(
         return Ok(());
     }
     let end = first + count;
-    let from = clear_of(runs.as_slice(), first);
-    let to = begun(runs.as_slice(), end);
-    let (below, start) = rest_below(runs.as_slice(), from, first, perm);
-    let (above, stop) = rest_above(runs.as_slice(), to, end, perm);
+    let from = clear_of(runs, first);
+    let to = begun(runs, end);
+    let (below, start) = rest_below(runs, from, first, perm);
+    let (above, stop) = rest_above(runs, to, end, perm);
     let new = new_run(start, stop, perm);
     replace(runs, from, to, below, new, above)
 }
