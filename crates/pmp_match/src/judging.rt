@@ -1,12 +1,15 @@
-ghost use Rattle.std.specs.Prelude.{◌≡◌, ◌+◌, ◌^◌, ◌≤◌, ◌<◌, true};
+ghost use Rattle.std.specs.Prelude.{◌≡◌, ◌+◌, ◌^◌, ◌≤◌, ◌<◌, true, ◌&&◌, ◌||◌, List};
+ghost use Rattle.pmp_encoding.specs.declared.region.Entry.{Entry};
+ghost use Rattle.pmp_encoding.specs.Banks.{HasList};
 ghost use Rattle.pmp_encoding.specs.Perms.{can_read, can_write, can_execute};
 ghost use Rattle.pmp_match.specs.Kinds.{holds};
 ghost use Rattle.pmp_match.specs.Accesses.{meets, contains_all};
-ghost use Rattle.pmp_match.specs.Decision.{allows, Allows};
+ghost use Rattle.pmp_match.specs.Decision.{allows, is_machine};
 ghost use Rattle.pmp_match.specs.Judgement.{Judges, judgement, access_fault, misaligned};
 
-use crate::access::{Access, Cause, Kind, Mode};
-use pmp_encoding::{Entry, Perm, Region};
+use crate::access::{Access, Kind, Mode};
+use crate::cause::Cause;
+use pmp_encoding::{Bank, Entry, Perm, Region};
 
 fn holds(perm: Perm, kind: Kind) -> bool
     ensures { result ≡ holds perm kind }
@@ -41,17 +44,36 @@ fn contains_all(region: &Region, access: &Access) -> bool
     region.base <= access.address && access.address + u64::from(access.size) <= end_of(region)
 }
 
-fn is_allowed(entries: &[Entry], access: &Access) -> bool
-    requires { access.now.address < 2 ^ 56 }
-    ensures { result ≡ allows entries.now access.now }
+fn is_machine(mode: Mode) -> bool
+    ensures { result ≡ is_machine mode }
 {
-    for entry in entries {
+    mode == Mode::Machine
+}
+
+/// Whether the entry, being the first that the access meets, lets it through.
+fn is_granted(entry: &Entry, access: &Access) -> bool
+    requires { access.now.address < 2 ^ 56 }
+    ensures { result ≡ contains_all entry.now.region access.now && (is_machine access.now.mode || holds entry.now.perm access.now.kind) }
+{
+    contains_all(&entry.region, access)
+        && (is_machine(access.mode) || holds(entry.perm, access.kind))
+}
+
+/// What the bank's list says of the access.
+fn is_allowed(bank: &Bank, access: &Access) -> bool
+    requires { access.now.address < 2 ^ 56 }
+    ensures { (entries : List Entry) → HasList bank.now entries → result ≡ allows entries access.now }
+{
+    let count = bank.limit().number() as usize;
+    for i in 0..count {
+        let Some(entry) = bank.entry(i) else {
+            continue;
+        };
         if meets(&entry.region, access) {
-            return contains_all(&entry.region, access)
-                && (access.mode == Mode::Machine || holds(entry.perm, access.kind));
+            return is_granted(&entry, access);
         }
     }
-    access.mode == Mode::Machine
+    is_machine(access.mode)
 }
 
 fn misaligned(kind: Kind) -> Cause
@@ -74,21 +96,24 @@ fn access_fault(kind: Kind) -> Cause
     }
 }
 
-fn judged(entries: &[Entry], access: &Access) -> Result<(), Cause>
-    ensures { result ≡ judgement entries.now access.now }
+fn judged(bank: &Bank, access: &Access) -> Result<(), Cause>
+    ensures { (entries : List Entry) → HasList bank.now entries → result ≡ judgement entries access.now }
 {
     if access.address % u64::from(access.size) != 0 {
         return Err(misaligned(access.kind));
     }
-    if access.address >= 1 << 56 || !is_allowed(entries, access) {
+    if access.address >= 1 << 56 || !is_allowed(bank, access) {
         return Err(access_fault(access.kind));
     }
     Ok(())
 }
 
-/// What becomes of the access under the entries.
-pub fn judge(entries: &[Entry], access: &Access) -> Result<(), Cause>
-    ensures { Judges entries.now access.now result }
+/// What becomes of the access under the entries that the bank's registers mean. It looks at nothing else, and takes
+/// no memory. (RISC-V Privileged Architecture, Physical Memory Protection, priority and matching logic; that a
+/// misaligned access comes before all else, and then one past the space, is this project's own order)
+pub fn judge(bank: &Bank, access: &Access) -> Result<(), Cause>
+    ensures by_its_list { (entries : List Entry) × HasList bank.now entries × Judges entries access.now result }
+    ensures by_no_other { (entries : List Entry) → HasList bank.now entries → Judges entries access.now result }
 {
-    judged(entries, access)
+    judged(bank, access)
 }

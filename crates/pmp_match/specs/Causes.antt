@@ -1,0 +1,25 @@
+-- Why an access fails, by number and by the kind of the access.
+use Rattle.std.specs.Prelude.{ℕ}
+use Rattle.pmp_match.specs.declared.access.Kind.{Kind}
+use Rattle.pmp_match.specs.declared.access.Kind.TheVariants.{Fetch, Load, Store}
+use Rattle.pmp_match.specs.declared.cause.Cause.{Cause}
+use Rattle.pmp_match.specs.declared.cause.Cause.TheVariants.{FetchMisaligned, FetchFault, LoadMisaligned, LoadFault, StoreMisaligned, StoreFault}
+
+-- the exception code
+abbrev pub cause_number : Cause → ℕ
+cause_number FetchMisaligned = 0
+cause_number FetchFault = 1
+cause_number LoadMisaligned = 4
+cause_number LoadFault = 5
+cause_number StoreMisaligned = 6
+cause_number StoreFault = 7
+
+abbrev pub misaligned : Kind → Cause
+misaligned Fetch = FetchMisaligned
+misaligned Load = LoadMisaligned
+misaligned Store = StoreMisaligned
+
+abbrev pub access_fault : Kind → Cause
+access_fault Fetch = FetchFault
+access_fault Load = LoadFault
+access_fault Store = StoreFault
