@@ -89,6 +89,10 @@ impl Bank {
         ensures { MatchOption result (IsOff (cfg_at self.now i) (address_at self.now i)) (MeansEntry (cfg_at self.now i) (address_at self.now i)) }
     {
         let cfg = byte_of(self.words[i / 8], i % 8);
+        // Most places hold nothing, and need no decoding.
+        if cfg == 0 {
+            return None;
+        }
         match decode(cfg, self.addr(i)) {
             Ok(entry) => entry,
             Err(_) => unreachable!(),
