@@ -21,6 +21,8 @@ mod fault;
 mod header;
 mod parts;
 mod reader;
+#[cfg(test)]
+mod tests;
 mod writing;
 
 pub use fault::ReadFault;

@@ -107,13 +107,14 @@ pub fn write(alloc: Global, tree: &Tree, plan: &Plan, limit: Limit) -> Result<Ve
     ensures bytes { IfOk result (λ v. v.items ≡ certificate_bytes (version_for limit) plan.now.entries (costed plan.now.costs 0 tree.now)) }
     ensures spells { IfOk result (λ v. Spells v.items (version_for limit) plan.now.entries (costed plan.now.costs 0 tree.now)) }
 {
-    let branches = plan.branches();
-    prove!(tree.branches() == branches);
+    let branches = tree.branches();
+    prove!(branches == plan.branches());
+    let count = plan.needed();
     let header = Header {
         version: version_for(limit),
-        count: plan.needed(),
+        count,
     };
-    let mut out = Vec::new(alloc);
+    let mut out = Vec::with_capacity(alloc, 12 + 9 * count as usize + 27 * branches)?;
     push_header(&mut out, header)?;
     push_entries(&mut out, plan.entries())?;
     push_node(&mut out, tree.root(), plan, 0)?;
