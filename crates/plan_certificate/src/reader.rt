@@ -105,8 +105,8 @@ impl<'a> Reader<'a> {
         ensures fault { (f : ReadFault) → (result ≡ Err f) ↔ HeaderFault self.old f }
         ensures kept { OnErr result (self.new ≡ self.old) }
     {
-        let (header, rest) = header_of(self.bytes)?;
-        self.bytes = rest;
+        let (header, rest) = header_of(self.rest())?;
+        *self = Reader::new(rest);
         Ok(header)
     }
 
@@ -118,10 +118,10 @@ impl<'a> Reader<'a> {
         ensures fault { (f : ReadFault) → (result ≡ Err f) ↔ ShortFault 9 self.old f }
         ensures kept { OnErr result (self.new ≡ self.old) }
     {
-        let Some((bytes, rest)) = self.bytes.split_at_checked(9) else {
+        let Some((bytes, rest)) = self.rest().split_at_checked(9) else {
             return Err(ReadFault::Truncated);
         };
-        self.bytes = rest;
+        *self = Reader::new(rest);
         Ok(EntryBytes::of(bytes))
     }
 
@@ -132,13 +132,15 @@ impl<'a> Reader<'a> {
         ensures fault { (f : ReadFault) → (result ≡ Err f) ↔ TagFault self.old f }
         ensures kept { OnErr result (self.new ≡ self.old) }
     {
-        let tag = match self.bytes {
-            [] => return Err(ReadFault::Truncated),
-            [0, ..] => Tag::Leaf,
-            [1, ..] => Tag::Branch,
+        let Some((byte, rest)) = self.rest().split_first() else {
+            return Err(ReadFault::Truncated);
+        };
+        let tag = match *byte {
+            0 => Tag::Leaf,
+            1 => Tag::Branch,
             _ => return Err(ReadFault::BadTag),
         };
-        self.bytes = &self.bytes[1..];
+        *self = Reader::new(rest);
         Ok(tag)
     }
 
@@ -149,13 +151,13 @@ impl<'a> Reader<'a> {
         ensures fault { (f : ReadFault) → (result ≡ Err f) ↔ PermFault self.old f }
         ensures kept { OnErr result (self.new ≡ self.old) }
     {
-        let Some((bits, rest)) = self.bytes.split_first() else {
+        let Some((bits, rest)) = self.rest().split_first() else {
             return Err(ReadFault::Truncated);
         };
         let Some(perm) = Perm::from_bits(*bits) else {
             return Err(ReadFault::BadPerm);
         };
-        self.bytes = rest;
+        *self = Reader::new(rest);
         Ok(perm)
     }
 
@@ -167,10 +169,10 @@ impl<'a> Reader<'a> {
         ensures fault { (f : ReadFault) → (result ≡ Err f) ↔ ShortFault 24 self.old f }
         ensures kept { OnErr result (self.new ≡ self.old) }
     {
-        let Some((bytes, rest)) = self.bytes.split_at_checked(24) else {
+        let Some((bytes, rest)) = self.rest().split_at_checked(24) else {
             return Err(ReadFault::Truncated);
         };
-        self.bytes = rest;
+        *self = Reader::new(rest);
         Ok(Costs::of(bytes))
     }
 }

@@ -5,13 +5,13 @@ use Rattle.plan_certificate.proofs.CostBytes.{same_costs, short_costs, front_and
 use Rattle.plan_certificate.proofs.reader.Reader.costs.Goals as goal
 
 pub returns-in_default-clause-whole : goal.returns-in_default-clause-whole
-returns-in_default-clause-whole c = λ costs rest fits e. absurd (short_costs c.self.inside.bytes.now c.args.self.now rest costs c.self.view_is c.in_default.ensures.cases e)
+returns-in_default-clause-whole c = λ costs rest fits e. absurd (short_costs c.rest.result.now c.args.self.now rest costs c.rest.ensures c.in_default.ensures.cases e)
 
 pub returns-clause-whole : goal.returns-clause-whole
 returns-clause-whole c = λ costs rest fits e.
     let tail = c.in-Some.rest.now in
     let cases = c.in-Some.ensures.cases in
-    let stands = front_and_rest 24 c.self.inside.bytes.now c.in-Some.bytes.now tail c.args.self.now cases.1 cases.2 c.self.view_is in
+    let stands = front_and_rest 24 c.rest.result.now c.in-Some.bytes.now tail c.args.self.now cases.1 cases.2 c.rest.ensures in
     let both = ap (λ (front : List ℕ). front ++ tail) (sym c.of.ensures.spelled) ∙ stands ∙ e in
     let same = same_costs (cost_of c.of.result) costs tail rest c.of.ensures.fits fits both in
-    (ap Ok same.0, same.1)
+    (ap Ok same.0, c.new.ensures ∙ same.1)
