@@ -2,3 +2,4 @@ pub mod Numbers
 pub mod CostBytes
 pub mod Headers
 pub mod Spelled
+pub mod Sums

@@ -19,6 +19,7 @@
 
 mod fault;
 mod header;
+mod laws;
 mod parts;
 mod reader;
 #[cfg(test)]
@@ -27,6 +28,7 @@ mod writing;
 
 pub use fault::ReadFault;
 pub use header::{Header, Version};
+pub use laws::certificate_law;
 pub use parts::{Costs, EntryBytes};
 pub use reader::{Reader, Tag};
 pub use writing::write;
