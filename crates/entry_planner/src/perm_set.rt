@@ -3,7 +3,7 @@ use pmp_encoding::Perm;
 /// A set of permissions: a bit for each, in the fixed order, that of no access lowest.
 #[derive(Clone, Copy, PartialEq, Eq, Debug)]
 pub struct PermSet {
-    bits: u8,
+    pub bits: u8,
 }
 
 /// The place of a permission in the fixed order.

@@ -2,7 +2,7 @@ ghost use Rattle.std.specs.Prelude.{◌≡◌, ◌≤◌, List, length, All, IfO
 ghost use Rattle.pmp_encoding.specs.declared.perm.Perm.TheVariants.{NoAccess};
 ghost use Rattle.pmp_encoding.specs.declared.region.Entry.{Entry};
 ghost use Rattle.pmp_match.specs.Bounds.{IsSoundBound, bound_of};
-ghost use Rattle.pmp_match.specs.Meaning.{Means};
+ghost use Rattle.pmp_match.specs.Meaning.{Means, Needs};
 ghost use Rattle.prefix_tree.specs.Counts.{splits};
 ghost use Rattle.prefix_tree.specs.Shapes.{shape_of};
 ghost use Rattle.prefix_tree.specs.Trees.{Fits, view_of_tree};
@@ -37,6 +37,7 @@ fn entries_of(alloc: Global, root: &Block, halves: &[HalfPerms]) -> Result<Vec<E
 pub fn plan(alloc: Global, tree: &Tree) -> Result<Plan, Memory>
     ensures means { IfOk result (λ plan. Means plan.entries (view_of_tree tree.now)) }
     ensures least { IfOk result (λ plan. (others : List Entry) → Means others (view_of_tree tree.now) → length plan.entries ≤ length others) }
+    ensures needs { IfOk result (λ plan. Needs (view_of_tree tree.now) (length plan.entries)) }
     ensures pages { IfOk result (λ plan. All (λ e. 12 ≤ e.region.log2) plan.entries) }
     ensures order { IfOk result (λ plan. AreInOrder plan.entries) }
     ensures costs { IfOk result (λ plan. plan.costs ≡ costs_in tree.now) }

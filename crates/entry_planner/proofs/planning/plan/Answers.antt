@@ -15,9 +15,12 @@ pub returns : goal.returns
 returns c =
     let m = made c.args.tree.now _ _ _ _ c.new.result c.root-root.ensures.shape c.in_ok-entries.ensures.placed c.in_ok-entries.ensures.order
     c.in_ok-costs.ensures.items c.in_ok-add_costs.ensures.costs c.new.ensures in
+    let means = listed_means c.args.tree.now c.new.result.entries c.root-root.ensures.fits m.listed m.order in
+    let least = listed_least c.args.tree.now c.new.result.entries c.root-root.ensures.fits m.listed in
     record {
-      means = listed_means c.args.tree.now c.new.result.entries c.root-root.ensures.fits m.listed m.order;
-      least = listed_least c.args.tree.now c.new.result.entries c.root-root.ensures.fits m.listed;
+      means = means;
+      least = least;
+      needs = record { entries = c.new.result.entries; means = means; count = refl; least = least };
       pages = listed_pages c.args.tree.now c.new.result.entries m.listed;
       order = m.order;
       costs = m.costs;

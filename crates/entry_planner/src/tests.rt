@@ -1,0 +1,156 @@
+use super::*;
+use crate::costs::add_costs;
+use permission_map::PermissionMap;
+use pmp_encoding::{Bank, Limit, Perm};
+use prefix_tree::{Tree, build};
+use std::alloc::Global;
+use std::process::Abort;
+use std::test::Fail;
+
+/// The tree of a view that gives these ranges their permissions: the first page, the number of pages, the permission.
+fn tree_of(alloc: Global, ranges: &[(u64, u64, Perm)]) -> Result<Tree, Fail> {
+    let mut map = PermissionMap::new(alloc);
+    for (first, count, perm) in ranges {
+        map.set_range(*first, *count, *perm)?;
+    }
+    let tree = build(alloc, &map)?;
+    Ok(tree)
+}
+
+/// The plan of the ranges has these entries, written as pairs, in this order.
+fn is_planned(
+    ranges: &[(u64, u64, Perm)],
+    pairs: &[(u8, u64)],
+    alloc: Global,
+    rt: &impl Abort,
+) -> Result<Plan, Fail> {
+    let tree = tree_of(alloc, ranges)?;
+    let plan = plan(alloc, &tree)?;
+    let mut found = Vec::new(alloc);
+    for entry in plan.entries() {
+        found.push(entry.encode())?;
+    }
+    assert_eq!(rt; found.as_slice(), pairs);
+    assert_eq!(rt; plan.needed() as usize, pairs.len());
+    assert_eq!(rt; plan.branches(), tree.branches() as usize);
+    Ok(plan)
+}
+
+/// The first configuration word of the bank that has the plan's list.
+fn first_word(plan: &Plan, rt: &impl Abort) -> u64 {
+    assert!(rt; plan.entries().len() <= 16);
+    Bank::of(plan.entries(), Limit::Sixteen).cfg0()
+}
+
+#[test]
+fn empty_map_needs_no_entry(rt: HostRuntime) -> Result<(), Fail> {
+    let plan = is_planned(&[], &[], rt.alloc(), &rt)?;
+    assert_eq!(rt; plan.branches(), 0);
+    Ok(())
+}
+
+#[test]
+fn the_whole_space_needs_one_entry(rt: HostRuntime) -> Result<(), Fail> {
+    let _ = is_planned(
+        &[(0, 1 << 44, Perm::ReadWriteExecute)],
+        &[(0x1F, 0x001F_FFFF_FFFF_FFFF)],
+        rt.alloc(),
+        &rt,
+    )?;
+    Ok(())
+}
+
+#[test]
+fn a_page_denied_in_the_whole_space_needs_one_more(rt: HostRuntime) -> Result<(), Fail> {
+    let _ = is_planned(
+        &[
+            (0, 1 << 44, Perm::ReadWriteExecute),
+            (0x80000, 1, Perm::NoAccess),
+        ],
+        &[(0x18, 0x2000_01FF), (0x1F, 0x001F_FFFF_FFFF_FFFF)],
+        rt.alloc(),
+        &rt,
+    )?;
+    Ok(())
+}
+
+#[test]
+fn boot_of_the_example_platform_uses_three_entries(rt: HostRuntime) -> Result<(), Fail> {
+    let plan = is_planned(
+        &[
+            (0x80000, 0x8000, Perm::ReadWriteExecute),
+            (0x80000, 0x200, Perm::NoAccess),
+            (0x10000, 1, Perm::ReadWrite),
+        ],
+        &[
+            (0x1B, 0x0400_01FF),
+            (0x18, 0x2003_FFFF),
+            (0x1F, 0x20FF_FFFF),
+        ],
+        rt.alloc(),
+        &rt,
+    )?;
+    assert_eq!(rt; first_word(&plan, &rt), 0x1F_181B);
+    Ok(())
+}
+
+#[test]
+fn seven_pages_need_two_entries(rt: HostRuntime) -> Result<(), Fail> {
+    let plan = is_planned(
+        &[(0x80208, 7, Perm::ReadExecute)],
+        &[(0x18, 0x2008_3DFF), (0x1D, 0x2008_2FFF)],
+        rt.alloc(),
+        &rt,
+    )?;
+    assert_eq!(rt; first_word(&plan, &rt), 0x1D18);
+    Ok(())
+}
+
+#[test]
+fn one_page_of_four_is_overridden(rt: HostRuntime) -> Result<(), Fail> {
+    let _ = is_planned(
+        &[(0x80000, 4, Perm::Read), (0x80001, 1, Perm::ReadWrite)],
+        &[(0x1B, 0x2000_05FF), (0x19, 0x2000_07FF)],
+        rt.alloc(),
+        &rt,
+    )?;
+    Ok(())
+}
+
+#[test]
+fn a_tie_is_settled_as_two_pages(rt: HostRuntime) -> Result<(), Fail> {
+    let plan = is_planned(
+        &[
+            (0x80200, 1, Perm::ReadExecute),
+            (0x80201, 1, Perm::ReadWrite),
+            (0x80400, 1, Perm::ReadWrite),
+        ],
+        &[
+            (0x1D, 0x2008_01FF),
+            (0x1B, 0x2008_05FF),
+            (0x1B, 0x2010_01FF),
+        ],
+        rt.alloc(),
+        &rt,
+    )?;
+    assert_eq!(rt; first_word(&plan, &rt), 0x1B_1B1D);
+    Ok(())
+}
+
+#[test]
+fn the_lower_half_costs_one_under_either_permission(rt: HostRuntime) -> Result<(), Fail> {
+    let ranges = [(0, 1 << 43, Perm::ReadWriteExecute)];
+    let tree = tree_of(rt.alloc(), &ranges)?;
+    let mut costs = Vec::new(rt.alloc());
+    let mut halves = Vec::new(rt.alloc());
+    assert!(rt; tree.branches() < 1 << 32);
+    let whole = add_costs(tree.root(), &mut costs, &mut halves)?;
+    assert_eq!(rt; whole.least, 1);
+    assert_eq!(rt; whole.best.bits, 0x21);
+    let plan = plan(rt.alloc(), &tree)?;
+    assert_eq!(rt; plan.branches(), 1);
+    assert_eq!(rt; plan.cost(0, Perm::NoAccess), 1);
+    assert_eq!(rt; plan.cost(0, Perm::Read), 2);
+    assert_eq!(rt; plan.cost(0, Perm::ReadWriteExecute), 1);
+    Ok(())
+}
