@@ -45,7 +45,7 @@ pub fn plan(alloc: Global, tree: &Tree) -> Result<Plan, Memory>
     ensures bound { IfOk result (λ plan. IsSoundBound (view_of_tree tree.now) (costed plan.costs 0 tree.now)) }
     ensures root { IfOk result (λ plan. bound_of (costed plan.costs 0 tree.now) NoAccess ≡ length plan.entries) }
 {
-    let branches = tree.branches() as usize;
+    let branches = tree.branches();
     let root = tree.root();
     let mut costs = Vec::with_capacity(alloc, branches)?;
     let mut halves = Vec::with_capacity(alloc, branches)?;

@@ -32,7 +32,7 @@ fn is_planned(
     }
     assert_eq!(rt; found.as_slice(), pairs);
     assert_eq!(rt; plan.needed() as usize, pairs.len());
-    assert_eq!(rt; plan.branches(), tree.branches() as usize);
+    assert_eq!(rt; plan.branches(), tree.branches());
     Ok(plan)
 }
 
