@@ -28,5 +28,5 @@ mod tests;
 pub use access::{Access, Kind, Mode};
 pub use cause::Cause;
 pub use judging::judge;
-pub use laws::{decision_law, judgement_law, least_law, needs_law, page_law};
+pub use laws::{byte_law, decision_law, judgement_law, least_law, needs_law, page_law};
 pub use rows::boot_row;

@@ -1,5 +1,5 @@
 -- Each place in turn has nothing to say, or decides.
-use Rattle.std.proofs.Common.{◌≡◌, sym, ap, subst, ◌∙◌}
+use Rattle.std.proofs.Common.{sym, ap, subst, ◌∙◌}
 use Rattle.pmp_encoding.specs.Limits.{limit_number}
 use Rattle.pmp_match.proofs.Scanned.{Scans, scan_start, scan_off, scan_match, scan_past, scan_end}
 use Rattle.pmp_match.proofs.judging.is_allowed.Goals as goal
