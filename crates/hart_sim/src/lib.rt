@@ -3,6 +3,7 @@
 
 mod buffer;
 mod event;
+pub mod fakes;
 mod lexical;
 mod lines;
 mod streams;

@@ -148,4 +148,35 @@ impl LineReader {
         self.came += n as u64;
         Ok(n > 0)
     }
+
+    /// Hands out the next line: true where there was one, false at the end of the input. Nothing is
+    /// read while a whole line is there. A line of more than 1023 bytes before its LF is not
+    /// understood, and more than 2^40 bytes are too long.
+    pub fn next_line<R: Source>(&mut self, source: &mut R) -> Result<bool, RunFault>
+        requires { R.failures source.old < 2 ^ 64 - 1 }
+        ensures line { NextLine result self.old self.new (R.remaining source.old) (R.remaining source.new) }
+        ensures failures { FailsOnRead result (R.failures source.old) (R.failures source.new) }
+    {
+        self.let_go();
+        'reads: loop {
+            let bytes = self.buffer.as_slice();
+            let held = bytes.len();
+            let len = line_len(bytes);
+            if len > LONGEST {
+                return Err(RunFault::Line(self.number + 1));
+            }
+            if len < held {
+                self.hand_out(len, len + 1);
+                return Ok(true);
+            }
+            let more = self.read_more(source)?;
+            if !more {
+                if held == 0 {
+                    return Ok(false);
+                }
+                self.hand_out(held, held);
+                return Ok(true);
+            }
+        }
+    }
 }
