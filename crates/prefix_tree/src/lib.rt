@@ -11,3 +11,6 @@ mod trees;
 pub use blocks::{Block, Parts};
 pub use laws::{canonical_law, meaning_law};
 pub use trees::{Tree, build};
+
+#[cfg(test)]
+mod tests;

@@ -1,0 +1,183 @@
+use super::*;
+use permission_map::{MapFault, PermissionMap};
+use pmp_encoding::Perm;
+use std::alloc::Global;
+use std::process::Abort;
+use std::rc::Rc;
+use std::test::Fail;
+
+const PAGES: u64 = 1 << 44;
+
+/// Whether two blocks are split alike, with the same permissions.
+fn same(one: &Block, other: &Block, height: u32) -> bool {
+    match (one.parts(), other.parts()) {
+        (Parts::Leaf(perm), Parts::Leaf(wanted)) => perm == wanted,
+        (Parts::Halves(lower, upper), Parts::Halves(low, high)) => {
+            height > 0 && same(lower, low, height - 1) && same(upper, high, height - 1)
+        }
+        _ => false,
+    }
+}
+
+/// A page at the bottom, two runs that a page lies between, and the two pages at the top.
+fn example_map(alloc: Global) -> Result<PermissionMap, Fail> {
+    let mut map = PermissionMap::new(alloc);
+    map.set_range(0, 1, Perm::Read)?;
+    map.set_range(16, 16, Perm::ReadWrite)?;
+    map.set_range(33, 8, Perm::ReadWrite)?;
+    map.set_range(PAGES - 2, 2, Perm::ReadWriteExecute)?;
+    Ok(map)
+}
+
+/// The version with the range is the tree that is built of the map with the range, and both are refused alike.
+fn versions_agree(
+    alloc: Global,
+    first: u64,
+    count: u64,
+    perm: Perm,
+    rt: &impl Abort,
+) -> Result<(), Fail> {
+    let mut map = example_map(alloc)?;
+    let old = build(alloc, &map)?;
+    let version = old.with_range(first, count, perm);
+    let wanted = map.set_range(first, count, perm);
+    let tree = build(alloc, &map)?;
+    match version {
+        Ok(version) => {
+            assert!(rt; wanted.is_ok());
+            assert!(rt; same(version.root(), tree.root(), 44));
+            assert_eq!(rt; version.branches(), tree.branches());
+        }
+        Err(fault) => assert_eq!(rt; wanted.err(), Some(fault)),
+    }
+    Ok(())
+}
+
+#[test]
+fn empty_map_is_one_leaf(rt: HostRuntime) -> Result<(), Fail> {
+    let tree = build(rt.alloc(), &PermissionMap::new(rt.alloc()))?;
+    assert_eq!(rt; tree.branches(), 0);
+    assert!(rt; matches!(tree.root().parts(), Parts::Leaf(Perm::NoAccess)));
+    Ok(())
+}
+
+#[test]
+fn whole_space_is_one_leaf(rt: HostRuntime) -> Result<(), Fail> {
+    let mut map = PermissionMap::new(rt.alloc());
+    map.set_range(0, PAGES, Perm::ReadWriteExecute)?;
+    let tree = build(rt.alloc(), &map)?;
+    assert_eq!(rt; tree.branches(), 0);
+    assert!(rt; matches!(tree.root().parts(), Parts::Leaf(Perm::ReadWriteExecute)));
+    Ok(())
+}
+
+#[test]
+fn one_page_splits_each_block_around_it(rt: HostRuntime) -> Result<(), Fail> {
+    let mut map = PermissionMap::new(rt.alloc());
+    map.set_range(0x80000, 1, Perm::ReadWriteExecute)?;
+    assert_eq!(rt; build(rt.alloc(), &map)?.branches(), 44);
+    Ok(())
+}
+
+#[test]
+fn halves_of_the_space_split_it_once(rt: HostRuntime) -> Result<(), Fail> {
+    let mut map = PermissionMap::new(rt.alloc());
+    map.set_range(0, PAGES / 2, Perm::Read)?;
+    map.set_range(PAGES / 2, PAGES / 2, Perm::Execute)?;
+    let tree = build(rt.alloc(), &map)?;
+    assert_eq!(rt; tree.branches(), 1);
+    let Parts::Halves(lower, upper) = tree.root().parts() else {
+        return Err(Fail::from("not split"));
+    };
+    assert!(rt; matches!(lower.parts(), Parts::Leaf(Perm::Read)));
+    assert!(rt; matches!(upper.parts(), Parts::Leaf(Perm::Execute)));
+    Ok(())
+}
+
+#[test]
+fn versions_are_as_built_afresh(rt: HostRuntime) -> Result<(), Fail> {
+    let cases = [
+        (5, 0, Perm::Read),
+        (PAGES, 0, Perm::Read),
+        (1, 1, Perm::Read),
+        (1, 1, Perm::Execute),
+        (32, 1, Perm::ReadWrite),
+        (20, 4, Perm::NoAccess),
+        (20, 4, Perm::ReadWrite),
+        (20, 4, Perm::Execute),
+        (0, 48, Perm::ReadExecute),
+        (0, PAGES, Perm::NoAccess),
+        (0, PAGES, Perm::ReadWriteExecute),
+        (PAGES - 1, 1, Perm::NoAccess),
+        (PAGES - 3, 1, Perm::ReadWriteExecute),
+        (PAGES - 4, 4, Perm::Read),
+        (PAGES, 1, Perm::Read),
+        (PAGES + 1, 0, Perm::Read),
+        (1, PAGES, Perm::Read),
+        (u64::MAX, u64::MAX, Perm::Read),
+    ];
+    for (first, count, perm) in cases {
+        versions_agree(rt.alloc(), first, count, perm, &rt)?;
+    }
+    Ok(())
+}
+
+/// The halves of the upper half of the space, if it is split.
+fn upper_halves(tree: &Tree) -> Option<&Rc<(Block, Block)>> {
+    let Block::Branch(halves, _) = tree.root() else {
+        return None;
+    };
+    let Block::Branch(upper, _) = &halves.1 else {
+        return None;
+    };
+    Some(upper)
+}
+
+#[test]
+fn what_the_range_does_not_meet_is_shared(rt: HostRuntime) -> Result<(), Fail> {
+    let old = build(rt.alloc(), &example_map(rt.alloc())?)?;
+    let low = old.with_range(3, 5, Perm::Execute)?;
+    let high = old.with_range(PAGES - 1, 1, Perm::Execute)?;
+    let shared = upper_halves(&old).ok_or("not split")?;
+    let kept = upper_halves(&low).ok_or("not split")?;
+    let made = upper_halves(&high).ok_or("not split")?;
+    assert!(rt; Rc::ptr_eq(shared, kept));
+    assert!(rt; !Rc::ptr_eq(shared, made));
+    Ok(())
+}
+
+#[test]
+fn most_ranges_build_and_one_more_is_refused(rt: HostRuntime) -> Result<(), Fail> {
+    let mut map = PermissionMap::new(rt.alloc());
+    for i in 0..4096u64 {
+        map.set_range(i * 0x1_0000_0000, 1, Perm::Read)?;
+    }
+    let tree = build(rt.alloc(), &map)?;
+    assert_eq!(rt; tree.branches(), 4095 + 4096 * 32);
+    assert_eq!(rt;
+        tree.with_range(2, 1, Perm::Read).err(),
+        Some(MapFault::TooManyRanges)
+    );
+    assert_eq!(rt;
+        map.set_range(2, 1, Perm::Read).err(),
+        Some(MapFault::TooManyRanges)
+    );
+    assert!(rt; tree.with_range(1, 1, Perm::Read).is_ok());
+    assert!(rt; tree.with_range(0, 2, Perm::NoAccess).is_ok());
+    Ok(())
+}
+
+#[test]
+fn many_versions_are_kept_and_let_go(rt: HostRuntime) -> Result<(), Fail> {
+    let mut versions = Vec::new(rt.alloc());
+    versions.push(build(rt.alloc(), &example_map(rt.alloc())?)?)?;
+    for i in 0..1000u64 {
+        let Some(last) = versions.last() else {
+            return Err(Fail::from("no version"));
+        };
+        let next = last.with_range(64 + i, 1, Perm::Read)?;
+        versions.push(next)?;
+    }
+    assert_eq!(rt; versions.len(), 1001);
+    Ok(())
+}
