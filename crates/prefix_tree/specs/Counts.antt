@@ -1,5 +1,5 @@
 -- What is counted in a tree of blocks.
-use Rattle.std.specs.Prelude.{ℕ, suc, ◌+◌, max, ◌||◌, if◌then◌else◌}
+use Rattle.std.specs.Prelude.{ℕ, ◌+◌, ◌||◌, if◌then◌else◌}
 use Rattle.pmp_encoding.specs.declared.perm.Perm.{Perm}
 use Rattle.pmp_encoding.specs.declared.perm.Perm.TheVariants.{NoAccess}
 use Rattle.pmp_encoding.specs.Perms.{perm_eq}
@@ -14,11 +14,6 @@ splits (Split lower upper) = 1 + (splits lower + splits upper)
 abbrev pub leaves : PermTree → ℕ
 leaves (Uniform q) = 1
 leaves (Split lower upper) = leaves lower + leaves upper
-
--- how often a page's block is split at most
-abbrev pub depth : PermTree → ℕ
-depth (Uniform q) = 0
-depth (Split lower upper) = suc (max (depth lower) (depth upper))
 
 -- the permissions of the first page and of the last
 abbrev pub first_perm : PermTree → Perm

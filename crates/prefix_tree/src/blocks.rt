@@ -39,7 +39,7 @@ impl Block {
     ghost use Rattle.prefix_tree.specs.PartsOf.{IsPartsOf};
     ghost use Rattle.prefix_tree.specs.Joined.{one_perm};
 
-    /// The permission of the block, or its two halves.
+    /// The permission of the block, or its two halves. The lower half has the lower addresses.
     pub fn parts(&self) -> Parts<'_>
         ensures { IsPartsOf result (shape_of self.now) }
     {

@@ -17,13 +17,13 @@ use pmp_encoding::Perm;
 use std::alloc::Global;
 use std::marker::Model;
 
-/// How many pages the space has.
+/// How many pages the space has: a page has 4096 bytes, and a physical address 56 bits at most.
 const PAGES: u64 = 1 << 44;
 
-/// How many runs a view may have.
+/// How many maximal runs of a permission other than none a view may have.
 const MOST_RUNS: u64 = 4096;
 
-/// The tree of the 2^44 pages of the space. Contracts see its shape.
+/// The canonical tree of a view of the 2^44 pages of the space. Contracts see its shape.
 #[derive(Drop)]
 pub struct Tree {
     alloc: Global,
@@ -45,7 +45,9 @@ impl Model for Tree {
     ghost invariant = { λ t. IsRoot t.root };
 }
 
-/// The tree of the map's view.
+/// The tree of the map's view. It splits just the blocks of more than one permission.
+///
+/// The work is in proportion to the blocks that the edges of the map's runs cut, at most 44 for each edge.
 pub fn build(alloc: Global, map: &PermissionMap) -> Result<Tree, Memory>
     ensures means { IfOk result (λ t. TreeMeans (view_of_runs map.now) t) }
     ensures canonical { IfOk result (λ t. IsCanonical t) }
@@ -55,7 +57,7 @@ pub fn build(alloc: Global, map: &PermissionMap) -> Result<Tree, Memory>
 }
 
 impl Tree {
-    /// The block of the whole space.
+    /// The block of the whole space, from which the tree is walked.
     pub fn root(&self) -> &Block
         ensures shape { shape_of result.now ≡ self.now }
         ensures fits { Fits 44 self.now }
@@ -64,7 +66,12 @@ impl Tree {
         &self.root
     }
 
-    /// The tree of the view with the permission in the `count` pages from `first` on. This tree stays, and the new one shares its blocks that do not meet the range.
+    /// The tree of the view with the permission in the `count` pages from `first` on. This tree stays as it is.
+    ///
+    /// New blocks are made only where the range is met, at most 44 on either end of it; all others are shared.
+    /// It is refused with `PastEnd` where the range ends behind the last page, with `TooManyRanges` where the new
+    /// view has more than 4096 maximal runs of a permission other than none, and with `Memory` where a growth was
+    /// refused. An empty range gives the same tree.
     pub fn with_range(&self, first: u64, count: u64, perm: Perm) -> Result<Tree, MapFault>
         ensures means { IfOk result (λ t. TreeMeans (overwritten (view_of_tree self.now) first count perm) t) }
         ensures canonical { IfOk result (λ t. IsCanonical t) }
@@ -89,7 +96,7 @@ impl Tree {
         })
     }
 
-    /// The number of split blocks.
+    /// The number of split blocks, one less than that of the blocks of one permission. It is kept, not counted.
     #[tactic(auto, using(crate::proofs::Edges::splits_most, crate::proofs::Edges::leaves_splits))]
     pub fn branches(&self) -> usize
         ensures value { result ≡ splits self.now }
