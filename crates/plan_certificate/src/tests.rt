@@ -1,5 +1,9 @@
-use crate::{Header, ReadFault, Reader, Tag, Version};
+use crate::{Header, ReadFault, Reader, Tag, Version, write};
+use entry_planner::plan;
+use permission_map::PermissionMap;
 use pmp_encoding::{Limit, Perm};
+use prefix_tree::build;
+use std::alloc::Global;
 use std::test::Fail;
 
 /// The lower half of the space with every right, in one entry.
@@ -140,5 +144,96 @@ fn a_refusal_leaves_the_cursor_where_it_was(rt: HostRuntime) -> Result<(), ReadF
     assert!(rt; reader.entry().is_err());
     assert!(rt; reader.costs().is_err());
     assert_eq!(rt; reader.rest().len(), 6);
+    Ok(())
+}
+
+/// The certificate of a map of one range, of that many pages.
+fn certificate(
+    alloc: Global,
+    first: u64,
+    count: u64,
+    perm: Perm,
+    limit: Limit,
+) -> Result<Vec<u8>, Fail> {
+    let mut map = PermissionMap::new(alloc);
+    map.set_range(first, count, perm)?;
+    let tree = build(alloc, &map)?;
+    let plan = plan(alloc, &tree)?;
+    let bytes = write(alloc, &tree, &plan, limit)?;
+    Ok(bytes)
+}
+
+#[test]
+fn empty_map_has_eleven_bytes(rt: HostRuntime) -> Result<(), Fail> {
+    let bytes = certificate(rt.alloc(), 0, 0, Perm::Read, Limit::Sixteen)?;
+    assert_eq!(rt;
+        bytes.as_slice(),
+        b"PMPC\x01\x00\x00\x00\x00\x00\x00".as_slice()
+    );
+    Ok(())
+}
+
+#[test]
+fn whole_space_has_twenty_bytes(rt: HostRuntime) -> Result<(), Fail> {
+    let all = Perm::ReadWriteExecute;
+    let first = [
+        0x50, 0x4D, 0x50, 0x43, 1, 1, 0, 0, 0, 0x1F, 0xFF, 0xFF, 0xFF, 0xFF, 0xFF, 0xFF, 0x1F, 0,
+        0, 7,
+    ];
+    let bytes = certificate(rt.alloc(), 0, 1 << 44, all, Limit::Sixteen)?;
+    assert_eq!(rt; bytes.as_slice(), first.as_slice());
+    let second = [
+        0x50, 0x4D, 0x50, 0x43, 2, 0x40, 1, 0, 0, 0, 0x1F, 0xFF, 0xFF, 0xFF, 0xFF, 0xFF, 0xFF,
+        0x1F, 0, 0, 7,
+    ];
+    let bytes = certificate(rt.alloc(), 0, 1 << 44, all, Limit::SixtyFour)?;
+    assert_eq!(rt; bytes.as_slice(), second.as_slice());
+    Ok(())
+}
+
+#[test]
+fn lower_half_has_forty_seven_bytes(rt: HostRuntime) -> Result<(), Fail> {
+    let bytes = certificate(
+        rt.alloc(),
+        0,
+        1 << 43,
+        Perm::ReadWriteExecute,
+        Limit::Sixteen,
+    )?;
+    assert_eq!(rt; bytes.as_slice(), LOWER_HALF.as_slice());
+    Ok(())
+}
+
+#[test]
+fn one_page_splits_forty_four_blocks(rt: HostRuntime) -> Result<(), Fail> {
+    let bytes = certificate(
+        rt.alloc(),
+        0x80000,
+        1,
+        Perm::ReadWriteExecute,
+        Limit::Sixteen,
+    )?;
+    assert_eq!(rt; bytes.len(), 1208);
+    let (header, left) = read_whole(bytes.as_slice())?;
+    assert_eq!(rt; (header.count, left), (1, 0));
+    Ok(())
+}
+
+#[test]
+fn seven_pages_take_two_entries(rt: HostRuntime) -> Result<(), Fail> {
+    let bytes = certificate(rt.alloc(), 0x80208, 7, Perm::ReadExecute, Limit::Sixteen)?;
+    assert_eq!(rt; bytes.len(), 1217);
+    let mut reader = Reader::new(bytes.as_slice());
+    let header = reader.header()?;
+    assert_eq!(rt; header.count, 2);
+    let own = reader.entry()?;
+    assert_eq!(rt; (own.cfg(), own.address()), (0x18, 0x2008_3DFF));
+    let round = reader.entry()?;
+    assert_eq!(rt; (round.cfg(), round.address()), (0x1D, 0x2008_2FFF));
+    assert_eq!(rt; reader.tag()?, Tag::Branch);
+    let costs = reader.costs()?;
+    assert_eq!(rt; costs.cost(Perm::NoAccess), 2);
+    let (_, left) = read_whole(bytes.as_slice())?;
+    assert_eq!(rt; left, 0);
     Ok(())
 }
