@@ -12,7 +12,7 @@ use Rattle.hart_sim.specs.declared.streams.RunFault.{RunFault}
 use Rattle.hart_sim.specs.declared.streams.RunFault.TheVariants as faults
 use Rattle.hart_sim.specs.declared.lines.LineReader.{LineReader}
 use Rattle.hart_sim.specs.Lines.{has_no_end, IsShortLine, BeginsLongLine, without_return}
-use Rattle.hart_sim.specs.LineReaders.{line_of, pending_of, number_of, came_of, Came, Hands, Holds, Answers, NextLine, ReadsMore}
+use Rattle.hart_sim.specs.LineReaders.{line_of, pending_of, number_of, came_of, ended_of, Came, Hands, Holds, Answers, NextLine, ReadsMore}
 
 -- the bytes that have come since the last line stand behind those that were there
 pub record Gathers (old now : LineReader) (before after : Option (List ℕ)) (bytes : List ℕ) : Type 0 where
@@ -84,15 +84,15 @@ refuses_long old now before after bytes slice len g taken number same is inside 
     (bytes, [], after, gathered old now now before after bytes g refl, Consumes-nil after, refl, (ap (λ n. n + 1) number, begins, holding old now now before after bytes g refl taken number))
 
 -- a line ends with its LF
-pub hands_ended : (old now new : LineReader) (before after : Option (List ℕ)) (bytes slice : List ℕ) (len : ℕ) → Gathers old now before after bytes → now.number ≡ old.number → slice ≡ now.buffer → len ≡ position_or_len (λ b. b == 10) slice → len < length slice → len ≤ 1023 → line_of new ≡ without_return (take len now.buffer) → pending_of new ≡ drop (len + 1) now.buffer → number_of new ≡ number_of now + 1 → came_of new ≡ came_of now → NextLine (Ok true) old new before after
-hands_ended old now new before after bytes slice len g number same is inside few text pending next came =
+pub hands_ended : (old now new : LineReader) (before after : Option (List ℕ)) (bytes slice : List ℕ) (len : ℕ) → Gathers old now before after bytes → now.number ≡ old.number → slice ≡ now.buffer → len ≡ position_or_len (λ b. b == 10) slice → len < length slice → len ≤ 1023 → line_of new ≡ without_return (take len now.buffer) → pending_of new ≡ drop (len + 1) now.buffer → number_of new ≡ number_of now + 1 → came_of new ≡ came_of now → ended_of new ≡ false → NextLine (Ok true) old new before after
+hands_ended old now new before after bytes slice len g number same is inside few text pending next came goes_on =
     let there : slice ≡ pending_of old ++ bytes = same ∙ g.held in
     let line = take len slice in
     let hands : Hands old new (pending_of old ++ bytes) after line = record {
       short = (has_no_end-front slice len len is (omega arith), omega (arith, length-take-le len slice (omega arith)));
       text = text ∙ ap (λ xs. without_return (take len xs)) (sym same);
       number = next ∙ ap (λ n. n + 1) number;
-      ends = inl (sym there ∙ split_at_end slice len is inside ∙ ap (λ xs. line ++ 10 ∷ xs) (ap (drop (len + 1)) same ∙ sym pending));
+      ends = inl (sym there ∙ split_at_end slice len is inside ∙ ap (λ xs. line ++ 10 ∷ xs) (ap (drop (len + 1)) same ∙ sym pending), goes_on);
     } in
     (bytes, [], after, gathered old now new before after bytes g came, Consumes-nil after, refl, (line, hands))
 
@@ -101,8 +101,8 @@ empty [] h = refl
 empty (b ∷ bytes) h = absurd (omega arith)
 
 -- the last line lacks its LF
-pub hands_last : (old now next new : LineReader) (before middle after : Option (List ℕ)) (bytes more slice : List ℕ) (len : ℕ) → Gathers old now before middle bytes → next.number ≡ old.number → slice ≡ now.buffer → len ≡ position_or_len (λ b. b == 10) slice → length slice ≤ len → len ≤ 1023 → (length slice ≡ 0 → ⊥) → ReadsMore (Ok false) now next middle after more → line_of new ≡ without_return (take (length slice) next.buffer) → pending_of new ≡ drop (length slice) next.buffer → number_of new ≡ number_of next + 1 → came_of new ≡ came_of next → NextLine (Ok true) old new before after
-hands_last old now next new before middle after bytes more slice len g number same is all few some read text pending count came =
+pub hands_last : (old now next new : LineReader) (before middle after : Option (List ℕ)) (bytes more slice : List ℕ) (len : ℕ) → Gathers old now before middle bytes → next.number ≡ old.number → slice ≡ now.buffer → len ≡ position_or_len (λ b. b == 10) slice → length slice ≤ len → len ≤ 1023 → (length slice ≡ 0 → ⊥) → ReadsMore (Ok false) now next middle after more → line_of new ≡ without_return (take (length slice) next.buffer) → pending_of new ≡ drop (length slice) next.buffer → number_of new ≡ number_of next + 1 → came_of new ≡ came_of next → ended_of new ≡ true → NextLine (Ok true) old new before after
+hands_last old now next new before middle after bytes more slice len g number same is all few some read text pending count came ended =
     let none : length more ≡ 0 = omega (arith, ltb-false 0 (length more) (sym read.3)) in
     let none_more : more ≡ [] = empty more none in
     let whole : next.buffer ≡ slice = read.1 ∙ ap (λ xs. now.buffer ++ xs) none_more ∙ append-nil now.buffer ∙ sym same in
@@ -113,7 +113,7 @@ hands_last old now next new before middle after bytes more slice len g number sa
       short = (has_no_end-whole slice len is all, omega (arith, all, few));
       text = text ∙ ap (λ xs. without_return (take (length slice) xs)) whole ∙ ap without_return (take_all (length slice) slice (omega arith));
       number = count ∙ ap (λ n. n + 1) number;
-      ends = inr (omega arith, sym there, pending ∙ ap (drop (length slice)) whole ∙ drop_all (length slice) slice (omega arith), read.4 refl);
+      ends = inr (omega arith, sym there, pending ∙ ap (drop (length slice)) whole ∙ drop_all (length slice) slice (omega arith), read.4 refl, ended);
     } in
     (bytes ++ more, [], after, gathered old next new before after (bytes ++ more) grown came, Consumes-nil after, refl, (slice, hands))
 

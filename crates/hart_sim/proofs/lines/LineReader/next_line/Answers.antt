@@ -12,7 +12,7 @@ returns-then-len-gt-LONGEST-clause-line g c =
 pub returns-then-len-held-clause-line : goal.returns-then-len-held-clause-line
 returns-then-len-held-clause-line g c =
     hands_ended _ c.reads.self c.hand_out.new.self _ _ c.reads.invariant.gathered.0 c.as_slice-bytes.result.now c.line_len-len.result c.reads.invariant.gathered.1 c.reads.invariant.number
-    c.as_slice-bytes.ensures.value c.line_len-len.ensures.len c.if-len-held.true c.if-len-gt-LONGEST.false c.hand_out.ensures.line c.hand_out.ensures.pending c.hand_out.ensures.number c.hand_out.ensures.came
+    c.as_slice-bytes.ensures.value c.line_len-len.ensures.len c.if-len-held.true c.if-len-gt-LONGEST.false c.hand_out.ensures.line c.hand_out.ensures.pending c.hand_out.ensures.number c.hand_out.ensures.came (c.hand_out.ensures.ended ∙ c.reads.invariant.ended)
 
 pub returns-in_err-more-clause-line : goal.returns-in_err-more-clause-line
 returns-in_err-more-clause-line g c =
@@ -28,7 +28,7 @@ returns-then-not-more-clause-line g c =
     let number = c.read_more.ensures.number ∙ c.reads.invariant.number in
     hands_last _ c.reads.self c.read_more.new.self c.hand_out-then-not-more.new.self _ _ _ c.reads.invariant.gathered.0 read.0 c.as_slice-bytes.result.now c.line_len-len.result c.reads.invariant.gathered.1
     number c.as_slice-bytes.ensures.value c.line_len-len.ensures.len c.if-len-held.false c.if-len-gt-LONGEST.false c.if-held-eq0.false read.1
-    c.hand_out-then-not-more.ensures.line c.hand_out-then-not-more.ensures.pending c.hand_out-then-not-more.ensures.number c.hand_out-then-not-more.ensures.came
+    c.hand_out-then-not-more.ensures.line c.hand_out-then-not-more.ensures.pending c.hand_out-then-not-more.ensures.number c.hand_out-then-not-more.ensures.came c.hand_out-then-not-more.ensures.ended
 
 pub reads-preserved : goal.reads-preserved
 reads-preserved g c =
@@ -37,6 +37,7 @@ reads-preserved g c =
     record {
       taken = c.read_more.ensures.taken;
       number = c.read_more.ensures.number ∙ c.reads.invariant.number;
+      ended = c.read_more.ensures.ended ∙ c.reads.invariant.ended;
       failures = c.in_ok-more.ensures.failures ∙ c.reads.invariant.failures;
       gathered = (_, gathers_more _ c.reads.self c.read_more.new.self _ _ _ c.reads.invariant.gathered.0 read.0 c.reads.invariant.gathered.1 unended read.1.0 read.1.1 read.1.2);
     }

@@ -1,4 +1,4 @@
-use Rattle.std.proofs.Common.{◌≡◌, ℕ, ◌-◌, List, length}
+use Rattle.std.proofs.Common.{◌≡◌, ℕ, false, ◌-◌, List, length}
 use Rattle.hart_sim.specs.LineReaders.{Came}
 use Rattle.hart_sim.proofs.LinesRead.{Gathers}
 use Rattle.hart_sim.proofs.lines.LineReader.next_line.Given as goal
@@ -7,6 +7,7 @@ abbrev pub invariant-reads : goal.invariant-reads
 invariant-reads g l = record {
   taken : l.self.taken ≡ 0;
   number : l.self.number ≡ l.fn.self.number;
+  ended : l.self.ended ≡ false;
   failures : g.R.Source.failures l.source ≡ g.R.Source.failures l.fn.source;
   gathered : (bytes : List ℕ) × Gathers l.fn.self l.self (g.R.Source.remaining l.fn.source) (g.R.Source.remaining l.source) bytes;
 }
