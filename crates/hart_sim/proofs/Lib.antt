@@ -2,3 +2,6 @@ pub mod Splitting
 pub mod Numerals
 pub mod Buffered
 pub mod LinesRead
+pub mod InputLines
+pub mod WordsOfText
+pub mod LinesHanded

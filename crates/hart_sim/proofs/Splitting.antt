@@ -19,7 +19,8 @@ pub split_by-blanks : (p : ℕ → Bool) (bytes : List ℕ) → split_by p (drop
 split_by-blanks p [] = refl
 split_by-blanks p (b ∷ bytes) = skipped p b bytes (p b) refl (split_by-blanks p bytes)
 
-joined_alone : (p : ℕ → Bool) (b next : ℕ) (rest : List ℕ) (words : List (List ℕ)) → p next ≡ true → joined p b (next ∷ rest) words ≡ (b ∷ []) ∷ words
+-- a byte before a blank stands alone
+pub joined_alone : (p : ℕ → Bool) (b next : ℕ) (rest : List ℕ) (words : List (List ℕ)) → p next ≡ true → joined p b (next ∷ rest) words ≡ (b ∷ []) ∷ words
 joined_alone p b next rest [] h = refl
 joined_alone p b next rest (word ∷ words) h = rw h refl
 

@@ -30,6 +30,15 @@ abbrev pub AreLines : List ℕ → List (List ℕ) → Type 0
 AreLines input [] = input ≡ []
 AreLines input (line ∷ lines) = (has_no_end line ≡ true) × (rest : List ℕ) × EndsLine input line rest × AreLines rest lines
 
+-- the input begins with these lines, each before its LF, and the rest follows
+abbrev pub BeginsLines : List ℕ → List (List ℕ) → List ℕ → Type 0
+BeginsLines input [] rest = input ≡ rest
+BeginsLines input (line ∷ lines) rest = (has_no_end line ≡ true) × (after : List ℕ) × (input ≡ line ++ 10 ∷ after) × BeginsLines after lines rest
+
+-- no input is two lists of lines
+abbrev pub OneListOfLines : Type 0
+OneListOfLines = (input : List ℕ) (lines others : List (List ℕ)) → AreLines input lines → AreLines input others → lines ≡ others
+
 -- what one read where no byte may follow says: there was none, there was one, or the source failed
 abbrev pub EndsInput : Result (Unit {0}) RunFault → Option (List ℕ) → Option (List ℕ) → ℕ → ℕ → Type 0
 EndsInput (Ok done) before after failures failed = Consumes before after [] × IsAtEnd after × (failed ≡ failures)

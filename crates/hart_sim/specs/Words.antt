@@ -31,3 +31,21 @@ split_words text = split_by is_blank text
 -- the words of a line, where each byte outside the comment may stand there
 abbrev pub words_of : List ℕ → Option (List (List ℕ))
 words_of line = if list_all is_allowed (content_of line) then Some (split_words (content_of line)) else None
+
+-- one or more bytes that are no blanks
+abbrev pub IsWord : (ℕ → Bool) → List ℕ → Type 0
+IsWord blank word = (0 < length word) × (list_all (λ b. not (blank b)) word ≡ true)
+
+-- a word ends before a blank, or with the text
+abbrev pub EndsWord : (ℕ → Bool) → List ℕ → Type 0
+EndsWord blank [] = Unit {0}
+EndsWord blank (b ∷ bytes) = blank b ≡ true
+
+-- the text is these words in order, blanks between them and at either end
+abbrev pub HasWords : (ℕ → Bool) → List ℕ → List (List ℕ) → Type 0
+HasWords blank text [] = list_all blank text ≡ true
+HasWords blank text (word ∷ words) = IsWord blank word × (blanks rest : List ℕ) × (list_all blank blanks ≡ true) × EndsWord blank rest × (text ≡ blanks ++ (word ++ rest)) × HasWords blank rest words
+
+-- each text has words, and no others
+abbrev pub SplitsIntoWords : Type 0
+SplitsIntoWords = (text : List ℕ) → HasWords is_blank text (split_words text) × ((words : List (List ℕ)) → HasWords is_blank text words → words ≡ split_words text)

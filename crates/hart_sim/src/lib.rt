@@ -4,12 +4,16 @@
 mod buffer;
 mod event;
 pub mod fakes;
+mod laws;
 mod lexical;
 mod lines;
 mod streams;
+#[cfg(test)]
+mod tests;
 mod trace;
 
 pub use event::Event;
+pub use laws::{lines_law, words_law};
 pub use lexical::{NotUnderstood, Words, number, permission};
 pub use lines::LineReader;
 pub use streams::{Counted, DeviceFault, RunFault, Sink, Source, write_whole};
