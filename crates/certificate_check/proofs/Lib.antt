@@ -1,0 +1,10 @@
+pub mod Spanned
+pub mod Swept
+pub mod Chained
+pub mod Views
+pub mod Six
+pub mod Refused
+pub mod Walked
+pub mod InTurn
+pub mod Entered
+pub mod Judged

@@ -1,0 +1,35 @@
+-- What the last runs of a map say of a page.
+use Rattle.std.proofs.Common.{◌≡◌, ℕ, ◌+◌, ◌<◌, ◌≤◌, List, [], ◌∷◌, length, cond, false, arith, refl, ap, ◌∙◌}
+use Rattle.std.specs.Prelude.{slice_index_or}
+use Rattle.std.proofs.lemmas.Bool.Decides.{nat_tests}
+use Rattle.pmp_encoding.specs.declared.perm.Perm.{Perm}
+use Rattle.pmp_encoding.specs.declared.perm.Perm.TheVariants.{NoAccess}
+use Rattle.permission_map.specs.declared.runs.Run.{Run}
+use Rattle.permission_map.specs.Runs.{AreRunsAfter, end_of, in_range, view_of_runs}
+use Rattle.certificate_check.specs.Later.{AreLaterRuns}
+
+outside_low : (first count at : ℕ) → at < first → in_range first count at ≡ false
+outside_low first count at h = grind (arith, nat_tests)
+
+outside_high : (first count at : ℕ) → first + count ≤ at → in_range first count at ≡ false
+outside_high first count at h = grind (arith, nat_tests)
+
+-- before the first page of the runs there is no access
+before_all : (b : ℕ) (p : Perm) (runs : List Run) (at : ℕ) → AreRunsAfter b p runs → at < b → view_of_runs runs at ≡ NoAccess
+before_all b p [] at later h = refl
+before_all b p (run ∷ runs) at later h =
+    let rising = later.0.rising in
+    let low : at < run.first = omega arith in
+    let before : at < end_of run = omega arith in
+    ap (λ t. cond t run.perm (view_of_runs runs at)) (outside_low run.first run.count at low) ∙ before_all (end_of run) run.perm runs at later.1 before
+
+pub before_first : (runs : List Run) (d : Run) (at : ℕ) → AreLaterRuns runs → 1 ≤ length runs → at < (slice_index_or runs 0 d).first → view_of_runs runs at ≡ NoAccess
+before_first [] d at later some h = absurd (omega arith)
+before_first (run ∷ runs) d at (b, p, later) some h =
+    let low : at < run.first = h in
+    let before : at < end_of run = omega arith in
+    ap (λ t. cond t run.perm (view_of_runs runs at)) (outside_low run.first run.count at low) ∙ before_all (end_of run) run.perm runs at later.1 before
+
+-- a run that has ended says nothing of later pages
+pub past_first : (run : Run) (runs : List Run) (at : ℕ) → end_of run ≤ at → view_of_runs (run ∷ runs) at ≡ view_of_runs runs at
+past_first run runs at h = ap (λ t. cond t run.perm (view_of_runs runs at)) (outside_high run.first run.count at h)

@@ -1,0 +1,218 @@
+-- The parts of a right node.
+use Rattle.std.proofs.Common.{◌≡◌, ℕ, zero, suc, ◌+◌, ◌%◌, ◌*◌, ◌^◌, ◌<◌, ◌≤◌, List, ◌∷◌, ◌++◌, append_assoc, arith, sym, subst, ap, refl, ◌∙◌, Result, Ok, Err, pow-suc}
+use Rattle.std.proofs.Math.Nat.{add-mul-mod_self_right, mul-mod_left}
+use Rattle.std.specs.Result.{IfErr, IfOk, OnOk, IsOk}
+use Rattle.pmp_encoding.specs.declared.perm.Perm.{Perm}
+use Rattle.pmp_encoding.specs.declared.perm.Perm.TheVariants.{NoAccess, Read, ReadWrite, Execute, ReadExecute, ReadWriteExecute}
+use Rattle.pmp_encoding.specs.Perms.{bits_of}
+use Rattle.pmp_encoding.proofs.Multiples.{multiple_from_mod}
+use Rattle.pmp_match.specs.Meaning.{View}
+use Rattle.pmp_match.specs.Bounds.{BoundTree, Leaf, Branch, bound_of, IsSoundAt}
+use Rattle.plan_certificate.specs.Costs.{SixCosts, cost_of, six_of}
+use Rattle.plan_certificate.specs.Spelling.{costs_bytes, node_bytes}
+use Rattle.plan_certificate.specs.declared.reader.Tag.{Tag}
+use Rattle.plan_certificate.specs.declared.reader.Tag.TheVariants as Tags
+use Rattle.plan_certificate.specs.Tags.{tag_byte}
+use Rattle.certificate_check.specs.declared.refusal.CheckRefusal.{CheckRefusal}
+use Rattle.certificate_check.specs.declared.refusal.CheckRefusal.TheVariants.{CostTooHigh, CostOverflow}
+use Rattle.certificate_check.specs.declared.numbers.Numbers.{Numbers}
+use Rattle.certificate_check.specs.Numbers.{number_for}
+use Rattle.certificate_check.specs.Nodes.{IsUniform, IsRightNode, IsAllowed, IsTooLarge, IsTooHigh, BranchFault, NodeFault, overflow, too_high, IsNodeRead, IsAnswer}
+
+-- functions that agree everywhere are one
+pub same_function : (f g : Perm → ℕ) → ((p : Perm) → f p ≡ g p) → f ≡ g
+same_function f g h = λ i p. h p i
+
+pub six_back : (f : Perm → ℕ) (p : Perm) → cost_of (six_of f) p ≡ f p
+six_back f NoAccess = refl
+six_back f Read = refl
+six_back f ReadWrite = refl
+six_back f Execute = refl
+six_back f ReadExecute = refl
+six_back f ReadWriteExecute = refl
+
+-- a right split node in its parts
+pub record AreRightHalves (view : View) (half first : ℕ) (costs : Perm → ℕ) (lower upper : BoundTree) : Type 0 where
+  pub small : (p : Perm) → costs p < 2 ^ 32
+  pub low : IsRightNode view half first lower
+  pub high : IsRightNode view half (first + 2 ^ half) upper
+  pub allowed : IsAllowed costs (bound_of lower) (bound_of upper)
+
+parts_of : (view : View) (half first : ℕ) (costs : Perm → ℕ) (lower upper : BoundTree) → IsRightNode view (suc half) first (Branch costs lower upper) → AreRightHalves view half first costs lower upper
+parts_of view half first costs lower upper right = record {
+  small = right.fits.0;
+  low = record { fits = right.fits.1; sound = right.sound.0; sums = right.sums.1 };
+  high = record { fits = right.fits.2; sound = right.sound.1; sums = right.sums.2 };
+  allowed = record { sums = right.sums.0; same = right.sound.2; any = right.sound.3 };
+}
+
+whole_of : (view : View) (half first : ℕ) (costs : Perm → ℕ) (lower upper : BoundTree) → AreRightHalves view half first costs lower upper → IsRightNode view (suc half) first (Branch costs lower upper)
+whole_of view half first costs lower upper h = record {
+  fits = (h.small, h.low.fits, h.high.fits);
+  sound = (h.low.sound, h.high.sound, h.allowed.same, h.allowed.any);
+  sums = (h.allowed.sums, h.low.sums, h.high.sums);
+}
+
+pub right_from_halves :
+    (view : View) (k half first : ℕ) (costs : Perm → ℕ) (lower upper : BoundTree) → k ≡ suc half → AreRightHalves view half first costs lower upper
+    → IsRightNode view k first (Branch costs lower upper)
+right_from_halves view k half first costs lower upper is h =
+    subst (λ (n : ℕ). IsRightNode view n first (Branch costs lower upper)) (sym is) (whole_of view half first costs lower upper h)
+
+-- no bytes begin with both tags
+same_head : (a b : ℕ) (xs ys : List ℕ) → a ∷ xs ≡ b ∷ ys → a ≡ b
+same_head a b xs ys e = cc
+
+tags_differ : (xs ys : List ℕ) → 0 ∷ xs ≡ 1 ∷ ys → ⊥
+tags_differ xs ys e = omega (arith, same_head 0 1 xs ys e)
+
+-- a branch's bytes in parts
+joined_branch :
+    (costs : Perm → ℕ) (lower upper : BoundTree) (rest : List ℕ)
+    → node_bytes (Branch costs lower upper) ++ rest ≡ 1 ∷ (costs_bytes costs ++ (node_bytes lower ++ (node_bytes upper ++ rest)))
+joined_branch costs lower upper rest =
+    ap (λ xs. 1 ∷ xs)
+    (append_assoc (costs_bytes costs) (node_bytes lower ++ node_bytes upper) rest ∙ ap (λ xs. costs_bytes costs ++ xs) (append_assoc (node_bytes lower) (node_bytes upper) rest))
+
+-- a page is not split
+page_whole : (view : View) (first : ℕ) (costs : Perm → ℕ) (lower upper : BoundTree) → IsRightNode view zero first (Branch costs lower upper) → ⊥
+page_whole view first costs lower upper right = right.fits
+
+-- a right node that stands behind a branch's tag
+pub record IsBranchAt (view : View) (half first : ℕ) (tree : BoundTree) (rest left : List ℕ) : Type 0 where
+  pub costs : Perm → ℕ
+  pub lower : BoundTree
+  pub upper : BoundTree
+  pub tree_is : tree ≡ Branch costs lower upper
+  pub halves : AreRightHalves view half first costs lower upper
+  pub left_is : left ≡ costs_bytes costs ++ (node_bytes lower ++ (node_bytes upper ++ rest))
+
+pub branch_at :
+    (view : View) (k half first : ℕ) (tree : BoundTree) (rest bytes left : List ℕ) → k ≡ suc half → bytes ≡ 1 ∷ left → IsRightNode view k first tree → bytes ≡ node_bytes tree ++ rest
+    → IsBranchAt view half first tree rest left
+branch_at view k half first (Leaf perm) rest bytes left is tag right spelled = absurd (let e : 1 ∷ left ≡ 0 ∷ bits_of perm ∷ rest = sym tag ∙ spelled in tags_differ _ _ (sym e))
+branch_at view k half first (Branch costs lower upper) rest bytes left is tag right spelled = record {
+  costs = costs;
+  lower = lower;
+  upper = upper;
+  tree_is = refl;
+  halves = parts_of view half first costs lower upper (subst (λ (n : ℕ). IsRightNode view n first (Branch costs lower upper)) is right);
+  left_is = (let e : 1 ∷ left ≡ 1 ∷ (costs_bytes costs ++ (node_bytes lower ++ (node_bytes upper ++ rest))) = sym tag ∙ spelled ∙ joined_branch costs lower upper rest in cc);
+}
+
+pub no_branch_at :
+    (view : View) (k first : ℕ) (tree : BoundTree) (rest bytes left : List ℕ) → k ≡ 0 → bytes ≡ 1 ∷ left → IsRightNode view k first tree → bytes ≡ node_bytes tree ++ rest → ⊥
+no_branch_at view k first (Leaf perm) rest bytes left is tag right spelled = (let e : 1 ∷ left ≡ 0 ∷ bits_of perm ∷ rest = sym tag ∙ spelled in tags_differ _ _ (sym e))
+no_branch_at view k first (Branch costs lower upper) rest bytes left is tag right spelled = page_whole view first costs lower upper (subst (λ (n : ℕ). IsRightNode view n first (Branch costs lower upper)) is right)
+
+-- a right node that stands behind a leaf's tag
+pub record IsLeafAt (view : View) (k first : ℕ) (tree : BoundTree) (rest left : List ℕ) : Type 0 where
+  pub perm : Perm
+  pub tree_is : tree ≡ Leaf perm
+  pub uniform : IsUniform view k first perm
+  pub left_is : left ≡ bits_of perm ∷ rest
+
+uniform_from : (view : View) (k first : ℕ) (perm : Perm) → IsSoundAt view k first (Leaf perm) → IsUniform view k first perm
+uniform_from view zero first perm sound = sound
+uniform_from view (suc k) first perm sound = sound
+
+pub uniform_to : (view : View) (k first : ℕ) (perm : Perm) → IsUniform view k first perm → IsSoundAt view k first (Leaf perm)
+uniform_to view zero first perm sound = sound
+uniform_to view (suc k) first perm sound = sound
+
+pub leaf_at :
+    (view : View) (k first : ℕ) (tree : BoundTree) (rest bytes left : List ℕ) → bytes ≡ 0 ∷ left → IsRightNode view k first tree → bytes ≡ node_bytes tree ++ rest
+    → IsLeafAt view k first tree rest left
+leaf_at view k first (Leaf perm) rest bytes left tag right spelled = record {
+  perm = perm;
+  tree_is = refl;
+  uniform = uniform_from view k first perm right.sound;
+  left_is = (let e : 0 ∷ left ≡ 0 ∷ bits_of perm ∷ rest = sym tag ∙ spelled in cc);
+}
+leaf_at view k first (Branch costs lower upper) rest bytes left tag right spelled =
+    absurd (let e : 0 ∷ left ≡ 1 ∷ ((costs_bytes costs ++ (node_bytes lower ++ node_bytes upper)) ++ rest) = sym tag ∙ spelled in tags_differ _ _ e)
+
+-- costs that fault against the halves' numbers, in the node that they stand in
+pub branch_fault :
+    (view : View) (k half first : ℕ) (bytes rest : List ℕ) (costs f g : Perm → ℕ) (lower upper : BoundTree) (refusal : CheckRefusal) → k ≡ suc half
+    → bytes ≡ 1 ∷ (costs_bytes costs ++ (node_bytes lower ++ (node_bytes upper ++ rest))) → ((p : Perm) → costs p < 2 ^ 32) → IsRightNode view half first lower
+    → IsRightNode view half (first + 2 ^ half) upper → f ≡ bound_of lower → g ≡ bound_of upper → BranchFault costs f g refusal → NodeFault view k first bytes refusal
+branch_fault view k half first bytes rest costs f g lower upper CostOverflow is spelled small low high p q fault =
+    overflow half costs lower upper rest is spelled low high (subst (λ (x : Perm → ℕ). IsTooLarge (bound_of lower) x) q (subst (λ (x : Perm → ℕ). IsTooLarge x g) p fault))
+branch_fault view k half first bytes rest costs f g lower upper CostTooHigh is spelled small low high p q fault =
+    too_high half costs lower upper rest is spelled small low high (subst (λ (x : Perm → ℕ). IsTooHigh costs (bound_of lower) x) q (subst (λ (x : Perm → ℕ). IsTooHigh costs x g) p fault))
+branch_fault view k half first bytes rest costs f g lower upper refusal is spelled small low high p q fault = absurd fault
+
+-- the answer to a right branch
+pub answered :
+    (tree : BoundTree) (rest left : List ℕ) (costs : Perm → ℕ) (result : Result Numbers CheckRefusal) → IsOk result
+    → IfOk result (λ numbers. (p : Perm) → number_for numbers p ≡ costs p) → ((p : Perm) → costs p ≡ bound_of tree p) → left ≡ rest → IsAnswer tree rest result left
+answered tree rest left costs (Ok numbers) ok known is end = ((λ p. known p ∙ is p), end)
+answered tree rest left costs (Err refusal) ok known is end = absurd (cc)
+
+-- a branch and its halves, one behind the other
+pub spelled_in_turn :
+    (bytes first second third left : List ℕ) (costs : Perm → ℕ) (lower upper : BoundTree) → bytes ≡ 1 ∷ first → first ≡ costs_bytes costs ++ second
+    → second ≡ node_bytes lower ++ third → third ≡ node_bytes upper ++ left → bytes ≡ 1 ∷ (costs_bytes costs ++ (node_bytes lower ++ (node_bytes upper ++ left)))
+spelled_in_turn bytes first second third left costs lower upper a b c d = cc
+
+-- what was read, where the costs are allowed
+pub branch_read :
+    (view : View) (k half first : ℕ) (bytes inner second third left : List ℕ) (costs : Perm → ℕ) (lower upper : Numbers) (result : Result Numbers CheckRefusal) → k ≡ suc half
+    → bytes ≡ 1 ∷ inner → inner ≡ costs_bytes costs ++ second → ((p : Perm) → costs p < 2 ^ 32) → IsNodeRead view half first second third lower
+    → IsNodeRead view half (first + 2 ^ half) third left upper → OnOk result (IsAllowed costs (number_for lower) (number_for upper))
+    → IfOk result (λ numbers. (p : Perm) → number_for numbers p ≡ costs p) → IfOk result (λ numbers. IsNodeRead view k first bytes left numbers)
+branch_read view k half first bytes inner second third left costs lower upper (Err refusal) is a b small low high allowed known = tt
+branch_read view k half first bytes inner second third left costs lower upper (Ok numbers) is a b small low high allowed known =
+    let l : number_for lower ≡ bound_of low.tree = same_function _ _ low.numbers_of in
+    let u : number_for upper ≡ bound_of high.tree = same_function _ _ high.numbers_of in
+    let fine : IsAllowed costs (bound_of low.tree) (bound_of high.tree) =
+    subst (λ (x : Perm → ℕ). IsAllowed costs (bound_of low.tree) x) u (subst (λ (x : Perm → ℕ). IsAllowed costs x (number_for upper)) l allowed) in
+    let flat = spelled_in_turn bytes inner second third left costs low.tree high.tree a b low.spelled high.spelled in
+    record {
+      tree = Branch costs low.tree high.tree;
+      right = right_from_halves view k half first costs low.tree high.tree is (record { small = small; low = low.right; high = high.right; allowed = fine });
+      spelled = flat ∙ sym (joined_branch costs low.tree high.tree left);
+      numbers_of = known;
+    }
+
+-- the fault that stands in a branch whose halves were read
+pub branch_refused :
+    (view : View) (k half first : ℕ) (bytes inner second third left : List ℕ) (costs : Perm → ℕ) (lower upper : Numbers) (result : Result Numbers CheckRefusal) → k ≡ suc half
+    → bytes ≡ 1 ∷ inner → inner ≡ costs_bytes costs ++ second → ((p : Perm) → costs p < 2 ^ 32) → IsNodeRead view half first second third lower
+    → IsNodeRead view half (first + 2 ^ half) third left upper → IfErr result (BranchFault costs (number_for lower) (number_for upper))
+    → IfErr result (NodeFault view k first bytes)
+branch_refused view k half first bytes inner second third left costs lower upper (Ok numbers) is a b small low high fault = tt
+branch_refused view k half first bytes inner second third left costs lower upper (Err refusal) is a b small low high fault =
+    branch_fault view k half first bytes left costs (number_for lower) (number_for upper) low.tree high.tree refusal is
+    (spelled_in_turn bytes inner second third left costs low.tree high.tree a b low.spelled high.spelled) small low.right high.right (same_function _ _ low.numbers_of)
+    (same_function _ _ high.numbers_of) fault
+
+-- a right node begins with one of the two tags
+pub tag_at : (tree : BoundTree) (rest bytes : List ℕ) → bytes ≡ node_bytes tree ++ rest → (tag : Tag) × (left : List ℕ) × (bytes ≡ tag_byte tag ∷ left)
+tag_at (Leaf perm) rest bytes spelled = (Tags.Leaf, bits_of perm ∷ rest, spelled)
+tag_at (Branch costs lower upper) rest bytes spelled = (Tags.Branch, (costs_bytes costs ++ (node_bytes lower ++ node_bytes upper)) ++ rest, spelled)
+
+-- the same costs, and numbers as those of the halves, are allowed alike
+pub allowed_along :
+    (costs f g f' g' : Perm → ℕ) (six : SixCosts) → six ≡ six_of costs → ((p : Perm) → f' p ≡ f p) → ((p : Perm) → g' p ≡ g p) → IsAllowed costs f g → IsAllowed (cost_of six) f' g'
+allowed_along costs f g f' g' six is l u allowed =
+    let c : cost_of six ≡ costs = same_function _ _ (λ p. ap (λ x. cost_of x p) is ∙ six_back costs p) in
+    subst (λ (x : Perm → ℕ). IsAllowed x f' g') (sym c)
+    (subst (λ (x : Perm → ℕ). IsAllowed costs x g') (sym (same_function _ _ l)) (subst (λ (x : Perm → ℕ). IsAllowed costs f x) (sym (same_function _ _ u)) allowed))
+
+-- halves of an aligned block
+pub half_aligned : (first half k : ℕ) → k ≡ suc half → first % 2 ^ k ≡ 0 → first % 2 ^ half ≡ 0
+half_aligned first half k is aligned =
+    let whole = multiple_from_mod (2 ^ k) first aligned in
+    let size : 2 ^ k ≡ 2 ^ half * 2 = ap (λ n. 2 ^ n) is ∙ pow-suc 2 half in
+    let e : first ≡ whole.0 * 2 * 2 ^ half = omega (arith, whole.1, ap (λ x. whole.0 * x) size) in
+    ap (λ x. x % 2 ^ half) e ∙ mul-mod_left (whole.0 * 2) (2 ^ half)
+
+pub half_inside : (first half k most : ℕ) → k ≡ suc half → first + 2 ^ k ≤ most → first + 2 ^ half + 2 ^ half ≤ most
+half_inside first half k most is inside = let double : 2 ^ suc half ≡ 2 ^ half * 2 = pow-suc 2 half in let e : 2 ^ k ≡ 2 ^ suc half = ap (λ n. 2 ^ n) is in omega arith
+
+pub upper_aligned : (first half : ℕ) → first % 2 ^ half ≡ 0 → (first + 2 ^ half) % 2 ^ half ≡ 0
+upper_aligned first half aligned =
+    let e : first + 2 ^ half ≡ first + 1 * 2 ^ half = omega arith in
+    ap (λ x. x % 2 ^ half) e ∙ add-mul-mod_self_right first 1 (2 ^ half) ∙ aligned

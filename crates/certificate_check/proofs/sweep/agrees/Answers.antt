@@ -1,0 +1,19 @@
+-- Where the two permissions differ at some page, no list of those spans gives the runs' view there.
+use Rattle.std.proofs.Common.{ℕ, arith, sym, ◌∙◌}
+use denote.Enum.Bare.{differs_true}
+use Rattle.pmp_encoding.specs.contracts.perm.Perm.{the_type}
+use Rattle.certificate_check.proofs.Swept.{one_decided}
+use Rattle.certificate_check.proofs.sweep.agrees.Goals as goal
+
+pub returns-then-ne : goal.returns-then-ne
+returns-then-ne c =
+    λ spans reads. (
+      (λ t. absurd (cc)),
+      λ all.
+          let page : ℕ = c.loop-page.page in
+          let here = c.piece_at-given.ensures.value spans reads page (omega arith) c.piece_at-given.ensures.some in
+          let there = all page (omega arith) in
+          let view = sym (c.loop-page.invariant.same page (omega arith)) ∙ sym (c.runs_from-rest.ensures.same page (omega arith))
+          ∙ c.piece_of_runs-wanted.ensures.value page (omega arith) c.piece_of_runs-wanted.ensures.some in
+          absurd (differs_true the_type _ _ (sym c.ne.ensures ∙ c.if-ne.true) (one_decided spans _ page _ _ here there ∙ view)),
+    )

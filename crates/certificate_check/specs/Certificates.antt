@@ -1,0 +1,63 @@
+-- Right certificates for a view, and why bytes are none.
+use Rattle.std.specs.Prelude.{◌≡◌, ◌≢◌, ℕ, ◌^◌, ◌<◌, ◌≤◌, List, [], ◌++◌, length}
+use Rattle.pmp_encoding.specs.declared.perm.Perm.TheVariants.{NoAccess}
+use Rattle.pmp_encoding.specs.declared.region.Entry.{Entry}
+use Rattle.pmp_match.specs.Meaning.{View, Means}
+use Rattle.pmp_match.specs.Bounds.{BoundTree, bound_of, IsSoundBound}
+use Rattle.plan_certificate.specs.declared.fault.ReadFault.{ReadFault}
+use Rattle.plan_certificate.specs.declared.header.Header.{Header}
+use Rattle.plan_certificate.specs.declared.header.Version.{Version}
+use Rattle.plan_certificate.specs.Faults.{HeaderFault}
+use Rattle.plan_certificate.specs.Spelling.{header_bytes, node_bytes, Spells, IsCertificate}
+use Rattle.certificate_check.specs.declared.refusal.CheckRefusal.{CheckRefusal}
+use Rattle.certificate_check.specs.declared.refusal.CheckRefusal.TheVariants.{EntriesTooMany, WrongMeaning, Trailing}
+use Rattle.certificate_check.specs.Refusals.{refusal_of}
+use Rattle.certificate_check.specs.Listed.{IsListed, ListFault}
+use Rattle.certificate_check.specs.Nodes.{IsRightNode, NodeFault}
+
+-- the bytes are a certificate of n entries that mean the view, whose table is a sound bound of it
+pub record IsRight (view : View) (bytes : List ℕ) (n : ℕ) : Type 0 where
+  pub version : Version
+  pub entries : List Entry
+  pub tree : BoundTree
+  pub certificate : IsCertificate bytes version entries tree
+  pub sound : IsSoundBound view tree
+  pub means : Means entries view
+  pub count : length entries ≡ n
+
+-- the bytes spell n entries that mean the view, and no list of fewer entries, of any regions and in any order, does
+pub record HoldsFewest (view : View) (bytes : List ℕ) (n : ℕ) : Type 0 where
+  pub version : Version
+  pub entries : List Entry
+  pub tree : BoundTree
+  pub spells : Spells bytes version entries tree
+  pub count : length entries ≡ n
+  pub means : Means entries view
+  pub fewest : (others : List Entry) → Means others view → n ≤ length others
+
+-- header, entries of a page at least and a right root stand at the front of the bytes, before the rest
+pub record IsReadWhole (view : View) (bytes rest : List ℕ) (entries : List Entry) (tree : BoundTree) : Type 0 where
+  pub header : Header
+  pub behind : List ℕ
+  pub headed : bytes ≡ header_bytes header ++ behind
+  pub counted : header.count ≡ length entries
+  pub small : header.count < 2 ^ 32
+  pub listed : IsListed behind (node_bytes tree ++ rest) entries
+  pub right : IsRightNode view 44 0 tree
+
+-- the fault of a refusal stands in the bytes
+pub data RefusalStands (view : View) (bytes : List ℕ) : CheckRefusal → Type 0 where
+  in_header : (fault : ReadFault) → HeaderFault bytes fault → RefusalStands view bytes (refusal_of fault)
+  in_entries :
+      (header : Header) (rest : List ℕ) (refusal : CheckRefusal) → bytes ≡ header_bytes header ++ rest → header.count < 2 ^ 32 → ListFault rest header.count refusal
+      → RefusalStands view bytes refusal
+  in_root :
+      (header : Header) (entries : List Entry) (behind rest : List ℕ) (refusal : CheckRefusal) → bytes ≡ header_bytes header ++ behind → header.count < 2 ^ 32
+      → IsListed behind rest entries → length entries ≡ header.count → NodeFault view 44 0 rest refusal → RefusalStands view bytes refusal
+  too_many :
+      (entries : List Entry) (tree : BoundTree) (rest : List ℕ) → IsReadWhole view bytes rest entries tree → bound_of tree NoAccess < length entries
+      → RefusalStands view bytes EntriesTooMany
+  another_meaning :
+      (entries : List Entry) (tree : BoundTree) (rest : List ℕ) → IsReadWhole view bytes rest entries tree → ¬ Means entries view → RefusalStands view bytes WrongMeaning
+  trailing :
+      (entries : List Entry) (tree : BoundTree) (rest : List ℕ) → IsReadWhole view bytes rest entries tree → rest ≢ [] → RefusalStands view bytes Trailing

@@ -1,0 +1,7 @@
+pub mod Spans
+pub mod Later
+pub mod Refusals
+pub mod Numbers
+pub mod Nodes
+pub mod Listed
+pub mod Certificates

@@ -1,0 +1,87 @@
+-- The nodes of a certificate against a view.
+use Rattle.std.specs.Prelude.{◌≡◌, ◌≢◌, ℕ, suc, ◌+◌, ◌^◌, ◌<◌, ◌≤◌, ◌⊎◌, List, ◌∷◌, ◌++◌, Result, MatchResult}
+use Rattle.pmp_encoding.specs.declared.perm.Perm.{Perm}
+use Rattle.pmp_encoding.specs.Perms.{bits_of}
+use Rattle.pmp_match.specs.Meaning.{View}
+use Rattle.pmp_match.specs.Bounds.{BoundTree, bound_of, IsSoundAt}
+use Rattle.plan_certificate.specs.Spelling.{costs_bytes, node_bytes, FitsNode, HasNoOverflow}
+use Rattle.plan_certificate.specs.Faults.{ShortFault, TagFault, PermFault}
+use Rattle.plan_certificate.specs.declared.fault.ReadFault.{ReadFault}
+use Rattle.certificate_check.specs.declared.refusal.CheckRefusal.{CheckRefusal}
+use Rattle.certificate_check.specs.declared.refusal.CheckRefusal.TheVariants.{TooDeep, LeafNotUniform, WrongLeaf, CostTooHigh, CostOverflow}
+use Rattle.certificate_check.specs.declared.numbers.Numbers.{Numbers}
+use Rattle.certificate_check.specs.Numbers.{number_for}
+use Rattle.certificate_check.specs.Refusals.{refusal_of}
+
+-- the 2 ^ k pages from `first` on have one permission
+abbrev pub IsUniform : View → ℕ → ℕ → Perm → Type 0
+IsUniform view k first perm = (i : ℕ) → i < 2 ^ k → view (first + i) ≡ perm
+
+-- a sound bound of the 2 ^ k pages from `first` on that a certificate can spell and that has no overflow
+pub record IsRightNode (view : View) (k first : ℕ) (tree : BoundTree) : Type 0 where
+  pub fits : FitsNode k tree
+  pub sound : IsSoundAt view k first tree
+  pub sums : HasNoOverflow tree
+
+-- the numbers are those of the tree's root
+abbrev pub AreNumbersOf : BoundTree → Numbers → Type 0
+AreNumbersOf tree numbers = (p : Perm) → number_for numbers p ≡ bound_of tree p
+
+-- the costs of a split block are allowed by the halves' numbers, and one more than any sum of them has four bytes
+pub record IsAllowed (costs lower upper : Perm → ℕ) : Type 0 where
+  pub sums : (p : Perm) → lower p + upper p + 1 < 2 ^ 32
+  pub same : (p : Perm) → costs p ≤ lower p + upper p
+  pub any : (p q : Perm) → costs p ≤ 1 + (lower q + upper q)
+
+-- one more than some sum of the halves' numbers has no four bytes
+abbrev pub IsTooLarge : (Perm → ℕ) → (Perm → ℕ) → Type 0
+IsTooLarge lower upper = (p : Perm) × (2 ^ 32 ≤ lower p + upper p + 1)
+
+-- some cost is above the halves' sum for the same permission, or above one more than their sum for some permission
+abbrev pub IsTooHigh : (Perm → ℕ) → (Perm → ℕ) → (Perm → ℕ) → Type 0
+IsTooHigh costs lower upper = (p : Perm) × (q : Perm) × ((lower p + upper p < costs p) ⊎ (1 + (lower q + upper q) < costs p))
+
+-- the fault of a refusal stands in the costs of a split block
+abbrev pub BranchFault : (Perm → ℕ) → (Perm → ℕ) → (Perm → ℕ) → CheckRefusal → Type 0
+BranchFault costs lower upper CostOverflow = IsTooLarge lower upper
+BranchFault costs lower upper CostTooHigh = IsTooHigh costs lower upper
+BranchFault costs lower upper _ = ⊥
+
+-- the fault of a refusal stands in the node at the front of the bytes, for the 2 ^ k pages from `first` on
+pub data NodeFault (view : View) : ℕ → ℕ → List ℕ → CheckRefusal → Type 0 where
+  in_tag : {k first : ℕ} {bytes : List ℕ} (fault : ReadFault) → TagFault bytes fault → NodeFault view k first bytes (refusal_of fault)
+  in_perm : {k first : ℕ} {bytes : List ℕ} (rest : List ℕ) (fault : ReadFault) → bytes ≡ 0 ∷ rest → PermFault rest fault → NodeFault view k first bytes (refusal_of fault)
+  not_uniform :
+      {k first : ℕ} {bytes : List ℕ} (perm : Perm) (rest : List ℕ) → bytes ≡ 0 ∷ bits_of perm ∷ rest → ((other : Perm) → IsUniform view k first other → ⊥)
+      → NodeFault view k first bytes LeafNotUniform
+  another :
+      {k first : ℕ} {bytes : List ℕ} (perm other : Perm) (rest : List ℕ) → bytes ≡ 0 ∷ bits_of perm ∷ rest → IsUniform view k first other → perm ≢ other
+      → NodeFault view k first bytes WrongLeaf
+  a_page : {k first : ℕ} {bytes : List ℕ} (rest : List ℕ) → bytes ≡ 1 ∷ rest → k ≡ 0 → NodeFault view k first bytes TooDeep
+  in_costs : {k first : ℕ} {bytes : List ℕ} (rest : List ℕ) (fault : ReadFault) → bytes ≡ 1 ∷ rest → ShortFault 24 rest fault → NodeFault view k first bytes (refusal_of fault)
+  in_lower :
+      {k first : ℕ} {bytes : List ℕ} (half : ℕ) (costs : Perm → ℕ) (rest : List ℕ) (refusal : CheckRefusal) → k ≡ suc half → bytes ≡ 1 ∷ (costs_bytes costs ++ rest)
+      → NodeFault view half first rest refusal → NodeFault view k first bytes refusal
+  in_upper :
+      {k first : ℕ} {bytes : List ℕ} (half : ℕ) (costs : Perm → ℕ) (lower : BoundTree) (rest : List ℕ) (refusal : CheckRefusal) → k ≡ suc half
+      → bytes ≡ 1 ∷ (costs_bytes costs ++ (node_bytes lower ++ rest)) → IsRightNode view half first lower → NodeFault view half (first + 2 ^ half) rest refusal
+      → NodeFault view k first bytes refusal
+  overflow :
+      {k first : ℕ} {bytes : List ℕ} (half : ℕ) (costs : Perm → ℕ) (lower upper : BoundTree) (rest : List ℕ) → k ≡ suc half
+      → bytes ≡ 1 ∷ (costs_bytes costs ++ (node_bytes lower ++ (node_bytes upper ++ rest))) → IsRightNode view half first lower → IsRightNode view half (first + 2 ^ half) upper
+      → IsTooLarge (bound_of lower) (bound_of upper) → NodeFault view k first bytes CostOverflow
+  too_high :
+      {k first : ℕ} {bytes : List ℕ} (half : ℕ) (costs : Perm → ℕ) (lower upper : BoundTree) (rest : List ℕ) → k ≡ suc half
+      → bytes ≡ 1 ∷ (costs_bytes costs ++ (node_bytes lower ++ (node_bytes upper ++ rest))) → ((p : Perm) → costs p < 2 ^ 32) → IsRightNode view half first lower
+      → IsRightNode view half (first + 2 ^ half) upper → IsTooHigh costs (bound_of lower) (bound_of upper) → NodeFault view k first bytes CostTooHigh
+
+-- a right node stood at the front of the bytes, with these numbers, and was read
+pub record IsNodeRead (view : View) (k first : ℕ) (bytes rest : List ℕ) (numbers : Numbers) : Type 0 where
+  pub tree : BoundTree
+  pub right : IsRightNode view k first tree
+  pub spelled : bytes ≡ node_bytes tree ++ rest
+  pub numbers_of : AreNumbersOf tree numbers
+
+-- the answer to a right node at the front of the bytes: its numbers, and the rest is left
+abbrev pub IsAnswer : BoundTree → List ℕ → Result Numbers CheckRefusal → List ℕ → Type 0
+IsAnswer tree rest answer left = MatchResult answer (λ numbers. AreNumbersOf tree numbers × (left ≡ rest)) (λ _. ⊥)

@@ -1,0 +1,65 @@
+-- The entries of a list as spans of whole pages.
+use Rattle.std.specs.Prelude.{◌≡◌, ℕ, ◌+◌, ◌*◌, ◌/◌, ◌^◌, ◌<◌, ◌≤◌, List, [], ◌∷◌, Option, Some, None, length, drop, slice_index}
+use Rattle.byteorder.specs.Endian.{little_number}
+use Rattle.pmp_encoding.specs.declared.perm.Perm.{Perm}
+use Rattle.pmp_encoding.specs.declared.perm.Perm.TheVariants.{NoAccess}
+use Rattle.pmp_encoding.specs.declared.region.Entry.{Entry}
+use Rattle.pmp_encoding.specs.Encoding.{MeansEntry}
+use Rattle.certificate_check.specs.declared.entries.Span.{Span}
+
+-- the span has the pages of the entry's region, all of them whole, and its permission
+pub record IsSpanOf (e : Entry) (s : Span) : Type 0 where
+  pub first : s.first * 4096 ≡ e.region.base
+  pub last : s.end * 4096 ≡ e.region.base + 2 ^ e.region.log2
+  pub perm : s.perm ≡ e.perm
+
+-- the nine bytes of number i mean an entry of at least a page, with the pages of the span
+pub record IsSpanAt (bytes : List ℕ) (i : ℕ) (s : Span) : Type 0 where
+  pub entry : Entry
+  pub means : MeansEntry (slice_index bytes (9 * i)) (little_number 8 (drop (9 * i + 1) bytes)) entry
+  pub page : 12 ≤ entry.region.log2
+  pub span : IsSpanOf entry s
+
+-- how many times nine bytes there are
+abbrev pub count_in : List ℕ → ℕ
+count_in bytes = length bytes / 9
+
+-- each nine bytes mean an entry, with the pages of the span of its number
+abbrev pub ReadsAs : List ℕ → (ℕ → Span) → Type 0
+ReadsAs bytes spans = (i : ℕ) → i < count_in bytes → IsSpanAt bytes i (spans i)
+
+-- the page is one of the span's
+abbrev pub Covers : Span → ℕ → Type 0
+Covers s page = (s.first ≤ page) × (page < s.end)
+
+-- the permission of the first of the spans that covers the page, or none where no span does
+pub data Decides (spans : ℕ → Span) (count page : ℕ) : Perm → Type 0 where
+  first : (i : ℕ) → i < count → Covers (spans i) page → ((j : ℕ) → j < i → Covers (spans j) page → ⊥) → Decides spans count page (spans i).perm
+  none : ((j : ℕ) → j < count → Covers (spans j) page → ⊥) → Decides spans count page NoAccess
+
+-- none of the first spans covers a page from one to before another
+abbrev pub AreClear : (ℕ → Span) → ℕ → ℕ → ℕ → Type 0
+AreClear spans count from to = (j page : ℕ) → j < count → from ≤ page → page < to → Covers (spans j) page → ⊥
+
+-- each of the spans from one number to before another ends at or before the next begins
+abbrev pub IsChain : (ℕ → Span) → ℕ → ℕ → Type 0
+IsChain spans from to = (j k : ℕ) → from ≤ j → j < k → k < to → (spans j).end ≤ (spans k).first
+
+-- the spans from one number to before another have ended before the page
+abbrev pub HaveEnded : (ℕ → Span) → ℕ → ℕ → ℕ → Type 0
+HaveEnded spans from to page = (j : ℕ) → from ≤ j → j < to → (spans j).end ≤ page
+
+-- the numbers rise from one to another
+abbrev pub RiseTo : ℕ → List ℕ → ℕ → Type 0
+RiseTo from [] to = from ≡ to
+RiseTo from (x ∷ xs) to = (from ≤ x) × (x ≤ to) × RiseTo x xs to
+
+-- the spans from one number to before another are chains that end at the numbers of the list
+abbrev pub AreChains : (ℕ → Span) → ℕ → List ℕ → ℕ → Type 0
+AreChains spans from [] to = from ≡ to
+AreChains spans from (x ∷ xs) to = IsChain spans from x × AreChains spans x xs to
+
+-- the first span of a chain that ends behind the page, or none where all have ended
+abbrev pub IsNextInChain : (ℕ → Span) → ℕ → ℕ → ℕ → Option Span → Type 0
+IsNextInChain spans from to page None = HaveEnded spans from to page
+IsNextInChain spans from to page (Some s) = (i : ℕ) × (from ≤ i) × (i < to) × HaveEnded spans from i page × (s ≡ spans i)

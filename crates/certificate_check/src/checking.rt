@@ -1,0 +1,40 @@
+ghost use Rattle.std.specs.Prelude.{◌≡◌, ℕ, ◌↔◌, IfOk, IfErr};
+ghost use Rattle.permission_map.specs.Runs.{view_of_runs};
+ghost use Rattle.certificate_check.specs.Certificates.{IsRight, HoldsFewest, RefusalStands};
+
+use crate::listing::listed;
+use crate::nodes::node;
+use crate::refusal::CheckRefusal;
+use crate::sweep::means;
+use permission_map::PermissionMap;
+use plan_certificate::Reader;
+
+fn read_whole(map: &PermissionMap, bytes: &[u8]) -> Result<u32, CheckRefusal>
+    ensures right { IfOk result (IsRight (view_of_runs map.now) bytes.now) }
+    ensures given { (n : ℕ) → IsRight (view_of_runs map.now) bytes.now n → result ≡ Ok n }
+    ensures fault { IfErr result (RefusalStands (view_of_runs map.now) bytes.now) }
+{
+    let mut reader = Reader::new(bytes);
+    let header = reader.header()?;
+    let list = listed(&mut reader, header.count)?;
+    let root = node(&mut reader, map, 44, 0)?;
+    if header.count > root.no_access {
+        return Err(CheckRefusal::EntriesTooMany);
+    }
+    if !means(&list, map) {
+        return Err(CheckRefusal::WrongMeaning);
+    }
+    if !reader.rest().is_empty() {
+        return Err(CheckRefusal::Trailing);
+    }
+    Ok(header.count)
+}
+
+/// Checks that the bytes are a certificate of fewest entries for the map, and answers how many entries it has.
+pub fn check(map: &PermissionMap, bytes: &[u8]) -> Result<u32, CheckRefusal>
+    ensures fewest { IfOk result (HoldsFewest (view_of_runs map.now) bytes.now) }
+    ensures right { (n : ℕ) → (result ≡ Ok n) ↔ IsRight (view_of_runs map.now) bytes.now n }
+    ensures fault { IfErr result (RefusalStands (view_of_runs map.now) bytes.now) }
+{
+    read_whole(map, bytes)
+}

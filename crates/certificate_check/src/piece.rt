@@ -1,0 +1,11 @@
+use pmp_encoding::Perm;
+
+/// How many pages the space has.
+pub(crate) const PAGES: u64 = 1 << 44;
+
+/// A permission that holds from some page to before `end`.
+#[derive(Clone, Copy, PartialEq, Eq, Debug)]
+pub(crate) struct Piece {
+    pub(crate) end: u64,
+    pub(crate) perm: Perm,
+}

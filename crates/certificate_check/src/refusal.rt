@@ -1,0 +1,57 @@
+use plan_certificate::ReadFault;
+
+/// Why the bytes are no right certificate for the map. The numbers are those that the program prints.
+#[derive(Clone, Copy, PartialEq, Eq, Debug)]
+pub enum CheckRefusal {
+    /// The first four bytes are not `PMPC`.
+    BadMagic = 1,
+    /// The version is neither 1 nor 2.
+    BadVersion = 2,
+    /// The bytes end within a part.
+    Truncated = 3,
+    /// A node begins with neither a leaf's tag nor a branch's.
+    BadTag = 4,
+    /// A leaf has a byte that is no permission.
+    BadPerm = 5,
+    /// The nine bytes of an entry mean none.
+    BadEntry = 6,
+    /// The region of an entry is less than a page.
+    SubPageEntry = 7,
+    /// A page is split.
+    TooDeep = 8,
+    /// A leaf's block has not one permission throughout.
+    LeafNotUniform = 9,
+    /// A leaf's block has another permission throughout.
+    WrongLeaf = 10,
+    /// A cost of a split block is above what its halves' costs allow.
+    CostTooHigh = 11,
+    /// The costs of a split block's halves have a sum that is too large.
+    CostOverflow = 12,
+    /// There are more entries than the root's cost says are needed.
+    EntriesTooMany = 13,
+    /// The entries do not mean the map.
+    WrongMeaning = 14,
+    /// Bytes stand behind the root.
+    Trailing = 15,
+    /// The limit of a version 2 certificate is neither 16 nor 64.
+    BadLimit = 16,
+}
+
+impl From<ReadFault> for CheckRefusal {
+    ghost use Rattle.certificate_check.specs.Refusals.{refusal_of};
+
+    ghost from_gives = { λ fault refusal. refusal ≡ refusal_of fault };
+
+    fn from(fault: ReadFault) -> CheckRefusal {
+        match fault {
+            ReadFault::BadMagic => CheckRefusal::BadMagic,
+            ReadFault::BadVersion => CheckRefusal::BadVersion,
+            ReadFault::Truncated => CheckRefusal::Truncated,
+            ReadFault::BadTag => CheckRefusal::BadTag,
+            ReadFault::BadPerm => CheckRefusal::BadPerm,
+            ReadFault::BadLimit => CheckRefusal::BadLimit,
+        }
+    }
+}
+
+ghost use Rattle.std.specs.Prelude.{◌≡◌};
