@@ -1,6 +1,6 @@
 -- The law is the lemma.
-use Rattle.pmp_match.proofs.EachByte.{byte_law_proof}
+use Rattle.pmp_match.proofs.Uncut.{means_law_proof}
 use Rattle.pmp_match.proofs.laws.byte_law.Goals as goal
 
 pub returns : goal.returns
-returns c = byte_law_proof
+returns c = means_law_proof
