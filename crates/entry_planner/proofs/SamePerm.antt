@@ -1,26 +1,15 @@
 -- When two permissions are the same.
-use Rattle.std.proofs.Common.{◌≡◌, ℕ, Bool, true, false, not, cond, ◌==◌, refl, sym, ap, ◌∙◌}
+use Rattle.std.proofs.Common.{◌≡◌, Bool, true, false, not, refl, sym, ap, ◌∙◌}
 use Rattle.std.proofs.lemmas.Bool.{eqb-true, eq-eqb}
 use denote.Enum.Bare.{sameb}
 use Rattle.pmp_encoding.specs.contracts.perm.Perm.{the_type}
 use Rattle.pmp_encoding.specs.declared.perm.Perm.{Perm}
 use Rattle.pmp_encoding.specs.declared.perm.Perm.TheVariants.{NoAccess, Read, ReadWrite, Execute, ReadExecute, ReadWriteExecute}
 use Rattle.pmp_encoding.specs.Perms.{bits_of, perm_eq}
-
--- equal bits are equal permissions
-abbrev perm_from : ℕ → Perm
-perm_from bits = cond (bits == 0) NoAccess (cond (bits == 1) Read (cond (bits == 3) ReadWrite (cond (bits == 4) Execute (cond (bits == 5) ReadExecute ReadWriteExecute))))
-
-perm_from_bits : (p : Perm) → perm_from (bits_of p) ≡ p
-perm_from_bits NoAccess = refl
-perm_from_bits Read = refl
-perm_from_bits ReadWrite = refl
-perm_from_bits Execute = refl
-perm_from_bits ReadExecute = refl
-perm_from_bits ReadWriteExecute = refl
+use Rattle.pmp_encoding.proofs.Pairs.{perm_from_same_bits}
 
 pub perm_eq-true : (p q : Perm) → perm_eq p q ≡ true → p ≡ q
-perm_eq-true p q h = sym (perm_from_bits p) ∙ ap perm_from (eqb-true (bits_of p) (bits_of q) h) ∙ perm_from_bits q
+perm_eq-true p q h = perm_from_same_bits p q (eqb-true (bits_of p) (bits_of q) h)
 
 pub perm_eq-same : (p : Perm) → perm_eq p p ≡ true
 perm_eq-same p = eq-eqb (bits_of p) (bits_of p) refl

@@ -2,7 +2,8 @@ use crate::costs::BlockCost;
 use pmp_encoding::{Entry, Perm};
 use std::marker::Model;
 
-/// The fewest entries of a tree's view, by rising size and then by rising address, and what each split block of the tree costs.
+/// The fewest entries of a tree's view, and what each split block of the tree costs: the numbers that show that no list
+/// of fewer entries means the view.
 #[derive(Drop)]
 pub struct Plan {
     entries: Vec<Entry>,
@@ -31,7 +32,8 @@ impl Plan {
         Plan { entries, costs }
     }
 
-    /// The entries, the smaller before the larger, and those of one size by rising address.
+    /// The entries, in the order in which they go into a bank: the smaller before the larger, and those of one size by
+    /// rising address.
     pub fn entries(&self) -> &[Entry]
         ensures { result.now ≡ self.now.entries }
     {
@@ -52,8 +54,9 @@ impl Plan {
         self.costs.len()
     }
 
-    /// What the i-th split block costs where a permission stands round about. The tree's split blocks count
-    /// from 0 in preorder: a block, then those of its lower half, then those of its upper half.
+    /// What the i-th split block costs where a permission stands round about it: the least number of entries that give
+    /// its pages their permissions there. The tree's split blocks count from 0 in preorder: a block, then those of its
+    /// lower half, then those of its upper half. A block of one permission costs 0 where that one stands, else 1.
     pub fn cost(&self, i: usize, perm: Perm) -> u32
         requires { i < length self.now.costs }
         ensures { result ≡ cost_in self.now.costs i perm }

@@ -19,7 +19,7 @@ use pmp_encoding::{Entry, Perm};
 use prefix_tree::{Block, Tree};
 use std::alloc::Global;
 
-/// The entries of the whole space, in order.
+/// The entries of the whole space, in which no access is inherited, in order.
 fn entries_of(alloc: Global, root: &Block, halves: &[HalfPerms]) -> Result<Vec<Entry>, Memory>
     requires fits { Fits 44 (shape_of root.now) }
     requires halves { halves.now ≡ half_perms_in (shape_of root.now) }
@@ -33,7 +33,13 @@ fn entries_of(alloc: Global, root: &Block, halves: &[HalfPerms]) -> Result<Vec<E
     Ok(entries)
 }
 
-/// The fewest entries that mean the tree's view.
+/// The plan of a tree: the fewest entries that mean its view, and what each of its split blocks costs.
+///
+/// The list lets supervisor and user do, at every naturally aligned access in the space, just what the view lets them
+/// do, and no list of entries of any regions in any order that does so is shorter. Its regions are of whole pages, and
+/// the smaller come before the larger, those of one size by rising address. The only error is want of memory.
+/// (RISC-V Privileged Architecture, Physical Memory Protection: priority and matching logic. The passes up and down
+/// are those of ORTC, Draves and others, 1999, with permissions for next hops and no access for the default route.)
 pub fn plan(alloc: Global, tree: &Tree) -> Result<Plan, Memory>
     ensures means { IfOk result (λ plan. Means plan.entries (view_of_tree tree.now)) }
     ensures least { IfOk result (λ plan. (others : List Entry) → Means others (view_of_tree tree.now) → length plan.entries ≤ length others) }
