@@ -137,6 +137,41 @@ fn a_tie_is_settled_as_two_pages(rt: HostRuntime) -> Result<(), Fail> {
     Ok(())
 }
 
+/// How many entries the host of the example platform needs where these many single pages, each second one from
+/// 0x80200000 on, are private to enclaves.
+fn needed_beside_scattered_pages(alloc: Global, pages: u32) -> Result<u32, Fail> {
+    let mut map = PermissionMap::new(alloc);
+    map.set_range(0x80000, 0x8000, Perm::ReadWriteExecute)?;
+    map.set_range(0x80000, 0x200, Perm::NoAccess)?;
+    map.set_range(0x10000, 1, Perm::ReadWrite)?;
+    for i in 0..pages {
+        map.set_range(0x80200 + 2 * u64::from(i), 1, Perm::NoAccess)?;
+    }
+    let tree = build(alloc, &map)?;
+    let plan = plan(alloc, &tree)?;
+    Ok(plan.needed())
+}
+
+#[test]
+fn thirteen_scattered_pages_fit_sixteen_entries(rt: HostRuntime) -> Result<(), Fail> {
+    assert_eq!(rt; needed_beside_scattered_pages(rt.alloc(), 13)?, 16);
+    assert_eq!(rt; needed_beside_scattered_pages(rt.alloc(), 14)?, 17);
+    Ok(())
+}
+
+#[test]
+fn one_shared_page_more_needs_one_entry_more(rt: HostRuntime) -> Result<(), Fail> {
+    let text = (0x804AB, 170, Perm::ReadExecute);
+    let data = (0x80555, 342, Perm::ReadWrite);
+    let ten = [text, data, (0x81000, 10, Perm::ReadWrite)];
+    let tree = tree_of(rt.alloc(), &ten)?;
+    assert_eq!(rt; plan(rt.alloc(), &tree)?.needed(), 16);
+    let eleven = [text, data, (0x81000, 11, Perm::ReadWrite)];
+    let tree = tree_of(rt.alloc(), &eleven)?;
+    assert_eq!(rt; plan(rt.alloc(), &tree)?.needed(), 17);
+    Ok(())
+}
+
 #[test]
 fn the_lower_half_costs_one_under_either_permission(rt: HostRuntime) -> Result<(), Fail> {
     let ranges = [(0, 1 << 43, Perm::ReadWriteExecute)];
