@@ -2,7 +2,8 @@ use byteorder::{ByteOrder, LittleEndian};
 use pmp_encoding::Perm;
 use std::marker::Model;
 
-/// The nine bytes of an entry: a configuration byte, and an address register of eight bytes.
+/// The nine bytes of an entry: a configuration byte, and an address register of eight bytes, the lowest first.
+/// (RISC-V Privileged Architecture, Physical Memory Protection CSRs)
 #[derive(Drop)]
 pub struct EntryBytes<'a> {
     bytes: &'a [u8],
@@ -34,14 +35,14 @@ impl<'a> EntryBytes<'a> {
         EntryBytes { bytes }
     }
 
-    /// The configuration byte.
+    /// The configuration byte, as in a pmpcfg register.
     pub fn cfg(&self) -> u8
         ensures { result ≡ self.now.0 }
     {
         self.bytes[0]
     }
 
-    /// The address register.
+    /// The address register, as in a pmpaddr register: bits 55 to 2 of an address.
     pub fn address(&self) -> u64
         ensures { result ≡ self.now.1 }
     {
@@ -49,7 +50,7 @@ impl<'a> EntryBytes<'a> {
     }
 }
 
-/// The twenty-four bytes of a split block's six costs.
+/// The twenty-four bytes of a split block's six costs, in the order none, R, RW, X, RX, RWX.
 #[derive(Drop)]
 pub struct Costs<'a> {
     bytes: &'a [u8],

@@ -97,7 +97,8 @@ impl<'a> Reader<'a> {
         self.bytes
     }
 
-    /// The form, and the number of entries.
+    /// The form, and the number of entries. Answers `Truncated` where bytes are missing, and `BadMagic`, `BadVersion`
+    /// or `BadLimit` where others stand there. On a fault the cursor stays where it is, here and below.
     pub fn header(&mut self) -> Result<Header, ReadFault>
         ensures read { IfOk result (λ header. self.old ≡ header_bytes header ++ self.new) }
         ensures fits { IfOk result (λ header. header.count < 2 ^ 32) }
@@ -110,7 +111,7 @@ impl<'a> Reader<'a> {
         Ok(header)
     }
 
-    /// The nine bytes of the next entry, whatever they say.
+    /// The nine bytes of the next entry, whatever they say. Answers `Truncated` where fewer are left.
     pub fn entry(&mut self) -> Result<EntryBytes<'a>, ReadFault>
         ensures read { IfOk result (λ pair. self.old ≡ pair_bytes pair ++ self.new) }
         ensures fits { IfOk result (λ pair. pair.1 < 2 ^ 64) }
@@ -125,7 +126,7 @@ impl<'a> Reader<'a> {
         Ok(EntryBytes::of(bytes))
     }
 
-    /// The kind of the node that begins here.
+    /// The kind of the node that begins here. Answers `Truncated` at the end, and `BadTag` where another byte stands there.
     pub fn tag(&mut self) -> Result<Tag, ReadFault>
         ensures read { IfOk result (λ tag. self.old ≡ tag_byte tag ∷ self.new) }
         ensures whole { (tag : Tag) (rest : List ℕ) → self.old ≡ tag_byte tag ∷ rest → (result ≡ Ok tag) × (self.new ≡ rest) }
@@ -144,7 +145,7 @@ impl<'a> Reader<'a> {
         Ok(tag)
     }
 
-    /// The permission of a leaf.
+    /// The permission of a leaf. Answers `Truncated` at the end, and `BadPerm` where another byte stands there.
     pub fn perm(&mut self) -> Result<Perm, ReadFault>
         ensures read { IfOk result (λ perm. self.old ≡ bits_of perm ∷ self.new) }
         ensures whole { (perm : Perm) (rest : List ℕ) → self.old ≡ bits_of perm ∷ rest → (result ≡ Ok perm) × (self.new ≡ rest) }
@@ -161,7 +162,7 @@ impl<'a> Reader<'a> {
         Ok(perm)
     }
 
-    /// The six costs of a branch.
+    /// The six costs of a branch. Answers `Truncated` where fewer than twenty-four bytes are left.
     pub fn costs(&mut self) -> Result<Costs<'a>, ReadFault>
         ensures read { IfOk result (λ costs. self.old ≡ costs_bytes (cost_of costs) ++ self.new) }
         ensures fits { IfOk result (λ costs. (perm : Perm) → cost_of costs perm < 2 ^ 32) }

@@ -1,12 +1,26 @@
 -- The bytes are those of the certificate, which spell it.
-use Rattle.std.proofs.Common.{◌≡◌, ◌^◌, ◌<◌, List, ℕ, length, sym, subst, arith}
-use Rattle.std.proofs.lemmas.Grind.{common_steps}
+use Rattle.std.proofs.Common.{◌≡◌, ◌∙◌, ◌^◌, ◌<◌, ◌++◌, List, ℕ, length, ap, ap₂, sym, subst, append_assoc, arith}
+use Rattle.std.specs.List.{flat_map}
+use Rattle.pmp_encoding.specs.declared.region.Entry.{Entry}
 use Rattle.prefix_tree.specs.Trees.{PermTree, Fits}
 use Rattle.entry_planner.specs.Plans.{costed}
-use Rattle.plan_certificate.specs.Spelling.{Spells, FitsNode}
-use Rattle.plan_certificate.specs.Written.{version_for, certificate_bytes}
+use Rattle.plan_certificate.specs.declared.header.Version.{Version}
+use Rattle.plan_certificate.specs.Spelling.{Spells, FitsNode, header_bytes, node_bytes}
+use Rattle.plan_certificate.specs.Written.{version_for, entry_bytes}
 use Rattle.plan_certificate.proofs.Spelled.{certificate_spelled}
 use Rattle.plan_certificate.proofs.writing.write.Goals as goal
+
+pub returns-clause-bytes : goal.returns-clause-bytes
+returns-clause-bytes c =
+    let costs = c.args.plan.now.costs in
+    let front : ℕ → Version → List ℕ = λ count version. header_bytes (record { version = version; count = count }) in
+    let header : c.push_header.new.out.items ≡ front (length c.args.plan.now.entries) (version_for c.args.limit) =
+    c.in_ok-push_header.ensures ∙ ap (λ (a : List ℕ). a ++ front c.needed-count.result c.version_for.result) c.in_ok-out.ensures.items ∙ ap₂ front c.needed-count.ensures c.version_for.ensures
+    in
+    let listed = c.in_ok-push_entries.ensures ∙ ap₂ (λ (a : List ℕ) (es : List Entry). a ++ flat_map entry_bytes es) header c.entries.ensures in
+    c.in_ok-push_node.ensures.bytes
+    ∙ ap₂ (λ (a : List ℕ) (t : PermTree). a ++ node_bytes (costed costs 0 t)) listed c.root.ensures.shape
+    ∙ append_assoc (front (length c.args.plan.now.entries) (version_for c.args.limit)) (flat_map entry_bytes c.args.plan.now.entries) (node_bytes (costed costs 0 c.args.tree.now))
 
 pub returns-clause-spells : goal.returns-clause-spells
 returns-clause-spells c =
@@ -14,9 +28,8 @@ returns-clause-spells c =
     let entries = c.args.plan.now.entries in
     let version = version_for c.args.limit in
     let tree = costed costs 0 c.args.tree.now in
-    let bytes : c.push_node.new.out.items ≡ certificate_bytes version entries tree = grind (arith, common_steps) in
     let shape = c.root.ensures.shape in
     let here = subst (λ (t : PermTree). Fits 44 t) (sym shape) c.root.ensures.fits in
     let fits : FitsNode 44 tree = subst (λ (t : PermTree). FitsNode 44 (costed costs 0 t)) shape (c.in_ok-push_node.ensures.fits 44 here) in
     let counted : length entries < 2 ^ 32 = omega arith in
-    subst (λ (b : List ℕ). Spells b version entries tree) (sym bytes) (certificate_spelled version entries tree counted fits)
+    subst (λ (b : List ℕ). Spells b version entries tree) (sym (returns-clause-bytes c)) (certificate_spelled version entries tree counted fits)
