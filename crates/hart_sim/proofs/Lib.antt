@@ -4,4 +4,3 @@ pub mod Buffered
 pub mod LinesRead
 pub mod InputLines
 pub mod WordsOfText
-pub mod LinesHanded
