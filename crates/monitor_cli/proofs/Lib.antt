@@ -1,0 +1,4 @@
+mod Entered
+mod FirstLine
+mod Judged
+mod Printed

@@ -1,0 +1,125 @@
+//! The files and streams that the program lends to a task.
+
+ghost use Rattle.std.specs.Io.{ReadsAtMost, WritesAtMost};
+
+use std::io::{ErrorKind, Read, Write};
+use std::rt::Files;
+use std::{fs, io};
+
+/// A file that is opened at its first read.
+#[derive(Drop)]
+pub struct FileToRead<'a, R: Files> {
+    files: &'a R,
+    name: &'a str,
+    file: Option<R::File>,
+}
+
+impl<'a, R: Files> FileToRead<'a, R> {
+    /// The file of that name, which may not be there.
+    pub fn new(files: &'a R, name: &'a str) -> FileToRead<'a, R> {
+        FileToRead {
+            files,
+            name,
+            file: None,
+        }
+    }
+}
+
+impl<R: Files> Read for FileToRead<'_, R> {
+    fn read(&mut self, buf: &mut [u8]) -> io::Result<usize> {
+        if self.file.is_none() {
+            self.file = Some(fs::open(self.files, self.name)?);
+        }
+        match &mut self.file {
+            Some(file) => read_again(file, buf),
+            None => Err(io::Error::from(ErrorKind::NotFound)),
+        }
+    }
+}
+
+/// A file that is made at its first write.
+#[derive(Drop)]
+pub struct FileToWrite<'a, R: Files> {
+    files: &'a R,
+    name: &'a str,
+    file: Option<R::File>,
+}
+
+impl<'a, R: Files> FileToWrite<'a, R> {
+    /// The file of that name, which is made anew where there is one.
+    pub fn new(files: &'a R, name: &'a str) -> FileToWrite<'a, R> {
+        FileToWrite {
+            files,
+            name,
+            file: None,
+        }
+    }
+}
+
+impl<R: Files> Write for FileToWrite<'_, R> {
+    fn write(&mut self, buf: &[u8]) -> io::Result<usize> {
+        if self.file.is_none() {
+            self.file = Some(fs::create(self.files, self.name)?);
+        }
+        match &mut self.file {
+            Some(file) => write_again(file, buf),
+            None => Err(io::Error::from(ErrorKind::NotFound)),
+        }
+    }
+
+    fn flush(&mut self) -> io::Result<()> {
+        match &mut self.file {
+            Some(file) => file.flush(),
+            None => Ok(()),
+        }
+    }
+}
+
+/// A reader or writer whose calls are tried again where a signal interrupted them.
+#[derive(Drop)]
+pub struct Patient<T> {
+    inner: T,
+}
+
+impl<T> Patient<T> {
+    /// The reader or writer, with patience.
+    pub fn new(inner: T) -> Patient<T> {
+        Patient { inner }
+    }
+}
+
+impl<T: Write> Write for Patient<T> {
+    fn write(&mut self, buf: &[u8]) -> io::Result<usize> {
+        write_again(&mut self.inner, buf)
+    }
+
+    fn flush(&mut self) -> io::Result<()> {
+        self.inner.flush()
+    }
+}
+
+/// A read that is tried again where a signal interrupted it.
+fn read_again<T: Read>(reader: &mut T, buf: &mut [u8]) -> io::Result<usize>
+    ensures { ReadsAtMost result buf.new }
+{
+    for _ in 0..u64::MAX {
+        match reader.read(buf) {
+            Err(error) if error.kind() == ErrorKind::Interrupted => {}
+            other => return other,
+        }
+    }
+    Err(io::Error::from(ErrorKind::Interrupted))
+}
+
+/// A write that is tried again where a signal interrupted it.
+fn write_again<T: Write>(writer: &mut T, buf: &[u8]) -> io::Result<usize>
+    ensures { WritesAtMost result buf.now }
+{
+    for _ in 0..u64::MAX {
+        match writer.write(buf) {
+            Err(error) if error.kind() == ErrorKind::Interrupted => {}
+            other => return other,
+        }
+    }
+    Err(io::Error::from(ErrorKind::Interrupted))
+}

@@ -1,0 +1,51 @@
+//! A file that is read whole before anything is made of it.
+
+ghost use Rattle.std.specs.Prelude.{◌≡◌, ℕ, ◌+◌, ◌-◌, ◌^◌, ◌<◌, ◌≤◌, List, IfOk, Err, length};
+ghost use Rattle.std.specs.Io.KnownBytes.{Consumes, IsAtEnd};
+
+use hart_sim::Source;
+use std::alloc::Global;
+
+/// How many bytes are asked of a source at a time.
+const PIECE: usize = 8192;
+
+/// Why a file could not be had whole.
+#[derive(Clone, Copy, Debug, PartialEq, Eq)]
+pub enum WholeFault {
+    /// It has more bytes than are allowed.
+    TooLarge,
+    /// The source failed.
+    Read,
+    /// Memory was refused.
+    Memory,
+}
+
+/// All the bytes of a source that has at most `most`.
+pub fn read_whole<R: Source>(
+    alloc: Global,
+    source: &mut R,
+    most: usize,
+) -> Result<Vec<u8>, WholeFault>
+    requires failures { R.failures source.old < 2 ^ 64 - 1 }
+    requires most { most < 2 ^ 32 }
+    ensures whole { IfOk result (λ bytes. Consumes (R.remaining source.old) (R.remaining source.new) bytes.items) }
+    ensures at_end { IfOk result (λ bytes. IsAtEnd (R.remaining source.new)) }
+    ensures most { IfOk result (λ bytes. length bytes.items ≤ most) }
+    ensures large { result ≡ Err WholeFault.TooLarge → (bytes : List ℕ) × Consumes (R.remaining source.old) (R.remaining source.new) bytes × (most < length bytes) }
+    ensures failed { result ≡ Err WholeFault.Read → R.failures source.new ≡ R.failures source.old + 1 }
+{
+    let mut bytes = Vec::new(alloc);
+    let mut piece = [0; PIECE];
+    while bytes.len() <= most {
+        let Ok(n) = source.read(&mut piece) else {
+            return Err(WholeFault::Read);
+        };
+        if n == 0 {
+            return Ok(bytes);
+        }
+        let Ok(()) = bytes.extend_from_slice(&piece[..n]) else {
+            return Err(WholeFault::Memory);
+        };
+    }
+    Err(WholeFault::TooLarge)
+}
