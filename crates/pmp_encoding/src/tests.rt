@@ -89,12 +89,17 @@ fn the_whole_space_is_read_from_54_ones_too(rt: HostRuntime) -> Result<(), Fail>
 
 #[test]
 fn the_least_fault_is_named(rt: HostRuntime) {
-    assert_eq!(rt; decode(0x00, 0), Ok(None));
-    assert_eq!(rt; decode(0x0A, 0), Err(EncodingFault::ReservedPerm));
-    assert_eq!(rt; decode(0x8F, 0), Err(EncodingFault::Tor));
-    assert_eq!(rt; decode(0x97, 0), Err(EncodingFault::Locked));
-    assert_eq!(rt; decode(0x37, 0), Err(EncodingFault::ReservedBits));
-    assert_eq!(rt; decode(0x00, 1 << 54), Err(EncodingFault::AddressBits));
+    let pairs = [
+        (0x00u8, 0u64, Ok(None)),
+        (0x0A, 0, Err(EncodingFault::ReservedPerm)),
+        (0x8F, 0, Err(EncodingFault::Tor)),
+        (0x97, 0, Err(EncodingFault::Locked)),
+        (0x37, 0, Err(EncodingFault::ReservedBits)),
+        (0x00, 1 << 54, Err(EncodingFault::AddressBits)),
+    ];
+    for (cfg, addr, meaning) in pairs {
+        assert_eq!(rt; decode(cfg, addr), meaning);
+    }
 }
 
 #[test]
@@ -118,12 +123,10 @@ fn bits_of_permissions(rt: HostRuntime) {
 #[test]
 fn blocks_are_aligned_and_in_the_space(rt: HostRuntime) -> Result<(), Fail> {
     let last = Region::new((1 << 56) - 4, 2).ok_or("no block")?;
-    assert_eq!(rt; last.base(), (1 << 56) - 4);
-    assert_eq!(rt; last.log2(), 2);
-    assert_eq!(rt; Region::new(0x1000, 13), None);
-    assert_eq!(rt; Region::new(0, 1), None);
-    assert_eq!(rt; Region::new(0, 57), None);
-    assert_eq!(rt; Region::new(1 << 56, 12), None);
+    assert_eq!(rt; (last.base(), last.log2()), ((1 << 56) - 4, 2));
+    for (base, log2) in [(0x1000u64, 13u32), (0, 1), (0, 57), (1 << 56, 12)] {
+        assert_eq!(rt; Region::new(base, log2), None);
+    }
     Ok(())
 }
 
@@ -131,19 +134,21 @@ fn blocks_are_aligned_and_in_the_space(rt: HostRuntime) -> Result<(), Fail> {
 fn refused_writes_change_nothing(rt: HostRuntime) -> Result<(), Fail> {
     let page = entry(0x8000_0000, 12, Perm::ReadWriteExecute).ok_or("no block")?;
     let before = Bank::of([page].as_slice(), Limit::Sixteen);
-    let mut bank = before;
-    assert_eq!(rt; bank.write_csr(0x3A1, 0), Err(EncodingFault::NoSuchCsr));
-    assert_eq!(rt; bank.write_csr(0x3A0, 0x8F), Err(EncodingFault::Tor));
-    assert_eq!(rt; bank.write_csr(0x3A0, 0x9F), Err(EncodingFault::Locked));
-    assert_eq!(rt;
-        bank.write_csr(0x3A0, 0x0A),
-        Err(EncodingFault::ReservedPerm)
-    );
-    assert_eq!(rt;
-        bank.write_csr(0x3B0, 1 << 54),
-        Err(EncodingFault::AddressBits)
-    );
-    assert_eq!(rt; bank, before);
+    let writes = [
+        (0x3A1u16, 0u64, 6u8),
+        (0x3A0, 0x8F, 2),
+        (0x3A0, 0x9F, 3),
+        (0x3A0, 0x0A, 1),
+        (0x3B0, 1 << 54, 5),
+    ];
+    for (number, value, fault) in writes {
+        let mut bank = before;
+        let answer = bank
+            .write_csr(number, value)
+            .map_err(|fault| fault.number());
+        assert_eq!(rt; answer, Err(fault));
+        assert_eq!(rt; bank, before);
+    }
     Ok(())
 }
 
@@ -170,16 +175,24 @@ fn written_registers_are_read_back(rt: HostRuntime) -> Result<(), Fail> {
 
 #[test]
 fn csrs_past_the_sixteenth_are_known_with_sixty_four_alone(rt: HostRuntime) {
-    let mut small = Bank::of([].as_slice(), Limit::Sixteen);
-    let mut large = Bank::of([].as_slice(), Limit::SixtyFour);
-    assert_eq!(rt; small.write_csr(0x3A4, 0), Err(EncodingFault::NoSuchCsr));
-    assert_eq!(rt; small.write_csr(0x3C0, 0), Err(EncodingFault::NoSuchCsr));
-    assert_eq!(rt; large.write_csr(0x3A4, 0), Ok(()));
-    assert_eq!(rt; large.write_csr(0x3AE, 0), Ok(()));
-    assert_eq!(rt; large.write_csr(0x3C0, 0), Ok(()));
-    assert_eq!(rt; large.write_csr(0x3EF, 0), Ok(()));
-    for number in [0x3A1u16, 0x3F0] {
+    let empty_small = Bank::of([].as_slice(), Limit::Sixteen);
+    let empty_large = Bank::of([].as_slice(), Limit::SixtyFour);
+    for number in [0x3A4u16, 0x3AE, 0x3C0, 0x3EF] {
+        let mut small = empty_small;
         assert_eq!(rt; small.write_csr(number, 0), Err(EncodingFault::NoSuchCsr));
+        let mut large = empty_large;
+        assert_eq!(rt; large.write_csr(number, 0), Ok(()));
+    }
+}
+
+#[test]
+fn odd_and_foreign_csrs_are_known_with_neither_limit(rt: HostRuntime) {
+    let empty_small = Bank::of([].as_slice(), Limit::Sixteen);
+    let empty_large = Bank::of([].as_slice(), Limit::SixtyFour);
+    for number in [0x3A1u16, 0x3F0, 0x300] {
+        let mut small = empty_small;
+        assert_eq!(rt; small.write_csr(number, 0), Err(EncodingFault::NoSuchCsr));
+        let mut large = empty_large;
         assert_eq!(rt; large.write_csr(number, 0), Err(EncodingFault::NoSuchCsr));
     }
 }
@@ -190,13 +203,13 @@ fn three_entries_of_a_boot(rt: HostRuntime) -> Result<(), Fail> {
     let monitor = entry(0x8000_0000, 21, Perm::NoAccess).ok_or("no block")?;
     let ram = entry(0x8000_0000, 27, Perm::ReadWriteExecute).ok_or("no block")?;
     let bank = Bank::of([device, monitor, ram].as_slice(), Limit::Sixteen);
-    assert_eq!(rt; bank.cfg0(), 0x001F_181B);
-    assert_eq!(rt; bank.cfg2(), 0);
-    assert_eq!(rt; bank.addr(0), 0x0400_01FF);
-    assert_eq!(rt; bank.addr(1), 0x2003_FFFF);
-    assert_eq!(rt; bank.addr(2), 0x20FF_FFFF);
-    assert_eq!(rt; bank.addr(3), 0);
-    assert_eq!(rt; bank.entry(3), None);
+    assert_eq!(rt; (bank.cfg0(), bank.cfg2()), (0x001F_181B, 0));
+    for (i, addr) in [0x0400_01FFu64, 0x2003_FFFF, 0x20FF_FFFF, 0]
+        .iter()
+        .enumerate()
+    {
+        assert_eq!(rt; bank.addr(i), *addr);
+    }
     Ok(())
 }
 
