@@ -9,6 +9,7 @@ use crate::sweep::means;
 use permission_map::PermissionMap;
 use plan_certificate::Reader;
 
+/// Reads the parts in their order, and answers the first that is not right.
 fn read_whole(map: &PermissionMap, bytes: &[u8]) -> Result<u32, CheckRefusal>
     ensures right { IfOk result (IsRight (view_of_runs map.now) bytes.now) }
     ensures given { (n : ℕ) → IsRight (view_of_runs map.now) bytes.now n → result ≡ Ok n }
@@ -30,7 +31,11 @@ fn read_whole(map: &PermissionMap, bytes: &[u8]) -> Result<u32, CheckRefusal>
     Ok(header.count)
 }
 
-/// Checks that the bytes are a certificate of fewest entries for the map, and answers how many entries it has.
+/// Checks that the bytes are a right certificate of fewest entries for the map, and answers how many entries it has.
+///
+/// A yes says that the bytes hold that many entries that mean the map (RISC-V Privileged Architecture, Physical Memory
+/// Protection), and that no list of fewer entries does. The refusal is the first in the order of reading: header,
+/// entries, nodes in preorder, and then the number of entries, their meaning and bytes behind the root.
 pub fn check(map: &PermissionMap, bytes: &[u8]) -> Result<u32, CheckRefusal>
     ensures fewest { IfOk result (HoldsFewest (view_of_runs map.now) bytes.now) }
     ensures right { (n : ℕ) → (result ≡ Ok n) ↔ IsRight (view_of_runs map.now) bytes.now n }

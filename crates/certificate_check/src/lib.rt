@@ -1,4 +1,21 @@
-//! Checks a certificate of fewest entries against a map, trusting neither who made it nor how.
+//! Checks a certificate of fewest entries against a map. It trusts neither who made the certificate nor how.
+//!
+//! A certificate holds a list of PMP entries and a table of lower bounds: a tree of blocks, each of one permission or
+//! split into halves, with six numbers for each split block. Where the table is a sound bound of the map, no list that
+//! means the map is shorter than its root says.
+//!
+//! For the layer above: [`check`] answers `Ok(n)` exactly for right certificates, of n entries. The bytes then hold n
+//! entries that mean the map, and no list of fewer entries, of any regions and in any order, means it. On each
+//! [`CheckRefusal`] the fault of that name stands in the bytes. It takes no memory, and goes over the bytes once.
+//! The entries may stand in any order. Where they stand in few chains, as a planner's do by rising size and then by
+//! rising address, the entry that decides a page is found by halves in each chain.
+//!
+//! ```rust
+//! let mut map = PermissionMap::new(alloc);
+//! map.set_range(0, 1 << 44, Perm::ReadWriteExecute)?;
+//! let whole_space = b"PMPC\x01\x01\x00\x00\x00\x1F\xFF\xFF\xFF\xFF\xFF\xFF\x1F\x00\x00\x07";
+//! assert_eq!(rt; check(&map, whole_space), Ok(1));
+//! ```
 #![tactic(auto)]
 
 mod chains;
@@ -12,6 +29,8 @@ mod refusal;
 mod runs;
 mod scan;
 mod sweep;
+#[cfg(test)]
+mod tests;
 
 pub use checking::check;
 pub use refusal::CheckRefusal;

@@ -1,0 +1,4 @@
+use Rattle.certificate_check.proofs.tests.Way.+write.Given as goal
+
+abbrev pub decreases-write : goal.decreases-write
+decreases-write l = l.log2
