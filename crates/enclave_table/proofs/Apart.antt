@@ -1,0 +1,93 @@
+-- Ranges with and without a page in common.
+use Rattle.std.proofs.Common.{◌≡◌, ℕ, zero, suc, ◌+◌, ◌-◌, ◌/◌, ◌<◌, ◌≤◌, List, [], ◌∷◌, ◌++◌, length, take, drop, map, get_or, true, false, Bool, inl, inr, arith, refl, sym, subst}
+use native.Mathlib.Numerals.{unary_clauses}
+use Rattle.std.specs.List.{All, AllByRecursion}
+use Rattle.std.proofs.lemmas.Bool.Decides.{nat_tests}
+use Rattle.std.proofs.lemmas.Bool.{cases_lt}
+use Rattle.std.proofs.lemmas.Grind.{common_steps}
+use Rattle.std.proofs.lemmas.List.Elements.{All-append, All-map, All-from_recursion, recursion_from_All}
+use Rattle.std.proofs.lemmas.List.{get_or_default, get_or-map, length-map}
+use Rattle.pmp_encoding.specs.declared.perm.Perm.{Perm}
+use Rattle.permission_map.specs.Runs.{in_range}
+use Rattle.enclave_table.specs.Ranges.{has_page, AreApart, EachApart, range_of}
+
+pub inside : (first count page : ℕ) → first ≤ page → page < first + count → in_range first count page ≡ true
+inside first count page low high = grind (arith, nat_tests)
+
+-- two ranges that begin before the other's end have the later of their first pages in common
+met_at : (f n g m : ℕ) → f < f + n → g < f + n → f < g + m → f ≤ g → ((page : ℕ) → in_range f n page ≡ true → in_range g m page ≡ true → ⊥) → g < g + m → ⊥
+met_at f n g m some before after order apart some_other = apart g (inside f n g order before) (inside g m g (omega arith) some_other)
+
+pub met : (a b : ℕ × ℕ) → a.0 / 4096 < a.0 / 4096 + a.1 / 4096 → b.0 / 4096 < b.0 / 4096 + b.1 / 4096 → b.0 / 4096 < a.0 / 4096 + a.1 / 4096 → a.0 / 4096 < b.0 / 4096 + b.1 / 4096 → AreApart a b → ⊥
+met a b some some_other before after apart =
+    elim (cases_lt (b.0 / 4096) (a.0 / 4096)) [
+      | inl low ↦ apart (a.0 / 4096) (inside _ _ (a.0 / 4096) (omega arith) some) (inside _ _ (a.0 / 4096) (omega arith) after)
+      | inr high ↦ apart (b.0 / 4096) (inside _ _ (b.0 / 4096) high before) (inside _ _ (b.0 / 4096) (omega arith) some_other)
+    ]
+
+-- the rest of a list behind a place
+pub rest_is : {X : Type 0} (i : ℕ) (xs : List X) → take (length xs - (i + 1)) (drop (i + 1) xs) ≡ drop (i + 1) xs
+rest_is i xs = grind (arith, common_steps)
+
+drop_behind : {X : Type 0} (k : ℕ) (x : X) (xs : List X) → drop (suc k + 1) (x ∷ xs) ≡ drop (k + 1) xs
+drop_behind k x xs = simp unary_clauses
+
+-- what holds at each place before i, and at i, holds at each before i + 1
+pub one_more :
+    {X : Type 0} (P : ℕ → X → Type 0) (xs : List X) (i : ℕ) (e : X) → i < length xs → ((k : ℕ) (d : X) → k < i → P k (get_or xs k d)) → P i (get_or xs i e) → (k : ℕ) (d : X) → k < i + 1 → P k (get_or xs k d)
+one_more P xs i e low before here k d below =
+    elim (cases_lt k i) [
+      | inl less ↦ before k d less
+      | inr more ↦ let same : i ≡ k = omega arith in
+          subst (λ j. P j (get_or xs j d)) same (subst (P i) (get_or_default xs i e d low) here)
+    ]
+
+pub device_clear : (range : ℕ × ℕ) (xs : List (ℕ × ℕ × Perm)) (k : ℕ) (d : ℕ × ℕ × Perm) → k < length xs → All (AreApart range) (map range_of xs) → AreApart range (range_of (get_or xs k d))
+device_clear range xs k d low all =
+    rw (get_or-map range_of xs k d (range_of d) low) at (all k (range_of d) (omega (arith, length-map xs range_of)))
+
+pub all_clear : (range : ℕ × ℕ) (xs : List (ℕ × ℕ × Perm)) → ((k : ℕ) (d : ℕ × ℕ × Perm) → k < length xs → AreApart range (range_of (get_or xs k d))) → All (AreApart range) (map range_of xs)
+all_clear range xs here = All-map (AreApart range) range_of xs here
+
+front_of : (P : ℕ × ℕ → Type 0) (xs ys : List (ℕ × ℕ)) → AllByRecursion P (xs ++ ys) → AllByRecursion P xs
+front_of P [] ys all = tt
+front_of P (x ∷ xs) ys all = (all.0, front_of P xs ys all.1)
+
+back_of : (P : ℕ × ℕ → Type 0) (xs ys : List (ℕ × ℕ)) → AllByRecursion P (xs ++ ys) → AllByRecursion P ys
+back_of P [] ys all = all
+back_of P (x ∷ xs) ys all = back_of P xs ys all.1
+
+front_all : (P : ℕ × ℕ → Type 0) (xs ys : List (ℕ × ℕ)) → All P (xs ++ ys) → All P xs
+front_all P xs ys all = All-from_recursion P xs (front_of P xs ys (recursion_from_All P (xs ++ ys) all))
+
+back_all : (P : ℕ × ℕ → Type 0) (xs ys : List (ℕ × ℕ)) → All P (xs ++ ys) → All P ys
+back_all P xs ys all = All-from_recursion P ys (back_of P xs ys (recursion_from_All P (xs ++ ys) all))
+
+-- what is checked of each range makes the whole list apart, and the other way round
+pub each_from :
+    (xs ys : List (ℕ × ℕ)) → EachApart ys → ((k : ℕ) (d : ℕ × ℕ) → k < length xs → All (AreApart (get_or xs k d)) (drop (k + 1) xs) × All (AreApart (get_or xs k d)) ys) → EachApart (xs ++ ys)
+each_from [] ys rest here = rest
+each_from (x ∷ xs) ys rest here = (
+  All-append (AreApart x) xs ys (here 0 x (omega arith)).0 (here 0 x (omega arith)).1,
+  each_from xs ys rest (λ k d low. rw (drop_behind k x xs) at (here (suc k) d (omega arith))),
+)
+
+pub apart_at : (xs ys : List (ℕ × ℕ)) (k : ℕ) (d : ℕ × ℕ) → k < length xs → EachApart (xs ++ ys) → All (AreApart (get_or xs k d)) (drop (k + 1) xs) × All (AreApart (get_or xs k d)) ys
+apart_at [] ys k d low each = absurd (omega arith)
+apart_at (x ∷ xs) ys zero d low each = (front_all (AreApart x) xs ys each.0, back_all (AreApart x) xs ys each.0)
+apart_at (x ∷ xs) ys (suc k) d low each = rw (drop_behind k x xs) (apart_at xs ys k d (omega arith) each.1)
+
+pub rest_apart : (xs ys : List (ℕ × ℕ)) → EachApart (xs ++ ys) → EachApart ys
+rest_apart [] ys each = each
+rest_apart (x ∷ xs) ys each = rest_apart xs ys each.1
+
+pub devices_from :
+    (xs : List (ℕ × ℕ × Perm)) → ((k : ℕ) (d : ℕ × ℕ × Perm) → k < length xs → All (AreApart (range_of (get_or xs k d))) (map range_of (drop (k + 1) xs))) → EachApart (map range_of xs)
+devices_from [] here = tt
+devices_from (x ∷ xs) here = (here 0 x (omega arith), devices_from xs (λ k d low. rw (drop_behind k x xs) at (here (suc k) d (omega arith))))
+
+pub device_at :
+    (xs : List (ℕ × ℕ × Perm)) (k : ℕ) (d : ℕ × ℕ × Perm) → k < length xs → EachApart (map range_of xs) → All (AreApart (range_of (get_or xs k d))) (map range_of (drop (k + 1) xs))
+device_at [] k d low each = absurd (omega arith)
+device_at (x ∷ xs) zero d low each = each.0
+device_at (x ∷ xs) (suc k) d low each = rw (drop_behind k x xs) (device_at xs k d (omega arith) each.1)
