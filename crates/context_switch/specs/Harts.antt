@@ -1,0 +1,32 @@
+-- The parts of a hart.
+use Rattle.std.specs.Prelude.{ℕ}
+use Rattle.std.specs.Borrow.{Lends, MutBor, Fml}
+use Rattle.enclave_table.specs.declared.world.World.{World}
+use Rattle.pmp_encoding.specs.declared.bank.Bank.{Bank}
+use Rattle.sbi_decode.specs.Registers.{RegisterFile}
+use Rattle.sbi_decode.specs.contracts.registers.Registers as registers
+use Rattle.context_switch.specs.declared.hart.Hart.{Hart}
+use Rattle.context_switch.specs.contracts.hart.Hart as hart
+
+abbrev pub number_of : Hart → ℕ
+number_of hart = hart.number
+
+-- the world that runs
+abbrev pub world_of : Hart → World
+world_of hart = hart.world
+
+-- its registers, which are loaded
+abbrev pub registers_of : Hart → RegisterFile
+registers_of hart = hart.registers
+
+-- the PMP registers that are loaded
+abbrev pub bank_of : Hart → Bank
+bank_of hart = hart.bank
+
+-- the hart with other registers
+abbrev pub with_registers : Hart → RegisterFile → Hart
+with_registers hart file = record hart { registers = file }
+
+-- r lends the hart's registers: what is last written through r they are, and all else of the hart stays
+abbrev pub LendsRegisters : MutBor Hart → MutBor RegisterFile → Fml
+LendsRegisters lender r = Lends hart.the_row registers.the_row lender r (with_registers lender.now)

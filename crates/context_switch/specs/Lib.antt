@@ -1,0 +1,4 @@
+pub mod Runners
+pub mod Contexts
+pub mod Harts
+pub mod Switching

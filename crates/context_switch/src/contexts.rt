@@ -1,0 +1,54 @@
+use enclave_table::World;
+use sbi_decode::Registers;
+
+/// The saved registers of each world: one set for the host of each of four harts, and one for each enclave, by its id
+/// from 1 to 64. An enclave's set is the same for every hart.
+#[derive(Clone, PartialEq, Eq, Debug, Drop)]
+pub struct Contexts {
+    hosts: [Registers; 4],
+    enclaves: [Registers; 64],
+}
+
+impl Contexts {
+    ghost use Rattle.std.specs.Prelude.{◌≡◌, ◌≢◌, ◌≤◌, ℕ, Some};
+    ghost use Rattle.enclave_table.specs.declared.world.World.{World};
+    ghost use Rattle.sbi_decode.specs.Registers.{zeros};
+    ghost use Rattle.context_switch.specs.Runners.{Runner, runner_of, IsWorld};
+    ghost use Rattle.context_switch.specs.Contexts.{saved_of};
+
+    /// Every set zero.
+    pub fn new() -> Contexts
+        ensures { (hart : ℕ) (world : World) → hart ≤ 3 → IsWorld world → saved_of result (runner_of hart world) ≡ Some zeros }
+    {
+        let zeros = Registers::new();
+        Contexts {
+            hosts: [zeros; 4],
+            enclaves: [zeros; 64],
+        }
+    }
+
+    /// The registers of the host on this hart, a number at most 3, or of the enclave with an id from 1 to 64.
+    pub fn get(&self, hart: u8, world: World) -> Registers
+        requires hart { hart ≤ 3 }
+        requires world { IsWorld world }
+        ensures { saved_of self.now (runner_of hart world) ≡ Some result }
+    {
+        match world {
+            World::Host => self.hosts[hart as usize],
+            World::Enclave(id) => self.enclaves[id as usize - 1],
+        }
+    }
+
+    /// Sets the registers of the host on this hart, a number at most 3, or of the enclave with an id from 1 to 64.
+    pub fn set(&mut self, hart: u8, world: World, registers: Registers)
+        requires hart { hart ≤ 3 }
+        requires world { IsWorld world }
+        ensures value { saved_of self.new (runner_of hart world) ≡ Some registers }
+        ensures others { (other : Runner) → other ≢ runner_of hart world → saved_of self.new other ≡ saved_of self.old other }
+    {
+        match world {
+            World::Host => self.hosts[hart as usize] = registers,
+            World::Enclave(id) => self.enclaves[id as usize - 1] = registers,
+        }
+    }
+}

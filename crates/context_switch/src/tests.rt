@@ -1,0 +1,168 @@
+use crate::{Contexts, Hart, switch};
+use enclave_table::World;
+use pmp_encoding::{Bank, Entry, Limit, Perm, Region};
+use sbi_decode::Registers;
+use std::test::Fail;
+
+const A0: usize = 10;
+
+/// Registers with this program counter and this word in a0.
+fn registers_of(pc: u64, a0: u64) -> Registers {
+    let mut registers = Registers::new();
+    registers.set_pc(pc);
+    registers.set(A0, a0);
+    registers
+}
+
+/// The page at this base, with everything allowed there.
+fn page(base: u64) -> Result<Entry, Fail> {
+    let region = Region::new(base, 12).ok_or("no block")?;
+    Ok(Entry {
+        region,
+        perm: Perm::ReadWriteExecute,
+    })
+}
+
+#[test]
+fn a_new_hart_is_in_the_hosts_world(rt: HostRuntime) -> Result<(), Fail> {
+    let entries = [page(0x8000_0000)?];
+    let hart = Hart::new(3, entries.as_slice(), Limit::SixtyFour);
+    assert_eq!(rt; hart.number(), 3);
+    assert_eq!(rt; hart.world(), World::Host);
+    assert_eq!(rt; *hart.registers(), Registers::new());
+    assert_eq!(rt; hart.bank().cfg0(), 0x1F);
+    assert_eq!(rt; hart.bank().addr(0), 0x2000_01FF);
+    assert_eq!(rt; hart.bank().limit(), Limit::SixtyFour);
+    Ok(())
+}
+
+#[test]
+fn registers_and_bank_are_put_in_place(rt: HostRuntime) -> Result<(), Fail> {
+    let mut hart = Hart::new(1, [].as_slice(), Limit::Sixteen);
+    hart.registers_mut().set(A0, 7);
+    hart.registers_mut().set_pc(0x8000_0000);
+    assert_eq!(rt; *hart.registers(), registers_of(0x8000_0000, 7));
+    let bank = Bank::of([page(0x8020_0000)?].as_slice(), Limit::Sixteen);
+    hart.put_bank(bank);
+    assert_eq!(rt; *hart.bank(), bank);
+    assert_eq!(rt; *hart.registers(), registers_of(0x8000_0000, 7));
+    assert_eq!(rt; hart.number(), 1);
+    Ok(())
+}
+
+#[test]
+fn each_host_and_each_enclave_has_its_own_registers(rt: HostRuntime) {
+    let mut contexts = Contexts::new();
+    assert_eq!(rt; contexts.get(3, World::Host), Registers::new());
+    assert_eq!(rt; contexts.get(0, World::Enclave(64)), Registers::new());
+    for hart in 0..4u8 {
+        contexts.set(hart, World::Host, registers_of(0, 100 + hart as u64));
+    }
+    for id in 1..65u64 {
+        contexts.set(0, World::Enclave(id), registers_of(0, id));
+    }
+    for hart in 0..4u8 {
+        assert_eq!(rt; contexts.get(hart, World::Host).get(A0), 100 + hart as u64);
+        for id in 1..65u64 {
+            assert_eq!(rt; contexts.get(hart, World::Enclave(id)).get(A0), id);
+        }
+    }
+}
+
+#[test]
+fn a_stopped_enclave_goes_on_where_it_stopped(rt: HostRuntime) -> Result<(), Fail> {
+    let host_entries = [page(0x8000_0000)?, page(0x8000_1000)?];
+    let enclave_entries = [page(0x8020_0000)?];
+    let enclave = World::Enclave(1);
+    let mut hart = Hart::new(0, host_entries.as_slice(), Limit::Sixteen);
+    let mut contexts = Contexts::new();
+
+    // The host runs the enclave.
+    *hart.registers_mut() = registers_of(4, 1);
+    contexts.set(0, enclave, registers_of(0x8020_0000, 1));
+    switch(
+        &mut hart,
+        &mut contexts,
+        enclave,
+        enclave_entries.as_slice(),
+    );
+    assert_eq!(rt; hart.world(), enclave);
+    assert_eq!(rt; *hart.registers(), registers_of(0x8020_0000, 1));
+    assert_eq!(rt; hart.bank().addr(0), 0x2008_01FF);
+    assert_eq!(rt; hart.bank().cfg0(), 0x1F);
+
+    // It is stopped.
+    *hart.registers_mut() = registers_of(0x8020_0040, 7);
+    switch(
+        &mut hart,
+        &mut contexts,
+        World::Host,
+        host_entries.as_slice(),
+    );
+    assert_eq!(rt; hart.world(), World::Host);
+    assert_eq!(rt; *hart.registers(), registers_of(4, 1));
+    assert_eq!(rt; hart.bank().cfg0(), 0x1F1F);
+
+    // It is resumed.
+    switch(
+        &mut hart,
+        &mut contexts,
+        enclave,
+        enclave_entries.as_slice(),
+    );
+    assert_eq!(rt; *hart.registers(), registers_of(0x8020_0040, 7));
+    assert_eq!(rt; contexts.get(0, World::Host), registers_of(4, 1));
+    Ok(())
+}
+
+#[test]
+fn an_enclave_resumed_on_another_hart_returns_to_that_harts_host(
+    rt: HostRuntime,
+) -> Result<(), Fail> {
+    let host_entries = [page(0x8000_0000)?];
+    let enclave_entries = [page(0x8020_0000)?, page(0x8020_1000)?];
+    let enclave = World::Enclave(64);
+    let mut first = Hart::new(0, host_entries.as_slice(), Limit::SixtyFour);
+    let mut second = Hart::new(1, host_entries.as_slice(), Limit::SixtyFour);
+    let mut contexts = Contexts::new();
+    contexts.set(0, enclave, registers_of(0x8020_0000, 64));
+
+    // The first hart runs the enclave until it stops.
+    *first.registers_mut() = registers_of(4, 10);
+    switch(
+        &mut first,
+        &mut contexts,
+        enclave,
+        enclave_entries.as_slice(),
+    );
+    *first.registers_mut() = registers_of(0x8020_0040, 7);
+    switch(
+        &mut first,
+        &mut contexts,
+        World::Host,
+        host_entries.as_slice(),
+    );
+    assert_eq!(rt; *first.registers(), registers_of(4, 10));
+
+    // The second one resumes it, until it stops again.
+    *second.registers_mut() = registers_of(8, 11);
+    switch(
+        &mut second,
+        &mut contexts,
+        enclave,
+        enclave_entries.as_slice(),
+    );
+    assert_eq!(rt; *second.registers(), registers_of(0x8020_0040, 7));
+    assert_eq!(rt; second.bank().limit(), Limit::SixtyFour);
+    switch(
+        &mut second,
+        &mut contexts,
+        World::Host,
+        host_entries.as_slice(),
+    );
+    assert_eq!(rt; *second.registers(), registers_of(8, 11));
+    assert_eq!(rt; second.number(), 1);
+    assert_eq!(rt; *first.registers(), registers_of(4, 10));
+    assert_eq!(rt; contexts.get(0, World::Host), registers_of(4, 10));
+    Ok(())
+}
