@@ -1,3 +1,8 @@
+mod failing;
+mod judged;
+mod plans;
+mod runs;
+
 use crate::{Task, command_of};
 use clap::error::ErrorKind;
 use pmp_encoding::Limit;

@@ -1,0 +1,231 @@
+//! `plan` on files in memory.
+
+use super::runs::run;
+use std::alloc::Global;
+use std::test::Fail;
+
+#[test]
+fn plans_print_the_fewest_entries_and_their_words(rt: HostRuntime) -> Result<(), Fail> {
+    let rows: [(&[u8], &[u8]); 7] = [
+        (
+            b"0x80000000 0x1000 rwx",
+            b"entries 1\n0 0x1f 0x00000000200001ff\npmpcfg0 0x000000000000001f\npmpcfg2 0x0000000000000000\n",
+        ),
+        (
+            b"0x80000000 0x8000000 rwx\n0x80000000 0x200000 none\n0x10000000 0x1000 rw\n",
+            b"entries 3\n0 0x1b 0x00000000040001ff\n1 0x18 0x000000002003ffff\n2 0x1f 0x0000000020ffffff\npmpcfg0 0x00000000001f181b\npmpcfg2 0x0000000000000000\n",
+        ),
+        (
+            b"0x80208000 0x7000 rx\n",
+            b"entries 2\n0 0x18 0x0000000020083dff\n1 0x1d 0x0000000020082fff\npmpcfg0 0x0000000000001d18\npmpcfg2 0x0000000000000000\n",
+        ),
+        (
+            b"",
+            b"entries 0\npmpcfg0 0x0000000000000000\npmpcfg2 0x0000000000000000\n",
+        ),
+        (
+            b"0 0x100000000000000 rwx\r\n",
+            b"entries 1\n0 0x1f 0x001fffffffffffff\npmpcfg0 0x000000000000001f\npmpcfg2 0x0000000000000000\n",
+        ),
+        (
+            b"0x80000000 0x1000 r\n0x80001000 0x1000 rw\n0x80002000 0x2000 r\n",
+            b"entries 2\n0 0x1b 0x00000000200005ff\n1 0x19 0x00000000200007ff\npmpcfg0 0x000000000000191b\npmpcfg2 0x0000000000000000\n",
+        ),
+        (
+            b"# all but a page\n\t0 72057594037927936 rwx # 2^56\n\n0X80000000 4096 none\n",
+            b"entries 2\n0 0x18 0x00000000200001ff\n1 0x1f 0x001fffffffffffff\npmpcfg0 0x0000000000001f18\npmpcfg2 0x0000000000000000\n",
+        ),
+    ];
+    for (map, out) in rows {
+        let ran = run(rt.alloc(), &["pmpmon", "plan", "map.txt"], map, b"")?;
+        assert_eq!(rt; ran.out.as_slice(), out);
+        assert_eq!(rt; ran.status, 0);
+        assert_eq!(rt; ran.err.len(), 0);
+    }
+    Ok(())
+}
+
+#[test]
+fn a_plan_for_sixty_four_entries_has_eight_words(rt: HostRuntime) -> Result<(), Fail> {
+    let words = ["pmpmon", "plan", "map.txt", "--entries", "64"];
+    let ran = run(rt.alloc(), &words, b"0x80000000 0x1000 rwx", b"")?;
+    let out =
+        b"entries 1\n0 0x1f 0x00000000200001ff\npmpcfg0 0x000000000000001f\npmpcfg2 0x0000000000000000\npmpcfg4 0x0000000000000000\npmpcfg6 0x0000000000000000\npmpcfg8 0x0000000000000000\npmpcfg10 0x0000000000000000\npmpcfg12 0x0000000000000000\npmpcfg14 0x0000000000000000\n";
+    assert_eq!(rt; ran.out.as_slice(), out.as_slice());
+    assert_eq!(rt; ran.status, 0);
+    Ok(())
+}
+
+/// A map of single pages of one permission, each two pages behind the last.
+fn pages(alloc: Global, count: u64) -> Result<Vec<u8>, Fail> {
+    let mut map = Vec::new(alloc);
+    for i in 0..count {
+        let line = format!(in alloc; "{} 4096 rwx\n", i.saturating_mul(12288))?;
+        map.extend_from_slice(line.as_bytes())?;
+    }
+    Ok(map)
+}
+
+#[test]
+fn a_plan_that_fits_no_bank_is_printed_without_words(rt: HostRuntime) -> Result<(), Fail> {
+    let map = pages(rt.alloc(), 17)?;
+    let ran = run(
+        rt.alloc(),
+        &["pmpmon", "plan", "map.txt"],
+        map.as_slice(),
+        b"",
+    )?;
+    assert_eq!(rt; ran.status, 0);
+    assert!(rt; ran.out.as_slice().starts_with(b"entries 17\n"));
+    assert_eq!(rt; ran.out.iter().filter(|b| **b == b'\n').count(), 18);
+    assert!(rt;
+        ran.out
+            .as_slice()
+            .ends_with(b"\n16 0x1f 0x000000000000c1ff\n")
+    );
+    let larger = run(
+        rt.alloc(),
+        &["pmpmon", "plan", "map.txt", "--entries", "64"],
+        map.as_slice(),
+        b"",
+    )?;
+    assert_eq!(rt; larger.out.iter().filter(|b| **b == b'\n').count(), 26);
+    Ok(())
+}
+
+#[test]
+fn a_plan_writes_its_certificate(rt: HostRuntime) -> Result<(), Fail> {
+    let words = ["pmpmon", "plan", "map.txt", "map.pmpc"];
+    let page = run(rt.alloc(), &words, b"0x80000000 0x1000 rwx", b"")?;
+    assert_eq!(rt; page.cert.len(), 1208);
+    let seven = run(rt.alloc(), &words, b"0x80208000 0x7000 rx", b"")?;
+    assert_eq!(rt; seven.cert.len(), 1217);
+    let empty = run(rt.alloc(), &words, b"", b"")?;
+    assert_eq!(rt;
+        empty.cert.as_slice(),
+        [0x50, 0x4D, 0x50, 0x43, 1, 0, 0, 0, 0, 0, 0].as_slice()
+    );
+    let plain = run(rt.alloc(), &["pmpmon", "plan", "map.txt"], b"", b"")?;
+    assert_eq!(rt; plain.cert.len(), 0);
+    Ok(())
+}
+
+#[test]
+fn a_map_at_fault_is_named_with_its_first_line_at_fault(rt: HostRuntime) -> Result<(), Fail> {
+    let long = [b'#'; 1024];
+    let rows: [(&[u8], &[u8]); 12] = [
+        (
+            b"0x80000000 0x1000\n",
+            b"pmpmon: map.txt: line 1 is not understood\n",
+        ),
+        (
+            b"\n# none\n0 0x1000 w\n0 0x1000\n",
+            b"pmpmon: map.txt: line 3 is not understood\n",
+        ),
+        (
+            b"0 0x1000 RW\n",
+            b"pmpmon: map.txt: line 1 is not understood\n",
+        ),
+        (
+            b"0 0x1001 r\n",
+            b"pmpmon: map.txt: line 1 is not understood\n",
+        ),
+        (
+            b"0x800 0 r\n",
+            b"pmpmon: map.txt: line 1 is not understood\n",
+        ),
+        (
+            b"0x100000000000000 0 r\n0x100000000000000 0x1000 r\n",
+            b"pmpmon: map.txt: line 2 is not understood\n",
+        ),
+        (
+            b"0x1000 0xfffffffffffff000 r\n",
+            b"pmpmon: map.txt: line 1 is not understood\n",
+        ),
+        (
+            b"0 18446744073709551616 r\n",
+            b"pmpmon: map.txt: line 1 is not understood\n",
+        ),
+        (
+            b"0 0x1000 r more\n",
+            b"pmpmon: map.txt: line 1 is not understood\n",
+        ),
+        (
+            b"0 0x1000 r\r\r\n",
+            b"pmpmon: map.txt: line 1 is not understood\n",
+        ),
+        (
+            b"0 0x1000 r\x0b\n",
+            b"pmpmon: map.txt: line 1 is not understood\n",
+        ),
+        (
+            long.as_slice(),
+            b"pmpmon: map.txt: line 1 is not understood\n",
+        ),
+    ];
+    for (map, err) in rows {
+        let ran = run(
+            rt.alloc(),
+            &["pmpmon", "plan", "map.txt", "map.pmpc"],
+            map,
+            b"",
+        )?;
+        assert_eq!(rt; ran.err.as_slice(), err);
+        assert_eq!(rt; ran.status, 2);
+        assert_eq!(rt; ran.out.len(), 0);
+        assert_eq!(rt; ran.cert.len(), 0);
+    }
+    Ok(())
+}
+
+#[test]
+fn a_map_has_at_most_4096_ranges_after_each_line(rt: HostRuntime) -> Result<(), Fail> {
+    let most = pages(rt.alloc(), 4096)?;
+    let ran = run(
+        rt.alloc(),
+        &["pmpmon", "plan", "map.txt"],
+        most.as_slice(),
+        b"",
+    )?;
+    assert_eq!(rt; ran.status, 0);
+    let mut more = pages(rt.alloc(), 4097)?;
+    more.extend_from_slice(b"0 0x100000000000000 none\nwhat\n")?;
+    let ran = run(
+        rt.alloc(),
+        &["pmpmon", "plan", "map.txt"],
+        more.as_slice(),
+        b"",
+    )?;
+    assert_eq!(rt;
+        ran.err.as_slice(),
+        b"pmpmon: map.txt: too many ranges\n".as_slice()
+    );
+    assert_eq!(rt; ran.status, 2);
+    Ok(())
+}
+
+#[test]
+fn a_map_above_a_mebibyte_is_too_large_whatever_its_lines_are(rt: HostRuntime) -> Result<(), Fail> {
+    let mut map = vec![in rt.alloc(); b'\n'; 1048576]?;
+    let ran = run(
+        rt.alloc(),
+        &["pmpmon", "plan", "map.txt"],
+        map.as_slice(),
+        b"",
+    )?;
+    assert_eq!(rt; ran.status, 0);
+    map[0] = b'x';
+    map.push(b'\n')?;
+    let ran = run(
+        rt.alloc(),
+        &["pmpmon", "plan", "map.txt"],
+        map.as_slice(),
+        b"",
+    )?;
+    assert_eq!(rt;
+        ran.err.as_slice(),
+        b"pmpmon: map.txt: too large\n".as_slice()
+    );
+    assert_eq!(rt; ran.status, 2);
+    Ok(())
+}
