@@ -106,6 +106,12 @@ pub if_fewest : (view : View) (bytes : List ℕ) (result : Result ℕ CheckRefus
 if_fewest view bytes (Ok n) h = fewest_of view bytes n h
 if_fewest view bytes (Err r) h = tt
 
+pub if_least :
+  (view : View) (bytes : List ℕ) (result : Result ℕ CheckRefusal) → IfOk result (IsRight view bytes)
+  → IfOk result (λ n. (others : List Entry) → Means others view → n ≤ length others)
+if_least view bytes (Ok n) h = (fewest_of view bytes n h).fewest
+if_least view bytes (Err r) h = tt
+
 pub right_where : (view : View) (bytes : List ℕ) (result : Result ℕ CheckRefusal) (n : ℕ) → IfOk result (IsRight view bytes) → result ≡ Ok n → IsRight view bytes n
 right_where view bytes (Ok m) n h e = subst (λ (k : ℕ). IsRight view bytes k) (cc) h
 right_where view bytes (Err r) n h e = absurd (cc)

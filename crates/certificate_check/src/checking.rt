@@ -1,4 +1,6 @@
-ghost use Rattle.std.specs.Prelude.{◌≡◌, ℕ, ◌↔◌, IfOk, IfErr};
+ghost use Rattle.std.specs.Prelude.{◌≡◌, ◌≤◌, ◌↔◌, ℕ, List, IfOk, IfErr, length};
+ghost use Rattle.pmp_encoding.specs.declared.region.Entry.{Entry};
+ghost use Rattle.pmp_match.specs.Meaning.{Means};
 ghost use Rattle.permission_map.specs.Runs.{view_of_runs};
 ghost use Rattle.certificate_check.specs.Certificates.{IsRight, HoldsFewest, RefusalStands};
 
@@ -38,6 +40,7 @@ fn read_whole(map: &PermissionMap, bytes: &[u8]) -> Result<u32, CheckRefusal>
 /// entries, nodes in preorder, and then the number of entries, their meaning and bytes behind the root.
 pub fn check(map: &PermissionMap, bytes: &[u8]) -> Result<u32, CheckRefusal>
     ensures fewest { IfOk result (HoldsFewest (view_of_runs map.now) bytes.now) }
+    ensures least { IfOk result (λ n. (others : List Entry) → Means others (view_of_runs map.now) → n ≤ length others) }
     ensures right { (n : ℕ) → (result ≡ Ok n) ↔ IsRight (view_of_runs map.now) bytes.now n }
     ensures fault { IfErr result (RefusalStands (view_of_runs map.now) bytes.now) }
 {

@@ -2,3 +2,4 @@ mod Entered
 mod FirstLine
 mod Judged
 mod Printed
+pub mod SameViews

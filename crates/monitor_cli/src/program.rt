@@ -2,6 +2,7 @@
 
 ghost use Rattle.std.specs.Prelude.{◌-◌, ◌^◌, ◌<◌, ◌≤◌, IfOk, length};
 
+use crate::certifying::certified;
 use crate::judging::judge_trace;
 use crate::map_file::{MapFileFault, map_of};
 use crate::printing::print_plan;
@@ -10,10 +11,10 @@ use crate::texts::{Line, accepted_line, accepted_of_line, refused_line};
 use crate::trouble::Trouble;
 use crate::whole::{WholeFault, read_whole};
 use certificate_check::{CheckRefusal, check};
-use entry_planner::plan;
+use entry_planner::{Plan, plan};
 use hart_sim::{RunFault, Sink, Source, write_whole};
 use permission_map::PermissionMap;
-use plan_certificate::{Reader, Version, write};
+use plan_certificate::{Reader, Version};
 use pmp_encoding::{Bank, Limit};
 use prefix_tree::build;
 use std::alloc::Global;
@@ -60,6 +61,36 @@ fn map_in<'a, R: Source>(
     }
 }
 
+/// The plan of a map.
+fn plan_of<'a>(alloc: Global, map: &PermissionMap) -> Result<Plan, Trouble<'a>> {
+    let Ok(tree) = build(alloc, map) else {
+        return Err(Trouble::Memory);
+    };
+    let Ok(plan) = plan(alloc, &tree) else {
+        return Err(Trouble::Memory);
+    };
+    Ok(plan)
+}
+
+/// The plan of a map, whose certificate is written.
+fn plan_with_certificate<'a, C: Sink>(
+    alloc: Global,
+    map: &PermissionMap,
+    limit: Limit,
+    file: &'a str,
+    certificate: &mut C,
+) -> Result<Plan, Trouble<'a>>
+    requires { C.failures certificate.old < 2 ^ 64 - 1 }
+{
+    let Ok((plan, bytes)) = certified(alloc, map, limit) else {
+        return Err(Trouble::Memory);
+    };
+    let Ok(()) = write_whole(certificate, bytes.as_slice()) else {
+        return Err(Trouble::CannotWrite { file });
+    };
+    Ok(plan)
+}
+
 /// Plans a map, writes the certificate where one is asked for, and prints the plan.
 fn do_plan<'a, R: Source, C: Sink, W: Sink>(
     alloc: Global,
@@ -75,20 +106,10 @@ fn do_plan<'a, R: Source, C: Sink, W: Sink>(
     requires out { W.failures out.old < 2 ^ 64 - 1 }
 {
     let map = map_in(alloc, map, first)?;
-    let Ok(tree) = build(alloc, &map) else {
-        return Err(Trouble::Memory);
+    let plan = match cert {
+        Some(file) => plan_with_certificate(alloc, &map, limit, file, certificate)?,
+        None => plan_of(alloc, &map)?,
     };
-    let Ok(plan) = plan(alloc, &tree) else {
-        return Err(Trouble::Memory);
-    };
-    if let Some(file) = cert {
-        let Ok(bytes) = write(alloc, &tree, &plan, limit) else {
-            return Err(Trouble::Memory);
-        };
-        let Ok(()) = write_whole(certificate, bytes.as_slice()) else {
-            return Err(Trouble::CannotWrite { file });
-        };
-    }
     let Ok(()) = print_plan(plan.entries(), limit, out) else {
         return Err(Trouble::Output);
     };
@@ -110,12 +131,7 @@ fn do_judge<'a, R: Source, W: Sink>(
     requires out { W.failures out.old < 2 ^ 64 - 1 }
 {
     let map = map_in(alloc, map, first)?;
-    let Ok(tree) = build(alloc, &map) else {
-        return Err(Trouble::Memory);
-    };
-    let Ok(plan) = plan(alloc, &tree) else {
-        return Err(Trouble::Memory);
-    };
+    let plan = plan_of(alloc, &map)?;
     let needed = plan.needed();
     if needed > limit.number() {
         return Err(Trouble::NeedsEntries {
