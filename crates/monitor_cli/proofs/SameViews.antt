@@ -1,5 +1,5 @@
 -- What is said of a view is said of each view that is the same at the pages of the space.
-use Rattle.std.proofs.Common.{ℕ, zero, suc, ◌≡◌, ◌≢◌, ◌+◌, ◌*◌, ◌/◌, ◌^◌, ◌<◌, ◌≤◌, ◌∙◌, sym, List, ap, arith, pow-suc}
+use Rattle.std.proofs.Common.{ℕ, zero, suc, ◌≡◌, ◌+◌, ◌*◌, ◌/◌, ◌^◌, ◌<◌, ◌≤◌, ◌∙◌, sym, List, ap, arith, pow-suc}
 use Rattle.pmp_encoding.specs.declared.region.Entry.{Entry}
 use Rattle.pmp_match.specs.Meaning.{View, Means}
 use Rattle.pmp_match.specs.Bounds.{BoundTree, Leaf, Branch, IsSoundAt}
@@ -10,8 +10,8 @@ pub means_same : (view other : View) (entries : List Entry) → ((page : ℕ) �
 means_same view other entries same means = λ a aligned inside mode. rw (← same (a.address / 4096) (omega (arith, inside))) (means a aligned inside mode)
 
 pub sound_same :
-  (view other : View) (k first : ℕ) (tree : BoundTree) → ((page : ℕ) → page < 2 ^ 44 → view page ≡ other page) → first + 2 ^ k ≤ 2 ^ 44
-  → IsSoundAt view k first tree → IsSoundAt other k first tree
+    (view other : View) (k first : ℕ) (tree : BoundTree) → ((page : ℕ) → page < 2 ^ 44 → view page ≡ other page) → first + 2 ^ k ≤ 2 ^ 44
+    → IsSoundAt view k first tree → IsSoundAt other k first tree
 sound_same view other k first (Leaf q) same inside sound = λ i below. sym (same (first + i) (omega (arith, inside, below))) ∙ sound i below
 sound_same view other zero first (Branch bounds lower upper) same inside sound = sound
 sound_same view other (suc k) first (Branch bounds lower upper) same inside sound =

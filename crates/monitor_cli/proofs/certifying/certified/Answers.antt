@@ -1,5 +1,5 @@
 -- The tree's view is the map's at the pages of the space, so what is said of it is said of the map's.
-use Rattle.std.proofs.Common.{ℕ, ◌*◌, ◌≡◌, ◌∙◌, ◌≤◌, sym, arith, refl}
+use Rattle.std.proofs.Common.{◌*◌, ◌≤◌, sym, arith, refl}
 use Rattle.permission_map.specs.Runs.{view_of_runs}
 use Rattle.prefix_tree.specs.Counts.{splits}
 use Rattle.prefix_tree.specs.Trees.{view_of_tree}
@@ -19,7 +19,10 @@ returns-clause-least c = λ others means.
     let tree = c.in_ok-tree.tree in
     let view = view_of_runs c.args.map.now in
     c.in_ok-plan.ensures.least others
-      (means_same view (view_of_tree tree) others (λ page inside. sym (tree_same view tree c.in_ok-tree.ensures.means page inside)) means)
+    (means_same view (view_of_tree tree) others (λ page inside. sym (tree_same view tree c.in_ok-tree.ensures.means page inside)) means)
+
+pub returns-clause-spells : goal.returns-clause-spells
+returns-clause-spells c = (costed c.in_ok-plan.plan.costs 0 c.in_ok-tree.tree, c.in_ok-bytes.ensures.spells)
 
 pub returns-clause-accepted : goal.returns-clause-accepted
 returns-clause-accepted c =
