@@ -107,8 +107,8 @@ if_fewest view bytes (Ok n) h = fewest_of view bytes n h
 if_fewest view bytes (Err r) h = tt
 
 pub if_least :
-  (view : View) (bytes : List ℕ) (result : Result ℕ CheckRefusal) → IfOk result (IsRight view bytes)
-  → IfOk result (λ n. (others : List Entry) → Means others view → n ≤ length others)
+    (view : View) (bytes : List ℕ) (result : Result ℕ CheckRefusal) → IfOk result (IsRight view bytes)
+    → IfOk result (λ n. (others : List Entry) → Means others view → n ≤ length others)
 if_least view bytes (Ok n) h = (fewest_of view bytes n h).fewest
 if_least view bytes (Err r) h = tt
 
