@@ -1,5 +1,5 @@
 -- Ranges with and without a page in common.
-use Rattle.std.proofs.Common.{◌≡◌, ℕ, zero, suc, ◌+◌, ◌-◌, ◌/◌, ◌<◌, ◌≤◌, List, [], ◌∷◌, ◌++◌, length, take, drop, map, get_or, true, false, Bool, inl, inr, arith, refl, sym, subst}
+use Rattle.std.proofs.Common.{◌≡◌, ℕ, zero, suc, ◌+◌, ◌-◌, ◌/◌, ◌<◌, ◌≤◌, List, [], ◌∷◌, ◌++◌, length, take, drop, map, get_or, true, inl, inr, arith, subst}
 use native.Mathlib.Numerals.{unary_clauses}
 use Rattle.std.specs.List.{All, AllByRecursion}
 use Rattle.std.proofs.lemmas.Bool.Decides.{nat_tests}
@@ -9,7 +9,7 @@ use Rattle.std.proofs.lemmas.List.Elements.{All-append, All-map, All-from_recurs
 use Rattle.std.proofs.lemmas.List.{get_or_default, get_or-map, length-map}
 use Rattle.pmp_encoding.specs.declared.perm.Perm.{Perm}
 use Rattle.permission_map.specs.Runs.{in_range}
-use Rattle.enclave_table.specs.Ranges.{has_page, AreApart, EachApart, range_of}
+use Rattle.enclave_table.specs.Ranges.{AreApart, EachApart, range_of}
 
 pub inside : (first count page : ℕ) → first ≤ page → page < first + count → in_range first count page ≡ true
 inside first count page low high = grind (arith, nat_tests)
@@ -91,3 +91,12 @@ pub device_at :
 device_at [] k d low each = absurd (omega arith)
 device_at (x ∷ xs) zero d low each = each.0
 device_at (x ∷ xs) (suc k) d low each = rw (drop_behind k x xs) (device_at xs k d (omega arith) each.1)
+
+-- the same of ranges that are given by their first pages and their numbers
+pub met_pages :
+    (f n g m : ℕ) → 0 < n → 0 < m → g < f + n → f < g + m → ((page : ℕ) → in_range f n page ≡ true → in_range g m page ≡ true → ⊥) → ⊥
+met_pages f n g m some some_other before after apart =
+    elim (cases_lt g f) [
+      | inl low ↦ apart f (inside f n f (omega arith) (omega arith)) (inside g m f (omega arith) after)
+      | inr high ↦ apart g (inside f n g high before) (inside g m g (omega arith) (omega arith))
+    ]

@@ -1,5 +1,5 @@
 ghost use Rattle.std.specs.Prelude.{◌≡◌, ◌≢◌, ℕ, ◌<◌, ◌≤◌};
-ghost use Rattle.sbi_decode.specs.Registers.{RegisterFile, x_of, zeros};
+ghost use Rattle.sbi_decode.specs.Registers.{RegisterFile, x_of, with_x, zeros};
 
 use std::marker::Model;
 
@@ -41,6 +41,7 @@ impl Registers {
     /// Sets xn, for `n` at most 31. Setting x0 changes nothing.
     pub fn set(&mut self, n: usize, value: u64)
         requires { n ≤ 31 }
+        ensures file { self.new ≡ with_x self.old n value }
         ensures value { 0 < n → x_of self.new n ≡ value }
         ensures others { (m : ℕ) → m ≢ n → x_of self.new m ≡ x_of self.old m }
         ensures zero { n ≡ 0 → self.new ≡ self.old }
@@ -60,6 +61,7 @@ impl Registers {
 
     /// Sets the program counter, and nothing else.
     pub fn set_pc(&mut self, value: u64)
+        ensures file { self.new ≡ record self.old { pc = value } }
         ensures pc { self.new.pc ≡ value }
         ensures registers { self.new.xs ≡ self.old.xs }
     {

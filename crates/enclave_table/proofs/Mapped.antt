@@ -1,0 +1,68 @@
+-- Ranges set one before the other.
+use Rattle.std.proofs.Common.{ℕ, suc, ◌≡◌, ◌+◌, ◌/◌, ◌<◌, ◌∙◌, sym, ap, refl, Bool, true, false, ◌||◌, cond, List, ◌∷◌, length, get_or, drop, map, Option, None, Some, drop-cons, add-one}
+use Rattle.std.proofs.lemmas.List.{get_or_default}
+use Rattle.pmp_encoding.specs.declared.perm.Perm.{Perm}
+use Rattle.pmp_encoding.specs.declared.perm.Perm.TheVariants.{NoAccess, ReadWriteExecute}
+use Rattle.pmp_match.specs.Meaning.{View}
+use Rattle.permission_map.specs.Runs.{in_range}
+use Rattle.permission_map.specs.Views.{SameView, overwritten}
+use Rattle.enclave_table.specs.Devices.{triple_of}
+use Rattle.enclave_table.specs.Platform.{device_perm}
+use Rattle.enclave_table.specs.Ranges.{has_page, is_among}
+use Rattle.enclave_table.specs.Enclaves.{is_private}
+use Rattle.enclave_table.specs.Owners.{any_private}
+use Rattle.enclave_table.specs.declared.devices.Device.{Device}
+use Rattle.enclave_table.specs.declared.enclave.Enclave.{Enclave}
+
+-- the list from a place on
+pub from_place : {X : Type 0} (xs : List X) (i : ℕ) (x : X) → i < length xs → x ≡ get_or xs i x → drop i xs ≡ x ∷ drop (i + 1) xs
+from_place xs i x inside is = drop-cons xs i x inside ∙ ap (λ y. y ∷ drop (suc i) xs) (sym is) ∙ ap (λ j. x ∷ drop j xs) (sym (add-one i))
+
+pub device_set :
+    (devices : List Device) (i : ℕ) (d : Device) (old new : View) → i < length devices → d ≡ get_or devices i d → SameView old (device_perm (map triple_of (drop (i + 1) devices)))
+    → SameView new (overwritten old (d.base / 4096) (d.size / 4096) d.perm) → SameView new (device_perm (map triple_of (drop i devices)))
+device_set devices i d old new inside is before set page small =
+    set page small
+    ∙ ap (λ p. cond (in_range (d.base / 4096) (d.size / 4096) page) d.perm p) (before page small)
+    ∙ sym (ap (λ ds. device_perm (map triple_of ds) page) (from_place devices i d inside is))
+
+memory_perm : (a b : Bool) (q : Perm) → cond a ReadWriteExecute (cond b ReadWriteExecute q) ≡ cond (a || b) ReadWriteExecute q
+memory_perm true b q = refl
+memory_perm false b q = refl
+
+pub memory_set :
+    (ram : List (ℕ × ℕ)) (i : ℕ) (range : ℕ × ℕ) (first old new : View) → i < length ram → range ≡ get_or ram i range
+    → SameView old (λ page. cond (is_among (drop (i + 1) ram) page) ReadWriteExecute (first page))
+    → SameView new (overwritten old (range.0 / 4096) (range.1 / 4096) ReadWriteExecute) → SameView new (λ page. cond (is_among (drop i ram) page) ReadWriteExecute (first page))
+memory_set ram i range first old new inside is before set page small =
+    set page small
+    ∙ ap (λ p. cond (has_page range page) ReadWriteExecute p) (before page small)
+    ∙ memory_perm (has_page range page) (is_among (drop (i + 1) ram) page) (first page)
+    ∙ sym (ap (λ rs. cond (is_among rs page) ReadWriteExecute (first page)) (from_place ram i range inside is))
+
+hidden_perm : (p m a : Bool) (q : Perm) → cond p NoAccess (cond (m || a) NoAccess q) ≡ cond (m || (p || a)) NoAccess q
+hidden_perm true true a q = refl
+hidden_perm true false a q = refl
+hidden_perm false m a q = refl
+
+-- the private pages of the enclave at a place hidden too
+pub private_hidden :
+    (es : List (Option Enclave)) (i : ℕ) (e : Enclave) (monitor : ℕ → Bool) (allowed old new : View) → i < length es → get_or es i None ≡ Some e
+    → SameView old (λ page. cond (monitor page || any_private (drop (i + 1) es) page) NoAccess (allowed page))
+    → SameView new (overwritten old (e.parts.base / 4096) (e.parts.text_pages + e.parts.data_pages) NoAccess)
+    → SameView new (λ page. cond (monitor page || any_private (drop i es) page) NoAccess (allowed page))
+private_hidden es i e monitor allowed old new inside is before set page small =
+    set page small
+    ∙ ap (λ p. cond (is_private e.parts page) NoAccess p) (before page small)
+    ∙ hidden_perm (is_private e.parts page) (monitor page) (any_private (drop (i + 1) es) page) (allowed page)
+    ∙ sym
+    (ap (λ s. cond (monitor page || any_private s page) NoAccess (allowed page)) (from_place es i (Some e) inside (sym is ∙ get_or_default es i None (Some e) inside)))
+
+-- nothing to hide where there is none
+pub none_hidden :
+    (es : List (Option Enclave)) (i : ℕ) (monitor : ℕ → Bool) (allowed old : View) → i < length es → get_or es i None ≡ None
+    → SameView old (λ page. cond (monitor page || any_private (drop (i + 1) es) page) NoAccess (allowed page))
+    → SameView old (λ page. cond (monitor page || any_private (drop i es) page) NoAccess (allowed page))
+none_hidden es i monitor allowed old inside is before page small =
+    before page small
+    ∙ sym (ap (λ s. cond (monitor page || any_private s page) NoAccess (allowed page)) (from_place es i None inside (sym is)))

@@ -1,0 +1,115 @@
+-- Refusals of the calls that plan.
+use Rattle.std.proofs.Common.{ℕ, ◌≡◌, ◌∙◌, ap, inl, inr, ⊎_elim, Bool, true, false, List, [], ◌∷◌, Some, None, refl}
+use Rattle.std.proofs.lemmas.Bool.{true≢false}
+use Rattle.pmp_match.specs.Meaning.{View}
+use Rattle.permission_map.specs.Views.{SameView}
+use Rattle.enclave_table.specs.Enclaves.{EnclaveTable, parts_of, with_enclave}
+use Rattle.enclave_table.specs.Owners.{host_view, enclave_view}
+use Rattle.enclave_table.specs.Refusals.{AllPass, FailsFirst}
+use Rattle.enclave_table.specs.Checks.{PassesCreate, create_checks, PassesOn, host_checks, MayDestroy}
+use Rattle.enclave_table.specs.Calls.{IsWant, IsNextId, fresh, RefusesCreate, RefusesDestroy}
+use Rattle.enclave_table.specs.declared.enclave.Create.{Create}
+use Rattle.enclave_table.specs.declared.refusal.Refusal.{Refusal}
+use Rattle.enclave_table.specs.declared.refusal.Refusal.TheVariants.{NotHost, NotEnclave, BadCount, BadAddress, BadEntry, NotRam, Overlap, TableFull, NoEntries, NoMemory, BadId, BadState, BadWord}
+use Rattle.enclave_table.specs.declared.world.World.{World}
+use Rattle.enclave_table.proofs.SameViews.{more_same}
+
+is_want : Refusal → Bool
+is_want NoEntries = true
+is_want NoMemory = true
+is_want _ = false
+
+none_want : List Refusal → Type 0
+none_want [] = Unit {0}
+none_want (c ∷ cs) = (is_want c ≡ false) × none_want cs
+
+unwanted : (Passes : Refusal → Type 0) (checks : List Refusal) (refusal : Refusal) → none_want checks → FailsFirst Passes checks refusal → is_want refusal ≡ false
+unfolding is_want none_want
+unwanted Passes [] refusal none fails = absurd fails
+unwanted Passes (c ∷ cs) refusal none fails = ⊎_elim (λ here. ap is_want here.0 ∙ none.0) (λ later. unwanted Passes cs refusal none.1 later.1) fails
+
+pub create_fails :
+    (pages : ℕ → List ℕ) (old : EnclaveTable) (world : World) (asked : Create) (refusal : Refusal) → FailsFirst (PassesCreate old world (parts_of asked)) create_checks refusal
+    → RefusesCreate pages old world asked refusal
+unfolding is_want none_want
+create_fails pages old world asked NoEntries fails = absurd (true≢false (unwanted (PassesCreate old world (parts_of asked)) create_checks NoEntries (refl, (refl, (refl, (refl, (refl, (refl, (refl, tt))))))) fails))
+create_fails pages old world asked NoMemory fails = absurd (true≢false (unwanted (PassesCreate old world (parts_of asked)) create_checks NoMemory (refl, (refl, (refl, (refl, (refl, (refl, (refl, tt))))))) fails))
+create_fails pages old world asked NotHost fails = fails
+create_fails pages old world asked NotEnclave fails = fails
+create_fails pages old world asked BadCount fails = fails
+create_fails pages old world asked BadAddress fails = fails
+create_fails pages old world asked BadEntry fails = fails
+create_fails pages old world asked NotRam fails = fails
+create_fails pages old world asked Overlap fails = fails
+create_fails pages old world asked TableFull fails = fails
+create_fails pages old world asked BadId fails = fails
+create_fails pages old world asked BadState fails = fails
+create_fails pages old world asked BadWord fails = fails
+
+pub destroy_fails : (old : EnclaveTable) (world : World) (id : ℕ) (refusal : Refusal) → FailsFirst (PassesOn MayDestroy old world id) host_checks refusal → RefusesDestroy old world id refusal
+unfolding is_want none_want
+destroy_fails old world id NoEntries fails = absurd (true≢false (unwanted (PassesOn MayDestroy old world id) host_checks NoEntries (refl, (refl, (refl, tt))) fails))
+destroy_fails old world id NoMemory fails = absurd (true≢false (unwanted (PassesOn MayDestroy old world id) host_checks NoMemory (refl, (refl, (refl, tt))) fails))
+destroy_fails old world id NotHost fails = fails
+destroy_fails old world id NotEnclave fails = fails
+destroy_fails old world id BadCount fails = fails
+destroy_fails old world id BadAddress fails = fails
+destroy_fails old world id BadEntry fails = fails
+destroy_fails old world id NotRam fails = fails
+destroy_fails old world id Overlap fails = fails
+destroy_fails old world id TableFull fails = fails
+destroy_fails old world id BadId fails = fails
+destroy_fails old world id BadState fails = fails
+destroy_fails old world id BadWord fails = fails
+
+pub create_host_want :
+    (pages : ℕ → List ℕ) (old : EnclaveTable) (world : World) (asked : Create) (id : ℕ) (view : View) (refusal : Refusal) → AllPass (PassesCreate old world (parts_of asked)) create_checks → IsNextId old id
+    → SameView view (host_view (with_enclave old id (Some (fresh pages (parts_of asked))))) → IsWant old.layout.limit view refusal → RefusesCreate pages old world asked refusal
+create_host_want pages old world asked id view NoEntries passes next same want =
+    (passes, inl (id, next, more_same old.layout.limit view (host_view (with_enclave old id (Some (fresh pages (parts_of asked))))) same want))
+create_host_want pages old world asked id view NoMemory passes next same want = passes
+create_host_want pages old world asked id view NotHost passes next same want = absurd want
+create_host_want pages old world asked id view NotEnclave passes next same want = absurd want
+create_host_want pages old world asked id view BadCount passes next same want = absurd want
+create_host_want pages old world asked id view BadAddress passes next same want = absurd want
+create_host_want pages old world asked id view BadEntry passes next same want = absurd want
+create_host_want pages old world asked id view NotRam passes next same want = absurd want
+create_host_want pages old world asked id view Overlap passes next same want = absurd want
+create_host_want pages old world asked id view TableFull passes next same want = absurd want
+create_host_want pages old world asked id view BadId passes next same want = absurd want
+create_host_want pages old world asked id view BadState passes next same want = absurd want
+create_host_want pages old world asked id view BadWord passes next same want = absurd want
+
+pub create_enclave_want :
+    (pages : ℕ → List ℕ) (old : EnclaveTable) (world : World) (asked : Create) (refusal : Refusal) → AllPass (PassesCreate old world (parts_of asked)) create_checks
+    → IsWant old.layout.limit (enclave_view (parts_of asked)) refusal → RefusesCreate pages old world asked refusal
+create_enclave_want pages old world asked NoEntries passes want = (passes, inr want)
+create_enclave_want pages old world asked NoMemory passes want = passes
+create_enclave_want pages old world asked NotHost passes want = absurd want
+create_enclave_want pages old world asked NotEnclave passes want = absurd want
+create_enclave_want pages old world asked BadCount passes want = absurd want
+create_enclave_want pages old world asked BadAddress passes want = absurd want
+create_enclave_want pages old world asked BadEntry passes want = absurd want
+create_enclave_want pages old world asked NotRam passes want = absurd want
+create_enclave_want pages old world asked Overlap passes want = absurd want
+create_enclave_want pages old world asked TableFull passes want = absurd want
+create_enclave_want pages old world asked BadId passes want = absurd want
+create_enclave_want pages old world asked BadState passes want = absurd want
+create_enclave_want pages old world asked BadWord passes want = absurd want
+
+pub destroy_want :
+    (old : EnclaveTable) (world : World) (id : ℕ) (view : View) (refusal : Refusal) → AllPass (PassesOn MayDestroy old world id) host_checks
+    → SameView view (host_view (with_enclave old id None)) → IsWant old.layout.limit view refusal → RefusesDestroy old world id refusal
+destroy_want old world id view NoEntries passes same want = (passes, more_same old.layout.limit view (host_view (with_enclave old id None)) same want)
+destroy_want old world id view NoMemory passes same want = passes
+destroy_want old world id view NotHost passes same want = absurd want
+destroy_want old world id view NotEnclave passes same want = absurd want
+destroy_want old world id view BadCount passes same want = absurd want
+destroy_want old world id view BadAddress passes same want = absurd want
+destroy_want old world id view BadEntry passes same want = absurd want
+destroy_want old world id view NotRam passes same want = absurd want
+destroy_want old world id view Overlap passes same want = absurd want
+destroy_want old world id view TableFull passes same want = absurd want
+destroy_want old world id view BadId passes same want = absurd want
+destroy_want old world id view BadState passes same want = absurd want
+destroy_want old world id view BadWord passes same want = absurd want

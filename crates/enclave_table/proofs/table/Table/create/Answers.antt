@@ -1,0 +1,84 @@
+use Rattle.std.proofs.Common.{ℕ, ◌≡◌, ◌∙◌, ◌+◌, ◌/◌, ap, subst, Some, List}
+use Rattle.pmp_encoding.specs.declared.limit.Limit.{Limit}
+use Rattle.pmp_encoding.specs.declared.perm.Perm.TheVariants.{NoAccess}
+use Rattle.permission_map.specs.Views.{overwritten}
+use Rattle.enclave_table.specs.Enclaves.{EnclaveTable, with_enclave}
+use Rattle.enclave_table.specs.Owners.{host_view, enclave_view}
+use Rattle.enclave_table.specs.Tables.{Kept, IsListOf}
+use Rattle.enclave_table.specs.Calls.{fresh}
+use Rattle.enclave_table.specs.declared.enclave.Create.{Create}
+use Rattle.enclave_table.specs.declared.enclave.Enclave.{Enclave}
+use Rattle.enclave_table.specs.declared.enclave.State.TheVariants.{Fresh}
+use Rattle.enclave_table.specs.declared.enclave.PageRange.{PageRange}
+use Rattle.enclave_table.proofs.Placed.{free_place, host_added, added_kept}
+use Rattle.enclave_table.proofs.SameViews.{list_same, tree_same, fits_same}
+use Rattle.enclave_table.proofs.Created.{along, fits_from, sound_from, apart_from, host_want, enclave_want, creates}
+use Rattle.enclave_table.proofs.table.Table.create.Goals as goal
+
+abbrev range_of : Create → PageRange
+range_of parts = record { first = parts.base / 4096; count = parts.text_pages + parts.data_pages }
+
+pub returns-in-Err-host_with-clause-refused : goal.returns-in-Err-host_with-clause-refused
+returns-in-Err-host_with-clause-refused g c =
+    let old : EnclaveTable = c.args.self.now.table in
+    let parts : Create = c.kept-parts.result in
+    let range : PageRange = c.private_pages.result in
+    let free = c.in-Ok.ensures.next.free in
+    host_want (g.P.Pages.bytes_of c.args.pages.now) old c.args.world c.args.asked parts c.in-Ok.id (overwritten (host_view old) range.first range.count NoAccess) c.in-Err-host_with.refusal
+    c.kept-parts.ensures c.in-Ok.ensures.passes c.in-Ok.ensures.next
+    (along (host_view old) (host_view (with_enclave old c.in-Ok.id (Some (fresh (g.P.Pages.bytes_of c.args.pages.now) parts)))) range (range_of parts) NoAccess c.private_pages.ensures.value
+    (host_added old c.in-Ok.id (fresh (g.P.Pages.bytes_of c.args.pages.now) parts) (free_place old c.in-Ok.id c.rules.ensures.table free.0 free.1) free.2))
+    c.in-Err-host_with.ensures.want
+
+pub returns-in-Err-enclave_list-clause-refused : goal.returns-in-Err-enclave_list-clause-refused
+returns-in-Err-enclave_list-clause-refused g c =
+    enclave_want (g.P.Pages.bytes_of c.args.pages.now) c.args.self.now.table c.args.world c.args.asked c.kept-parts.result c.limit.result c.in-Err-enclave_list.refusal c.kept-parts.ensures c.limit.ensures
+    c.in-Ok.ensures.passes c.in-Err-enclave_list.ensures.want
+
+pub place-requires-clause-kept : goal.place-requires-clause-kept
+place-requires-clause-kept g c =
+    let old : EnclaveTable = c.args.self.now.table in
+    let parts : Create = c.kept-parts.result in
+    let range : PageRange = c.private_pages.result in
+    let free = c.in-Ok.ensures.next.free in
+    let e : Enclave = record { parts = parts; state = Fresh; digest = c.digest.result } in
+    let L : Limit → Type 0 = λ l. IsListOf l (enclave_view parts) c.in-Ok-enclave_list.list in
+    added_kept c.args.self.now c.in-Ok.id e c.in-Ok-host_with.host.list c.in-Ok-enclave_list.list (free_place old c.in-Ok.id c.rules.ensures.table free.0 free.1) c.rules.ensures.kept
+    (sound_from old c.args.world parts c.in-Ok.ensures.passes) (apart_from old c.args.world parts c.in-Ok.ensures.passes)
+    (list_same old.layout.limit (overwritten (host_view old) range.first range.count NoAccess) (host_view (with_enclave old c.in-Ok.id (Some e))) c.in-Ok-host_with.host.list
+    (along (host_view old) (host_view (with_enclave old c.in-Ok.id (Some e))) range (range_of parts) NoAccess c.private_pages.ensures.value
+    (host_added old c.in-Ok.id e (free_place old c.in-Ok.id c.rules.ensures.table free.0 free.1) free.2))
+    c.in-Ok-host_with.ensures.list)
+    (subst L c.limit.ensures c.in-Ok-enclave_list.ensures.list)
+
+pub place-requires-clause-tree : goal.place-requires-clause-tree
+place-requires-clause-tree g c =
+    let old : EnclaveTable = c.args.self.now.table in
+    let parts : Create = c.kept-parts.result in
+    let range : PageRange = c.private_pages.result in
+    let free = c.in-Ok.ensures.next.free in
+    let e : Enclave = record { parts = parts; state = Fresh; digest = c.digest.result } in
+    record {
+      means = tree_same (overwritten (host_view old) range.first range.count NoAccess) (host_view (with_enclave old c.in-Ok.id (Some e))) c.in-Ok-host_with.host.tree
+          (along (host_view old) (host_view (with_enclave old c.in-Ok.id (Some e))) range (range_of parts) NoAccess c.private_pages.ensures.value
+          (host_added old c.in-Ok.id e (free_place old c.in-Ok.id c.rules.ensures.table free.0 free.1) free.2))
+          c.in-Ok-host_with.ensures.means;
+      canonical = c.in-Ok-host_with.ensures.canonical;
+    }
+
+pub returns-clause-done : goal.returns-clause-done
+returns-clause-done g c =
+    let old : EnclaveTable = c.args.self.now.table in
+    let parts : Create = c.kept-parts.result in
+    let range : PageRange = c.private_pages.result in
+    let free = c.in-Ok.ensures.next.free in
+    let e : Enclave = fresh (g.P.Pages.bytes_of c.args.pages.now) parts in
+    let L : Limit → Type 0 = λ l. IsListOf l (enclave_view parts) c.in-Ok-enclave_list.list in
+    let added : c.place.new.self.table ≡ with_enclave old c.in-Ok.id (Some e) =
+    ap (λ (k : Kept). k.table) c.place.ensures ∙ ap (λ (d : List ℕ). with_enclave old c.in-Ok.id (Some (record { parts = parts; state = Fresh; digest = d }))) c.digest.ensures in
+    creates (g.P.Pages.bytes_of c.args.pages.now) old c.args.world c.args.asked parts c.in-Ok.id c.place.new.self.table c.kept-parts.ensures c.in-Ok.ensures.passes c.in-Ok.ensures.next added
+    (fits_same old.layout.limit (overwritten (host_view old) range.first range.count NoAccess) (host_view (with_enclave old c.in-Ok.id (Some e)))
+    (along (host_view old) (host_view (with_enclave old c.in-Ok.id (Some e))) range (range_of parts) NoAccess c.private_pages.ensures.value
+    (host_added old c.in-Ok.id e (free_place old c.in-Ok.id c.rules.ensures.table free.0 free.1) free.2))
+    (fits_from old.layout.limit (overwritten (host_view old) range.first range.count NoAccess) c.in-Ok-host_with.host.list c.in-Ok-host_with.ensures.list))
+    (fits_from old.layout.limit (enclave_view parts) c.in-Ok-enclave_list.list (subst L c.limit.ensures c.in-Ok-enclave_list.ensures.list))

@@ -1,0 +1,18 @@
+-- The table at boot.
+use Rattle.std.specs.Prelude.{◌<◌, None, replicate, ⊤}
+use Rattle.pmp_encoding.specs.Limits.{limit_number}
+use Rattle.pmp_match.specs.Meaning.{Needs}
+use Rattle.enclave_table.specs.Platform.{Layout}
+use Rattle.enclave_table.specs.Enclaves.{EnclaveTable}
+use Rattle.enclave_table.specs.Owners.{host_view}
+use Rattle.enclave_table.specs.declared.booting.BootFault.{BootFault}
+use Rattle.enclave_table.specs.declared.booting.BootFault.TheVariants.{NeedsMoreEntries, Memory}
+
+-- no enclave is live
+abbrev pub opening : Layout → EnclaveTable
+opening layout = record { layout = layout; enclaves = replicate 64 None }
+
+-- the host's view needs that number, which is more than there are; or a growth was refused
+abbrev pub IsBootFault : Layout → BootFault → Type 0
+IsBootFault layout (NeedsMoreEntries n) = Needs (host_view (opening layout)) n × (limit_number layout.limit < n)
+IsBootFault layout Memory = ⊤

@@ -1,0 +1,70 @@
+-- Which tables there are, and the lists of entries that are kept beside them.
+use Rattle.std.specs.Prelude.{◌≡◌, ℕ, ◌≤◌, true, false, List, [], length, slice_index_or, ◌-◌}
+use Rattle.pmp_encoding.specs.Limits.{limit_number}
+use Rattle.pmp_encoding.specs.declared.limit.Limit.{Limit}
+use Rattle.pmp_encoding.specs.declared.region.Entry.{Entry}
+use Rattle.pmp_match.specs.Meaning.{View, Means, Needs}
+use Rattle.prefix_tree.specs.Trees.{PermTree, TreeMeans, IsCanonical}
+use Rattle.enclave_table.specs.Platform.{IsLayout, is_ram, is_monitor}
+use Rattle.enclave_table.specs.Enclaves.{EnclaveTable, Live, is_private, is_shared, is_part}
+use Rattle.enclave_table.specs.Owners.{host_view, enclave_view}
+use Rattle.enclave_table.specs.Checks.{HasCounts, HasPlaces, HasEntry}
+use Rattle.enclave_table.specs.declared.enclave.Create.{Create}
+use Rattle.enclave_table.specs.declared.enclave.Enclave.{Enclave}
+use Rattle.enclave_table.specs.declared.enclave.State.TheVariants.{Running}
+use Rattle.enclave_table.specs.declared.world.World.{World}
+use Rattle.enclave_table.specs.declared.world.World.TheVariants.{Host, Enclave as InEnclave}
+
+-- each live enclave is as create asked for it, its pages are memory, and none of the monitor's or both private and shared
+pub record IsSound (table : EnclaveTable) (parts : Create) : Type 0 where
+  pub counts : HasCounts parts
+  pub places : HasPlaces parts
+  pub entry : HasEntry parts
+  pub in_ram : (page : ℕ) → is_part parts page ≡ true → is_ram table.layout page ≡ true
+  pub not_monitor : (page : ℕ) → is_part parts page ≡ true → is_monitor table.layout page ≡ false
+  pub apart : (page : ℕ) → is_private parts page ≡ true → is_shared parts page ≡ false
+
+-- what is true of every table: 64 places, and no page belongs to two enclaves
+pub record IsTable (table : EnclaveTable) : Type 0 where
+  pub layout : IsLayout table.layout
+  pub places : length table.enclaves ≡ 64
+  pub sound : (id : ℕ) (e : Enclave) → Live table id e → IsSound table e.parts
+  pub alone : (id other : ℕ) (e f : Enclave) (page : ℕ) → Live table id e → Live table other f → is_part e.parts page ≡ true → is_part f.parts page ≡ true → id ≡ other
+
+-- the host, or an enclave that is Running
+abbrev pub IsCurrent : EnclaveTable → World → Type 0
+IsCurrent table Host = Unit {0}
+IsCurrent table (InEnclave id) = (e : Enclave) × Live table id e × (e.state ≡ Running)
+
+-- the view of a world
+abbrev pub IsViewOf : EnclaveTable → World → View → Type 0
+IsViewOf table Host view = view ≡ host_view table
+IsViewOf table (InEnclave id) view = (e : Enclave) × Live table id e × (view ≡ enclave_view e.parts)
+
+-- the entries mean the view, no list of fewer does, and there is room for them
+pub record IsListOf (limit : Limit) (view : View) (entries : List Entry) : Type 0 where
+  pub means : Means entries view
+  pub needs : Needs view (length entries)
+  pub room : length entries ≤ limit_number limit
+
+-- a table, with the host's list and the list of the enclave at each place
+pub record Kept : Type 0 where
+  pub table : EnclaveTable
+  pub host_list : List Entry
+  pub lists : List (List Entry)
+
+-- the list of the enclave of an id
+abbrev pub list_at : Kept → ℕ → List Entry
+list_at kept id = slice_index_or kept.lists (id - 1) []
+
+-- what is true of what is kept
+pub record IsKept (kept : Kept) : Type 0 where
+  pub table : IsTable kept.table
+  pub host : IsListOf kept.table.layout.limit (host_view kept.table) kept.host_list
+  pub places : length kept.lists ≡ 64
+  pub each : (id : ℕ) (e : Enclave) → Live kept.table id e → IsListOf kept.table.layout.limit (enclave_view e.parts) (list_at kept id)
+
+-- the tree of the host's view
+pub record IsHostTree (table : EnclaveTable) (tree : PermTree) : Type 0 where
+  pub means : TreeMeans (host_view table) tree
+  pub canonical : IsCanonical tree
