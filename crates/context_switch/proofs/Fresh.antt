@@ -2,11 +2,11 @@
 use Rattle.std.proofs.Common.{ℕ, zero, suc, ◌≡◌, ◌<◌, ◌≤◌, ◌∙◌, ap, sym, arith, Some, slice_get, replicate}
 use Rattle.std.proofs.lemmas.Option.{slice_get_read}
 use Rattle.std.proofs.lemmas.List.{get_or-replicate, length-replicate}
-use Rattle.enclave_table.specs.declared.world.World.{World}
-use Rattle.enclave_table.specs.declared.world.World.TheVariants.{Host, Enclave}
+use Rattle.worlds.specs.declared.world.World.{World}
+use Rattle.worlds.specs.declared.world.World.TheVariants.{Host, Enclave}
 use Rattle.sbi_decode.specs.Registers.{RegisterFile}
 use Rattle.context_switch.specs.declared.contexts.Contexts.{Contexts}
-use Rattle.context_switch.specs.Runners.{runner_of, IsWorld}
+use Rattle.worlds.specs.Runners.{runner_of, IsWorld}
 use Rattle.context_switch.specs.Contexts.{saved_of}
 
 -- each place of a list of copies has the copy

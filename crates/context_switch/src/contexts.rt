@@ -1,5 +1,5 @@
-use enclave_table::World;
 use sbi_decode::Registers;
+use worlds::World;
 
 /// The saved registers of each world: one set for the host of each of four harts, and one for each enclave, by its id
 /// from 1 to 64. An enclave's set is the same for every hart.
@@ -11,9 +11,9 @@ pub struct Contexts {
 
 impl Contexts {
     ghost use Rattle.std.specs.Prelude.{◌≡◌, ◌≢◌, ◌≤◌, ℕ, Some};
-    ghost use Rattle.enclave_table.specs.declared.world.World.{World};
+    ghost use Rattle.worlds.specs.declared.world.World.{World};
     ghost use Rattle.sbi_decode.specs.Registers.{zeros};
-    ghost use Rattle.context_switch.specs.Runners.{Runner, runner_of, IsWorld};
+    ghost use Rattle.worlds.specs.Runners.{Runner, runner_of, IsWorld};
     ghost use Rattle.context_switch.specs.Contexts.{saved_of};
 
     /// Every set zero.

@@ -1,9 +1,9 @@
 ghost use Rattle.std.specs.Prelude.{◌<◌};
-ghost use Rattle.context_switch.specs.Runners.{IsWorld, IsWorld-prop};
+ghost use Rattle.worlds.specs.Runners.{IsWorld, IsWorld-prop};
 
-use enclave_table::World;
 use pmp_encoding::{Bank, Entry, Limit};
 use sbi_decode::Registers;
+use worlds::World;
 
 /// One of up to four harts: the world that runs on it, and the registers and PMP entries that are loaded there.
 #[derive(Clone, Copy, PartialEq, Eq, Debug)]
@@ -22,7 +22,7 @@ impl Hart {
     ghost use Rattle.sbi_decode.specs.Registers.{zeros};
     ghost use Rattle.pmp_encoding.specs.Limits.{limit_number};
     ghost use Rattle.pmp_encoding.specs.Banks.{HasList, IsBankOf};
-    ghost use Rattle.context_switch.specs.Runners.{IsWorld};
+    ghost use Rattle.worlds.specs.Runners.{IsWorld};
     ghost use Rattle.context_switch.specs.Harts.{number_of, world_of, registers_of, bank_of, LendsRegisters};
 
     /// The hart of this number as at boot: in the host's world, its registers zero, these entries loaded.

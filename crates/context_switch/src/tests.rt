@@ -1,8 +1,8 @@
 use crate::{Contexts, Hart, switch};
-use enclave_table::World;
 use pmp_encoding::{Bank, Entry, Limit, Perm, Region};
 use sbi_decode::Registers;
 use std::test::Fail;
+use worlds::World;
 
 const A0: usize = 10;
 

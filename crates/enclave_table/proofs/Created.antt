@@ -16,7 +16,7 @@ use Rattle.enclave_table.specs.declared.enclave.Create.{Create}
 use Rattle.enclave_table.specs.declared.enclave.Enclave.{Enclave}
 use Rattle.enclave_table.specs.declared.enclave.PageRange.{PageRange}
 use Rattle.enclave_table.specs.declared.refusal.Refusal.{Refusal}
-use Rattle.enclave_table.specs.declared.world.World.{World}
+use Rattle.worlds.specs.declared.world.World.{World}
 use Rattle.enclave_table.proofs.Refused.{create_host_want, create_enclave_want}
 
 pub sound_from : (table : EnclaveTable) (world : World) (parts : Create) → AllPass (PassesCreate table world parts) create_checks → IsSound table parts

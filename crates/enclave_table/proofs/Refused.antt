@@ -11,7 +11,7 @@ use Rattle.enclave_table.specs.Calls.{IsWant, IsNextId, fresh, RefusesCreate, Re
 use Rattle.enclave_table.specs.declared.enclave.Create.{Create}
 use Rattle.enclave_table.specs.declared.refusal.Refusal.{Refusal}
 use Rattle.enclave_table.specs.declared.refusal.Refusal.TheVariants.{NotHost, NotEnclave, BadCount, BadAddress, BadEntry, NotRam, Overlap, TableFull, NoEntries, NoMemory, BadId, BadState, BadWord}
-use Rattle.enclave_table.specs.declared.world.World.{World}
+use Rattle.worlds.specs.declared.world.World.{World}
 use Rattle.enclave_table.proofs.SameViews.{more_same}
 
 is_want : Refusal → Bool

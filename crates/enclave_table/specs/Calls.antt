@@ -19,8 +19,8 @@ use Rattle.enclave_table.specs.declared.enclave.Leaving.{Leaving}
 use Rattle.enclave_table.specs.declared.enclave.PageRange.{PageRange}
 use Rattle.enclave_table.specs.declared.refusal.Refusal.{Refusal}
 use Rattle.enclave_table.specs.declared.refusal.Refusal.TheVariants.{NoEntries, NoMemory}
-use Rattle.enclave_table.specs.declared.world.World.{World}
-use Rattle.enclave_table.specs.declared.world.World.TheVariants.{Enclave as InEnclave}
+use Rattle.worlds.specs.declared.world.World.{World}
+use Rattle.worlds.specs.declared.world.World.TheVariants.{Enclave as InEnclave}
 
 -- the view needs at most as many entries as there are, or more
 abbrev pub FitsIn : Limit → View → Type 0

@@ -14,8 +14,8 @@ use Rattle.enclave_table.specs.declared.enclave.Leaving.TheVariants.{Stop, Exit}
 use Rattle.enclave_table.specs.declared.owner.Owner.TheVariants as owner
 use Rattle.enclave_table.specs.declared.refusal.Refusal.{Refusal}
 use Rattle.enclave_table.specs.declared.refusal.Refusal.TheVariants.{NotHost, NotEnclave, BadCount, BadAddress, BadEntry, NotRam, Overlap, TableFull, BadId, BadState, BadWord}
-use Rattle.enclave_table.specs.declared.world.World.{World}
-use Rattle.enclave_table.specs.declared.world.World.TheVariants.{Host, Enclave as InEnclave}
+use Rattle.worlds.specs.declared.world.World.{World}
+use Rattle.worlds.specs.declared.world.World.TheVariants.{Host, Enclave as InEnclave}
 
 -- some text, at most 1024 private pages, at most 256 shared pages
 pub record HasCounts (parts : Create) : Type 0 where

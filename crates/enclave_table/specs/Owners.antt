@@ -8,8 +8,8 @@ use Rattle.enclave_table.specs.declared.enclave.Create.{Create}
 use Rattle.enclave_table.specs.declared.enclave.Enclave.{Enclave}
 use Rattle.enclave_table.specs.declared.owner.Owner.{Owner}
 use Rattle.enclave_table.specs.declared.owner.Owner.TheVariants.{Monitor, Private, Shared, Host}
-use Rattle.enclave_table.specs.declared.world.World.TheVariants as world
-use Rattle.enclave_table.specs.declared.world.World.{World}
+use Rattle.worlds.specs.declared.world.World.TheVariants as world
+use Rattle.worlds.specs.declared.world.World.{World}
 
 -- the monitor owns its range, an enclave its text and data, both it and the host what they share, and the host the rest
 abbrev pub IsOwner : EnclaveTable → ℕ → Owner → Type 0

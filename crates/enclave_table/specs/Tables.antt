@@ -12,8 +12,8 @@ use Rattle.enclave_table.specs.Checks.{HasCounts, HasPlaces, HasEntry}
 use Rattle.enclave_table.specs.declared.enclave.Create.{Create}
 use Rattle.enclave_table.specs.declared.enclave.Enclave.{Enclave}
 use Rattle.enclave_table.specs.declared.enclave.State.TheVariants.{Running}
-use Rattle.enclave_table.specs.declared.world.World.{World}
-use Rattle.enclave_table.specs.declared.world.World.TheVariants.{Host, Enclave as InEnclave}
+use Rattle.worlds.specs.declared.world.World.{World}
+use Rattle.worlds.specs.declared.world.World.TheVariants.{Host, Enclave as InEnclave}
 
 -- each live enclave is as create asked for it, its pages are memory, and none of the monitor's or both private and shared
 pub record IsSound (table : EnclaveTable) (parts : Create) : Type 0 where
