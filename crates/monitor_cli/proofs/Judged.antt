@@ -4,9 +4,9 @@ use Rattle.std.specs.Io.KnownBytes.{Appends, Consumes, IsAtEnd}
 use Rattle.std.proofs.KnownBytes.{Appends-nil, Appends-trans, Consumes-nil, Consumes-trans}
 use Rattle.pmp_encoding.specs.declared.bank.Bank.{Bank}
 use Rattle.pmp_match.specs.declared.access.Access.{Access}
-use Rattle.hart_sim.specs.declared.lines.LineReader.{LineReader}
+use Rattle.text_lines.specs.declared.lines.LineReader.{LineReader}
 use Rattle.hart_sim.specs.Lines.{has_no_end, AreLines, IsShortLine, without_return}
-use Rattle.hart_sim.specs.declared.streams.RunFault.TheVariants as faults
+use Rattle.text_lines.specs.declared.fault.RunFault.TheVariants as faults
 use Rattle.hart_sim.specs.LineReaders.{line_of, pending_of, number_of, came_of, ended_of, NextLine}
 use Rattle.monitor_cli.specs.Judging.{Answer, JudgesAll, Report, Spell, Stands, StopsAt, StopsReading, StopsTooLong, StopsWriting, access_on, counted, ended}
 use Rattle.monitor_cli.specs.Judging.{none, blank, one, nothing, answer}

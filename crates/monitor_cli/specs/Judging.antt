@@ -8,8 +8,8 @@ use Rattle.pmp_match.specs.declared.access.Access.{Access}
 use Rattle.pmp_match.specs.declared.cause.Cause.{Cause}
 use Rattle.pmp_match.specs.Causes.{cause_number}
 use Rattle.pmp_match.specs.Judgement.{Judges}
-use Rattle.hart_sim.specs.declared.event.Event.{Event}
-use Rattle.hart_sim.specs.declared.event.Event.TheVariants as events
+use Rattle.hart_trace.specs.declared.event.Event.{Event}
+use Rattle.hart_trace.specs.declared.event.Event.TheVariants as events
 use Rattle.hart_sim.specs.Events.{meaning_of}
 use Rattle.hart_sim.specs.Lines.{AreLines, BeginsLongLine, IsShortLine, without_return}
 

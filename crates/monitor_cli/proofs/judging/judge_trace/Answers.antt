@@ -1,5 +1,5 @@
 use Rattle.std.proofs.Common.{◌≡◌, ◌∙◌, Err, ap, sym, refl, arith}
-use Rattle.hart_sim.specs.declared.streams.RunFault.TheVariants as faults
+use Rattle.text_lines.specs.declared.fault.RunFault.TheVariants as faults
 use Rattle.monitor_cli.specs.Judging.{access_on}
 use Rattle.monitor_cli.proofs.Judged.{begins, ends, few_more, finishes, goes_on, hands, stops_at, stops_long, stops_past, stops_reading, stops_writing}
 use Rattle.monitor_cli.proofs.judging.judge_trace.Goals as goal

@@ -1,0 +1,141 @@
+//! Devices that bytes come from and go to. Each tells its bytes, where they are known, and counts
+//! its failures, so that a contract can say what was read and written, and that a fault comes only
+//! where a device failed.
+
+ghost use Rattle.std.specs.Prelude.{◌≡◌, ℕ, ◌+◌, ◌-◌, ◌^◌, ◌<◌, ◌≤◌, ◌⊎◌, ◌↔◌, List, Bool, IsTrue, Option, IfOk, IfErr, MatchResult, length, take};
+ghost use Rattle.std.specs.Io.KnownBytes.{ReadConsumes, WriteAppends, Appends};
+ghost use Rattle.byte_streams.specs.Streams.{TakesNone, inner_of, failures_of, has_stalled};
+
+use std::io::{Read, Write};
+
+/// A device did not read or write.
+#[derive(Clone, Copy, Debug, PartialEq, Eq)]
+pub struct DeviceFault;
+
+/// A device that bytes come from.
+pub trait Source {
+    /// The bytes that are still to come, where they are known.
+    ghost remaining: { Self → Option (List ℕ) };
+
+    /// How often a read has failed.
+    ghost failures: { Self → ℕ };
+
+    /// Reads some bytes to the front of `buf`, and says how many. None into a buffer that is not
+    /// empty is the end of the input.
+    fn read(&mut self, buf: &mut [u8]) -> Result<usize, DeviceFault>
+        requires { failures self.old < 2 ^ 64 - 1 }
+        ensures bound { IfOk result (λ n. n ≤ length buf.new) }
+        ensures bytes { ReadConsumes (remaining self.old) (remaining self.new) result buf.new }
+        ensures failures { MatchResult result (λ _. failures self.new ≡ failures self.old) (λ _. failures self.new ≡ failures self.old + 1) };
+}
+
+/// A device that bytes go to.
+pub trait Sink {
+    /// The bytes that it has taken, where they are known.
+    ghost contents: { Self → Option (List ℕ) };
+
+    /// How often a write has failed.
+    ghost failures: { Self → ℕ };
+
+    /// Whether the last write took none of some bytes.
+    ghost stalled: { Self → Bool };
+
+    /// Takes some bytes of the front of `buf`, and says how many.
+    fn write(&mut self, buf: &[u8]) -> Result<usize, DeviceFault>
+        requires { failures self.old < 2 ^ 64 - 1 }
+        ensures bound { IfOk result (λ n. n ≤ length buf.now) }
+        ensures bytes { WriteAppends (contents self.old) (contents self.new) result buf.now }
+        ensures failures { MatchResult result (λ _. failures self.new ≡ failures self.old) (λ _. failures self.new ≡ failures self.old + 1) }
+        ensures stalled { IsTrue (stalled self.new) ↔ TakesNone result buf.now };
+}
+
+/// A reader or writer of std, with the number of its failures.
+#[derive(Drop)]
+pub struct Counted<T> {
+    inner: T,
+    failures: u64,
+    stalled: bool,
+}
+
+impl<T> Counted<T> {
+    /// The device over a reader or writer that has not failed yet.
+    pub fn new(inner: T) -> Counted<T>
+        ensures inner { inner_of result ≡ inner }
+        ensures failures { failures_of result ≡ 0 }
+    {
+        Counted {
+            inner,
+            failures: 0,
+            stalled: false,
+        }
+    }
+
+    /// The reader or writer again.
+    pub fn into_inner(self) -> T
+        ensures { result ≡ inner_of self }
+    {
+        let Counted {
+            inner,
+            failures: _,
+            stalled: _,
+        } = self;
+        inner
+    }
+}
+
+impl<T: Read> Source for Counted<T> {
+    ghost remaining = { λ c. T.remaining (inner_of c) };
+
+    ghost failures = { failures_of };
+
+    fn read(&mut self, buf: &mut [u8]) -> Result<usize, DeviceFault> {
+        match self.inner.read(buf) {
+            Ok(n) => Ok(n),
+            Err(_) => {
+                self.failures += 1;
+                Err(DeviceFault)
+            }
+        }
+    }
+}
+
+impl<T: Write> Sink for Counted<T> {
+    ghost contents = { λ c. T.contents (inner_of c) };
+
+    ghost failures = { failures_of };
+
+    ghost stalled = { has_stalled };
+
+    fn write(&mut self, buf: &[u8]) -> Result<usize, DeviceFault> {
+        match self.inner.write(buf) {
+            Ok(n) => {
+                self.stalled = n == 0 && !buf.is_empty();
+                Ok(n)
+            }
+            Err(_) => {
+                self.stalled = false;
+                self.failures += 1;
+                Err(DeviceFault)
+            }
+        }
+    }
+}
+
+/// Writes all of the bytes. A write that takes none of some bytes is a fault too.
+pub fn write_whole<W: Sink>(sink: &mut W, bytes: &[u8]) -> Result<(), DeviceFault>
+    requires { W.failures sink.old < 2 ^ 64 - 1 }
+    ensures whole { IfOk result (λ _. Appends (W.contents sink.old) (W.contents sink.new) bytes.now) }
+    ensures well { IfOk result (λ _. W.failures sink.new ≡ W.failures sink.old) }
+    ensures part { IfErr result (λ _. (n : ℕ) × (n < length bytes.now) × Appends (W.contents sink.old) (W.contents sink.new) (take n bytes.now)) }
+    ensures failed { IfErr result (λ _. (W.failures sink.new ≡ W.failures sink.old + 1) ⊎ (IsTrue (W.stalled sink.new) × (W.failures sink.new ≡ W.failures sink.old))) }
+{
+    let mut done = 0;
+    while done < bytes.len() {
+        let n = sink.write(&bytes[done..])?;
+        if n == 0 {
+            return Err(DeviceFault);
+        }
+        done += n;
+    }
+    Ok(())
+}

@@ -1,0 +1,20 @@
+//! The events of a trace: what each of its lines says happens on a hart.
+//!
+//! For the layer above: [`parse_line`] understands a line exactly where the grammar of traces gives it a meaning, and
+//! answers that one. Nothing here takes memory.
+//!
+//! ```text
+//! match parse_line(b"@1 store u 4 0x80000000 7", 2)? {
+//!     Some((hart, Event::Access(access, value))) => {}
+//!     _ => {}
+//! }
+//! ```
+#![tactic(auto)]
+
+mod event;
+#[cfg(test)]
+mod tests;
+mod trace;
+
+pub use event::Event;
+pub use trace::parse_line;

@@ -1,0 +1,77 @@
+-- What a reader of lines has of its input, and what it answers.
+use Rattle.std.specs.Prelude.{◌≡◌, ◌⊎◌, ℕ, ◌+◌, ◌^◌, ◌<◌, Bool, true, false, List, [], ◌∷◌, ◌++◌, length, take, drop, nat_lt, Option, Result, Ok, Err}
+use Rattle.std.specs.Io.KnownBytes.{Consumes, IsAtEnd}
+use Rattle.text_lines.specs.declared.fault.RunFault.{RunFault}
+use Rattle.text_lines.specs.declared.fault.RunFault.TheVariants as faults
+use Rattle.text_lines.specs.declared.lines.LineReader.{LineReader}
+use Rattle.text_lines.specs.Lines.{has_no_end, IsShortLine, BeginsLongLine, without_return}
+
+-- the line that was handed out last, without its end
+abbrev pub line_of : LineReader → List ℕ
+line_of reader = take reader.text_len reader.buffer
+
+-- the bytes behind it that have come
+abbrev pub pending_of : LineReader → List ℕ
+pending_of reader = drop reader.taken reader.buffer
+
+-- how many lines were handed out, and how many bytes came
+abbrev pub number_of : LineReader → ℕ
+number_of reader = reader.number
+
+abbrev pub came_of : LineReader → ℕ
+came_of reader = reader.came
+
+-- whether that line was the last, which lacks its LF
+abbrev pub ended_of : LineReader → Bool
+ended_of reader = reader.ended
+
+-- these bytes left the source, came to the reader and are counted; none did where a line was there already
+pub record Came (old new : LineReader) (before after : Option (List ℕ)) (bytes : List ℕ) : Type 0 where
+  pub consumed : Consumes before after bytes
+  pub counted : came_of new ≡ came_of old + length bytes
+  pub needed : (bytes ≡ []) ⊎ (has_no_end (pending_of old) ≡ true)
+
+-- a line was handed out, at the front of the bytes that were there
+pub record Hands (old new : LineReader) (bytes : List ℕ) (after : Option (List ℕ)) (line : List ℕ) : Type 0 where
+  pub short : IsShortLine line
+  pub text : line_of new ≡ without_return line
+  pub number : number_of new ≡ number_of old + 1
+  pub ends : ((bytes ≡ line ++ 10 ∷ pending_of new) × (ended_of new ≡ false)) ⊎ ((0 < length line) × (bytes ≡ line) × (pending_of new ≡ []) × IsAtEnd after × (ended_of new ≡ true))
+
+-- the bytes stay there, and no line was handed out
+pub record Holds (old new : LineReader) (bytes : List ℕ) : Type 0 where
+  pub pending : pending_of new ≡ bytes
+  pub number : number_of new ≡ number_of old
+
+-- the answer of a reader, by the bytes that were there in the end
+abbrev pub Answers : Result Bool RunFault → LineReader → LineReader → List ℕ → Option (List ℕ) → Type 0
+Answers (Ok true) old new bytes after = (line : List ℕ) × Hands old new bytes after line
+Answers (Ok false) old new bytes after = (bytes ≡ []) × IsAtEnd after × Holds old new bytes
+Answers (Err (faults.Line n)) old new bytes after = (n ≡ number_of old + 1) × BeginsLongLine bytes × Holds old new bytes
+Answers (Err faults.TooLong) old new bytes after = (came_of new ≡ 2 ^ 40) × IsShortLine bytes × Holds old new bytes
+Answers (Err faults.Read) old new bytes after = IsShortLine bytes × Holds old new bytes
+Answers (Err faults.Write) old new bytes after = ⊥
+Answers (Err faults.Memory) old new bytes after = ⊥
+
+-- a byte past the limit left the source too, where that is the answer
+abbrev pub BeyondLimit : Result Bool RunFault → List ℕ → Type 0
+BeyondLimit (Err faults.TooLong) beyond = length beyond ≡ 1
+BeyondLimit _ beyond = beyond ≡ []
+
+-- the source failed in this call, where that is the answer, and else it did not
+abbrev pub FailsOnRead : Result Bool RunFault → ℕ → ℕ → Type 0
+FailsOnRead (Err faults.Read) before after = after ≡ before + 1
+FailsOnRead _ before after = after ≡ before
+
+-- what a call did
+abbrev pub NextLine : Result Bool RunFault → LineReader → LineReader → Option (List ℕ) → Option (List ℕ) → Type 0
+NextLine result old new before after = (bytes beyond : List ℕ) × (middle : Option (List ℕ)) × Came old new before middle bytes × Consumes middle after beyond × BeyondLimit result beyond × Answers result old new (pending_of old ++ bytes) after
+
+-- the same of one read: new bytes stand behind the others, and none came at the end alone
+abbrev pub ReadsMore : Result Bool RunFault → LineReader → LineReader → Option (List ℕ) → Option (List ℕ) → List ℕ → Type 0
+ReadsMore (Ok more) old new before after bytes = Consumes before after bytes × (new.buffer ≡ old.buffer ++ bytes) × (new.came ≡ old.came + length bytes) × (more ≡ nat_lt 0 (length bytes)) × (more ≡ false → IsAtEnd after)
+ReadsMore (Err faults.TooLong) old new before after bytes = Consumes before after bytes × (length bytes ≡ 1) × (new.buffer ≡ old.buffer) × (old.came ≡ 2 ^ 40) × (new.came ≡ old.came)
+ReadsMore (Err faults.Read) old new before after bytes = Consumes before after bytes × (bytes ≡ []) × (new.buffer ≡ old.buffer) × (new.came ≡ old.came)
+ReadsMore (Err (faults.Line n)) old new before after bytes = ⊥
+ReadsMore (Err faults.Write) old new before after bytes = ⊥
+ReadsMore (Err faults.Memory) old new before after bytes = ⊥

@@ -1,0 +1,44 @@
+-- The lines of an input.
+use Rattle.std.specs.Prelude.{◌≡◌, ◌⊎◌, ℕ, ◌+◌, ◌-◌, ◌<◌, ◌≤◌, ◌==◌, Bool, true, not, List, [], ◌∷◌, ◌++◌, length, take, slice_index, if◌then◌else◌, Option, Result, Ok, Err}
+use Rattle.std.specs.List.{list_all}
+use Rattle.std.specs.Io.KnownBytes.{Consumes, IsAtEnd}
+use Rattle.text_lines.specs.declared.fault.RunFault.{RunFault}
+use Rattle.text_lines.specs.declared.fault.RunFault.TheVariants as faults
+
+-- no LF among the bytes
+abbrev pub has_no_end : List ℕ → Bool
+has_no_end bytes = list_all (λ b. not (b == 10)) bytes
+
+-- a line that may stand before a LF: its CR is counted
+abbrev pub IsShortLine : List ℕ → Type 0
+IsShortLine line = (has_no_end line ≡ true) × (length line ≤ 1023)
+
+-- a line with more bytes than that before any LF
+abbrev pub BeginsLongLine : List ℕ → Type 0
+BeginsLongLine bytes = (1024 ≤ length bytes) × (has_no_end (take 1024 bytes) ≡ true)
+
+-- one CR at the end is dropped
+abbrev pub without_return : List ℕ → List ℕ
+without_return line = if slice_index line (length line - 1) == 13 then take (length line - 1) line else line
+
+-- the line stands before a LF and the rest, or it is the last, lacks its LF and has a byte
+abbrev pub EndsLine : List ℕ → List ℕ → List ℕ → Type 0
+EndsLine input line rest = (input ≡ line ++ 10 ∷ rest) ⊎ ((0 < length line) × (input ≡ line) × (rest ≡ []))
+
+-- the lines of an input, one by one
+abbrev pub AreLines : List ℕ → List (List ℕ) → Type 0
+AreLines input [] = input ≡ []
+AreLines input (line ∷ lines) = (has_no_end line ≡ true) × (rest : List ℕ) × EndsLine input line rest × AreLines rest lines
+
+-- no input is two lists of lines
+abbrev pub OneListOfLines : Type 0
+OneListOfLines = (input : List ℕ) (lines others : List (List ℕ)) → AreLines input lines → AreLines input others → lines ≡ others
+
+-- what one read where no byte may follow says: there was none, there was one, or the source failed
+abbrev pub EndsInput : Result (Unit {0}) RunFault → Option (List ℕ) → Option (List ℕ) → ℕ → ℕ → Type 0
+EndsInput (Ok done) before after failures failed = Consumes before after [] × IsAtEnd after × (failed ≡ failures)
+EndsInput (Err faults.TooLong) before after failures failed = ((beyond : List ℕ) × (length beyond ≡ 1) × Consumes before after beyond) × (failed ≡ failures)
+EndsInput (Err faults.Read) before after failures failed = Consumes before after [] × (failed ≡ failures + 1)
+EndsInput (Err (faults.Line n)) before after failures failed = ⊥
+EndsInput (Err faults.Write) before after failures failed = ⊥
+EndsInput (Err faults.Memory) before after failures failed = ⊥

@@ -1,0 +1,80 @@
+//! The bytes that have come and are not yet used, in an array of fixed size.
+
+ghost use Rattle.std.specs.Prelude.{◌≡◌, ◌+◌, ◌-◌, ◌^◌, ◌<◌, ◌≤◌, ◌++◌, ℕ, List, [], length, drop, MatchResult};
+ghost use Rattle.std.specs.Io.KnownBytes.{Consumes, Keeps, IsAtEnd};
+
+use byte_streams::{DeviceFault, Source};
+use std::marker::Model;
+
+pub(crate) const CAPACITY: usize = 4096;
+
+#[derive(Drop)]
+pub(crate) struct Buffer {
+    bytes: [u8; CAPACITY],
+    start: usize,
+    end: usize,
+}
+
+impl Model for Buffer {
+    ghost use Rattle.std.specs.Prelude.{ℕ, List, ◌≤◌, take, drop};
+
+    ghost Value = { List ℕ };
+
+    ghost view = { λ b. drop b.start (take b.end b.bytes) };
+
+    ghost invariant = { λ b. (b.start ≤ b.end) × (b.end ≤ 4096) };
+}
+
+impl Buffer {
+    pub(crate) fn new() -> Buffer
+        ensures { result ≡ [] }
+    {
+        Buffer {
+            bytes: [0; CAPACITY],
+            start: 0,
+            end: 0,
+        }
+    }
+
+    pub(crate) fn as_slice(&self) -> &[u8]
+        ensures value { result.now ≡ self.now }
+        ensures most { length self.now ≤ 4096 }
+    {
+        &self.bytes[self.start..self.end]
+    }
+
+    /// Lets go of the first bytes.
+    pub(crate) fn consume(&mut self, count: usize)
+        requires { count ≤ length self.old }
+        ensures { self.new ≡ drop count self.old }
+    {
+        self.start += count;
+    }
+
+    /// Reads at most `most` bytes behind the others, and says how many; none at the end of the
+    /// input alone. The bytes move to the front of the array first.
+    pub(crate) fn fill<R: Source>(
+        &mut self,
+        source: &mut R,
+        most: usize,
+    ) -> Result<usize, DeviceFault>
+        requires room { length self.old < 4096 }
+        requires some { 0 < most }
+        requires failures { R.failures source.old < 2 ^ 64 - 1 }
+        ensures read { MatchResult result
+            (λ n. (n ≤ most) × ((bytes : List ℕ) × (length bytes ≡ n) × Consumes (R.remaining source.old) (R.remaining source.new) bytes × (self.new ≡ self.old ++ bytes)) × (n ≡ 0 → IsAtEnd (R.remaining source.new)))
+            (λ _. Keeps (R.remaining source.old) (R.remaining source.new) × (self.new ≡ self.old)) }
+        ensures failures { MatchResult result (λ _. R.failures source.new ≡ R.failures source.old) (λ _. R.failures source.new ≡ R.failures source.old + 1) }
+    {
+        let held = self.end - self.start;
+        self.bytes.copy_within(self.start..self.end, 0);
+        self.start = 0;
+        self.end = held;
+        let room = most.min(CAPACITY - self.end);
+        let Ok(n) = source.read(&mut self.bytes[self.end..self.end + room]) else {
+            return Err(DeviceFault);
+        };
+        self.end += n;
+        Ok(n)
+    }
+}

@@ -1,0 +1,12 @@
+ghost use Rattle.text_lines.specs.Words.{SplitsIntoWords};
+ghost use Rattle.text_lines.specs.Lines.{OneListOfLines};
+
+/// The words of a text are the runs of bytes between its blanks, and no other list of words is.
+pub fn words_law()
+    ensures { SplitsIntoWords }
+{}
+
+/// An input is one list of lines at most.
+pub fn lines_law()
+    ensures { OneListOfLines }
+{}

@@ -1,0 +1,164 @@
+//! The words of a line of a map or a trace, and the numbers among them.
+
+ghost use Rattle.std.specs.Prelude.{◌≡◌, ℕ, ◌+◌, ◌-◌, ◌^◌, ◌<◌, ◌≤◌, ◌==◌, [], ◌∷◌, Some, IfOk, IfErr, IfSome, IfNone, OnSome, option_map, slice_index, MatchOption, MatchResult, true, false, length};
+ghost use Rattle.std.specs.Result.{result_ok};
+ghost use Rattle.std.specs.List.{list_all, prefix_len, position_or_len};
+ghost use Rattle.text_lines.specs.Words.{is_blank, is_allowed, content_of, split_words, words_of};
+ghost use Rattle.text_lines.specs.Numbers.{digit_of, value_of, numeral_of, number_of, permission_of};
+
+use pmp_encoding::Perm;
+
+/// A line, or a word of it, fits no form.
+#[derive(Clone, Copy, Debug, PartialEq, Eq)]
+pub struct NotUnderstood;
+
+fn is_blank(byte: u8) -> bool
+    ensures { result ≡ is_blank byte }
+{
+    byte == b' ' || byte == b'\t'
+}
+
+fn is_allowed(byte: u8) -> bool
+    ensures { result ≡ is_allowed byte }
+{
+    byte == b'\t' || (byte >= 32 && byte <= 126)
+}
+
+fn all_allowed(text: &[u8]) -> bool
+    ensures { result ≡ list_all is_allowed text.now }
+{
+    text.iter().all(|b| is_allowed(*b))
+}
+
+/// How many bytes a line has before its comment.
+fn content_len(line: &[u8]) -> usize
+    ensures within { result ≤ length line.now }
+    ensures len { result ≡ position_or_len (λ b. b == 35) line.now }
+{
+    for (i, b) in line.iter().enumerate() {
+        if *b == b'#' {
+            return i;
+        }
+    }
+    line.len()
+}
+
+/// How many blanks a text begins with.
+fn blanks_len(text: &[u8]) -> usize
+    ensures within { result ≤ length text.now }
+    ensures len { result ≡ prefix_len is_blank text.now }
+{
+    for (i, b) in text.iter().enumerate() {
+        if !is_blank(*b) {
+            return i;
+        }
+    }
+    text.len()
+}
+
+/// How many bytes a text has before its first blank.
+fn word_len(text: &[u8]) -> usize
+    ensures within { result ≤ length text.now }
+    ensures len { result ≡ position_or_len is_blank text.now }
+{
+    for (i, b) in text.iter().enumerate() {
+        if is_blank(*b) {
+            return i;
+        }
+    }
+    text.len()
+}
+
+/// The value of a digit in bases up to 16, and 16 for a byte that is none.
+fn digit(byte: u8) -> u8
+    ensures value { result ≡ digit_of byte }
+    ensures most { result ≤ 16 }
+{
+    match byte {
+        b'0'..=b'9' => byte - b'0',
+        b'A'..=b'F' => byte - b'A' + 10,
+        b'a'..=b'f' => byte - b'a' + 10,
+        _ => 16,
+    }
+}
+
+/// The value of one or more digits of a base from 2 to 16, where it is below 2^64.
+pub fn numeral(digits: &[u8], base: u8) -> Option<u64>
+    requires least { 2 ≤ base }
+    requires most { base ≤ 16 }
+    ensures { result ≡ numeral_of base digits.now }
+{
+    if digits.is_empty() {
+        return None;
+    }
+    let mut value: u64 = 0;
+    for byte in digits {
+        let digit = digit(*byte);
+        if digit >= base {
+            return None;
+        }
+        value = value
+            .checked_mul(u64::from(base))?
+            .checked_add(u64::from(digit))?;
+    }
+    Some(value)
+}
+
+/// The number that a word spells.
+pub fn number(word: &[u8]) -> Option<u64>
+    ensures { result ≡ number_of word.now }
+{
+    match word {
+        [b'0', b'x' | b'X', digits @ ..] => numeral(digits, 16),
+        _ => numeral(word, 10),
+    }
+}
+
+/// The permission that a word names: `none`, `r`, `rw`, `x`, `rx` or `rwx`.
+pub fn permission(word: &[u8]) -> Option<Perm>
+    ensures { result ≡ permission_of word.now }
+{
+    match word {
+        b"none" => Some(Perm::NoAccess),
+        b"r" => Some(Perm::Read),
+        b"rw" => Some(Perm::ReadWrite),
+        b"x" => Some(Perm::Execute),
+        b"rx" => Some(Perm::ReadExecute),
+        b"rwx" => Some(Perm::ReadWriteExecute),
+        _ => None,
+    }
+}
+
+/// The words of a line, from the first on.
+#[derive(Clone, Copy)]
+pub struct Words<'a> {
+    /// What is left of the line, without its comment.
+    pub rest: &'a [u8],
+}
+
+impl<'a> Words<'a> {
+    /// The words of a line, unless a byte outside its comment may not stand there.
+    pub fn of(line: &'a [u8]) -> Result<Words<'a>, NotUnderstood>
+        ensures { option_map (λ words. split_words words.rest.now) (result_ok result) ≡ words_of line.now }
+    {
+        let content = &line[..content_len(line)];
+        if !all_allowed(content) {
+            return Err(NotUnderstood);
+        }
+        Ok(Words { rest: content })
+    }
+
+    /// The next word, where there is one.
+    pub fn next_word(&mut self) -> Option<&'a [u8]>
+        ensures word { MatchOption result (split_words self.old.rest.now ≡ []) (λ word. split_words self.old.rest.now ≡ word.now ∷ split_words self.new.rest.now) }
+        ensures shorter { OnSome result (length self.new.rest.now < length self.old.rest.now) }
+    {
+        let text = &self.rest[blanks_len(self.rest)..];
+        if text.is_empty() {
+            return None;
+        }
+        let end = word_len(text);
+        self.rest = &text[end..];
+        Some(&text[..end])
+    }
+}

@@ -1,0 +1,34 @@
+//! The lines of an input, and their words and numbers.
+//!
+//! A [`LineReader`] hands out the lines of a source through one buffer; [`Words`] are those of a line without its comment,
+//! and [`number`] is what one of them spells. Nothing here takes memory.
+//!
+//! For the layer above: the lines of a reader are those of the input, line by line; the words of a line are the runs of
+//! bytes between its blanks; a number is read exactly where it is below 2^64.
+//!
+//! ```text
+//! let mut lines = LineReader::new();
+//! while lines.next_line(&mut source)? {
+//!     let mut words = Words::of(lines.line())?;
+//!     while let Some(word) = words.next_word() {
+//!         // number(word)
+//!     }
+//!     if lines.has_ended() {
+//!         break;
+//!     }
+//! }
+//! ```
+#![tactic(auto)]
+
+mod buffer;
+mod fault;
+mod laws;
+mod lexical;
+mod lines;
+#[cfg(test)]
+mod tests;
+
+pub use fault::RunFault;
+pub use laws::{lines_law, words_law};
+pub use lexical::{NotUnderstood, Words, number, numeral, permission};
+pub use lines::LineReader;

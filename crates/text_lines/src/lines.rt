@@ -1,0 +1,198 @@
+//! Lines out of a source, through one buffer of fixed size.
+
+ghost use Rattle.std.specs.Prelude.{◌≡◌, ◌⊎◌, ◌+◌, ◌-◌, ◌^◌, ◌<◌, ◌≤◌, ◌==◌, ◌++◌, ℕ, Bool, true, false, List, [], length, take, drop, MatchResult};
+ghost use Rattle.std.specs.List.{position_or_len};
+ghost use Rattle.text_lines.specs.Lines.{without_return, EndsInput};
+
+use crate::buffer::{Buffer, CAPACITY};
+use crate::fault::RunFault;
+use byte_streams::Source;
+
+/// How many bytes may come in all.
+const LIMIT: u64 = 1 << 40;
+
+/// How many bytes a line may have before its LF.
+const LONGEST: usize = 1023;
+
+/// How many bytes come before the first LF.
+fn line_len(bytes: &[u8]) -> usize
+    ensures within { result ≤ length bytes.now }
+    ensures len { result ≡ position_or_len (λ b. b == 10) bytes.now }
+{
+    for (i, b) in bytes.iter().enumerate() {
+        if *b == b'\n' {
+            return i;
+        }
+    }
+    bytes.len()
+}
+
+/// How many bytes a line has without the CR at its end.
+fn text_len(line: &[u8]) -> usize
+    ensures within { result ≤ length line.now }
+    ensures text { take result line.now ≡ without_return line.now }
+{
+    match line {
+        [.., b'\r'] => line.len() - 1,
+        _ => line.len(),
+    }
+}
+
+/// Reads where no further byte may come.
+fn read_end<R: Source>(source: &mut R) -> Result<(), RunFault>
+    requires { R.failures source.old < 2 ^ 64 - 1 }
+    ensures { EndsInput result (R.remaining source.old) (R.remaining source.new) (R.failures source.old) (R.failures source.new) }
+{
+    let mut byte = [0];
+    match source.read(&mut byte) {
+        Ok(0) => Ok(()),
+        Ok(_) => Err(RunFault::TooLong),
+        Err(_) => Err(RunFault::Read),
+    }
+}
+
+/// Hands out the lines of a source one by one.
+#[derive(Drop)]
+pub struct LineReader {
+    buffer: Buffer,
+    text_len: usize,
+    taken: usize,
+    came: u64,
+    number: u64,
+    ended: bool,
+    ghost text_inside: { text_len ≤ taken },
+    ghost taken_inside: { taken ≤ length buffer },
+    ghost few: { came ≤ 2 ^ 40 },
+    ghost numbered: { number + (length buffer - taken) ≤ came },
+}
+
+impl LineReader {
+    ghost use Rattle.text_lines.specs.Lines.{without_return, IsShortLine};
+    ghost use Rattle.text_lines.specs.LineReaders.{line_of, pending_of, number_of, came_of, ended_of, NextLine, FailsOnRead, ReadsMore};
+
+    /// A reader to which no byte has come.
+    pub fn new() -> LineReader
+        ensures line { line_of result ≡ [] }
+        ensures pending { pending_of result ≡ [] }
+        ensures number { number_of result ≡ 0 }
+        ensures came { came_of result ≡ 0 }
+    {
+        LineReader {
+            buffer: Buffer::new(),
+            text_len: 0,
+            taken: 0,
+            came: 0,
+            number: 0,
+            ended: false,
+        }
+    }
+
+    /// The line that was handed out last, without its LF and the CR before it.
+    pub fn line(&self) -> &[u8]
+        ensures { result.now ≡ line_of self.now }
+    {
+        &self.buffer.as_slice()[..self.text_len]
+    }
+
+    /// The number of that line, from 1.
+    pub fn number(&self) -> u64
+        ensures { result ≡ number_of self.now }
+    {
+        self.number
+    }
+
+    /// Whether that line was the last, which lacks its LF. The source gave no byte where more were asked
+    /// for, so it is not to be read again.
+    pub fn has_ended(&self) -> bool
+        ensures { result ≡ ended_of self.now }
+    {
+        self.ended
+    }
+
+    /// Lets go of the line that was handed out.
+    fn let_go(&mut self)
+        ensures taken { self.new.taken ≡ 0 }
+        ensures pending { self.new.buffer ≡ pending_of self.old }
+        ensures number { self.new.number ≡ self.old.number }
+        ensures came { self.new.came ≡ self.old.came }
+        ensures ended { self.new.ended ≡ false }
+    {
+        self.buffer.consume(self.taken);
+        self.text_len = 0;
+        self.taken = 0;
+        self.ended = false;
+    }
+
+    /// Hands out the first `len` bytes that have come. It ends with byte `end`.
+    fn hand_out(&mut self, len: usize, end: usize)
+        requires taken { self.old.taken ≡ 0 }
+        requires inside { len ≤ end }
+        requires some { 0 < end }
+        requires come { end ≤ length self.old.buffer }
+        ensures line { line_of self.new ≡ without_return (take len self.old.buffer) }
+        ensures pending { pending_of self.new ≡ drop end self.old.buffer }
+        ensures number { number_of self.new ≡ number_of self.old + 1 }
+        ensures came { came_of self.new ≡ came_of self.old }
+        ensures ended { ended_of self.new ≡ ended_of self.old }
+    {
+        let text_len = text_len(&self.buffer.as_slice()[..len]);
+        self.text_len = text_len;
+        self.taken = end;
+        self.number += 1;
+    }
+
+    /// Reads some bytes behind those that have come, and says whether there were any.
+    fn read_more<R: Source>(&mut self, source: &mut R) -> Result<bool, RunFault>
+        requires taken { self.old.taken ≡ 0 }
+        requires room { length self.old.buffer < 4096 }
+        requires failures { R.failures source.old < 2 ^ 64 - 1 }
+        ensures read { (bytes : List ℕ) × ReadsMore result self.old self.new (R.remaining source.old) (R.remaining source.new) bytes }
+        ensures failures { FailsOnRead result (R.failures source.old) (R.failures source.new) }
+        ensures taken { self.new.taken ≡ 0 }
+        ensures number { self.new.number ≡ self.old.number }
+        ensures ended { self.new.ended ≡ self.old.ended }
+    {
+        if self.came == LIMIT {
+            read_end(source)?;
+            return Ok(false);
+        }
+        let room = (LIMIT - self.came).min(CAPACITY as u64) as usize;
+        let Ok(n) = self.buffer.fill(source, room) else {
+            return Err(RunFault::Read);
+        };
+        self.came += n as u64;
+        Ok(n > 0)
+    }
+
+    /// Hands out the next line: true where there was one, false at the end of the input. Nothing is
+    /// read while a whole line is there. A line of more than 1023 bytes before its LF is not
+    /// understood, and more than 2^40 bytes are too long.
+    pub fn next_line<R: Source>(&mut self, source: &mut R) -> Result<bool, RunFault>
+        requires { R.failures source.old < 2 ^ 64 - 1 }
+        ensures line { NextLine result self.old self.new (R.remaining source.old) (R.remaining source.new) }
+        ensures failures { FailsOnRead result (R.failures source.old) (R.failures source.new) }
+    {
+        self.let_go();
+        'reads: loop {
+            let bytes = self.buffer.as_slice();
+            let held = bytes.len();
+            let len = line_len(bytes);
+            if len > LONGEST {
+                return Err(RunFault::Line(self.number + 1));
+            }
+            if len < held {
+                self.hand_out(len, len + 1);
+                return Ok(true);
+            }
+            let more = self.read_more(source)?;
+            if !more {
+                if held == 0 {
+                    return Ok(false);
+                }
+                self.ended = true;
+                self.hand_out(held, held);
+                return Ok(true);
+            }
+        }
+    }
+}
