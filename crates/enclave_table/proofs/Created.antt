@@ -6,15 +6,17 @@ use Rattle.pmp_encoding.specs.declared.perm.Perm.{Perm}
 use Rattle.pmp_encoding.specs.declared.region.Entry.{Entry}
 use Rattle.pmp_match.specs.Meaning.{View}
 use Rattle.permission_map.specs.Views.{SameView, overwritten}
-use Rattle.enclave_table.specs.Enclaves.{EnclaveTable, Live, parts_of, with_enclave, is_part, ArePartsApart}
-use Rattle.enclave_table.specs.Owners.{host_view, enclave_view}
+use Rattle.enclave_table.specs.Enclaves.{EnclaveTable, Live, with_enclave, IsNextId}
+use Rattle.enclave_table.specs.Requests.{parts_of, is_part, ArePartsApart}
+use Rattle.enclave_table.specs.Views.{host_view, enclave_view}
 use Rattle.enclave_table.specs.Refusals.{AllPass}
 use Rattle.enclave_table.specs.Checks.{PassesCreate, create_checks, IsClear}
-use Rattle.enclave_table.specs.Calls.{FitsIn, IsWant, IsNextId, fresh, RefusesCreate, Creates}
-use Rattle.enclave_table.specs.Tables.{IsSound, IsListOf}
-use Rattle.enclave_table.specs.declared.enclave.Create.{Create}
+use Rattle.enclave_table.specs.Fewest.{FitsIn, IsWant, IsListOf}
+use Rattle.enclave_table.specs.Creating.{fresh, RefusesCreate, Creates}
+use Rattle.enclave_table.specs.Tables.{IsSound}
+use Rattle.enclave_table.specs.declared.request.Create.{Create}
 use Rattle.enclave_table.specs.declared.enclave.Enclave.{Enclave}
-use Rattle.enclave_table.specs.declared.enclave.PageRange.{PageRange}
+use Rattle.enclave_table.specs.declared.request.PageRange.{PageRange}
 use Rattle.enclave_table.specs.declared.refusal.Refusal.{Refusal}
 use Rattle.worlds.specs.declared.world.World.{World}
 use Rattle.enclave_table.proofs.Refused.{create_host_want, create_enclave_want}

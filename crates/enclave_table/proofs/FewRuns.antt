@@ -12,8 +12,9 @@ use Rattle.prefix_tree.specs.RunsOf.{AreRunsOf}
 use Rattle.prefix_tree.proofs.RunsExist.{runs_exist}
 use Rattle.enclave_table.specs.Platform.{device_perm, is_monitor, platform_perm}
 use Rattle.enclave_table.specs.Ranges.{has_page, is_among}
-use Rattle.enclave_table.specs.Enclaves.{EnclaveTable, is_private}
-use Rattle.enclave_table.specs.Owners.{any_private, host_view}
+use Rattle.enclave_table.specs.Enclaves.{EnclaveTable}
+use Rattle.enclave_table.specs.Requests.{is_private}
+use Rattle.enclave_table.specs.Views.{any_private, host_view}
 use Rattle.enclave_table.specs.Tables.{IsTable}
 use Rattle.enclave_table.specs.declared.enclave.Enclave.{Enclave}
 

@@ -9,9 +9,9 @@ use Rattle.permission_map.specs.Views.{SameView, overwritten}
 use Rattle.enclave_table.specs.Devices.{triple_of}
 use Rattle.enclave_table.specs.Platform.{device_perm}
 use Rattle.enclave_table.specs.Ranges.{has_page, is_among}
-use Rattle.enclave_table.specs.Enclaves.{is_private}
-use Rattle.enclave_table.specs.Owners.{any_private}
-use Rattle.enclave_table.specs.declared.devices.Device.{Device}
+use Rattle.enclave_table.specs.Requests.{is_private}
+use Rattle.enclave_table.specs.Views.{any_private}
+use Rattle.enclave_table.specs.declared.device.Device.{Device}
 use Rattle.enclave_table.specs.declared.enclave.Enclave.{Enclave}
 
 -- the list from a place on

@@ -4,8 +4,10 @@ use Rattle.std.proofs.lemmas.Bool.{both_ways, or_left, or_right, or_parts, false
 use Rattle.std.proofs.lemmas.Option.{same_Some}
 use Rattle.pmp_encoding.specs.declared.perm.Perm.TheVariants.{NoAccess}
 use Rattle.enclave_table.specs.Platform.{is_monitor, platform_perm}
-use Rattle.enclave_table.specs.Enclaves.{EnclaveTable, enclave_at, Live, is_private, is_shared, is_part}
-use Rattle.enclave_table.specs.Owners.{IsOwner, has_private, any_private, host_view, host_perm}
+use Rattle.enclave_table.specs.Enclaves.{EnclaveTable, enclave_at, Live}
+use Rattle.enclave_table.specs.Requests.{is_private, is_shared, is_part}
+use Rattle.enclave_table.specs.Owners.{IsOwner}
+use Rattle.enclave_table.specs.Views.{has_private, any_private, host_view, host_perm}
 use Rattle.enclave_table.specs.Tables.{IsTable}
 use Rattle.enclave_table.specs.declared.enclave.Enclave.{Enclave}
 use Rattle.enclave_table.specs.declared.owner.Owner.{Owner}

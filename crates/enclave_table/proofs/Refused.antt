@@ -3,12 +3,15 @@ use Rattle.std.proofs.Common.{ℕ, ◌≡◌, ◌∙◌, ap, inl, inr, ⊎_elim,
 use Rattle.std.proofs.lemmas.Bool.{true≢false}
 use Rattle.pmp_match.specs.Meaning.{View}
 use Rattle.permission_map.specs.Views.{SameView}
-use Rattle.enclave_table.specs.Enclaves.{EnclaveTable, parts_of, with_enclave}
-use Rattle.enclave_table.specs.Owners.{host_view, enclave_view}
+use Rattle.enclave_table.specs.Enclaves.{EnclaveTable, with_enclave, IsNextId}
+use Rattle.enclave_table.specs.Requests.{parts_of}
+use Rattle.enclave_table.specs.Views.{host_view, enclave_view}
 use Rattle.enclave_table.specs.Refusals.{AllPass, FailsFirst}
 use Rattle.enclave_table.specs.Checks.{PassesCreate, create_checks, PassesOn, host_checks, MayDestroy}
-use Rattle.enclave_table.specs.Calls.{IsWant, IsNextId, fresh, RefusesCreate, RefusesDestroy}
-use Rattle.enclave_table.specs.declared.enclave.Create.{Create}
+use Rattle.enclave_table.specs.Fewest.{IsWant}
+use Rattle.enclave_table.specs.Creating.{fresh, RefusesCreate}
+use Rattle.enclave_table.specs.Destroying.{RefusesDestroy}
+use Rattle.enclave_table.specs.declared.request.Create.{Create}
 use Rattle.enclave_table.specs.declared.refusal.Refusal.{Refusal}
 use Rattle.enclave_table.specs.declared.refusal.Refusal.TheVariants.{NotHost, NotEnclave, BadCount, BadAddress, BadEntry, NotRam, Overlap, TableFull, NoEntries, NoMemory, BadId, BadState, BadWord}
 use Rattle.worlds.specs.declared.world.World.{World}

@@ -8,8 +8,7 @@ use Rattle.pmp_match.specs.Meaning.{View, Means, Needs}
 use Rattle.permission_map.specs.Views.{SameView, overwritten}
 use Rattle.prefix_tree.specs.Trees.{PermTree, TreeMeans, view_of_tree}
 use Rattle.prefix_tree.proofs.Meant.{means_along, perm_in-means}
-use Rattle.enclave_table.specs.Tables.{IsListOf}
-use Rattle.enclave_table.specs.Calls.{FitsIn, NeedsMore}
+use Rattle.enclave_table.specs.Fewest.{IsListOf, FitsIn, NeedsMore}
 
 pub means_same : (view other : View) (entries : List Entry) → SameView view other → Means entries view → Means entries other
 means_same view other entries same means = λ a aligned inside mode. rw (← same (a.address / 4096) (omega (arith, inside))) (means a aligned inside mode)

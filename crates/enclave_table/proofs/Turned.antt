@@ -7,10 +7,12 @@ use Rattle.pmp_encoding.specs.declared.perm.Perm.TheVariants.{NoAccess}
 use Rattle.permission_map.specs.Views.{SameView}
 use Rattle.prefix_tree.specs.Trees.{PermTree}
 use Rattle.enclave_table.specs.Platform.{is_monitor, platform_perm}
-use Rattle.enclave_table.specs.Enclaves.{EnclaveTable, enclave_at, Live, with_enclave, is_part}
-use Rattle.enclave_table.specs.Owners.{has_private, any_private, host_view, enclave_view}
-use Rattle.enclave_table.specs.Tables.{IsSound, IsTable, IsListOf, Kept, IsKept, IsHostTree, list_at}
-use Rattle.enclave_table.specs.declared.enclave.Create.{Create}
+use Rattle.enclave_table.specs.Enclaves.{EnclaveTable, enclave_at, Live, with_enclave}
+use Rattle.enclave_table.specs.Requests.{is_part}
+use Rattle.enclave_table.specs.Views.{has_private, any_private, host_view, enclave_view}
+use Rattle.enclave_table.specs.Tables.{IsSound, IsTable, Kept, IsKept, IsHostTree, list_at}
+use Rattle.enclave_table.specs.Fewest.{IsListOf}
+use Rattle.enclave_table.specs.declared.request.Create.{Create}
 use Rattle.enclave_table.specs.declared.enclave.Enclave.{Enclave}
 use Rattle.enclave_table.specs.declared.enclave.State.{State}
 use Rattle.enclave_table.proofs.Places.{live_above, live_inside, live_place, set_same, set_other, private_set}

@@ -1,12 +1,12 @@
 -- The table at boot.
-use Rattle.std.specs.Prelude.{◌<◌, None, replicate, ⊤}
+use Rattle.std.specs.Prelude.{None, ◌<◌, ⊤, replicate}
 use Rattle.pmp_encoding.specs.Limits.{limit_number}
 use Rattle.pmp_match.specs.Meaning.{Needs}
 use Rattle.enclave_table.specs.Platform.{Layout}
 use Rattle.enclave_table.specs.Enclaves.{EnclaveTable}
-use Rattle.enclave_table.specs.Owners.{host_view}
-use Rattle.enclave_table.specs.declared.booting.BootFault.{BootFault}
-use Rattle.enclave_table.specs.declared.booting.BootFault.TheVariants.{NeedsMoreEntries, Memory}
+use Rattle.enclave_table.specs.Views.{host_view}
+use Rattle.enclave_table.specs.declared.boot.BootFault.{BootFault}
+use Rattle.enclave_table.specs.declared.boot.BootFault.TheVariants.{NeedsMoreEntries, Memory}
 
 -- no enclave is live
 abbrev pub opening : Layout → EnclaveTable

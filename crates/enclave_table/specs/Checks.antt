@@ -1,41 +1,20 @@
 -- What each call asks before it does anything, in this order.
-use Rattle.std.specs.Prelude.{◌≡◌, ◌≢◌, ℕ, ◌+◌, ◌*◌, ◌%◌, ◌^◌, ◌<◌, ◌≤◌, true, false, List, [], ◌∷◌, ⊤}
-use Rattle.enclave_table.specs.Platform.{is_ram}
-use Rattle.enclave_table.specs.Enclaves.{EnclaveTable, Live, IsFree, is_private, is_shared, is_part}
-use Rattle.enclave_table.specs.Owners.{IsOwner}
-use Rattle.enclave_table.specs.declared.enclave.Create.{Create}
-use Rattle.enclave_table.specs.declared.enclave.Enclave.{Enclave}
-use Rattle.enclave_table.specs.declared.enclave.State.{State}
-use Rattle.enclave_table.specs.declared.enclave.State.TheVariants.{Fresh, Running, Stopped, Exited}
-use Rattle.enclave_table.specs.declared.enclave.Entering.{Entering}
-use Rattle.enclave_table.specs.declared.enclave.Entering.TheVariants.{Run, Resume}
-use Rattle.enclave_table.specs.declared.enclave.Leaving.{Leaving}
-use Rattle.enclave_table.specs.declared.enclave.Leaving.TheVariants.{Stop, Exit}
-use Rattle.enclave_table.specs.declared.owner.Owner.TheVariants as owner
-use Rattle.enclave_table.specs.declared.refusal.Refusal.{Refusal}
-use Rattle.enclave_table.specs.declared.refusal.Refusal.TheVariants.{NotHost, NotEnclave, BadCount, BadAddress, BadEntry, NotRam, Overlap, TableFull, BadId, BadState, BadWord}
+use Rattle.std.specs.Prelude.{◌≡◌, ℕ, true, List, false, [], ◌∷◌, ◌≢◌, ◌<◌, ⊤}
 use Rattle.worlds.specs.declared.world.World.{World}
 use Rattle.worlds.specs.declared.world.World.TheVariants.{Host, Enclave as InEnclave}
-
--- some text, at most 1024 private pages, at most 256 shared pages
-pub record HasCounts (parts : Create) : Type 0 where
-  pub text : 0 < parts.text_pages
-  pub few_private : parts.text_pages + parts.data_pages ≤ 1024
-  pub few_shared : parts.shared_count ≤ 256
-
--- so many whole pages, which end at 2 ^ 56 at most
-pub record IsPlaced (base count : ℕ) : Type 0 where
-  pub aligned : base % 4096 ≡ 0
-  pub inside : base + count * 4096 ≤ 2 ^ 56
-
-pub record HasPlaces (parts : Create) : Type 0 where
-  pub private : IsPlaced parts.base (parts.text_pages + parts.data_pages)
-  pub shared : IsPlaced parts.shared_base parts.shared_count
-
--- the entry is even, and in the text
-pub record HasEntry (parts : Create) : Type 0 where
-  pub even : parts.entry_offset % 2 ≡ 0
-  pub in_text : parts.entry_offset < parts.text_pages * 4096
+use Rattle.enclave_table.specs.Platform.{is_ram}
+use Rattle.enclave_table.specs.Requests.{is_private, is_shared, is_part, HasCounts, HasPlaces, HasEntry}
+use Rattle.enclave_table.specs.Enclaves.{EnclaveTable, Live, IsFree}
+use Rattle.enclave_table.specs.Owners.{IsOwner}
+use Rattle.enclave_table.specs.declared.enclave.Enclave.{Enclave}
+use Rattle.enclave_table.specs.declared.enclave.State.{State}
+use Rattle.enclave_table.specs.declared.enclave.State.TheVariants.{Fresh, Running, Stopped}
+use Rattle.enclave_table.specs.declared.life.Entering.{Entering}
+use Rattle.enclave_table.specs.declared.life.Entering.TheVariants.{Run, Resume}
+use Rattle.enclave_table.specs.declared.refusal.Refusal.{Refusal}
+use Rattle.enclave_table.specs.declared.refusal.Refusal.TheVariants.{NotHost, NotEnclave, BadCount, BadAddress, BadEntry, NotRam, Overlap, TableFull, BadId, BadState, BadWord}
+use Rattle.enclave_table.specs.declared.request.Create.{Create}
+use Rattle.enclave_table.specs.declared.owner.Owner.TheVariants as owner
 
 -- each page is memory
 abbrev pub IsInRam : EnclaveTable → Create → Type 0
@@ -80,11 +59,6 @@ state_before Resume = Stopped
 
 abbrev pub MayEnter : Entering → State → Type 0
 MayEnter entering state = state ≡ state_before entering
-
--- what an enclave is after it was left
-abbrev pub state_after : Leaving → State
-state_after Stop = Stopped
-state_after Exit = Exited
 
 -- stop and exit: an enclave asks
 abbrev pub PassesLeave : World → Refusal → Type 0

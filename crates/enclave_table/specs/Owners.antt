@@ -1,15 +1,11 @@
--- Who owns each page, and what the host and each enclave may do with it.
-use Rattle.std.specs.Prelude.{◌≡◌, ℕ, Bool, true, false, ◌||◌, cond, List, [], ◌∷◌, Option, None, Some}
-use Rattle.pmp_encoding.specs.declared.perm.Perm.{Perm}
-use Rattle.pmp_encoding.specs.declared.perm.Perm.TheVariants.{NoAccess, ReadWrite, ReadExecute}
-use Rattle.enclave_table.specs.Platform.{is_monitor, platform_perm}
-use Rattle.enclave_table.specs.Enclaves.{EnclaveTable, enclave_at, Live, is_text, is_data, is_private, is_shared, is_part}
-use Rattle.enclave_table.specs.declared.enclave.Create.{Create}
+-- Who owns each page.
+use Rattle.std.specs.Prelude.{◌≡◌, ℕ, true, false}
+use Rattle.enclave_table.specs.Platform.{is_monitor}
+use Rattle.enclave_table.specs.Requests.{is_private, is_shared, is_part}
+use Rattle.enclave_table.specs.Enclaves.{EnclaveTable, Live}
 use Rattle.enclave_table.specs.declared.enclave.Enclave.{Enclave}
 use Rattle.enclave_table.specs.declared.owner.Owner.{Owner}
 use Rattle.enclave_table.specs.declared.owner.Owner.TheVariants.{Monitor, Private, Shared, Host}
-use Rattle.worlds.specs.declared.world.World.TheVariants as world
-use Rattle.worlds.specs.declared.world.World.{World}
 
 -- the monitor owns its range, an enclave its text and data, both it and the host what they share, and the host the rest
 abbrev pub IsOwner : EnclaveTable → ℕ → Owner → Type 0
@@ -17,37 +13,3 @@ IsOwner table page Monitor = is_monitor table.layout page ≡ true
 IsOwner table page (Private id) = (e : Enclave) × Live table id e × (is_private e.parts page ≡ true)
 IsOwner table page (Shared id) = (e : Enclave) × Live table id e × (is_shared e.parts page ≡ true)
 IsOwner table page Host = (is_monitor table.layout page ≡ false) × ((id : ℕ) (e : Enclave) → Live table id e → is_part e.parts page ≡ false)
-
--- whether a page is private to one of the enclaves
-abbrev pub has_private : Option Enclave → ℕ → Bool
-has_private None page = false
-has_private (Some e) page = is_private e.parts page
-
-abbrev pub any_private : List (Option Enclave) → ℕ → Bool
-any_private [] page = false
-any_private (slot ∷ slots) page = has_private slot page || any_private slots page
-
--- the host: nothing on what is the monitor's or private to an enclave, elsewhere what the platform allows
-abbrev pub host_view : EnclaveTable → ℕ → Perm
-host_view table page =
-    cond (is_monitor table.layout page || any_private table.enclaves page) NoAccess (platform_perm table.layout page)
-
--- an enclave: its text can be read and executed, its data and what it shares read and written, and nothing else
-abbrev pub enclave_view : Create → ℕ → Perm
-enclave_view parts page = cond (is_text parts page) ReadExecute (cond (is_data parts page || is_shared parts page) ReadWrite NoAccess)
-
--- what the host may do on a page, by its owner and by what the platform allows there
-abbrev pub host_perm : Owner → Perm → Perm
-host_perm Monitor allowed = NoAccess
-host_perm (Private id) allowed = NoAccess
-host_perm (Shared id) allowed = allowed
-host_perm Host allowed = allowed
-
--- the view of a world: that of the host, or that of the enclave which runs
-abbrev pub view_in : Option Enclave → ℕ → Perm
-view_in None page = NoAccess
-view_in (Some e) page = enclave_view e.parts page
-
-abbrev pub current_view : EnclaveTable → World → ℕ → Perm
-current_view table world.Host page = host_view table page
-current_view table (world.Enclave id) page = view_in (enclave_at table.enclaves id) page

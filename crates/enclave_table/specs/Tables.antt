@@ -1,19 +1,17 @@
 -- Which tables there are, and the lists of entries that are kept beside them.
-use Rattle.std.specs.Prelude.{◌≡◌, ℕ, ◌≤◌, true, false, List, [], length, slice_index_or, ◌-◌}
-use Rattle.pmp_encoding.specs.Limits.{limit_number}
-use Rattle.pmp_encoding.specs.declared.limit.Limit.{Limit}
+use Rattle.std.specs.Prelude.{◌≡◌, ℕ, ◌-◌, true, List, slice_index_or, false, [], length}
 use Rattle.pmp_encoding.specs.declared.region.Entry.{Entry}
-use Rattle.pmp_match.specs.Meaning.{View, Means, Needs}
 use Rattle.prefix_tree.specs.Trees.{PermTree, TreeMeans, IsCanonical}
-use Rattle.enclave_table.specs.Platform.{IsLayout, is_ram, is_monitor}
-use Rattle.enclave_table.specs.Enclaves.{EnclaveTable, Live, is_private, is_shared, is_part}
-use Rattle.enclave_table.specs.Owners.{host_view, enclave_view}
-use Rattle.enclave_table.specs.Checks.{HasCounts, HasPlaces, HasEntry}
-use Rattle.enclave_table.specs.declared.enclave.Create.{Create}
-use Rattle.enclave_table.specs.declared.enclave.Enclave.{Enclave}
-use Rattle.enclave_table.specs.declared.enclave.State.TheVariants.{Running}
 use Rattle.worlds.specs.declared.world.World.{World}
 use Rattle.worlds.specs.declared.world.World.TheVariants.{Host, Enclave as InEnclave}
+use Rattle.enclave_table.specs.Platform.{is_monitor, is_ram, IsLayout}
+use Rattle.enclave_table.specs.Requests.{is_private, is_shared, is_part, HasCounts, HasPlaces, HasEntry}
+use Rattle.enclave_table.specs.Enclaves.{EnclaveTable, Live}
+use Rattle.enclave_table.specs.Views.{host_view, enclave_view}
+use Rattle.enclave_table.specs.Fewest.{IsListOf}
+use Rattle.enclave_table.specs.declared.enclave.Enclave.{Enclave}
+use Rattle.enclave_table.specs.declared.enclave.State.TheVariants.{Running}
+use Rattle.enclave_table.specs.declared.request.Create.{Create}
 
 -- each live enclave is as create asked for it, its pages are memory, and none of the monitor's or both private and shared
 pub record IsSound (table : EnclaveTable) (parts : Create) : Type 0 where
@@ -35,17 +33,6 @@ pub record IsTable (table : EnclaveTable) : Type 0 where
 abbrev pub IsCurrent : EnclaveTable → World → Type 0
 IsCurrent table Host = Unit {0}
 IsCurrent table (InEnclave id) = (e : Enclave) × Live table id e × (e.state ≡ Running)
-
--- the view of a world
-abbrev pub IsViewOf : EnclaveTable → World → View → Type 0
-IsViewOf table Host view = view ≡ host_view table
-IsViewOf table (InEnclave id) view = (e : Enclave) × Live table id e × (view ≡ enclave_view e.parts)
-
--- the entries mean the view, no list of fewer does, and there is room for them
-pub record IsListOf (limit : Limit) (view : View) (entries : List Entry) : Type 0 where
-  pub means : Means entries view
-  pub needs : Needs view (length entries)
-  pub room : length entries ≤ limit_number limit
 
 -- a table, with the host's list and the list of the enclave at each place
 pub record Kept : Type 0 where

@@ -3,8 +3,9 @@ use Rattle.pmp_encoding.specs.Limits.{limit_number}
 use Rattle.pmp_match.specs.Meaning.{View, Needs}
 use Rattle.permission_map.specs.Runs.{view_of_runs}
 use Rattle.prefix_tree.specs.Trees.{TreeMeans}
-use Rattle.enclave_table.specs.Owners.{host_view}
-use Rattle.enclave_table.specs.Tables.{IsKept, IsHostTree, IsListOf}
+use Rattle.enclave_table.specs.Views.{host_view}
+use Rattle.enclave_table.specs.Tables.{IsKept, IsHostTree}
+use Rattle.enclave_table.specs.Fewest.{IsListOf}
 use Rattle.enclave_table.specs.Booting.{opening}
 use Rattle.enclave_table.specs.declared.enclave.Enclave.{Enclave}
 use Rattle.enclave_table.proofs.SameViews.{tree_same}

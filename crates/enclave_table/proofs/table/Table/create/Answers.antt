@@ -3,13 +3,14 @@ use Rattle.pmp_encoding.specs.declared.limit.Limit.{Limit}
 use Rattle.pmp_encoding.specs.declared.perm.Perm.TheVariants.{NoAccess}
 use Rattle.permission_map.specs.Views.{overwritten}
 use Rattle.enclave_table.specs.Enclaves.{EnclaveTable, with_enclave}
-use Rattle.enclave_table.specs.Owners.{host_view, enclave_view}
-use Rattle.enclave_table.specs.Tables.{Kept, IsListOf}
-use Rattle.enclave_table.specs.Calls.{fresh}
-use Rattle.enclave_table.specs.declared.enclave.Create.{Create}
+use Rattle.enclave_table.specs.Views.{host_view, enclave_view}
+use Rattle.enclave_table.specs.Tables.{Kept}
+use Rattle.enclave_table.specs.Fewest.{IsListOf}
+use Rattle.enclave_table.specs.Creating.{fresh}
+use Rattle.enclave_table.specs.declared.request.Create.{Create}
 use Rattle.enclave_table.specs.declared.enclave.Enclave.{Enclave}
 use Rattle.enclave_table.specs.declared.enclave.State.TheVariants.{Fresh}
-use Rattle.enclave_table.specs.declared.enclave.PageRange.{PageRange}
+use Rattle.enclave_table.specs.declared.request.PageRange.{PageRange}
 use Rattle.enclave_table.proofs.Placed.{free_place, host_added, added_kept}
 use Rattle.enclave_table.proofs.SameViews.{list_same, tree_same, fits_same}
 use Rattle.enclave_table.proofs.Created.{along, fits_from, sound_from, apart_from, host_want, enclave_want, creates}

@@ -3,11 +3,11 @@ use Rattle.std.proofs.lemmas.Option.{same_Some}
 use Rattle.pmp_encoding.specs.declared.perm.Perm.TheVariants.{ReadWriteExecute}
 use Rattle.permission_map.specs.Views.{overwritten}
 use Rattle.enclave_table.specs.Enclaves.{EnclaveTable, with_enclave}
-use Rattle.enclave_table.specs.Owners.{host_view}
+use Rattle.enclave_table.specs.Views.{host_view}
 use Rattle.enclave_table.specs.Tables.{Kept}
-use Rattle.enclave_table.specs.Calls.{FitsIn}
+use Rattle.enclave_table.specs.Fewest.{FitsIn}
 use Rattle.enclave_table.specs.declared.enclave.Enclave.{Enclave}
-use Rattle.enclave_table.specs.declared.enclave.PageRange.{PageRange}
+use Rattle.enclave_table.specs.declared.request.PageRange.{PageRange}
 use Rattle.enclave_table.proofs.Places.{live_inside}
 use Rattle.enclave_table.proofs.Placed.{host_removed, removed_kept}
 use Rattle.enclave_table.proofs.Refused.{destroy_want}

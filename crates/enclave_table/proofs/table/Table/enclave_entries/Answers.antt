@@ -1,8 +1,9 @@
 use Rattle.std.proofs.Common.{◌≡◌, ◌-◌, ◌<◌, ◌∙◌, sym, subst, [], length, arith}
 use Rattle.std.proofs.lemmas.List.{get_or_default}
 use Rattle.enclave_table.specs.Enclaves.{Live}
-use Rattle.enclave_table.specs.Owners.{enclave_view}
-use Rattle.enclave_table.specs.Tables.{IsListOf, Kept, list_at}
+use Rattle.enclave_table.specs.Views.{enclave_view}
+use Rattle.enclave_table.specs.Fewest.{IsListOf}
+use Rattle.enclave_table.specs.Tables.{Kept, list_at}
 use Rattle.enclave_table.proofs.table.Table.enclave_entries.Goals as goal
 
 pub returns-clause-list : goal.returns-clause-list

@@ -4,7 +4,7 @@ use Rattle.pmp_encoding.specs.declared.perm.Perm.TheVariants.{NoAccess}
 use Rattle.permission_map.specs.Runs.{view_of_runs}
 use Rattle.permission_map.specs.Views.{SameView}
 use Rattle.enclave_table.specs.Platform.{Layout, is_monitor, platform_perm}
-use Rattle.enclave_table.specs.Owners.{any_private}
+use Rattle.enclave_table.specs.Views.{any_private}
 use Rattle.enclave_table.proofs.table.Table.host_view.Goals as goal
 
 or_none : (b : Bool) → (b || false) ≡ b

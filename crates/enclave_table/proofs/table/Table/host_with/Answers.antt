@@ -3,7 +3,7 @@ use Rattle.permission_map.specs.declared.runs.Run.{Run}
 use Rattle.prefix_tree.specs.RunsOf.{AreRunsOf}
 use Rattle.enclave_table.proofs.FewRuns.{host_with_few}
 use Rattle.pmp_match.specs.Meaning.{View}
-use Rattle.enclave_table.specs.Owners.{host_view}
+use Rattle.enclave_table.specs.Views.{host_view}
 use Rattle.permission_map.specs.Views.{overwritten}
 use Rattle.prefix_tree.specs.Trees.{PermTree, view_of_tree}
 use Rattle.enclave_table.proofs.SameViews.{tree_overwritten, tree_view}

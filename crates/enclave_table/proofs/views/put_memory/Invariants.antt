@@ -1,0 +1,15 @@
+use Rattle.std.proofs.Common.{◌≤◌, length, drop, cond}
+use Rattle.pmp_encoding.specs.declared.perm.Perm.TheVariants.{ReadWriteExecute}
+use Rattle.permission_map.specs.Runs.{view_of_runs}
+use Rattle.permission_map.specs.Views.{SameView}
+use Rattle.enclave_table.specs.Ranges.{is_among}
+use Rattle.enclave_table.proofs.views.put_memory.Given as goal
+
+abbrev pub invariant-loop-i : goal.invariant-loop-i
+invariant-loop-i l = record {
+  inside : l.i ≤ length l.ram;
+  view : SameView (view_of_runs l.perms) (λ page. cond (is_among (drop l.i l.ram) page) ReadWriteExecute (view_of_runs l.fn.perms page));
+}
+
+abbrev pub decreases-loop-i : goal.decreases-loop-i
+decreases-loop-i l = l.i

@@ -1,0 +1,39 @@
+-- How create is answered, and what it makes of the table.
+use Rattle.std.specs.Prelude.{◌≡◌, ℕ, List, Some, ◌⊎◌}
+use Rattle.worlds.specs.declared.world.World.{World}
+use Rattle.enclave_table.specs.Requests.{parts_of}
+use Rattle.enclave_table.specs.Enclaves.{EnclaveTable, with_enclave, IsNextId}
+use Rattle.enclave_table.specs.Views.{host_view, enclave_view}
+use Rattle.enclave_table.specs.Refusals.{AllPass, FailsFirst}
+use Rattle.enclave_table.specs.Checks.{PassesCreate, create_checks}
+use Rattle.enclave_table.specs.Fewest.{FitsIn, NeedsMore}
+use Rattle.enclave_table.specs.Digests.{measured}
+use Rattle.enclave_table.specs.declared.enclave.Enclave.{Enclave}
+use Rattle.enclave_table.specs.declared.enclave.State.TheVariants.{Fresh}
+use Rattle.enclave_table.specs.declared.refusal.Refusal.{Refusal}
+use Rattle.enclave_table.specs.declared.refusal.Refusal.TheVariants.{NoEntries, NoMemory}
+use Rattle.enclave_table.specs.declared.request.Create.{Create}
+
+-- the enclave as it is made
+abbrev pub fresh : (ℕ → List ℕ) → Create → Enclave
+fresh pages parts = record { parts = parts; state = Fresh; digest = measured pages parts }
+
+-- create, where it is not refused: one more enclave under the next id, and it and the host fit
+pub record Creates (pages : ℕ → List ℕ) (old : EnclaveTable) (world : World) (asked : Create) (id : ℕ) (new : EnclaveTable) : Type 0 where
+  pub passes : AllPass (PassesCreate old world (parts_of asked)) create_checks
+  pub next : IsNextId old id
+  pub added : new ≡ with_enclave old id (Some (fresh pages (parts_of asked)))
+  pub host_fits : FitsIn new.layout.limit (host_view new)
+  pub enclave_fits : FitsIn new.layout.limit (enclave_view (parts_of asked))
+
+-- the host's view or the enclave's would need more entries than there are
+abbrev pub OutgrowsByCreate : (ℕ → List ℕ) → EnclaveTable → Create → Type 0
+OutgrowsByCreate pages old asked =
+    ((id : ℕ) × IsNextId old id × NeedsMore old.layout.limit (host_view (with_enclave old id (Some (fresh pages (parts_of asked))))))
+    ⊎ NeedsMore old.layout.limit (enclave_view (parts_of asked))
+
+-- why it is refused: for want of entries or memory only behind all checks
+abbrev pub RefusesCreate : (ℕ → List ℕ) → EnclaveTable → World → Create → Refusal → Type 0
+RefusesCreate pages old world asked NoEntries = AllPass (PassesCreate old world (parts_of asked)) create_checks × OutgrowsByCreate pages old asked
+RefusesCreate pages old world asked NoMemory = AllPass (PassesCreate old world (parts_of asked)) create_checks
+RefusesCreate pages old world asked refusal = FailsFirst (PassesCreate old world (parts_of asked)) create_checks refusal

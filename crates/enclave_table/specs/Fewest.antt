@@ -1,0 +1,27 @@
+-- The fewest entries of a view, and whether there are as many.
+use Rattle.std.specs.Prelude.{ℕ, ◌≤◌, List, ◌<◌, ⊤, length}
+use Rattle.pmp_encoding.specs.Limits.{limit_number}
+use Rattle.pmp_encoding.specs.declared.limit.Limit.{Limit}
+use Rattle.pmp_encoding.specs.declared.region.Entry.{Entry}
+use Rattle.pmp_match.specs.Meaning.{View, Needs, Means}
+use Rattle.enclave_table.specs.declared.refusal.Refusal.{Refusal}
+use Rattle.enclave_table.specs.declared.refusal.Refusal.TheVariants.{NoEntries, NoMemory}
+
+-- the view needs at most as many entries as there are, or more
+abbrev pub FitsIn : Limit → View → Type 0
+FitsIn limit view = (n : ℕ) × Needs view n × (n ≤ limit_number limit)
+
+abbrev pub NeedsMore : Limit → View → Type 0
+NeedsMore limit view = (n : ℕ) × Needs view n × (limit_number limit < n)
+
+-- what keeps a view from being loaded: it needs too many entries, or a growth was refused
+abbrev pub IsWant : Limit → View → Refusal → Type 0
+IsWant limit view NoEntries = NeedsMore limit view
+IsWant limit view NoMemory = ⊤
+IsWant limit view _ = ⊥
+
+-- the entries mean the view, no list of fewer does, and there is room for them
+pub record IsListOf (limit : Limit) (view : View) (entries : List Entry) : Type 0 where
+  pub means : Means entries view
+  pub needs : Needs view (length entries)
+  pub room : length entries ≤ limit_number limit

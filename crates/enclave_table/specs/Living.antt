@@ -1,0 +1,40 @@
+-- How an enclave is entered and left, and what that makes of the table.
+use Rattle.std.specs.Prelude.{◌≡◌, ℕ, Some}
+use Rattle.worlds.specs.declared.world.World.{World}
+use Rattle.worlds.specs.declared.world.World.TheVariants.{Enclave as InEnclave}
+use Rattle.enclave_table.specs.Enclaves.{EnclaveTable, Live, with_enclave}
+use Rattle.enclave_table.specs.Refusals.{AllPass, FailsFirst}
+use Rattle.enclave_table.specs.Checks.{PassesOn, host_checks, MayEnter, PassesLeave, leave_checks}
+use Rattle.enclave_table.specs.declared.enclave.Enclave.{Enclave}
+use Rattle.enclave_table.specs.declared.enclave.State.{State}
+use Rattle.enclave_table.specs.declared.enclave.State.TheVariants.{Running, Stopped, Exited}
+use Rattle.enclave_table.specs.declared.life.Entering.{Entering}
+use Rattle.enclave_table.specs.declared.life.Leaving.{Leaving}
+use Rattle.enclave_table.specs.declared.life.Leaving.TheVariants.{Stop, Exit}
+use Rattle.enclave_table.specs.declared.refusal.Refusal.{Refusal}
+
+-- the same table, but that the enclave is in that state
+abbrev pub Turns : EnclaveTable → ℕ → State → EnclaveTable → Type 0
+Turns old id state new = (e : Enclave) × Live old id e × (new ≡ with_enclave old id (Some (record e { state = state })))
+
+-- run and resume
+pub record Enters (old : EnclaveTable) (world : World) (id : ℕ) (entering : Entering) (new : EnclaveTable) : Type 0 where
+  pub passes : AllPass (PassesOn (MayEnter entering) old world id) host_checks
+  pub turned : Turns old id Running new
+
+abbrev pub RefusesEnter : EnclaveTable → World → ℕ → Entering → Refusal → Type 0
+RefusesEnter old world id entering refusal = FailsFirst (PassesOn (MayEnter entering) old world id) host_checks refusal
+
+-- what an enclave is after it was left
+abbrev pub state_after : Leaving → State
+state_after Stop = Stopped
+state_after Exit = Exited
+
+-- stop, exit, and an interrupt in an enclave: the id is that of the enclave that was left
+pub record Leaves (old : EnclaveTable) (world : World) (leaving : Leaving) (id : ℕ) (new : EnclaveTable) : Type 0 where
+  pub passes : AllPass (PassesLeave world) leave_checks
+  pub left : world ≡ InEnclave id
+  pub turned : Turns old id (state_after leaving) new
+
+abbrev pub RefusesLeave : World → Refusal → Type 0
+RefusesLeave world refusal = FailsFirst (PassesLeave world) leave_checks refusal

@@ -1,0 +1,50 @@
+-- What is asked for when an enclave is created: its pages, and when its numbers are right.
+use Rattle.std.specs.Prelude.{◌≡◌, ℕ, ◌+◌, ◌/◌, ◌≤◌, Bool, true, ◌||◌, ◌==◌, cond, ◌*◌, ◌%◌, ◌^◌, ◌<◌}
+use Rattle.permission_map.specs.Runs.{in_range}
+use Rattle.enclave_table.specs.declared.request.Create.{Create}
+
+-- what is asked for, as it is kept: without shared pages the shared base is 0, whatever was given
+abbrev pub parts_of : Create → Create
+parts_of asked = record asked { shared_base = cond (asked.shared_count == 0) 0 asked.shared_base }
+
+-- its pages of text, of data right behind the text, and both together: these are its own
+abbrev pub is_text : Create → ℕ → Bool
+is_text parts page = in_range (parts.base / 4096) parts.text_pages page
+
+abbrev pub is_data : Create → ℕ → Bool
+is_data parts page = in_range (parts.base / 4096 + parts.text_pages) parts.data_pages page
+
+abbrev pub is_private : Create → ℕ → Bool
+is_private parts page = in_range (parts.base / 4096) (parts.text_pages + parts.data_pages) page
+
+-- the pages that it shares with the host
+abbrev pub is_shared : Create → ℕ → Bool
+is_shared parts page = in_range (parts.shared_base / 4096) parts.shared_count page
+
+-- a page of either kind
+abbrev pub is_part : Create → ℕ → Bool
+is_part parts page = is_private parts page || is_shared parts page
+
+-- two enclaves have no page in common
+abbrev pub ArePartsApart : Create → Create → Type 0
+ArePartsApart parts other = (page : ℕ) → is_part parts page ≡ true → is_part other page ≡ true → ⊥
+
+-- some text, at most 1024 private pages, at most 256 shared pages
+pub record HasCounts (parts : Create) : Type 0 where
+  pub text : 0 < parts.text_pages
+  pub few_private : parts.text_pages + parts.data_pages ≤ 1024
+  pub few_shared : parts.shared_count ≤ 256
+
+-- so many whole pages, which end at 2 ^ 56 at most
+pub record IsPlaced (base count : ℕ) : Type 0 where
+  pub aligned : base % 4096 ≡ 0
+  pub inside : base + count * 4096 ≤ 2 ^ 56
+
+pub record HasPlaces (parts : Create) : Type 0 where
+  pub private : IsPlaced parts.base (parts.text_pages + parts.data_pages)
+  pub shared : IsPlaced parts.shared_base parts.shared_count
+
+-- the entry is even, and in the text
+pub record HasEntry (parts : Create) : Type 0 where
+  pub even : parts.entry_offset % 2 ≡ 0
+  pub in_text : parts.entry_offset < parts.text_pages * 4096

@@ -1,0 +1,82 @@
+ghost use Rattle.std.specs.Prelude.{◌≡◌, ℕ, ◌<◌, ◌≤◌, [], None, replicate, length, IfOk, IfErr, List};
+ghost use Rattle.pmp_encoding.specs.Limits.{limit_number};
+ghost use Rattle.pmp_match.specs.Meaning.{Means, Needs};
+ghost use Rattle.prefix_tree.specs.Trees.{TreeMeans};
+ghost use Rattle.enclave_table.specs.Fewest.{FitsIn};
+ghost use Rattle.enclave_table.specs.Views.{host_view};
+ghost use Rattle.enclave_table.specs.Booting.{opening, IsBootFault};
+
+use crate::enclave::Enclave;
+use crate::entry_list::EntryList;
+use crate::fewest::fewest;
+use crate::platform::Platform;
+use crate::table::Table;
+use permission_map::Memory;
+use prefix_tree::build;
+use std::alloc::Global;
+
+/// Why a table is not made of a platform.
+#[derive(Clone, Copy, PartialEq, Eq, Debug)]
+pub enum BootFault {
+    /// The host's view needs that many entries, more than a hart has.
+    NeedsMoreEntries(u64),
+    /// A growth was refused.
+    Memory,
+}
+
+/// No enclave at any place.
+fn no_enclaves(alloc: Global) -> Result<Vec<Option<Enclave>>, Memory>
+    ensures { IfOk result (λ v. v.items ≡ replicate 64 None) }
+{
+    let none: [Option<Enclave>; 64] = [None; 64];
+    Vec::from_slice(alloc, &none)
+}
+
+/// No entry at any place.
+fn no_lists(alloc: Global) -> Result<Vec<EntryList>, Memory>
+    ensures { IfOk result (λ v. length v.items ≡ 64) }
+{
+    let mut lists = Vec::new(alloc);
+    for _ in 0..64u64 {
+        lists.push(EntryList::empty(alloc))?;
+    }
+    Ok(lists)
+}
+
+impl Table {
+    /// The table of a platform, with no enclave.
+    pub fn boot(alloc: Global, platform: Platform) -> Result<Table, BootFault>
+        ensures opening { IfOk result (λ table. table.table ≡ opening platform) }
+        ensures fits { IfOk result (λ table. FitsIn platform.limit (host_view (opening platform))) }
+        ensures fault { IfErr result (λ fault. IsBootFault platform fault) }
+    {
+        platform.rules();
+        let Ok(map) = platform.permissions(alloc) else {
+            return Err(BootFault::Memory);
+        };
+        let Ok(tree) = build(alloc, &map) else {
+            return Err(BootFault::Memory);
+        };
+        let Ok(list) = fewest(alloc, &tree) else {
+            return Err(BootFault::Memory);
+        };
+        let needed = list.len();
+        if needed > platform.limit().number() as usize {
+            return Err(BootFault::NeedsMoreEntries(needed as u64));
+        }
+        let Ok(enclaves) = no_enclaves(alloc) else {
+            return Err(BootFault::Memory);
+        };
+        let Ok(lists) = no_lists(alloc) else {
+            return Err(BootFault::Memory);
+        };
+        Ok(Table {
+            alloc,
+            platform,
+            enclaves,
+            lists,
+            host_tree: tree,
+            host_list: list,
+        })
+    }
+}

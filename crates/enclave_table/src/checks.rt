@@ -1,0 +1,115 @@
+ghost use Rattle.std.specs.Prelude.{◌≡◌, ℕ, ◌+◌, ◌^◌, ◌<◌, ◌≤◌, IsTrue, IfOk, IfErr, IfSome, IfNone, true, false};
+ghost use Rattle.enclave_table.specs.Enclaves.{Live, IsFree, IsNextId};
+ghost use Rattle.enclave_table.specs.Requests.{ArePartsApart, is_part, HasCounts, HasPlaces, HasEntry};
+ghost use Rattle.enclave_table.specs.Owners.{IsOwner};
+ghost use Rattle.enclave_table.specs.Platform.{is_monitor};
+ghost use Rattle.enclave_table.specs.Refusals.{AllPass, FailsFirst};
+ghost use Rattle.enclave_table.specs.Checks.{IsInRam, IsClear, PassesCreate, create_checks, PassesOn, host_checks, MayDestroy};
+ghost use Rattle.enclave_table.specs.Tables.{IsSound};
+ghost use Rattle.enclave_table.specs.declared.enclave.Enclave.{Enclave};
+
+use crate::enclave::{Enclave, State};
+use crate::refusal::Refusal;
+use crate::request::Create;
+use crate::table::Table;
+use worlds::World;
+
+impl Table {
+    /// Whether each page is memory.
+    fn is_in_ram(&self, parts: &Create) -> bool
+        requires { HasCounts parts.now }
+        ensures memory { IsTrue result → IsInRam self.now.table parts.now }
+        ensures other { result ≡ false → IsInRam self.now.table parts.now → ⊥ }
+    {
+        if !self.platform().has_memory(parts.private_pages()) {
+            return false;
+        }
+        self.platform().has_memory(parts.shared_pages())
+    }
+
+    /// Whether no page is one of an enclave's.
+    fn is_clear_of_enclaves(&self, parts: &Create) -> bool
+        requires { HasCounts parts.now }
+        ensures clear { IsTrue result → (id : ℕ) (e : Enclave) → Live self.now.table id e → ArePartsApart parts.now e.parts }
+        ensures met { result ≡ false → ((id : ℕ) (e : Enclave) → Live self.now.table id e → ArePartsApart parts.now e.parts) → ⊥ }
+    {
+        self.rules();
+        for id in 1..65 {
+            let Some(enclave) = self.find(id) else {
+                continue;
+            };
+            if !parts.is_apart_from(&enclave.parts) {
+                return false;
+            }
+        }
+        true
+    }
+
+    /// Whether each page is the host's, and none both private and shared.
+    fn is_clear(&self, parts: &Create) -> bool
+        requires { HasCounts parts.now }
+        ensures clear { IsTrue result → IsClear self.now.table parts.now }
+        ensures met { result ≡ false → IsClear self.now.table parts.now → ⊥ }
+    {
+        if !parts.is_clear_of(self.platform().monitor_pages()) {
+            return false;
+        }
+        if !self.is_clear_of_enclaves(parts) {
+            return false;
+        }
+        parts.is_apart()
+    }
+
+    /// The id of a new enclave with these parts, or the first check that does not pass.
+    pub(crate) fn checked_create(&self, world: World, parts: &Create) -> Result<u64, Refusal>
+        ensures passes { IfOk result (λ id. AllPass (PassesCreate self.now.table world parts.now) create_checks) }
+        ensures counts { IfOk result (λ _. HasCounts parts.now) }
+        ensures places { IfOk result (λ _. HasPlaces parts.now) }
+        ensures next { IfOk result (λ id. IsNextId self.now.table id) }
+        ensures fails { IfErr result (λ refusal. FailsFirst (PassesCreate self.now.table world parts.now) create_checks refusal) }
+    {
+        if world != World::Host {
+            return Err(Refusal::NotHost);
+        }
+        if !parts.has_counts() {
+            return Err(Refusal::BadCount);
+        }
+        if !parts.has_places() {
+            return Err(Refusal::BadAddress);
+        }
+        if !parts.has_entry() {
+            return Err(Refusal::BadEntry);
+        }
+        if !self.is_in_ram(parts) {
+            return Err(Refusal::NotRam);
+        }
+        if !self.is_clear(parts) {
+            return Err(Refusal::Overlap);
+        }
+        let Some(id) = self.next_id() else {
+            return Err(Refusal::TableFull);
+        };
+        Ok(id)
+    }
+
+    /// The enclave of an id that may be destroyed, or the first check that does not pass.
+    pub(crate) fn checked_destroy(&self, world: World, id: u64) -> Result<Enclave, Refusal>
+        ensures passes { IfOk result (λ _. AllPass (PassesOn MayDestroy self.now.table world id) host_checks) }
+        ensures live { IfOk result (λ e. Live self.now.table id e) }
+        ensures sound { IfOk result (λ e. IsSound self.now.table e.parts) }
+        ensures above { IfOk result (λ _. 1 ≤ id) }
+        ensures below { IfOk result (λ _. id ≤ 64) }
+        ensures fails { IfErr result (λ refusal. FailsFirst (PassesOn MayDestroy self.now.table world id) host_checks refusal) }
+    {
+        if world != World::Host {
+            return Err(Refusal::NotHost);
+        }
+        let Some(enclave) = self.find(id) else {
+            return Err(Refusal::BadId);
+        };
+        if enclave.state == State::Running {
+            return Err(Refusal::BadState);
+        }
+        Ok(enclave)
+    }
+}

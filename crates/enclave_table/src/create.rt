@@ -1,0 +1,51 @@
+ghost use Rattle.std.specs.Prelude.{◌≡◌, ◌<◌, ◌≤◌, ◌-◌, IfOk, OnOk, IfErr, OnErr, Some, None, slice_set};
+ghost use Rattle.enclave_table.specs.Enclaves.{with_enclave};
+ghost use Rattle.enclave_table.specs.Tables.{IsCurrent, IsKept, IsHostTree};
+ghost use Rattle.enclave_table.specs.Creating.{Creates, RefusesCreate};
+ghost use Rattle.enclave_table.specs.Destroying.{Destroys, RefusesDestroy};
+
+use crate::digest::{Pages, digest};
+use crate::enclave::{Enclave, State};
+use crate::fewest::enclave_list;
+use crate::refusal::Refusal;
+use crate::request::Create;
+use crate::table::Table;
+use pmp_encoding::Perm;
+use worlds::World;
+
+impl Table {
+    /// Creates an enclave. Nothing is changed before all that can be refused has been done.
+    pub fn create<P: Pages>(
+        &mut self,
+        world: World,
+        pages: &P,
+        asked: Create,
+    ) -> Result<u64, Refusal>
+        requires { IsCurrent self.old.table world }
+        ensures done { IfOk result (λ id. Creates (P.bytes_of pages.now) self.old.table world asked id self.new.table) }
+        ensures refused { IfErr result (λ refusal. RefusesCreate (P.bytes_of pages.now) self.old.table world asked refusal) }
+        ensures kept { OnErr result (self.new ≡ self.old) }
+    {
+        self.rules();
+        let parts = asked.kept();
+        let id = match self.checked_create(world, &parts) {
+            Ok(id) => id,
+            Err(refusal) => return Err(refusal),
+        };
+        let host = match self.host_with(parts.private_pages(), Perm::NoAccess) {
+            Ok(host) => host,
+            Err(refusal) => return Err(refusal),
+        };
+        let list = match enclave_list(self.alloc(), self.limit(), &parts) {
+            Ok(list) => list,
+            Err(refusal) => return Err(refusal),
+        };
+        let enclave = Enclave {
+            parts,
+            state: State::Fresh,
+            digest: digest(pages, &parts),
+        };
+        self.place(id, Some(enclave), host, list);
+        Ok(id)
+    }
+}

@@ -1,0 +1,36 @@
+ghost use Rattle.std.specs.Prelude.{◌≡◌, ◌<◌, ◌≤◌, ◌-◌, IfOk, OnOk, IfErr, OnErr, Some, None, slice_set};
+ghost use Rattle.enclave_table.specs.Enclaves.{with_enclave};
+ghost use Rattle.enclave_table.specs.Tables.{IsCurrent, IsKept, IsHostTree};
+ghost use Rattle.enclave_table.specs.Creating.{Creates, RefusesCreate};
+ghost use Rattle.enclave_table.specs.Destroying.{Destroys, RefusesDestroy};
+
+use crate::entry_list::EntryList;
+use crate::refusal::Refusal;
+use crate::request::PageRange;
+use crate::table::Table;
+use pmp_encoding::Perm;
+use worlds::World;
+
+impl Table {
+    /// Destroys an enclave. The answer is its private pages, which the caller must zero.
+    pub fn destroy(&mut self, world: World, id: u64) -> Result<PageRange, Refusal>
+        requires { IsCurrent self.old.table world }
+        ensures done { IfOk result (λ range. Destroys self.old.table world id range self.new.table) }
+        ensures refused { IfErr result (λ refusal. RefusesDestroy self.old.table world id refusal) }
+        ensures kept { OnErr result (self.new ≡ self.old) }
+    {
+        self.rules();
+        let enclave = match self.checked_destroy(world, id) {
+            Ok(enclave) => enclave,
+            Err(refusal) => return Err(refusal),
+        };
+        let range = enclave.parts.private_pages();
+        let host = match self.host_with(range, Perm::ReadWriteExecute) {
+            Ok(host) => host,
+            Err(refusal) => return Err(refusal),
+        };
+        let list = EntryList::empty(self.alloc());
+        self.place(id, None, host, list);
+        Ok(range)
+    }
+}

@@ -1,0 +1,93 @@
+ghost use Rattle.std.specs.Prelude.{◌≡◌, ℕ, ◌+◌, ◌/◌, ◌^◌, ◌<◌, ◌≤◌, cond, IfOk, OnOk, IfErr, length};
+ghost use Rattle.pmp_encoding.specs.declared.perm.Perm.{Perm};
+ghost use Rattle.pmp_match.specs.Meaning.{Means, Needs};
+ghost use Rattle.permission_map.specs.Runs.{in_range, view_of_runs};
+ghost use Rattle.permission_map.specs.Views.{SameView, overwritten};
+ghost use Rattle.prefix_tree.specs.Trees.{TreeMeans, IsCanonical, view_of_tree};
+ghost use Rattle.enclave_table.specs.Requests.{HasCounts, HasPlaces};
+ghost use Rattle.enclave_table.specs.Views.{host_view, enclave_view};
+ghost use Rattle.enclave_table.specs.Fewest.{IsListOf, IsWant};
+
+use crate::entry_list::EntryList;
+use crate::refusal::Refusal;
+use crate::request::{Create, PageRange};
+use crate::table::Table;
+use crate::views::enclave_map;
+use entry_planner::plan;
+use permission_map::{MapFault, Memory};
+use pmp_encoding::{Limit, Perm};
+use prefix_tree::{Tree, build};
+use std::alloc::Global;
+
+/// The fewest entries of a tree's view.
+pub(crate) fn fewest(alloc: Global, tree: &Tree) -> Result<EntryList, Memory>
+    ensures means { (view : ℕ → Perm) → TreeMeans view tree.now → IfOk result (λ list. Means list view) }
+    ensures needs { (view : ℕ → Perm) → TreeMeans view tree.now → IfOk result (λ list. Needs view (length list)) }
+{
+    let plan = plan(alloc, tree)?;
+    let list = EntryList::copied(alloc, plan.entries())?;
+    Ok(list)
+}
+
+/// The fewest entries of a tree's view, if there are as many.
+pub(crate) fn listed(alloc: Global, limit: Limit, tree: &Tree) -> Result<EntryList, Refusal>
+    ensures list { (view : ℕ → Perm) → TreeMeans view tree.now → IfOk result (λ list. IsListOf limit view list) }
+    ensures want { (view : ℕ → Perm) → TreeMeans view tree.now → IfErr result (λ refusal. IsWant limit view refusal) }
+{
+    let Ok(list) = fewest(alloc, tree) else {
+        return Err(Refusal::NoMemory);
+    };
+    if list.len() > limit.number() as usize {
+        return Err(Refusal::NoEntries);
+    }
+    Ok(list)
+}
+
+/// The fewest entries of an enclave's view, if there are as many.
+pub(crate) fn enclave_list(
+    alloc: Global,
+    limit: Limit,
+    parts: &Create,
+) -> Result<EntryList, Refusal>
+    requires { HasCounts parts.now }
+    ensures list { IfOk result (λ list. IsListOf limit (enclave_view parts.now) list) }
+    ensures want { IfErr result (λ refusal. IsWant limit (enclave_view parts.now) refusal) }
+{
+    let Ok(map) = enclave_map(alloc, parts) else {
+        return Err(Refusal::NoMemory);
+    };
+    let Ok(tree) = build(alloc, &map) else {
+        return Err(Refusal::NoMemory);
+    };
+    listed(alloc, limit, &tree)
+}
+
+/// The tree and the entries of a host's view.
+#[derive(Drop)]
+pub(crate) struct HostView {
+    pub(crate) tree: Tree,
+    pub(crate) list: EntryList,
+}
+
+impl Table {
+    /// The host's view with some pages overwritten.
+    pub(crate) fn host_with(&self, pages: PageRange, perm: Perm) -> Result<HostView, Refusal>
+        requires { pages.first + pages.count ≤ 2 ^ 44 }
+        ensures means { IfOk result (λ host. TreeMeans (overwritten (host_view self.now.table) pages.first pages.count perm) host.tree) }
+        ensures canonical { IfOk result (λ host. IsCanonical host.tree) }
+        ensures list { IfOk result (λ host. IsListOf self.now.table.layout.limit (overwritten (host_view self.now.table) pages.first pages.count perm) host.list) }
+        ensures want { IfErr result (λ refusal. IsWant self.now.table.layout.limit (overwritten (host_view self.now.table) pages.first pages.count perm) refusal) }
+    {
+        self.rules();
+        let tree = match self.host_tree().with_range(pages.first, pages.count, perm) {
+            Ok(tree) => tree,
+            Err(MapFault::Memory) => return Err(Refusal::NoMemory),
+            Err(MapFault::TooManyRanges) => unreachable!(),
+            Err(MapFault::PastEnd) => unreachable!(),
+        };
+        match listed(self.alloc(), self.limit(), &tree) {
+            Ok(list) => Ok(HostView { tree, list }),
+            Err(refusal) => Err(refusal),
+        }
+    }
+}

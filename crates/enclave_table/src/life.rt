@@ -1,0 +1,94 @@
+ghost use Rattle.std.specs.Prelude.{◌≡◌, IfOk, OnOk, IfErr, OnErr, Some};
+ghost use Rattle.enclave_table.specs.Enclaves.{Live, enclave_at};
+ghost use Rattle.enclave_table.specs.Tables.{IsCurrent};
+ghost use Rattle.enclave_table.specs.Checks.{state_before};
+ghost use Rattle.enclave_table.specs.Living.{state_after, Enters, RefusesEnter, Leaves, RefusesLeave};
+ghost use Rattle.enclave_table.specs.Digests.{AnswersWord, RefusesWord};
+
+use crate::enclave::State;
+use crate::refusal::Refusal;
+use crate::table::Table;
+use worlds::World;
+
+/// The two ways in which the host enters an enclave.
+#[derive(Clone, Copy, PartialEq, Eq, Debug)]
+pub enum Entering {
+    /// For the first time.
+    Run,
+    /// After a stop.
+    Resume,
+}
+
+/// The two ways in which an enclave is left.
+#[derive(Clone, Copy, PartialEq, Eq, Debug)]
+pub enum Leaving {
+    /// It may be resumed.
+    Stop,
+    /// It is never entered again.
+    Exit,
+}
+
+impl Entering {
+    /// The state that it wants.
+    fn before(self) -> State
+        ensures { result ≡ state_before self }
+    {
+        match self {
+            Entering::Run => State::Fresh,
+            Entering::Resume => State::Stopped,
+        }
+    }
+}
+
+impl Leaving {
+    /// The state in which the enclave is left.
+    fn after(self) -> State
+        ensures { result ≡ state_after self }
+    {
+        match self {
+            Leaving::Stop => State::Stopped,
+            Leaving::Exit => State::Exited,
+        }
+    }
+}
+
+impl Table {
+    /// Notes that the host enters an enclave: for the first time, or again after a stop.
+    pub fn enter(&mut self, world: World, id: u64, entering: Entering) -> Result<(), Refusal>
+        requires { IsCurrent self.old.table world }
+        ensures done { OnOk result (Enters self.old.table world id entering self.new.table) }
+        ensures lists { OnOk result (self.new ≡ record self.old { table = self.new.table }) }
+        ensures refused { IfErr result (λ refusal. RefusesEnter self.old.table world id entering refusal) }
+        ensures kept { OnErr result (self.new ≡ self.old) }
+    {
+        if world != World::Host {
+            return Err(Refusal::NotHost);
+        }
+        let Some(enclave) = self.find(id) else {
+            return Err(Refusal::BadId);
+        };
+        if enclave.state != entering.before() {
+            return Err(Refusal::BadState);
+        }
+        self.turn(id, &enclave, State::Running);
+        Ok(())
+    }
+
+    /// Notes that the enclave which runs is left: stopped, by itself or by an interrupt, or ended. The answer is its id.
+    pub fn leave(&mut self, world: World, leaving: Leaving) -> Result<u64, Refusal>
+        requires { IsCurrent self.old.table world }
+        ensures done { IfOk result (λ id. Leaves self.old.table world leaving id self.new.table) }
+        ensures lists { OnOk result (self.new ≡ record self.old { table = self.new.table }) }
+        ensures refused { IfErr result (λ refusal. RefusesLeave world refusal) }
+        ensures kept { OnErr result (self.new ≡ self.old) }
+    {
+        let World::Enclave(id) = world else {
+            return Err(Refusal::NotEnclave);
+        };
+        let Some(enclave) = self.find(id) else {
+            unreachable!();
+        };
+        self.turn(id, &enclave, leaving.after());
+        Ok(id)
+    }
+}

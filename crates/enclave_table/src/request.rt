@@ -1,0 +1,189 @@
+ghost use Rattle.std.specs.Prelude.{◌≡◌, ℕ, ◌+◌, ◌*◌, ◌/◌, ◌^◌, ◌<◌, ◌≤◌, IsTrue, true, false};
+ghost use Rattle.permission_map.specs.Runs.{in_range};
+ghost use Rattle.enclave_table.specs.Requests.{parts_of, is_private, is_shared, is_part, ArePartsApart, HasCounts, IsPlaced, HasPlaces, HasEntry};
+
+use crate::ranges::{PAGE, SPACE};
+
+/// How many pages of text and data, and how many shared pages, an enclave may have.
+const MOST_PRIVATE: u64 = 1024;
+
+const MOST_SHARED: u64 = 256;
+
+/// What the host asks for when it creates an enclave: where its pages lie and where it is entered.
+#[derive(Clone, Copy, PartialEq, Eq, Debug)]
+pub struct Create {
+    /// The address of its first page of text; its data follows the text.
+    pub base: u64,
+    /// How many pages of text (code) it has.
+    pub text_pages: u64,
+    /// How many pages of data follow the text.
+    pub data_pages: u64,
+    /// The address of the first page that it shares with the host.
+    pub shared_base: u64,
+    /// How many pages it shares with the host.
+    pub shared_count: u64,
+    /// Where it is entered, in bytes from its base.
+    pub entry_offset: u64,
+}
+
+/// Pages one behind the other.
+#[derive(Clone, Copy, PartialEq, Eq, Debug)]
+pub struct PageRange {
+    pub first: u64,
+    pub count: u64,
+}
+
+impl PageRange {
+    /// Whether the page is one of these.
+    pub(crate) fn has(self, page: u64) -> bool
+        requires { self.first + self.count < 2 ^ 64 }
+        ensures { result ≡ in_range self.first self.count page }
+    {
+        self.first <= page && page < self.first + self.count
+    }
+
+    /// Whether two ranges have no page in common.
+    pub(crate) fn is_apart_from(self, other: PageRange) -> bool
+        requires fits { self.first + self.count < 2 ^ 64 }
+        requires other_fits { other.first + other.count < 2 ^ 64 }
+        ensures apart { IsTrue result → (page : ℕ) → in_range self.first self.count page ≡ true → in_range other.first other.count page ≡ true → ⊥ }
+        ensures met { result ≡ false → ((page : ℕ) → in_range self.first self.count page ≡ true → in_range other.first other.count page ≡ true → ⊥) → ⊥ }
+    {
+        if self.count == 0 {
+            return true;
+        }
+        if other.count == 0 {
+            return true;
+        }
+        if self.first + self.count <= other.first {
+            return true;
+        }
+        other.first + other.count <= self.first
+    }
+}
+
+/// Whether so many pages from an address on begin with a page and end in the space.
+fn is_placed(base: u64, count: u64) -> bool
+    requires { count ≤ 1024 }
+    ensures placed { IsTrue result → IsPlaced base count }
+    ensures other { result ≡ false → IsPlaced base count → ⊥ }
+{
+    if base % PAGE != 0 {
+        return false;
+    }
+    base <= SPACE - count * PAGE
+}
+
+impl Create {
+    /// What is kept of it: without shared pages the shared base is 0.
+    pub(crate) fn kept(self) -> Create
+        ensures { result ≡ parts_of self }
+    {
+        let mut parts = self;
+        if self.shared_count == 0 {
+            parts.shared_base = 0;
+        }
+        parts
+    }
+
+    /// Whether there is some text, and not too many pages.
+    pub(crate) fn has_counts(&self) -> bool
+        ensures counts { IsTrue result → HasCounts self.now }
+        ensures other { result ≡ false → HasCounts self.now → ⊥ }
+    {
+        if self.text_pages == 0 {
+            return false;
+        }
+        if self.text_pages > MOST_PRIVATE {
+            return false;
+        }
+        if self.data_pages > MOST_PRIVATE - self.text_pages {
+            return false;
+        }
+        self.shared_count <= MOST_SHARED
+    }
+
+    /// Whether both ranges begin with a page and end in the space.
+    pub(crate) fn has_places(&self) -> bool
+        requires { HasCounts self.now }
+        ensures places { IsTrue result → HasPlaces self.now }
+        ensures other { result ≡ false → HasPlaces self.now → ⊥ }
+    {
+        if !is_placed(self.base, self.text_pages + self.data_pages) {
+            return false;
+        }
+        is_placed(self.shared_base, self.shared_count)
+    }
+
+    /// Whether the entry is even, and in the text.
+    pub(crate) fn has_entry(&self) -> bool
+        requires { HasCounts self.now }
+        ensures entry { IsTrue result → HasEntry self.now }
+        ensures other { result ≡ false → HasEntry self.now → ⊥ }
+    {
+        if self.entry_offset % 2 != 0 {
+            return false;
+        }
+        self.entry_offset < self.text_pages * PAGE
+    }
+
+    /// Its text and data.
+    pub(crate) fn private_pages(&self) -> PageRange
+        requires { HasCounts self.now }
+        ensures value { result ≡ record { first = self.now.base / 4096; count = self.now.text_pages + self.now.data_pages } }
+        ensures fits { result.first + result.count < 2 ^ 64 }
+        ensures inside { HasPlaces self.now → result.first + result.count ≤ 2 ^ 44 }
+    {
+        PageRange {
+            first: self.base / PAGE,
+            count: self.text_pages + self.data_pages,
+        }
+    }
+
+    /// What it shares with the host.
+    pub(crate) fn shared_pages(&self) -> PageRange
+        requires { HasCounts self.now }
+        ensures value { result ≡ record { first = self.now.shared_base / 4096; count = self.now.shared_count } }
+        ensures fits { result.first + result.count < 2 ^ 64 }
+    {
+        PageRange {
+            first: self.shared_base / PAGE,
+            count: self.shared_count,
+        }
+    }
+
+    /// Whether no page is both private and shared.
+    pub(crate) fn is_apart(&self) -> bool
+        requires { HasCounts self.now }
+        ensures apart { IsTrue result → (page : ℕ) → is_private self.now page ≡ true → is_shared self.now page ≡ false }
+        ensures met { result ≡ false → ((page : ℕ) → is_private self.now page ≡ true → is_shared self.now page ≡ false) → ⊥ }
+    {
+        self.private_pages().is_apart_from(self.shared_pages())
+    }
+
+    /// Whether it has no page in common with these.
+    pub(crate) fn is_clear_of(&self, pages: PageRange) -> bool
+        requires counts { HasCounts self.now }
+        requires fits { pages.first + pages.count < 2 ^ 64 }
+        ensures clear { IsTrue result → (page : ℕ) → is_part self.now page ≡ true → in_range pages.first pages.count page ≡ true → ⊥ }
+        ensures met { result ≡ false → ((page : ℕ) → is_part self.now page ≡ true → in_range pages.first pages.count page ≡ true → ⊥) → ⊥ }
+    {
+        if !self.private_pages().is_apart_from(pages) {
+            return false;
+        }
+        self.shared_pages().is_apart_from(pages)
+    }
+
+    /// Whether it has no page in common with another enclave.
+    pub(crate) fn is_apart_from(&self, other: &Create) -> bool
+        requires counts { HasCounts self.now }
+        requires other_counts { HasCounts other.now }
+        ensures apart { IsTrue result → ArePartsApart self.now other.now }
+        ensures met { result ≡ false → ArePartsApart self.now other.now → ⊥ }
+    {
+        if !self.is_clear_of(other.private_pages()) {
+            return false;
+        }
+        self.is_clear_of(other.shared_pages())
+    }
+}
