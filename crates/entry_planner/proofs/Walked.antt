@@ -7,8 +7,8 @@ use Rattle.pmp_encoding.specs.declared.region.Entry.{Entry}
 use Rattle.pmp_encoding.specs.Perms.{perm_eq}
 use Rattle.prefix_tree.specs.Trees.{PermTree, Split, Fits}
 use Rattle.entry_planner.specs.declared.costs.HalfPerms.{HalfPerms}
-use Rattle.entry_planner.specs.Costs.{cost}
-use Rattle.entry_planner.specs.Placing.{ArePages, IsCheap, IsPlacedAt, Turns}
+use Rattle.entry_planner.specs.Choice.{IsChosenAt, handed_on}
+use Rattle.entry_planner.specs.Placing.{ArePages, IsOwn}
 use Rattle.entry_planner.specs.Plans.{half_perms, half_perms_in}
 use Rattle.entry_planner.proofs.BlockPages.{lower_pages, upper_pages}
 
@@ -66,29 +66,34 @@ upper_begins halves rest tree low high split begins same =
 
 -- ---- the entries that are added
 
-abbrev AddsPlaced : ℕ → ℕ → Perm → PermTree → List Entry → List Entry → Type 0
-AddsPlaced k first p tree old new = (placed : List Entry) × (new ≡ old ++ placed) × IsPlacedAt k first p tree placed
+abbrev AddsChosen : ℕ → ℕ → Perm → PermTree → List Entry → List Entry → Type 0
+AddsChosen k first p tree old new = (chosen : List Entry) × (new ≡ old ++ chosen) × IsChosenAt k first p tree chosen
 
 abbrev AddsOwn : ℕ → ℕ → Perm → Perm → List Entry → List Entry → Type 0
-AddsOwn k first p q old new = (own : List Entry) × (new ≡ old ++ own) × Turns k first p q own × (length own ≡ (if perm_eq q p then 0 else 1))
+AddsOwn k first p q old new = (own : List Entry) × (new ≡ old ++ own) × IsOwn k first p q own
 
-pub split_placed :
+pub split_chosen :
     (tree low high : PermTree) (k i j first lower upper : ℕ) (p q : Perm) (a b c d : List Entry) → tree ≡ Split low high → i + 1 ≡ k → j + 1 ≡ k → lower ≡ first
-    → upper ≡ first + 2 ^ (k - 1) → IsCheap low high p q → AddsPlaced i lower q low a b → AddsPlaced j upper q high b c → AddsOwn k first p q c d
-    → AddsPlaced k first p tree a d
-split_placed tree low high k i j first lower upper p q a b c d split low_height height at_lower at_upper cheap l h o =
+    → upper ≡ first + 2 ^ (k - 1) → q ≡ handed_on low high p → AddsChosen i lower q low a b → AddsChosen j upper q high b c → AddsOwn k first p q c d
+    → AddsChosen k first p tree a d
+split_chosen tree low high k i j first lower upper p q a b c d split low_height height at_lower at_upper handed l h o =
     let up : k ≡ suc j = omega arith in
     let down : k - 1 ≡ j = omega arith in
     let level : i ≡ j = omega arith in
-    let low_placed : IsPlacedAt j first q low l.0 =
-    (let P : ℕ → Type 0 = λ n. IsPlacedAt i n q low l.0 in let Q : ℕ → Type 0 = λ n. IsPlacedAt n first q low l.0 in subst Q level (subst P at_lower l.2)) in
-    let high_placed : IsPlacedAt j (first + 2 ^ j) q high h.0 =
-    (let P : ℕ → Type 0 = λ n. IsPlacedAt j n q high h.0 in subst P (at_upper ∙ ap (λ n. first + 2 ^ n) down) h.2) in
-    let own : Turns (suc j) first p q o.0 = (let P : ℕ → Type 0 = λ n. Turns n first p q o.0 in subst P up o.2) in
-    let count : length o.0 + (cost low q + cost high q) ≡ cost (Split low high) p = ap (λ n. n + (cost low q + cost high q)) o.3 ∙ cheap in
-    let whole : IsPlacedAt (suc j) first p (Split low high) (l.0 ++ (h.0 ++ o.0)) = (q, l.0, h.0, o.0, refl, own, count, low_placed, high_placed) in
-    let T : PermTree → Type 0 = λ t. IsPlacedAt (suc j) first p t (l.0 ++ (h.0 ++ o.0)) in
-    let N : ℕ → Type 0 = λ n. IsPlacedAt n first p tree (l.0 ++ (h.0 ++ o.0)) in (
+    let low_chosen : IsChosenAt j first (handed_on low high p) low l.0 =
+    (let P : ℕ → Type 0 = λ n. IsChosenAt i n q low l.0 in
+    let Q : ℕ → Type 0 = λ n. IsChosenAt n first q low l.0 in
+    let R : Perm → Type 0 = λ r. IsChosenAt j first r low l.0 in
+    subst R handed (subst Q level (subst P at_lower l.2))) in
+    let high_chosen : IsChosenAt j (first + 2 ^ j) (handed_on low high p) high h.0 =
+    (let P : ℕ → Type 0 = λ n. IsChosenAt j n q high h.0 in
+    let R : Perm → Type 0 = λ r. IsChosenAt j (first + 2 ^ j) r high h.0 in
+    subst R handed (subst P (at_upper ∙ ap (λ n. first + 2 ^ n) down) h.2)) in
+    let own : IsOwn (suc j) first p (handed_on low high p) o.0 =
+    (let P : ℕ → Type 0 = λ n. IsOwn n first p q o.0 in let R : Perm → Type 0 = λ r. IsOwn (suc j) first p r o.0 in subst R handed (subst P up o.2)) in
+    let whole : IsChosenAt (suc j) first p (Split low high) (l.0 ++ (h.0 ++ o.0)) = (l.0, h.0, o.0, refl, low_chosen, high_chosen, own) in
+    let T : PermTree → Type 0 = λ t. IsChosenAt (suc j) first p t (l.0 ++ (h.0 ++ o.0)) in
+    let N : ℕ → Type 0 = λ n. IsChosenAt n first p tree (l.0 ++ (h.0 ++ o.0)) in (
       l.0 ++ (h.0 ++ o.0),
       o.1 ∙ ap (λ x. x ++ o.0) (h.1 ∙ ap (λ x. x ++ h.0) l.1) ∙ append_assoc (a ++ l.0) h.0 o.0 ∙ append_assoc a l.0 (h.0 ++ o.0),
       subst N (sym up) (subst T (sym split) whole),

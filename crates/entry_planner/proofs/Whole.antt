@@ -17,11 +17,13 @@ use Rattle.prefix_tree.proofs.Meant.{means_perm_in}
 use Rattle.entry_planner.specs.declared.costs.BlockCost.{BlockCost}
 use Rattle.entry_planner.specs.Best.{is_best, least_cost}
 use Rattle.entry_planner.specs.Costs.{cost, bounds_of}
+use Rattle.entry_planner.specs.Choice.{AreChosen}
 use Rattle.entry_planner.specs.Order.{AreInOrder}
 use Rattle.entry_planner.specs.Placing.{IsPlaced}
-use Rattle.entry_planner.specs.Plans.{AreSmall, Planned, block_cost, cost_in, cost_of, costed, costs_in}
+use Rattle.entry_planner.specs.Plans.{AreSmall, CostsAre, Planned, block_cost, cost_in, cost_of, costed, costs_in}
 use Rattle.entry_planner.proofs.BestCosts.{cost_is}
 use Rattle.entry_planner.proofs.BlockCosts.{least_le_branches}
+use Rattle.entry_planner.proofs.Choices.{chosen_placed}
 use Rattle.entry_planner.proofs.CostLemmas.{bound_of-bounds_of, costs_sound, least_le}
 use Rattle.entry_planner.proofs.Placed.{IsPart, AreParts, All_weaker, placed_within, placed_count, placed_means}
 use Rattle.entry_planner.proofs.Sets.{has-set_of}
@@ -29,9 +31,12 @@ use Rattle.entry_planner.proofs.Sorted.{sizes_rise}
 
 -- ---- the entries
 
--- the entries are those that are placed, in some order
+-- the entries are as many as the tree costs, and give each page its permission, in some order
 abbrev pub AreListed : PermTree → List Entry → Type 0
 AreListed tree entries = (placed : List Entry) × IsPlaced tree placed × IsPermutation placed entries
+
+pub chosen_listed : (tree : PermTree) (entries : List Entry) → AreChosen tree entries → AreListed tree entries
+chosen_listed tree entries chosen = (chosen.0, chosen_placed tree 44 0 NoAccess chosen.0 chosen.1, chosen.2)
 
 own_means : (tree : PermTree) → Fits 44 tree → TreeMeansAt (view_of_tree tree) 44 0 tree
 own_means tree fits = means_perm_in (view_of_tree tree) 44 0 tree fits (λ i h. let e : 0 + i ≡ i = omega arith in ap (view_of_tree tree) e)
@@ -161,8 +166,19 @@ costed_sound view costs i (Split lower upper) (suc k) first s means =
           omega (arith, cost_in-stands costs i lower upper p s, bound_of-costed costs (i + 1) lower q low, bound_of-costed costs (i + 1 + splits lower) upper q high, least_le (λ r. cost lower r + cost upper r) q)),
     )
 
+costs_stand : (costs : List BlockCost) (i : ℕ) (tree : PermTree) → StandsAt costs i tree → CostsAre costs i tree
+costs_stand costs i (Uniform q) s = tt
+costs_stand costs i (Split lower upper) s = (
+  (λ p. cost_in-stands costs i lower upper p s),
+  costs_stand costs (i + 1) lower (lower_stands costs i lower upper s),
+  costs_stand costs (i + 1 + splits lower) upper (upper_stands costs i lower upper s),
+)
+
 whole_stands : (tree : PermTree) (costs : List BlockCost) → costs ≡ costs_in tree → StandsAt costs 0 tree
 whole_stands tree costs are = record { before = []; after = []; split = are ∙ sym (append-nil (costs_in tree)); place = refl }
+
+pub whole_costs : (tree : PermTree) (costs : List BlockCost) → costs ≡ costs_in tree → CostsAre costs 0 tree
+whole_costs tree costs are = costs_stand costs 0 tree (whole_stands tree costs are)
 
 pub whole_sound : (tree : PermTree) (costs : List BlockCost) → Fits 44 tree → costs ≡ costs_in tree → IsSoundAt (view_of_tree tree) 44 0 (costed costs 0 tree)
 whole_sound tree costs fits are = costed_sound (view_of_tree tree) costs 0 tree 44 0 (whole_stands tree costs are) (own_means tree fits)
@@ -175,18 +191,18 @@ whole_root tree entries costs are listed =
 
 -- ---- the plan
 
--- the entries are those that are placed in the tree, in order, and the costs are the tree's
+-- the entries are those that are chosen for the tree, in order, and the costs are the tree's
 pub record IsMade (tree : PermTree) (plan : Planned) : Type 0 where
-  pub listed : AreListed tree plan.entries
+  pub chosen : AreChosen tree plan.entries
   pub order : AreInOrder plan.entries
   pub costs : plan.costs ≡ costs_in tree
 
 pub made :
-    (tree shape : PermTree) (entries : List Entry) (none costs : List BlockCost) (plan : Planned) → shape ≡ tree → AreListed shape entries → AreInOrder entries
+    (tree shape : PermTree) (entries : List Entry) (none costs : List BlockCost) (plan : Planned) → shape ≡ tree → AreChosen shape entries → AreInOrder entries
     → none ≡ [] → costs ≡ none ++ costs_in shape → plan ≡ record { entries = entries; costs = costs } → IsMade tree plan
-made tree shape entries none costs plan same listed order empty are is =
-    let L : PermTree → Type 0 = λ t. AreListed t entries in
+made tree shape entries none costs plan same chosen order empty are is =
+    let L : PermTree → Type 0 = λ t. AreChosen t entries in
     let own : IsMade tree (record { entries = entries; costs = costs }) =
-    record { listed = subst L same listed; order = order; costs = are ∙ ap (λ l. l ++ costs_in shape) empty ∙ ap costs_in same } in
+    record { chosen = subst L same chosen; order = order; costs = are ∙ ap (λ l. l ++ costs_in shape) empty ∙ ap costs_in same } in
     let M : Planned → Type 0 = IsMade tree in
     subst M (sym is) own

@@ -1,5 +1,5 @@
 -- What a plan keeps of each split block: its least number and the set of the permissions under which it costs that.
-use Rattle.std.specs.Prelude.{ℕ, zero, suc, ◌+◌, ◌^◌, ◌<◌, List, [], ◌∷◌, ◌++◌, length, All, ◌&&◌, ◌||◌, if◌then◌else◌}
+use Rattle.std.specs.Prelude.{◌≡◌, ℕ, zero, suc, ◌+◌, ◌^◌, ◌<◌, List, [], ◌∷◌, ◌++◌, length, All, ◌&&◌, ◌||◌, if◌then◌else◌}
 use Rattle.pmp_encoding.specs.declared.perm.Perm.{Perm}
 use Rattle.pmp_encoding.specs.declared.region.Entry.{Entry}
 use Rattle.pmp_match.specs.Bounds.{BoundTree, Leaf, Branch}
@@ -8,6 +8,7 @@ use Rattle.entry_planner.specs.declared.costs.HalfPerms.{HalfPerms}
 use Rattle.prefix_tree.specs.Trees.{PermTree, Uniform, Split}
 use Rattle.prefix_tree.specs.Counts.{splits}
 use Rattle.entry_planner.specs.Best.{is_best, least_cost}
+use Rattle.entry_planner.specs.Costs.{cost}
 use Rattle.entry_planner.specs.PermSets.{has, set_of}
 
 -- a list of entries, and what each split block of a tree costs, in preorder
@@ -42,7 +43,7 @@ abbrev pub half_perms_in : PermTree → List HalfPerms
 half_perms_in (Uniform q) = []
 half_perms_in (Split lower upper) = half_perms lower upper ∷ (half_perms_in lower ++ half_perms_in upper)
 
--- what a block costs where p stands round about
+-- what a block costs where it inherits p
 abbrev pub cost_of : BlockCost → Perm → ℕ
 cost_of c p = c.least + (if has c.best.bits p then 0 else 1)
 
@@ -56,3 +57,9 @@ cost_in (c ∷ costs) (suc i) p = cost_in costs i p
 abbrev pub costed : List BlockCost → ℕ → PermTree → BoundTree
 costed costs i (Uniform q) = Leaf q
 costed costs i (Split lower upper) = Branch (cost_in costs i) (costed costs (i + 1) lower) (costed costs (i + 1 + splits lower) upper)
+
+-- the split blocks of the tree, in preorder from the i-th of the list on, cost what they cost
+abbrev pub CostsAre : List BlockCost → ℕ → PermTree → Type 0
+CostsAre costs i (Uniform q) = Unit {0}
+CostsAre costs i (Split lower upper) =
+    ((p : Perm) → cost_in costs i p ≡ cost (Split lower upper) p) × CostsAre costs (i + 1) lower × CostsAre costs (i + 1 + splits lower) upper

@@ -10,13 +10,13 @@ pub struct Pages {
     pub log2: u32,
 }
 
-ghost use Rattle.std.specs.Prelude.{◌≡◌, ◌+◌, ◌-◌, ◌*◌, ◌≤◌, ◌<◌, ◌^◌, ◌++◌, List, length, IfOk, OnOk, if◌then◌else◌};
-ghost use Rattle.pmp_encoding.specs.Perms.{perm_eq};
+ghost use Rattle.std.specs.Prelude.{◌≡◌, ◌+◌, ◌-◌, ◌*◌, ◌≤◌, ◌<◌, ◌^◌, ◌++◌, List, IfOk, OnOk};
 ghost use Rattle.pmp_encoding.specs.declared.region.Entry.{Entry};
 ghost use Rattle.prefix_tree.specs.Shapes.{shape_of};
 ghost use Rattle.prefix_tree.specs.Trees.{PermTree, Fits};
 ghost use Rattle.entry_planner.specs.declared.costs.HalfPerms.{HalfPerms};
-ghost use Rattle.entry_planner.specs.Placing.{ArePages, IsCheap, IsPlacedAt, Turns};
+ghost use Rattle.entry_planner.specs.Choice.{IsChosenAt, handed_on};
+ghost use Rattle.entry_planner.specs.Placing.{ArePages, IsOwn};
 ghost use Rattle.entry_planner.specs.Plans.{half_perms, half_perms_in};
 
 /// How many pages such a block has.
@@ -67,10 +67,10 @@ impl Pages {
     }
 }
 
-/// The permission under which the halves of a split block stand: the first that is best for both, where there
-/// is one and the inherited permission is best for neither; else the inherited one.
+/// The permission that the halves of a split block inherit: the first that is best for both, where there is one
+/// and the permission that the block inherits is best for neither; else that one.
 fn chosen(perms: HalfPerms, inherited: Perm) -> Perm
-    ensures { (low high : PermTree) → perms ≡ half_perms low high → IsCheap low high inherited result }
+    ensures { (low high : PermTree) → perms ≡ half_perms low high → result ≡ handed_on low high inherited }
 {
     if perms.either.contains(inherited) {
         return inherited;
@@ -89,7 +89,7 @@ fn turn(
     entries: &mut Vec<Entry>,
 ) -> Result<(), AllocError>
     requires { ArePages pages.log2 pages.first }
-    ensures { OnOk result ((own : List Entry) × (entries.new.items ≡ entries.old.items ++ own) × Turns pages.log2 pages.first inherited perm own × (length own ≡ (if perm_eq perm inherited then 0 else 1))) }
+    ensures { OnOk result ((own : List Entry) × (entries.new.items ≡ entries.old.items ++ own) × IsOwn pages.log2 pages.first inherited perm own) }
 {
     if perm != inherited {
         let region = pages.region();
@@ -98,7 +98,7 @@ fn turn(
     Ok(())
 }
 
-/// Adds the entries of a block that stands under a permission. The halves' permissions of its split blocks
+/// Adds the entries of a block that inherits a permission. The halves' permissions of its split blocks
 /// come first in the list; what comes after them is handed back.
 pub fn place<'a>(
     block: &Block,
@@ -111,7 +111,7 @@ pub fn place<'a>(
     requires pages { ArePages pages.log2 pages.first }
     requires halves { (rest : List HalfPerms) × (halves.now ≡ half_perms_in (shape_of block.now) ++ rest) }
     ensures rest { IfOk result (λ rest. halves.now ≡ half_perms_in (shape_of block.now) ++ rest.now) }
-    ensures placed { OnOk result ((placed : List Entry) × (entries.new.items ≡ entries.old.items ++ placed) × IsPlacedAt pages.log2 pages.first inherited (shape_of block.now) placed) }
+    ensures placed { OnOk result ((placed : List Entry) × (entries.new.items ≡ entries.old.items ++ placed) × IsChosenAt pages.log2 pages.first inherited (shape_of block.now) placed) }
 {
     match block.parts() {
         Parts::Leaf(perm) => {

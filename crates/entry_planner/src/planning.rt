@@ -1,4 +1,4 @@
-ghost use Rattle.std.specs.Prelude.{◌≡◌, ◌≤◌, List, length, All, IfOk, IsPermutation};
+ghost use Rattle.std.specs.Prelude.{◌≡◌, ◌≤◌, List, length, All, IfOk};
 ghost use Rattle.pmp_encoding.specs.declared.perm.Perm.TheVariants.{NoAccess};
 ghost use Rattle.pmp_encoding.specs.declared.region.Entry.{Entry};
 ghost use Rattle.pmp_match.specs.Bounds.{IsSoundBound, bound_of};
@@ -7,8 +7,8 @@ ghost use Rattle.prefix_tree.specs.Counts.{splits};
 ghost use Rattle.prefix_tree.specs.Shapes.{shape_of};
 ghost use Rattle.prefix_tree.specs.Trees.{Fits, view_of_tree};
 ghost use Rattle.entry_planner.specs.Order.{AreInOrder};
-ghost use Rattle.entry_planner.specs.Placing.{IsPlaced};
-ghost use Rattle.entry_planner.specs.Plans.{costed, costs_in, half_perms_in};
+ghost use Rattle.entry_planner.specs.Choice.{AreChosen};
+ghost use Rattle.entry_planner.specs.Plans.{CostsAre, costed, half_perms_in};
 
 use crate::costs::{HalfPerms, add_costs};
 use crate::order::put_in_order;
@@ -23,7 +23,7 @@ use std::alloc::Global;
 fn entries_of(alloc: Global, root: &Block, halves: &[HalfPerms]) -> Result<Vec<Entry>, Memory>
     requires fits { Fits 44 (shape_of root.now) }
     requires halves { halves.now ≡ half_perms_in (shape_of root.now) }
-    ensures placed { IfOk result (λ v. (placed : List Entry) × IsPlaced (shape_of root.now) placed × IsPermutation placed v.items) }
+    ensures chosen { IfOk result (λ v. AreChosen (shape_of root.now) v.items) }
     ensures order { IfOk result (λ v. AreInOrder v.items) }
 {
     let mut entries = Vec::new(alloc);
@@ -37,7 +37,10 @@ fn entries_of(alloc: Global, root: &Block, halves: &[HalfPerms]) -> Result<Vec<E
 ///
 /// The list lets supervisor and user do, at every naturally aligned access in the space, just what the view lets them
 /// do, and no list of entries of any regions in any order that does so is shorter. Its regions are of whole pages, and
-/// the smaller come before the larger, those of one size by rising address. The only error is want of memory.
+/// the smaller come before the larger, those of one size by rising address. Of the lists with these properties it is
+/// the one of ORTC's pass down: from the whole space, which inherits no access, a block that is split gets an entry
+/// only where that saves more than it costs, for the first permission in the order none, R, RW, X, RX, RWX under which
+/// its halves cost least. The only error is want of memory.
 /// (RISC-V Privileged Architecture, Physical Memory Protection: priority and matching logic. The passes up and down
 /// are those of ORTC, Draves and others, 1999, with permissions for next hops and no access for the default route.)
 pub fn plan(alloc: Global, tree: &Tree) -> Result<Plan, Memory>
@@ -46,7 +49,8 @@ pub fn plan(alloc: Global, tree: &Tree) -> Result<Plan, Memory>
     ensures needs { IfOk result (λ plan. Needs (view_of_tree tree.now) (length plan.entries)) }
     ensures pages { IfOk result (λ plan. All (λ e. 12 ≤ e.region.log2) plan.entries) }
     ensures order { IfOk result (λ plan. AreInOrder plan.entries) }
-    ensures costs { IfOk result (λ plan. plan.costs ≡ costs_in tree.now) }
+    ensures choice { IfOk result (λ plan. AreChosen tree.now plan.entries) }
+    ensures costs { IfOk result (λ plan. CostsAre plan.costs 0 tree.now) }
     ensures branches { IfOk result (λ plan. length plan.costs ≡ splits tree.now) }
     ensures bound { IfOk result (λ plan. IsSoundBound (view_of_tree tree.now) (costed plan.costs 0 tree.now)) }
     ensures root { IfOk result (λ plan. bound_of (costed plan.costs 0 tree.now) NoAccess ≡ length plan.entries) }

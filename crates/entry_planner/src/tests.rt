@@ -118,6 +118,38 @@ fn one_page_of_four_is_overridden(rt: HostRuntime) -> Result<(), Fail> {
 }
 
 #[test]
+fn the_inherited_permission_stays_where_it_is_best_for_a_half(rt: HostRuntime) -> Result<(), Fail> {
+    let _ = is_planned(
+        &[(0x80000, 4, Perm::Read), (0x80001, 1, Perm::NoAccess)],
+        &[(0x19, 0x2000_01FF), (0x19, 0x2000_0BFF)],
+        rt.alloc(),
+        &rt,
+    )?;
+    Ok(())
+}
+
+#[test]
+fn the_first_permission_that_is_best_for_both_halves_is_placed(
+    rt: HostRuntime,
+) -> Result<(), Fail> {
+    let _ = is_planned(
+        &[
+            (0x80000, 4, Perm::Read),
+            (0x80001, 1, Perm::ReadWrite),
+            (0x80003, 1, Perm::ReadWrite),
+        ],
+        &[
+            (0x1B, 0x2000_05FF),
+            (0x1B, 0x2000_0DFF),
+            (0x19, 0x2000_07FF),
+        ],
+        rt.alloc(),
+        &rt,
+    )?;
+    Ok(())
+}
+
+#[test]
 fn a_tie_is_settled_as_two_pages(rt: HostRuntime) -> Result<(), Fail> {
     let plan = is_planned(
         &[

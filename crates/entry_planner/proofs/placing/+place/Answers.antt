@@ -2,7 +2,7 @@
 use Rattle.std.proofs.Common.{ap, arith}
 use Rattle.prefix_tree.specs.Counts.{splits}
 use Rattle.prefix_tree.specs.Shapes.{shape_of}
-use Rattle.entry_planner.proofs.Walked.{halves_fit_in, first_is, lower_begins, upper_begins, split_placed}
+use Rattle.entry_planner.proofs.Walked.{halves_fit_in, first_is, lower_begins, upper_begins, split_chosen}
 use Rattle.entry_planner.proofs.placing.+place.Goals as goal
 
 pub place-requires : goal.place-requires
@@ -25,6 +25,6 @@ place-requires-in-Halves t c = (
 
 pub returns-in_ok-turn-in-Halves-clause-placed : goal.returns-in_ok-turn-in-Halves-clause-placed
 returns-in_ok-turn-in-Halves-clause-placed t c =
-    let cheap = c.chosen-perm.ensures (shape_of c.in-Halves.lower.now) (shape_of c.in-Halves.upper.now) (first_is _ _ _ _ _ c.in-Halves.ensures c.requires.halves) in
-    split_placed _ _ _ _ _ _ _ _ _ _ _ _ _ _ _ c.in-Halves.ensures c.lower.ensures.log2 c.upper.ensures.log2 c.lower.ensures.first c.upper.ensures.first cheap
+    let handed = c.chosen-perm.ensures (shape_of c.in-Halves.lower.now) (shape_of c.in-Halves.upper.now) (first_is _ _ _ _ _ c.in-Halves.ensures c.requires.halves) in
+    split_chosen _ _ _ _ _ _ _ _ _ _ _ _ _ _ _ c.in-Halves.ensures c.lower.ensures.log2 c.upper.ensures.log2 c.lower.ensures.first c.upper.ensures.first handed
     c.in_ok-rest-in-Halves.ensures.placed c.in_ok-rest-in-Halves-2.ensures.placed c.in_ok-turn-in-Halves.ensures

@@ -1,14 +1,14 @@
--- Each of the three choices is as cheap as any.
+-- Each of the three choices is the one that is handed on.
 use Rattle.std.proofs.Common.{sym, ◌∙◌}
-use Rattle.entry_planner.proofs.Chosen.{chosen_cheap, kept_cheap, none_cheap}
+use Rattle.entry_planner.proofs.Choices.{first_handed, kept_handed, none_handed}
 use Rattle.entry_planner.proofs.placing.chosen.Goals as goal
 
 pub returns-then-contains : goal.returns-then-contains
-returns-then-contains c = λ low high are. kept_cheap low high c.args.perms c.args.inherited are (sym c.contains.ensures ∙ c.if-contains.true)
+returns-then-contains c = λ low high are. kept_handed low high c.args.perms c.args.inherited are (sym c.contains.ensures ∙ c.if-contains.true)
 
 pub returns-in-Some : goal.returns-in-Some
 returns-in-Some c =
-    λ low high are. chosen_cheap low high c.args.perms c.args.inherited c.in-Some.perm are (sym c.contains.ensures ∙ c.if-contains.false) c.in-Some.ensures.some
+    λ low high are. first_handed low high c.args.perms c.args.inherited c.in-Some.perm are (sym c.contains.ensures ∙ c.if-contains.false) c.in-Some.ensures.some c.in-Some.ensures.first
 
 pub returns-in-None : goal.returns-in-None
-returns-in-None c = λ low high are. none_cheap low high c.args.perms c.args.inherited are c.in-None.ensures.none
+returns-in-None c = λ low high are. none_handed low high c.args.perms c.args.inherited are c.in-None.ensures.none

@@ -10,6 +10,8 @@ returns-in_ok-push c =
     let unless : Bool → ℕ = λ t. if t then 0 else 1 in (
       own ∷ [],
       c.in_ok-push.ensures.items,
-      inr (own, record { base = c.region-region.ensures.base; size = c.region-region.ensures.log2; perm = refl }, refl),
-      sym (ap unless (perm_eq-other c.args.perm c.args.inherited c.ne.result c.ne.ensures c.if-ne.true)),
+      (
+        inr (own, record { base = c.region-region.ensures.base; size = c.region-region.ensures.log2; perm = refl }, refl),
+        sym (ap unless (perm_eq-other c.args.perm c.args.inherited c.ne.result c.ne.ensures c.if-ne.true)),
+      ),
     )
