@@ -1,5 +1,2 @@
-mod Entered
-mod FirstLine
 mod Judged
-mod Printed
 pub mod SameViews

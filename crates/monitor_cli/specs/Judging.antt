@@ -1,22 +1,17 @@
 -- What `judge` writes for a trace of accesses.
-use Rattle.std.specs.Prelude.{◌≡◌, ◌⊎◌, ℕ, ◌+◌, ◌^◌, ◌<◌, List, [], ◌∷◌, ◌++◌, length, take, Option, Some, None, Result, Ok, Err, codes, decimal}
+use Rattle.std.specs.Prelude.{◌≡◌, ◌⊎◌, ℕ, ◌+◌, ◌^◌, ◌<◌, List, [], ◌∷◌, ◌++◌, length, take, Option, Some, None, Result}
 use Rattle.std.specs.Io.KnownBytes.{Appends, Consumes, IsAtEnd}
 use Rattle.pmp_encoding.specs.declared.bank.Bank.{Bank}
 use Rattle.pmp_encoding.specs.declared.region.Entry.{Entry}
 use Rattle.pmp_encoding.specs.Banks.{HasList}
 use Rattle.pmp_match.specs.declared.access.Access.{Access}
 use Rattle.pmp_match.specs.declared.cause.Cause.{Cause}
-use Rattle.pmp_match.specs.Causes.{cause_number}
 use Rattle.pmp_match.specs.Judgement.{Judges}
 use Rattle.hart_trace.specs.declared.event.Event.{Event}
 use Rattle.hart_trace.specs.declared.event.Event.TheVariants as events
 use Rattle.hart_sim.specs.Events.{meaning_of}
+use Rattle.printed_lines.specs.Texts.{answer_text}
 use Rattle.hart_sim.specs.Lines.{AreLines, BeginsLongLine, IsShortLine, without_return}
-
--- the text of one answer: `N ok` or `N fault CAUSE`
-abbrev pub answer_text : ℕ → Result (Unit {0}) Cause → List ℕ
-answer_text n (Ok done) = decimal n ++ codes " ok\n"
-answer_text n (Err cause) = decimal n ++ codes " fault " ++ decimal (cause_number cause) ++ codes "\n"
 
 -- the access of an event, and no other event
 abbrev pub only_access : Option (Option (ℕ × Event)) → Option (Option Access)

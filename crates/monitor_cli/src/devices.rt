@@ -77,18 +77,18 @@ impl<R: Files> Write for FileToWrite<'_, R> {
 
 /// A reader or writer whose calls are tried again where a signal interrupted them.
 #[derive(Drop)]
-pub struct Patient<T> {
+pub struct RetryInterrupted<T> {
     inner: T,
 }
 
-impl<T> Patient<T> {
-    /// The reader or writer, with patience.
-    pub fn new(inner: T) -> Patient<T> {
-        Patient { inner }
+impl<T> RetryInterrupted<T> {
+    /// The reader or writer, whose interrupted calls are tried again.
+    pub fn new(inner: T) -> RetryInterrupted<T> {
+        RetryInterrupted { inner }
     }
 }
 
-impl<T: Write> Write for Patient<T> {
+impl<T: Write> Write for RetryInterrupted<T> {
     fn write(&mut self, buf: &[u8]) -> io::Result<usize> {
         write_again(&mut self.inner, buf)
     }

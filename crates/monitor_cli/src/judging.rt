@@ -6,10 +6,10 @@ ghost use Rattle.std.specs.Io.KnownBytes.{Appends};
 ghost use Rattle.pmp_match.specs.declared.access.Access.{Access};
 ghost use Rattle.monitor_cli.specs.Judging.{Answer, JudgesAll, StopsAt, StopsReading, StopsTooLong, StopsWriting, access_on, counted};
 
-use crate::texts::answer_line;
 use hart_sim::{Event, LineReader, NotUnderstood, RunFault, Sink, Source, parse_line, write_whole};
 use pmp_encoding::Bank;
 use pmp_match::{Access, judge};
+use printed_lines::answer_line;
 
 /// Why a line has no answer.
 #[derive(Clone, Copy, Debug, PartialEq, Eq)]

@@ -1,8 +1,8 @@
-//! The program's commands: what the words of a command line ask for, and the doing of it on files that are lent.
+//! The program's commands, done on the files and streams that are lent for them.
 //!
-//! For the layer above: [`command_of`] answers the task that the words of a command line name, as `clap` reads them;
-//! [`map_of`] answers the map that the lines of a map file make, or the first line at fault; [`certified`] answers the fewest
-//! entries of a map with a certificate that the checker accepts.
+//! For the layer above: [`certified`] answers the fewest entries of a map with a certificate that the checker accepts;
+//! [`read_whole`] the bytes of a file of bounded length; [`perform`] does a task and answers the program's status. The
+//! command line, the text of a map and the printed lines are crates of their own, whose names stand here too.
 //!
 //! ```rust
 //! let task = command_of(rt.alloc(), &["pmpmon", "plan", "map.txt"])?;
@@ -10,31 +10,22 @@
 #![tactic(auto)]
 
 mod certifying;
-mod command_line;
 mod devices;
 mod judging;
-mod map_file;
-mod map_lines;
-mod printing;
 mod program;
-mod task;
-mod texts;
 mod trouble;
 mod whole;
 
 pub use certifying::certified;
-pub use command_line::command_of;
-pub use devices::{FileToRead, FileToWrite, Patient};
+pub use command_line::{Task, command_of};
+pub use devices::{FileToRead, FileToWrite, RetryInterrupted};
 pub use judging::judge_trace;
-pub use map_file::{MapFileFault, map_of};
-pub use map_lines::{Setting, raw_says};
-pub use printing::print_plan;
-pub use program::perform;
-pub use task::Task;
-pub use texts::{
-    Line, accepted_line, accepted_of_line, answer_line, count_line, entry_line, refused_line,
-    word_line,
+pub use map_text::{MapFileFault, Setting, map_of, raw_says};
+pub use printed_lines::{
+    Line, accepted_line, accepted_of_line, answer_line, count_line, entry_line, print_plan,
+    refused_line, word_line,
 };
+pub use program::perform;
 pub use trouble::Trouble;
 pub use whole::{WholeFault, read_whole};
 

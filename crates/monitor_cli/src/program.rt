@@ -4,20 +4,20 @@ ghost use Rattle.std.specs.Prelude.{◌-◌, ◌^◌, ◌<◌, ◌≤◌, IfOk, 
 
 use crate::certifying::certified;
 use crate::judging::judge_trace;
-use crate::map_file::{MapFileFault, map_of};
-use crate::printing::print_plan;
-use crate::task::Task;
-use crate::texts::{Line, accepted_line, accepted_of_line, refused_line};
 use crate::trouble::Trouble;
 use crate::whole::{WholeFault, read_whole};
+use byte_streams::{Sink, Source, write_whole};
 use certificate_check::{CheckRefusal, check};
+use command_line::Task;
 use entry_planner::{Plan, plan};
-use hart_sim::{RunFault, Sink, Source, write_whole};
+use map_text::{MapFileFault, map_of};
 use permission_map::PermissionMap;
 use plan_certificate::{Reader, Version};
 use pmp_encoding::{Bank, Limit};
 use prefix_tree::build;
+use printed_lines::{Line, accepted_line, accepted_of_line, print_plan, refused_line};
 use std::alloc::Global;
+use text_lines::RunFault;
 
 /// How many bytes a map file may have.
 const MAP_BYTES: usize = 1 << 20;

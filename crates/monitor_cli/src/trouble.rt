@@ -2,7 +2,7 @@
 
 ghost use Rattle.std.specs.Prelude.{◌-◌, ◌^◌, ◌<◌};
 
-use hart_sim::{DeviceFault, Sink, write_whole};
+use byte_streams::{DeviceFault, Sink, write_whole};
 use itoa::Buffer;
 
 /// Why a task did not end well. Files have the names that were given.

@@ -7,16 +7,16 @@ ghost use Rattle.hart_sim.specs.Streams.{failures_of};
 use clap::Error;
 use clap::error::ErrorKind;
 use hart_sim::Counted;
-use monitor_cli::{FileToRead, FileToWrite, Patient, Task, Trouble, command_of, perform};
+use monitor_cli::{FileToRead, FileToWrite, RetryInterrupted, Task, Trouble, command_of, perform};
 use std::io::{BufWriter, Stderr, Write};
 use std::process::ExitCode;
 use std::{env, io};
 
 /// Standard error, where a write that a signal interrupted is tried again.
-fn standard_error(rt: &HostRuntime) -> Counted<Patient<Stderr>>
+fn standard_error(rt: &HostRuntime) -> Counted<RetryInterrupted<Stderr>>
     ensures { failures_of result ≡ 0 }
 {
-    Counted::new(Patient::new(rt.stderr()))
+    Counted::new(RetryInterrupted::new(rt.stderr()))
 }
 
 /// Says what went wrong, and with which status the program ends.
@@ -65,7 +65,7 @@ fn done(rt: &HostRuntime, task: &Task<'_>) -> ExitCode {
     let mut first = Counted::new(FileToRead::new(rt, first));
     let mut second = Counted::new(FileToRead::new(rt, second));
     let mut cert = Counted::new(FileToWrite::new(rt, cert));
-    let Ok(out) = BufWriter::new(rt.alloc(), Patient::new(rt.stdout())) else {
+    let Ok(out) = BufWriter::new(rt.alloc(), RetryInterrupted::new(rt.stdout())) else {
         return stopped(rt, Trouble::Memory);
     };
     let mut out = Counted::new(out);

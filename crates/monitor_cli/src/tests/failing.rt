@@ -2,11 +2,11 @@
 
 use super::runs::run;
 use crate::{command_of, judge_trace, perform};
-use hart_sim::fakes::{PieceSink, PieceSource};
-use hart_sim::{Counted, RunFault};
+use byte_streams::fakes::{PieceSink, PieceSource};
 use pmp_encoding::{Bank, Limit};
 use std::alloc::Global;
 use std::test::Fail;
+use text_lines::RunFault;
 
 const TRACE: &[u8] =
     b"load s 8 0x80000ff8\n# nothing\nstore u 4 0x80000000 7\nfetch s 2 0x10000000";

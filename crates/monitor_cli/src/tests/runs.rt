@@ -1,7 +1,7 @@
 //! A command line, run on files in memory.
 
 use crate::{command_of, perform};
-use hart_sim::Counted;
+use byte_streams::Counted;
 use std::alloc::Global;
 use std::test::Fail;
 

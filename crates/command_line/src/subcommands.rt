@@ -1,0 +1,122 @@
+//! The program's subcommands, as they are told to `clap`.
+
+ghost use Rattle.std.specs.Prelude.{◌≡◌, IfOk, false};
+ghost use Rattle.clap.specs.Words.{app_of, new_app, rule_of};
+ghost use Rattle.clap.specs.declared.builder.command.Command.TheViews.{out-Command};
+ghost use Rattle.command_line.specs.CommandLine.{bare_app, check_app, entries_rule, file_rule, judge_app, plan_app, program_app};
+
+use clap::{Arg, ArgAction, Command};
+use std::alloc::{AllocError, Global};
+
+const ABOUT: &str =
+    "Plans RISC-V PMP entries for a permission map with the fewest entries, certifies the plan, and judges accesses by it";
+
+const EXAMPLE: &str =
+    "Example, with a file map.txt that holds the line\n\n  0x80000000 0x1000 rwx\n\n  pmpmon plan map.txt map.pmpc      prints one entry, and writes its certificate\n  pmpmon check map.txt map.pmpc     prints 'accepted 1'\n\nStatus: 0 done, 1 refused by the checker, 2 bad input, 3 input or output failed, 4 memory";
+
+const PLAN_HELP: &str =
+    "Prints 'entries N', each entry as 'I 0xCC 0xAAAAAAAAAAAAAAAA' (configuration byte and address register),\nand the configuration words where the entries fit. The certificate shows that no shorter list means the map.\n\nA map file has lines 'BASE SIZE PERM', in bytes: whole pages of 4096 bytes, and one of none, r, rw, x, rx, rwx.\n\nExample:\n  pmpmon plan map.txt map.pmpc --entries 64";
+
+const JUDGE_HELP: &str =
+    "A trace has a line for each access, with M s or u, and SIZE 1, 2, 4 or 8 (for a fetch 2 or 4):\n\n  fetch M SIZE ADDR\n  load M SIZE ADDR\n  store M SIZE ADDR VALUE\n\nEach is answered by 'N ok' or 'N fault CAUSE'.\n\nExample, with a file trace.txt that holds the line 'load s 8 0x80000ff8':\n  pmpmon judge map.txt trace.txt";
+
+const CHECK_HELP: &str =
+    "Prints 'accepted N' (for a plan of --entries 64 'accepted N of 64'), or 'refused CODE NAME' with status 1.\nThe checker trusts neither the planner nor who wrote the certificate.\n\nExample:\n  pmpmon check map.txt map.pmpc";
+
+/// The argument that names a file.
+fn file_arg<'a>(alloc: Global, name: &'a str, help: &'a str, is_required: bool) -> Arg<'a>
+    ensures rule { rule_of result ≡ file_rule name.entry.now is_required }
+    ensures local { result.global ≡ false }
+{
+    Arg::new(alloc, name)
+        .help(help)
+        .action(ArgAction::Set)
+        .required(is_required)
+}
+
+/// The option that says how many entries the register file has.
+fn entries_arg<'a>(alloc: Global) -> Arg<'a>
+    ensures rule { rule_of result ≡ entries_rule }
+    ensures local { result.global ≡ false }
+{
+    Arg::new(alloc, "entries")
+        .long("entries")
+        .value_name("16|64")
+        .help("How many PMP entries the hart has")
+        .action(ArgAction::Set)
+        .default_value("16")
+}
+
+/// A command without arguments, with its texts for help.
+fn named<'a>(alloc: Global, name: &'a str, about: &'a str, more: &'a str) -> Command<'a>
+    ensures app { app_of result ≡ new_app name.entry.now }
+    ensures local { (out-Command result).has_globals ≡ false }
+{
+    Command::new(alloc, name).about(about).after_help(more)
+}
+
+fn plan_command<'a>(alloc: Global) -> Result<Command<'a>, AllocError>
+    ensures app { IfOk result (λ c. app_of c ≡ plan_app) }
+    ensures local { IfOk result (λ c. (out-Command c).has_globals ≡ false) }
+{
+    let map = file_arg(alloc, "MAP", "The map file", true);
+    let cert = file_arg(alloc, "CERT", "The file to write the certificate to", false);
+    let entries = entries_arg(alloc);
+    let about = "Print the fewest entries that mean a map, and write their certificate";
+    let plan = named(alloc, "plan", about, PLAN_HELP)
+        .arg(map)?
+        .arg(cert)?
+        .arg(entries)?;
+    Ok(plan)
+}
+
+fn judge_command<'a>(alloc: Global) -> Result<Command<'a>, AllocError>
+    ensures app { IfOk result (λ c. app_of c ≡ judge_app) }
+    ensures local { IfOk result (λ c. (out-Command c).has_globals ≡ false) }
+{
+    let map = file_arg(alloc, "MAP", "The map file", true);
+    let trace = file_arg(alloc, "TRACE", "The trace of accesses", true);
+    let entries = entries_arg(alloc);
+    let about = "Load a map's entries and judge the accesses of a trace by them";
+    let judge = named(alloc, "judge", about, JUDGE_HELP)
+        .arg(map)?
+        .arg(trace)?
+        .arg(entries)?;
+    Ok(judge)
+}
+
+fn check_command<'a>(alloc: Global) -> Result<Command<'a>, AllocError>
+    ensures app { IfOk result (λ c. app_of c ≡ check_app) }
+    ensures local { IfOk result (λ c. (out-Command c).has_globals ≡ false) }
+{
+    let map = file_arg(alloc, "MAP", "The map file", true);
+    let cert = file_arg(alloc, "CERT", "The certificate", true);
+    let about = "Check that a certificate proves its entries right and fewest for a map";
+    let check = named(alloc, "check", about, CHECK_HELP)
+        .arg(map)?
+        .arg(cert)?;
+    Ok(check)
+}
+
+/// The program without its subcommands, one of which has to be named.
+fn bare_program<'a>(alloc: Global) -> Command<'a>
+    ensures app { app_of result ≡ bare_app }
+    ensures local { (out-Command result).has_globals ≡ false }
+{
+    named(alloc, "pmpmon", ABOUT, EXAMPLE).subcommand_required(true)
+}
+
+/// The program with its subcommands.
+pub fn program<'a>(alloc: Global) -> Result<Command<'a>, AllocError>
+    ensures app { IfOk result (λ c. app_of c ≡ program_app) }
+    ensures local { IfOk result (λ c. (out-Command c).has_globals ≡ false) }
+{
+    let plan = plan_command(alloc)?;
+    let judge = judge_command(alloc)?;
+    let check = check_command(alloc)?;
+    let program = bare_program(alloc)
+        .subcommand(plan)?
+        .subcommand(judge)?
+        .subcommand(check)?;
+    Ok(program)
+}

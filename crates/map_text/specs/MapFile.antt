@@ -1,0 +1,88 @@
+-- What a map file says.
+use Rattle.std.specs.Prelude.{◌≡◌, ℕ, ◌+◌, ◌/◌, ◌%◌, ◌^◌, ◌<◌, ◌≤◌, ◌==◌, nat_le, if◌then◌else◌, List, [], ◌∷◌, ◌++◌, length, Option, Some, None, option_map}
+use Rattle.std.specs.Option.{option_and_then}
+use Rattle.pmp_encoding.specs.declared.perm.Perm.{Perm}
+use Rattle.permission_map.specs.declared.runs.Run.{Run}
+use Rattle.permission_map.specs.Overwriting.{AreOverwritten}
+use Rattle.text_lines.specs.Words.{words_of}
+use Rattle.text_lines.specs.Numbers.{number_of, permission_of}
+use Rattle.text_lines.specs.Lines.{AreLines, without_return}
+use Rattle.map_text.specs.declared.map_lines.Setting.{Setting}
+
+-- a number of bytes that is a whole number of pages, as pages
+abbrev pub pages_of : ℕ → Option ℕ
+pages_of bytes = if bytes % 4096 == 0 then Some (bytes / 4096) else None
+
+-- the pages that a word counts
+abbrev pub pages_in : List ℕ → Option ℕ
+pages_in word = option_and_then pages_of (number_of word)
+
+-- a permission on pages of the space
+abbrev pub setting_on : ℕ → ℕ → Perm → Option Setting
+setting_on first count perm = if nat_le (first + count) (2 ^ 44) then Some (record { first = first; count = count; perm = perm }) else None
+
+-- what words set: a base and a size in bytes, and a permission
+abbrev pub setting_of : List (List ℕ) → Option Setting
+setting_of (base ∷ size ∷ perm ∷ []) =
+    option_and_then (λ first. option_and_then (λ count. option_and_then (setting_on first count) (permission_of perm)) (pages_in size)) (pages_in base)
+setting_of _ = None
+
+-- what words say: nothing where there are none
+abbrev pub said_by : List (List ℕ) → Option (Option Setting)
+said_by [] = Some None
+said_by (word ∷ words) = option_map (λ setting. Some setting) (setting_of (word ∷ words))
+
+-- what a line says, where it is understood
+abbrev pub line_says : List ℕ → Option (Option Setting)
+line_says line = option_and_then said_by (words_of line)
+
+-- what a line of at most 1023 bytes says, its CR counted
+abbrev pub raw_says : List ℕ → Option (Option Setting)
+raw_says raw = if nat_le (length raw) 1023 then line_says (without_return raw) else None
+
+-- one setting leads from a map to a map of at most 4096 ranges
+pub record Sets (before : List Run) (setting : Setting) (after : List Run) : Type 0 where
+  pub overwritten : AreOverwritten before setting.first setting.count setting.perm after
+  pub most : length after ≤ 4096
+
+-- what a line says leads from a map to a map
+abbrev pub Leads : Option (Option Setting) → List Run → List Run → Type 0
+Leads None before after = ⊥
+Leads (Some None) before after = after ≡ before
+Leads (Some (Some setting)) before after = Sets before setting after
+
+-- lines lead from a map to a map, one after another, and each of them is understood
+pub data LeadTo : List Run → List (List ℕ) → List Run → Type 0 where
+  start : {map : List Run} → LeadTo map [] map
+  line : {first before after : List Run} {lines : List (List ℕ)} → (raw : List ℕ) → LeadTo first lines before → Leads (raw_says raw) before after → LeadTo first (lines ++ raw ∷ []) after
+
+-- one setting would lead from a map to more than 4096 ranges
+pub record SetsTooMany (before : List Run) (setting : Setting) : Type 0 where
+  pub runs : List Run
+  pub overwritten : AreOverwritten before setting.first setting.count setting.perm runs
+  pub many : 4096 < length runs
+
+-- the map that the lines of a file make
+pub record Makes (bytes : List ℕ) (map : List Run) : Type 0 where
+  pub lines : List (List ℕ)
+  pub are_lines : AreLines bytes lines
+  pub made : LeadTo [] lines map
+
+-- line n of a file, the first at fault, with the map that the lines before it make
+pub record FaultAt (bytes : List ℕ) (n : ℕ) (fault : List Run → Option (Option Setting) → Type 0) : Type 0 where
+  pub before : List (List ℕ)
+  pub raw : List ℕ
+  pub rest : List (List ℕ)
+  pub are_lines : AreLines bytes (before ++ raw ∷ rest)
+  pub number : length before + 1 ≡ n
+  pub map : List Run
+  pub made : LeadTo [] before map
+  pub here : fault map (raw_says raw)
+
+-- a line that is not understood
+abbrev pub IsUnknown : List Run → Option (Option Setting) → Type 0
+IsUnknown map says = says ≡ None
+
+-- a line after which there would be too many ranges
+abbrev pub MakesTooMany : List Run → Option (Option Setting) → Type 0
+MakesTooMany map says = (setting : Setting) × (says ≡ Some (Some setting)) × SetsTooMany map setting

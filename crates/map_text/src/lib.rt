@@ -1,0 +1,15 @@
+//! The text of a map: what its lines say, and the map that they make.
+//!
+//! Each line sets a permission on whole pages, and a later line overrides an earlier one. For the layer above: [`map_of`]
+//! answers the map that the lines of a file make, or the first line at fault; [`raw_says`] answers what one line says.
+//!
+//! ```rust
+//! let map = map_of(rt.alloc(), b"0x80000000 0x1000 rwx\n")?;
+//! ```
+#![tactic(auto)]
+
+mod map_file;
+mod map_lines;
+
+pub use map_file::{MapFileFault, map_of};
+pub use map_lines::{Setting, raw_says};

@@ -1,0 +1,18 @@
+//! The lines that the program prints, each in a buffer of a fixed length, and the printing of a plan.
+//!
+//! For the layer above: each function that ends in `_line` answers the text that its clause names, and takes no memory;
+//! [`print_plan`] writes the lines of a list of entries to a sink.
+//!
+//! ```rust
+//! print_plan(plan.entries(), Limit::Sixteen, &mut out)?;
+//! ```
+#![tactic(auto)]
+
+mod printing;
+mod texts;
+
+pub use printing::print_plan;
+pub use texts::{
+    Line, accepted_line, accepted_of_line, answer_line, count_line, entry_line, refused_line,
+    word_line,
+};

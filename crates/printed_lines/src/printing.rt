@@ -1,0 +1,65 @@
+//! What `plan` prints.
+
+ghost use Rattle.std.specs.Prelude.{◌≡◌, ◌+◌, ◌*◌, ◌-◌, ◌^◌, ◌<◌, ◌≤◌, ◌++◌, List, ℕ, IfOk, length};
+ghost use Rattle.std.specs.Io.KnownBytes.{Appends};
+ghost use Rattle.pmp_encoding.specs.Limits.{limit_number};
+ghost use Rattle.printed_lines.specs.Plans.{IsPlanText, entries_text, words_text};
+
+use crate::texts::{count_line, entry_line, word_line};
+use byte_streams::{DeviceFault, Sink, write_whole};
+use pmp_encoding::{Bank, Entry, Limit};
+
+/// Writes a line for each entry.
+fn print_entries<W: Sink>(entries: &[Entry], out: &mut W) -> Result<(), DeviceFault>
+    requires { W.failures out.old < 2 ^ 64 - 1 }
+    ensures well { IfOk result (λ _. W.failures out.new ≡ W.failures out.old) }
+    ensures written { IfOk result (λ _. Appends (W.contents out.old) (W.contents out.new) (entries_text 0 entries.now)) }
+{
+    for (i, entry) in entries.iter().enumerate() {
+        let (cfg, address) = entry.encode();
+        let line = entry_line(i as u64, cfg, address);
+        write_whole(out, line.as_slice())?;
+    }
+    Ok(())
+}
+
+/// Writes the first words of a bank, a line for each.
+fn print_words<W: Sink>(bank: &Bank, count: usize, out: &mut W) -> Result<(), DeviceFault>
+    requires failures { W.failures out.old < 2 ^ 64 - 1 }
+    requires count { count ≤ 8 }
+    ensures written { IfOk result (λ _. Appends (W.contents out.old) (W.contents out.new) (words_text bank.now 0 count)) }
+{
+    for i in 0..count {
+        let k = 2 * i;
+        let line = word_line(k as u64, bank.cfg(k));
+        write_whole(out, line.as_slice())?;
+    }
+    Ok(())
+}
+
+/// How many configuration words a bank has.
+fn words_of(limit: Limit) -> usize
+    ensures value { result * 8 ≡ limit_number limit }
+    ensures most { result ≤ 8 }
+{
+    match limit {
+        Limit::Sixteen => 2,
+        Limit::SixtyFour => 8,
+    }
+}
+
+/// Writes the number of entries, a line for each, and the configuration words of the bank that they fit in.
+pub fn print_plan<W: Sink>(entries: &[Entry], limit: Limit, out: &mut W) -> Result<(), DeviceFault>
+    requires { W.failures out.old < 2 ^ 64 - 1 }
+    ensures { IfOk result (λ _. (text : List ℕ) × IsPlanText limit entries.now text × Appends (W.contents out.old) (W.contents out.new) text) }
+{
+    let count = count_line(entries.len() as u64);
+    write_whole(out, count.as_slice())?;
+    print_entries(entries, out)?;
+    if entries.len() > limit.number() as usize {
+        return Ok(());
+    }
+    let bank = Bank::of(entries, limit);
+    print_words(&bank, words_of(limit), out)?;
+    Ok(())
+}
