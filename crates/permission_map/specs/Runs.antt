@@ -1,7 +1,8 @@
 -- A view kept as runs of pages.
-use Rattle.std.specs.Prelude.{◌≡◌, ◌≢◌, ℕ, ◌+◌, ◌^◌, ◌<◌, ◌≤◌, Bool, ◌&&◌, nat_le, nat_lt, cond, List, [], ◌∷◌, ⊤}
+use Rattle.std.specs.Prelude.{◌≡◌, ◌≢◌, ℕ, ◌+◌, ◌^◌, ◌<◌, ◌≤◌, cond, List, [], ◌∷◌, ⊤}
 use Rattle.pmp_encoding.specs.declared.perm.Perm.{Perm}
 use Rattle.pmp_encoding.specs.declared.perm.Perm.TheVariants.{NoAccess}
+pub use Rattle.page_views.specs.Views.{in_range}
 use Rattle.permission_map.specs.declared.runs.Run.{Run}
 
 -- the first page behind a run
@@ -24,10 +25,6 @@ AreRunsAfter at before (run ∷ runs) = IsRunAfter at before run × AreRunsAfter
 -- the maximal runs of some view of the space's 2 ^ 44 pages, by rising page
 abbrev pub AreRuns : List Run → Type 0
 AreRuns runs = AreRunsAfter 0 NoAccess runs
-
--- whether a page is one of the `count` pages from `first` on
-abbrev pub in_range : ℕ → ℕ → ℕ → Bool
-in_range first count page = nat_le first page && nat_lt page (first + count)
 
 -- the permission of each page: that of the run that has it, or none
 abbrev pub view_of_runs : List Run → ℕ → Perm

@@ -1,6 +1,7 @@
 ghost use Rattle.std.specs.Prelude.{◌≡◌, ◌≤◌, ◌<◌, ◌+◌, ◌%◌, ◌^◌, ◌↔◌, ℕ, List, [], length, Err, OnOk, OnErr, IfOk, IfSome, IfNone};
 ghost use Rattle.pmp_encoding.specs.declared.perm.Perm.{Perm};
 ghost use Rattle.pmp_encoding.specs.declared.perm.Perm.TheVariants.{NoAccess};
+ghost use Rattle.page_views.specs.Views.{IsUniform};
 ghost use Rattle.permission_map.specs.declared.runs.Run.{Run};
 ghost use Rattle.permission_map.specs.declared.fault.MapFault as MapFault;
 ghost use Rattle.permission_map.specs.Runs.{AreRuns, view_of_runs};
@@ -10,22 +11,13 @@ use crate::fault::MapFault;
 use crate::overwriting::overwrite;
 use crate::runs::Run;
 use crate::searching::next;
+use page_views::{SPACE_PAGES, pages_of};
 use pmp_encoding::Perm;
 use std::alloc::{AllocError, Global};
 use std::marker::Model;
 
-/// The pages of the physical address space.
-const PAGES: u64 = 1 << 44;
-
 /// A growth was refused.
 pub type Memory = AllocError;
-
-fn pages_of(log2: u32) -> u64
-    requires { log2 ≤ 44 }
-    ensures { result ≡ 2 ^ log2 }
-{
-    1 << log2
-}
 
 /// A permission for each page of the space, seen as its maximal runs of a permission other than none. It has at most
 /// 4096 of them.
@@ -83,8 +75,8 @@ impl PermissionMap {
     pub fn uniform(&self, first: u64, log2: u32) -> Option<Perm>
         requires aligned { first % 2 ^ log2 ≡ 0 }
         requires inside { first + 2 ^ log2 ≤ 2 ^ 44 }
-        ensures some { IfSome result (λ perm. (i : ℕ) → i < 2 ^ log2 → view_of_runs self.now (first + i) ≡ perm) }
-        ensures none { IfNone result ((perm : Perm) → ((i : ℕ) → i < 2 ^ log2 → view_of_runs self.now (first + i) ≡ perm) → ⊥) }
+        ensures some { IfSome result (IsUniform (view_of_runs self.now) log2 first) }
+        ensures none { IfNone result ((perm : Perm) → ¬ IsUniform (view_of_runs self.now) log2 first perm) }
     {
         let end = first + pages_of(log2);
         let Some(run) = next(&self.runs, first) else {
@@ -117,7 +109,7 @@ impl PermissionMap {
         ensures too_many { (result ≡ Err MapFault.TooManyRanges) ↔ ((first + count ≤ 2 ^ 44) × ((runs : List Run) × AreOverwritten self.old first count perm runs × (4096 < length runs))) }
         ensures memory { result ≡ Err MapFault.Memory → (runs : List Run) × AreOverwritten self.old first count perm runs × (length self.old < length runs) × (length runs ≤ 4096) }
     {
-        if first > PAGES || count > PAGES - first {
+        if first > SPACE_PAGES || count > SPACE_PAGES - first {
             return Err(MapFault::PastEnd);
         }
         overwrite(&mut self.runs, first, count, perm)

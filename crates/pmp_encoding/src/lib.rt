@@ -35,4 +35,4 @@ pub use fault::EncodingFault;
 pub use laws::{bank_law, faultless_law, list_law, one_law, pair_law, round_trip_law};
 pub use limit::Limit;
 pub use perm::Perm;
-pub use region::{Entry, Region};
+pub use region::{Entry, Region, SPACE_SIZE};

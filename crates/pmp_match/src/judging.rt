@@ -9,6 +9,7 @@ ghost use Rattle.pmp_match.specs.Judgement.{Judges, judgement, access_fault, mis
 
 use crate::access::{Access, Kind, Mode};
 use crate::cause::Cause;
+use page_views::SPACE_SIZE;
 use pmp_encoding::{Bank, Entry, Perm, Region};
 
 fn holds(perm: Perm, kind: Kind) -> bool
@@ -102,7 +103,7 @@ fn judged(bank: &Bank, access: &Access) -> Result<(), Cause>
     if access.address % u64::from(access.size) != 0 {
         return Err(misaligned(access.kind));
     }
-    if access.address >= 1 << 56 || !is_allowed(bank, access) {
+    if access.address >= SPACE_SIZE || !is_allowed(bank, access) {
         return Err(access_fault(access.kind));
     }
     Ok(())

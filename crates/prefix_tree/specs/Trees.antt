@@ -1,6 +1,7 @@
 -- Trees of blocks of one permission, and the views that they give.
 use Rattle.std.specs.Prelude.{◌≡◌, ◌≢◌, ℕ, zero, suc, ◌+◌, ◌-◌, ◌^◌, ◌<◌, cond, ltb}
 use Rattle.pmp_encoding.specs.declared.perm.Perm.{Perm}
+use Rattle.page_views.specs.Views.{IsUniform}
 
 -- a block of one permission, or one split into a lower and an upper half
 pub data PermTree : Type 0 where
@@ -9,7 +10,7 @@ pub data PermTree : Type 0 where
 
 -- the tree gives the 2 ^ k pages from `first` on the view's permissions
 abbrev pub TreeMeansAt : (ℕ → Perm) → ℕ → ℕ → PermTree → Type 0
-TreeMeansAt view k first (Uniform q) = (i : ℕ) → i < 2 ^ k → view (first + i) ≡ q
+TreeMeansAt view k first (Uniform q) = IsUniform view k first q
 TreeMeansAt view zero first (Split lower upper) = ⊥
 TreeMeansAt view (suc k) first (Split lower upper) = TreeMeansAt view k first lower × TreeMeansAt view k (first + 2 ^ k) upper
 

@@ -6,17 +6,10 @@ ghost use Rattle.prefix_tree.specs.Slices.{MeetBehind};
 
 use crate::blocks::Block;
 use crate::joining::join;
+use page_views::pages_of;
 use permission_map::Run;
 use pmp_encoding::Perm;
 use std::alloc::{AllocError, Global};
-
-/// How many pages a block of this height has.
-pub fn pages_of(height: u32) -> u64
-    requires { height ≤ 44 }
-    ensures { result ≡ 2 ^ height }
-{
-    1 << height
-}
 
 /// How many of the runs begin before the page.
 fn begun_before(runs: &[Run], page: u64) -> usize

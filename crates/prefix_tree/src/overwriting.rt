@@ -1,14 +1,14 @@
 ghost use Rattle.std.specs.Prelude.{◌≡◌, ◌+◌, ◌^◌, ◌≤◌, ◌<◌, ℕ, IfOk};
 ghost use Rattle.pmp_encoding.specs.declared.perm.Perm.{Perm};
-ghost use Rattle.permission_map.specs.Views.{overwritten};
+ghost use Rattle.page_views.specs.Views.{overwritten};
 ghost use Rattle.prefix_tree.specs.Trees.{TreeMeansAt, Fits, IsCanonical};
 ghost use Rattle.prefix_tree.specs.Overlaps.{IsOverlap};
 ghost use Rattle.prefix_tree.specs.Joined.{lower_half, upper_half};
 ghost use Rattle.prefix_tree.specs.Shapes.{shape_of, IsSummed};
 
 use crate::blocks::Block;
-use crate::building::pages_of;
 use crate::joining::join;
+use page_views::pages_of;
 use permission_map::Run;
 use std::alloc::{AllocError, Global};
 

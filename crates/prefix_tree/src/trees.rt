@@ -2,7 +2,7 @@ ghost use Rattle.std.specs.Prelude.{◌≡◌, ◌<◌, ◌≤◌, ◌*◌, ◌+
 ghost use Rattle.permission_map.specs.declared.fault.MapFault as MapFault;
 ghost use Rattle.permission_map.specs.declared.runs.Run.{Run};
 ghost use Rattle.permission_map.specs.Runs.{view_of_runs};
-ghost use Rattle.permission_map.specs.Views.{overwritten};
+ghost use Rattle.page_views.specs.Views.{overwritten};
 ghost use Rattle.prefix_tree.specs.Trees.{TreeMeans, view_of_tree, Fits, IsCanonical};
 ghost use Rattle.prefix_tree.specs.RunsOf.{AreRunsOf};
 ghost use Rattle.prefix_tree.specs.Counts.{splits, leaves};
@@ -12,13 +12,11 @@ use crate::blocks::Block;
 use crate::building::build_block;
 use crate::joining::run_count;
 use crate::overwriting::overwritten_block;
+use page_views::SPACE_PAGES;
 use permission_map::{MapFault, Memory, PermissionMap, Run};
 use pmp_encoding::Perm;
 use std::alloc::Global;
 use std::marker::Model;
-
-/// How many pages the space has: a page has 4096 bytes, and a physical address 56 bits at most.
-const PAGES: u64 = 1 << 44;
 
 /// How many maximal runs of a permission other than none a view may have.
 const MOST_RUNS: u64 = 4096;
@@ -80,7 +78,7 @@ impl Tree {
         ensures too_many { result ≡ Err MapFault.TooManyRanges → (first + count ≤ 2 ^ 44) × ((runs : List Run) × AreRunsOf (overwritten (view_of_tree self.now) first count perm) runs × (4096 < length runs)) }
         ensures few { OnOk result ((runs : List Run) → AreRunsOf (overwritten (view_of_tree self.now) first count perm) runs → length runs ≤ 4096) }
     {
-        if first > PAGES || count > PAGES - first {
+        if first > SPACE_PAGES || count > SPACE_PAGES - first {
             return Err(MapFault::PastEnd);
         }
         let run = Run { first, count, perm };
