@@ -12,6 +12,15 @@
  *   tidy.trace     1,000,000 accesses on board.map
  *   messy.trace    the same with comments, tabs, CRs, and numbers in other spellings
  *   larger.trace   1,000,000 accesses on larger.map
+ *   apart-N.map    N runs, for N from 256 to 4096, whose edges alternate bits: the fewest entries are 32 for each
+ *                  run, no two of which meet, so that they mean the map in any order
+ *   short.trace, long.trace   the first 100,000 accesses of tidy.trace, and 4,000,000
+ *   platform.toml, platform-64.toml   a board with one hart of 16 entries, and with two harts of 64
+ *   mixed.trace    1,000,000 events of every kind on platform.toml: accesses of the host and of five enclaves,
+ *                  registers, interrupts, calls
+ *   mixed-64.trace the same on the two harts of platform-64.toml, with twenty enclaves
+ *   pairs.trace    20,000 times an enclave of one page, made and destroyed
+ *   churn.trace    40,000 creations and destructions on platform-64.toml, up to 25 enclaves alive
  */
 #include <inttypes.h>
 #include <stdint.h>
@@ -153,19 +162,159 @@ static void access_line(FILE *trace, uint64_t from, uint64_t bytes, int messy)
     fputs(style == 1 ? "   # a remark\r\n" : "\n", trace);
 }
 
+/* Run i begins in block 2i of 2^31 pages and ends in block 2i + 1, at pages whose low bits alternate. */
+static void apart(const char *folder)
+{
+    static const uint64_t LOW[] = {0x2AAAAAAB, 0x55555555};
+    for (uint64_t runs = 256; runs <= 4096; runs *= 2) {
+        char name[32];
+        FILE *map;
+        snprintf(name, sizeof name, "apart-%" PRIu64 ".map", runs);
+        map = make(folder, name);
+        for (uint64_t i = 0; i < runs; i++) {
+            uint64_t first = (2 * i << 31) + LOW[i & 1];
+            uint64_t end = ((2 * i + 1) << 31) + LOW[i / 2 & 1];
+            range(map, first, end - first, PERMS[i % 5]);
+        }
+        fclose(map);
+    }
+}
+
 static void traces(const char *folder)
 {
     FILE *tidy = make(folder, "tidy.trace");
     FILE *messy = make(folder, "messy.trace");
     FILE *larger = make(folder, "larger.trace");
+    FILE *brief = make(folder, "short.trace");
+    FILE *longer = make(folder, "long.trace");
     for (int i = 0; i < 1000000; i++) {
         access_line(tidy, 0x80000000, 0x8000000, 0);
         access_line(messy, 0x80000000, 0x8000000, 1);
         access_line(larger, 0x80200000, 0x80000, 0);
     }
+    for (int i = 0; i < 100000; i++)
+        access_line(brief, 0x80000000, 0x8000000, 0);
+    for (int i = 0; i < 4000000; i++)
+        access_line(longer, 0x80000000, 0x8000000, 0);
     fclose(tidy);
     fclose(messy);
     fclose(larger);
+    fclose(brief);
+    fclose(longer);
+}
+
+static void platforms(const char *folder)
+{
+    static const char *const NAMES[] = {"platform.toml", "platform-64.toml"};
+    static const char *const HEADS[] = {"", "harts = 2\nentries = 64\n\n"};
+    for (int i = 0; i < 2; i++) {
+        FILE *file = make(folder, NAMES[i]);
+        fprintf(file, "%s[monitor]\nbase = 0x80000000\nsize = 0x200000\n\n[[ram]]\nbase = 0x80000000\nsize = 0x8000000\n\n"
+                "[[device]]\nbase = 0x10000000\nsize = 0x1000\nperm = \"rw\"\n", HEADS[i]);
+        fclose(file);
+    }
+}
+
+#define CALL "ecall 0x08454E43 "
+
+/* Enclave i, from 1, has a page of text and one of data, and shares a page. */
+static uint64_t private_base(int i) { return 0x80200000 + (uint64_t)(i - 1) * 0x4000; }
+static uint64_t shared_base(int i) { return 0x81000000 + (uint64_t)(i - 1) * 0x1000; }
+
+static void create(FILE *trace, int i)
+{
+    fprintf(trace, CALL "0 0x%" PRIx64 " 1 1 0x%" PRIx64 " 1 0\n", private_base(i), shared_base(i));
+}
+
+/* Events of every kind. The enclaves' states are followed, so that most calls are allowed: 'f' fresh, 'r' running,
+   's' stopped, 'x' exited. */
+static void mixed(const char *folder, const char *name, int harts, int enclaves)
+{
+    FILE *trace = make(folder, name);
+    char state[65];
+    int world[4] = {0};
+    for (int i = 1; i <= enclaves; i++) {
+        create(trace, i);
+        state[i] = 'f';
+    }
+    for (int left = 1000000 - enclaves; left > 0; left--) {
+        int hart = below(harts), here = world[hart], what = below(1000), other = 1 + below(enclaves);
+        if (harts > 1)
+            fprintf(trace, "@%d ", hart);
+        if (what < 600) {
+            if (here && below(5))
+                access_line(trace, below(2) ? private_base(here) : shared_base(here), 0x1000, 0);
+            else
+                access_line(trace, 0x80200000, 0x80000, 0);
+        } else if (what < 750) {
+            fprintf(trace, "reg x%d 0x%" PRIx64 "\n", (int)below(32), draw());
+        } else if (what < 800) {
+            fputs("irq\n", trace);
+            if (here)
+                state[here] = 's';
+            world[hart] = 0;
+        } else if (here && what < 900) {
+            fprintf(trace, CALL "6 %d %d\n", here, (int)below(4));
+        } else if (here) {
+            int leaves = what < 999;
+            if (leaves)
+                fputs(CALL "3\n", trace);
+            else
+                fprintf(trace, CALL "5 0x%x\n", (unsigned)below(1u << 31));
+            state[here] = leaves ? 's' : 'x';
+            world[hart] = 0;
+        } else if (state[other] == 'x') {
+            fprintf(trace, CALL "1 %d\n", other);
+            if (harts > 1)
+                fprintf(trace, "@%d ", hart);
+            create(trace, other);
+            state[other] = 'f';
+            left--;
+        } else if (state[other] == 'r' || what < 820) {
+            fprintf(trace, "ecall %d %d\n", (int)below(100), (int)below(10));
+        } else {
+            fprintf(trace, CALL "%d %d\n", state[other] == 'f' ? 2 : 4, other);
+            state[other] = 'r';
+            world[hart] = other;
+        }
+    }
+    fclose(trace);
+}
+
+static void pairs(const char *folder)
+{
+    FILE *trace = make(folder, "pairs.trace");
+    for (uint64_t i = 0; i < 20000; i++)
+        fprintf(trace, CALL "0 0x%" PRIx64 " 1 0 0 0 0\n" CALL "1 1\n", 0x80200000 + i % 1000 * 0x1000);
+    fclose(trace);
+}
+
+/* Enclaves of two pages at 256 places; ids are given from the least free one on. */
+static void churn(const char *folder)
+{
+    FILE *trace = make(folder, "churn.trace");
+    int place[65] = {0}, taken[256] = {0}, live = 0;
+    for (int i = 0; i < 40000; i++) {
+        int id = 1, at = below(256);
+        if (live == 25 || (live && below(5) < 2)) {
+            while (!place[id = 1 + below(64)])
+                ;
+            taken[place[id] - 1] = 0;
+            place[id] = 0;
+            live--;
+            fprintf(trace, CALL "1 %d\n", id);
+            continue;
+        }
+        while (place[id])
+            id++;
+        while (taken[at])
+            at = below(256);
+        taken[at] = 1;
+        place[id] = at + 1;
+        live++;
+        fprintf(trace, CALL "0 0x%" PRIx64 " 1 1 0 0 0\n", 0x80200000 + (uint64_t)at * 0x2000);
+    }
+    fclose(trace);
 }
 
 int main(int count, char **words)
@@ -180,5 +329,11 @@ int main(int count, char **words)
     rewritten(words[1]);
     boards(words[1]);
     traces(words[1]);
+    apart(words[1]);
+    platforms(words[1]);
+    mixed(words[1], "mixed.trace", 1, 5);
+    mixed(words[1], "mixed-64.trace", 2, 20);
+    pairs(words[1]);
+    churn(words[1]);
     return 0;
 }
