@@ -1,8 +1,34 @@
 //! A modelled RV64 hart. It hands on the streams and the lines of its trace.
 #![tactic(auto)]
 
+mod acting;
+mod booting;
+mod hardware;
+mod laws;
+mod machine;
+mod memory;
+mod moving;
+mod operating;
+mod parts;
+mod refusing;
+mod reply;
+mod report;
+mod running;
+mod running_machine;
+#[cfg(test)]
+mod tests_machine;
+
 pub use byte_streams::{Counted, DeviceFault, Sink, Source, fakes, write_whole};
 pub use hart_trace::{Event, parse_line};
+pub use laws::{
+    creation_law, destruction_law, platform_law, privacy_law, private_bytes_law, worlds_law,
+};
+pub use machine::Machine;
+pub use memory::Memory;
+pub use reply::Reply;
+pub use report::reply_line;
+pub use running::{Steps, run_over};
+pub use running_machine::run;
 pub use text_lines::{
     LineReader, NotUnderstood, RunFault, Words, lines_law, number, permission, words_law,
 };

@@ -1,0 +1,75 @@
+-- An access by the list of a bank, and by the view that it means.
+use Rattle.std.proofs.Common.{◌≡◌, ◌≢◌, ◌∙◌, inl, inr, ℕ, List, Result, Ok, Err, refl, sym, subst}
+use Rattle.pmp_encoding.specs.declared.perm.Perm.{Perm}
+use Rattle.pmp_encoding.specs.declared.region.Entry.{Entry}
+use Rattle.pmp_match.specs.declared.access.Access.{Access}
+use Rattle.pmp_match.specs.declared.access.Kind.{Kind}
+use Rattle.pmp_match.specs.declared.access.Kind.TheVariants.{Fetch, Load, Store}
+use Rattle.pmp_match.specs.declared.access.Mode.TheVariants.{Machine}
+use Rattle.pmp_match.specs.declared.cause.Cause.{Cause}
+use Rattle.pmp_match.specs.Judgement.{Judges}
+use Rattle.pmp_match.specs.Meaning.{Means}
+use Rattle.pmp_match.proofs.Judged.{judgement_law_proof}
+use Rattle.enclave_table.specs.Enclaves.{EnclaveTable}
+use Rattle.context_switch.specs.declared.hart.Hart.{Hart}
+use Rattle.context_switch.specs.declared.contexts.Contexts.{Contexts}
+use Rattle.hart_sim.specs.declared.memory.Memory.{Memory}
+use Rattle.hart_sim.specs.declared.reply.Reply.{Reply}
+use Rattle.hart_sim.specs.declared.reply.Reply.TheVariants as replies
+use Rattle.std.proofs.Common.{Bool}
+use Rattle.hart_sim.specs.Acting.{SameMemory, Stores, ReachesMemory}
+use Rattle.hart_sim.specs.States.{SameState}
+use Rattle.hart_sim.specs.Changes.{storing}
+use Rattle.hart_sim.specs.Steps.{verdict, TakesEffect, Accesses}
+use Rattle.hart_sim.specs.Hardware.{shown}
+use Rattle.hart_sim.proofs.Verdicts.{verdict_is}
+
+-- an access has one judgement
+pub judged_once : (es : List Entry) (a : Access) (r s : Result (Unit {0}) Cause) → Judges es a r → Judges es a s → r ≡ s
+judged_once es a r s j k = sym ((judgement_law_proof es a r).0 j) ∙ (judgement_law_proof es a s).0 k
+
+no_fault : (kind : Kind) (old new : Memory) (a : Access) (value : ℕ) (reply : Reply) (cause : Cause) → ReachesMemory kind old a value reply new → reply ≡ replies.Fault cause → ⊥
+no_fault Fetch old new a value reply cause x e = let h = sym x.0 ∙ e in cc
+no_fault Load old new a value reply cause x e = let h = sym x.0 ∙ e in cc
+no_fault Store old new a value reply cause (inl x) e = let h = sym x.0 ∙ e in cc
+no_fault Store old new a value reply cause (inr x) e = let h = sym x.0 ∙ e in cc
+
+-- one that the list allows has no fault, and no cause
+pub no_cause : (es : List Entry) (old new : Memory) (a : Access) (value : ℕ) (reply : Reply) (cause : Cause) → Judges es a (Ok tt) → ReachesMemory a.kind old a value reply new → (reply ≡ replies.Fault cause → Judges es a (Err cause)) × (Judges es a (Err cause) → reply ≡ replies.Fault cause)
+no_cause es old new a value reply cause j x = (
+  (λ e. absurd (no_fault a.kind old new a value reply cause x e)),
+  (λ k. let h : ◌≡◌ {A = Result (Unit {0}) Cause} (Ok tt) (Err cause) = judged_once es a (Ok tt) (Err cause) j k in absurd (let z = h in cc)),
+)
+
+-- one that the list refuses has that fault
+pub that_cause : (es : List Entry) (a : Access) (given cause : Cause) → Judges es a (Err given) → (replies.Fault given ≡ replies.Fault cause → Judges es a (Err cause)) × (Judges es a (Err cause) → replies.Fault given ≡ replies.Fault cause)
+that_cause es a given cause j = (
+  (λ e. let same : given ≡ cause = cc in subst (λ x. Judges es a (Err x)) same j),
+  (λ k. let h : ◌≡◌ {A = Result (Unit {0}) Cause} (Err given) (Err cause) = judged_once es a (Err given) (Err cause) j k in cc),
+)
+
+-- memory as it was shows the same state
+pub shows_same : (table : EnclaveTable) (harts : List Hart) (contexts : Contexts) (marked : List Bool) (old new : Memory) → SameMemory new old → SameState (shown table harts contexts new marked) (shown table harts contexts old marked)
+shows_same table harts contexts marked old new m = record { table = refl; worlds = λ h low. refl; registers = λ who has. refl; bytes = m.bytes; written = m.written; marked = λ h low. refl }
+
+pub shows_store : (table : EnclaveTable) (harts : List Hart) (contexts : Contexts) (marked : List Bool) (old new : Memory) (address size value : ℕ) → Stores old address size value new → SameState (shown table harts contexts new marked) (storing (shown table harts contexts old marked) address size value)
+shows_store table harts contexts marked old new address size value m = record { table = refl; worlds = λ h low. refl; registers = λ who has. refl; bytes = m.bytes; written = m.written; marked = λ h low. refl }
+
+reaches : (kind : Kind) (table : EnclaveTable) (harts : List Hart) (contexts : Contexts) (marked : List Bool) (old new : Memory) (a : Access) (value : ℕ) (reply : Reply) → ReachesMemory kind old a value reply new → TakesEffect kind (shown table harts contexts old marked) a value reply (shown table harts contexts new marked)
+reaches Fetch table harts contexts marked old new a value reply x = (x.0, shows_same table harts contexts marked old new x.1)
+reaches Load table harts contexts marked old new a value reply x = (x.0, shows_same table harts contexts marked old new x.1)
+reaches Store table harts contexts marked old new a value reply (inl x) = inl (x.0, shows_store table harts contexts marked old new a.address a.size value x.1)
+reaches Store table harts contexts marked old new a value reply (inr x) = inr (x.0, x.1, shows_same table harts contexts marked old new x.2)
+
+-- an access that the list allows is one that the view allows
+pub accesses_ok : (view : ℕ → Perm) (es : List Entry) (table : EnclaveTable) (harts : List Hart) (contexts : Contexts) (marked : List Bool) (old new : Memory) (a : Access) (value : ℕ) (reply : Reply) → Means es view → a.mode ≢ Machine → Judges es a (Ok tt) → ReachesMemory a.kind old a value reply new → Accesses (verdict view a) (shown table harts contexts old marked) a value reply (shown table harts contexts new marked)
+accesses_ok view es table harts contexts marked old new a value reply means mode j x =
+    subst (λ v. Accesses v (shown table harts contexts old marked) a value reply (shown table harts contexts new marked)) (sym (verdict_is view es a (Ok tt) means mode j)) (reaches a.kind table harts contexts marked old new a value reply x)
+
+-- and one that it refuses one that the view refuses
+pub accesses_err : (view : ℕ → Perm) (es : List Entry) (table : EnclaveTable) (harts : List Hart) (contexts : Contexts) (marked : List Bool) (old : Memory) (a : Access) (value : ℕ) (cause : Cause) → Means es view → a.mode ≢ Machine → Judges es a (Err cause) → Accesses (verdict view a) (shown table harts contexts old marked) a value (replies.Fault cause) (shown table harts contexts old marked)
+accesses_err view es table harts contexts marked old a value cause means mode j =
+    let s = shown table harts contexts old marked in
+    let same : SameState s s = shows_same table harts contexts marked old old (record { bytes = λ a. refl; written = λ p. refl }) in
+    let there : Accesses (Err cause) s a value (replies.Fault cause) s = (refl, same) in
+    subst (λ v. Accesses v s a value (replies.Fault cause) s) (sym (verdict_is view es a (Err cause) means mode j)) there

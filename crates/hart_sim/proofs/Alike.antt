@@ -1,0 +1,235 @@
+-- Two states that an enclave cannot tell apart.
+use Rattle.std.proofs.Common.{◌≡◌, ◌≢◌, ◌∙◌, inl, inr, ℕ, ◌+◌, ◌-◌, ◌/◌, ◌<◌, ◌≤◌, [], ◌∷◌, Bool, true, false, ◌==◌, if◌then◌else◌, Result, Ok, Err, refl, ap, sym, subst, arith}
+use Rattle.std.proofs.lemmas.Bool.{eq-eqb, eqb-true, ne_eqb, leb-true, ltb-true, false_from_ne_true, and_parts}
+use Rattle.pmp_encoding.specs.Registers.{byte_of}
+use Rattle.pmp_encoding.specs.declared.perm.Perm.TheVariants.{NoAccess}
+use Rattle.pmp_match.specs.declared.access.Access.{Access}
+use Rattle.pmp_match.specs.declared.access.Kind.{Kind}
+use Rattle.pmp_match.specs.declared.access.Kind.TheVariants.{Fetch, Load, Store}
+use Rattle.pmp_match.specs.declared.cause.Cause.{Cause}
+use Rattle.enclave_table.specs.Enclaves.{Live}
+use Rattle.enclave_table.specs.Views.{enclave_view}
+use Rattle.enclave_table.specs.declared.enclave.Enclave.{Enclave}
+use Rattle.worlds.specs.Runners.{Runner, HostOf, EnclaveOf, runner_of}
+use Rattle.hart_trace.specs.declared.event.Event.{Event}
+use Rattle.hart_trace.specs.declared.event.Event.TheVariants as events
+use Rattle.hart_sim.specs.declared.reply.Reply.{Reply}
+use Rattle.hart_sim.specs.declared.reply.Reply.TheVariants as replies
+use Rattle.hart_sim.specs.Memory.{bytes_at, number_of, in_range}
+use Rattle.hart_sim.specs.States.{State, SameState, HasRegisters, view_of, view_in, current_view, who_runs, running_registers}
+use Rattle.hart_sim.specs.Changes.{is_same, with_x, with_running, storing, without_mark}
+use Rattle.hart_sim.specs.Steps.{Step, verdict, Accesses, TakesEffect}
+use Rattle.hart_sim.specs.Privacy.{RunsOn, LooksSame, ChangesOwn, IsOwn, IsPrivate}
+use Rattle.hart_sim.proofs.Bytes.{bytes_moved}
+use Rattle.hart_sim.proofs.Verdicts.{IsAllowed, allowed_by, some_held, page_of_byte}
+
+-- a state is itself
+pub itself : (s : State) → SameState s s
+itself s = record { table = refl; worlds = λ h low. refl; registers = λ who has. refl; bytes = λ a. refl; written = λ p. refl; marked = λ h low. refl }
+
+-- the view of an enclave that runs
+pub view_is : (s : State) (hart id : ℕ) (e : Enclave) → RunsOn s hart id e → current_view s hart ≡ enclave_view e.parts
+view_is s hart id e r = ap (λ w page. view_of s.table w page) r.world ∙ ap (λ o page. view_in o page) r.live
+
+runner_is : (s : State) (hart id : ℕ) (e : Enclave) → RunsOn s hart id e → who_runs s hart ≡ EnclaveOf id
+runner_is s hart id e r = ap (runner_of hart) r.world
+
+has : (s : State) (hart id : ℕ) (e : Enclave) → RunsOn s hart id e → HasRegisters s.table (EnclaveOf id)
+has s hart id e r = (e, r.live, inl r.running)
+
+-- where the mark is not there, taking it away changes nothing
+pub unmarked : (s : State) (hart h : ℕ) → s.marked hart ≡ false → (if h == hart then false else s.marked h) ≡ s.marked h
+unmarked s hart h none = pick (h == hart) refl
+  where
+    pick : (b : Bool) → (h == hart) ≡ b → (if b then false else s.marked h) ≡ s.marked h
+    pick true e = sym (ap s.marked (eqb-true h hart e) ∙ none)
+    pick false e = refl
+
+same_not : (a b : Runner) → (a ≡ b → ⊥) → is_same a b ≡ false
+same_not (HostOf a) (HostOf b) n = ne_eqb a b (λ e. n (ap HostOf e))
+same_not (HostOf a) (EnclaveOf b) n = refl
+same_not (EnclaveOf a) (HostOf b) n = refl
+same_not (EnclaveOf a) (EnclaveOf b) n = ne_eqb a b (λ e. n (ap EnclaveOf e))
+
+-- nothing changed but a mark that was not there
+stays : (s new : State) (hart id : ℕ) (e : Enclave) → RunsOn s hart id e → SameState new (without_mark s hart) → ChangesOwn id e s new
+stays s new hart id e r is = record {
+  table = is.table;
+  worlds = is.worlds;
+  registers = λ who known other. is.registers who known;
+  bytes = λ a none. is.bytes a;
+  written = λ p none. is.written p;
+  marked = λ h low. is.marked h low ∙ unmarked s hart h r.unmarked;
+}
+
+-- the enclave still runs where nothing but its own changed
+pub still_runs : (s new : State) (hart id : ℕ) (e : Enclave) → RunsOn s hart id e → ChangesOwn id e s new → RunsOn new hart id e
+still_runs s new hart id e r ch = record {
+  known = subst (λ t. hart < t.layout.harts) (sym ch.table) r.known;
+  world = ch.worlds hart r.known ∙ r.world;
+  live = subst (λ t. Live t id e) (sym ch.table) r.live;
+  running = r.running;
+  unmarked = ch.marked hart r.known ∙ r.unmarked;
+}
+
+-- both states as they were
+same_still : (s other new now : State) (hart there id : ℕ) (e f : Enclave) → RunsOn s hart id e → RunsOn other there id f → LooksSame id e f s other → SameState new (without_mark s hart) → SameState now (without_mark other there) → LooksSame id e f new now
+same_still s other new now hart there id e f r q l is is' = record {
+  parts = l.parts;
+  registers = is.registers (EnclaveOf id) (has s hart id e r) ∙ l.registers ∙ sym (is'.registers (EnclaveOf id) (has other there id f q));
+  bytes = λ a some. is.bytes a ∙ l.bytes a some ∙ sym (is'.bytes a);
+  written = λ p some. is.written p ∙ l.written p some ∙ sym (is'.written p);
+}
+
+-- an address of an access that is allowed is in a page of the view
+reached : (e : Enclave) (a : Access) (byte : ℕ) → IsAllowed (enclave_view e.parts) a → a.address ≤ byte → byte < a.address + a.size → enclave_view e.parts (byte / 4096) ≢ NoAccess
+reached e a byte ok low high none =
+    some_held (enclave_view e.parts (a.address / 4096)) a.kind ok.held (ap (enclave_view e.parts) (sym (page_of_byte a byte ok.aligned low high)) ∙ none)
+
+within_parts : (first count n : ℕ) → in_range first count n ≡ true → (first ≤ n) × (n < first + count)
+within_parts first count n e = let p = and_parts _ _ e in (leb-true _ _ p.0, ltb-true _ _ p.1)
+
+-- a byte outside the view is none that a store reaches
+untouched : (e : Enclave) (a : Access) (byte : ℕ) → IsAllowed (enclave_view e.parts) a → enclave_view e.parts (byte / 4096) ≡ NoAccess → in_range a.address a.size byte ≡ false
+untouched e a byte ok none = false_from_ne_true (in_range a.address a.size byte) (λ yes. let p = within_parts a.address a.size byte yes in reached e a byte ok p.0 p.1 none)
+
+loaded_same : (s other : State) (id : ℕ) (e f : Enclave) (a : Access) → LooksSame id e f s other → IsAllowed (enclave_view e.parts) a → bytes_at s.bytes a.address a.size ≡ bytes_at other.bytes a.address a.size
+loaded_same s other id e f a l ok =
+    bytes_moved s.bytes other.bytes a.address a.address a.size (λ k low. l.bytes (a.address + k) (reached e a (a.address + k) ok (omega arith) (omega arith)))
+
+-- the same store in both
+stored_same : (s other new now : State) (hart there id : ℕ) (e f : Enclave) (a : Access) (value : ℕ) → RunsOn s hart id e → RunsOn other there id f → LooksSame id e f s other → SameState new (storing (without_mark s hart) a.address a.size value) → SameState now (storing (without_mark other there) a.address a.size value) → LooksSame id e f new now
+stored_same s other new now hart there id e f a value r q l is is' = record {
+  parts = l.parts;
+  registers = is.registers (EnclaveOf id) (has s hart id e r) ∙ l.registers ∙ sym (is'.registers (EnclaveOf id) (has other there id f q));
+  bytes = λ b some. is.bytes b ∙ ap (λ x. if in_range a.address a.size b then byte_of value (b - a.address) else x) (l.bytes b some) ∙ sym (is'.bytes b);
+  written = λ p some. is.written p ∙ ap (λ x. if p == a.address / 4096 then true else x) (l.written p some) ∙ sym (is'.written p);
+}
+
+stores_own : (s new : State) (hart id : ℕ) (e : Enclave) (a : Access) (value : ℕ) → RunsOn s hart id e → IsAllowed (enclave_view e.parts) a → SameState new (storing (without_mark s hart) a.address a.size value) → ChangesOwn id e s new
+stores_own s new hart id e a value r ok is = record {
+  table = is.table;
+  worlds = is.worlds;
+  registers = λ who known other. is.registers who known;
+  bytes = λ b none. is.bytes b ∙ ap (λ t. if t then byte_of value (b - a.address) else s.bytes b) (untouched e a b ok none);
+  written = λ p none. is.written p ∙ ap (λ t. if t then true else s.written p) (ne_eqb p (a.address / 4096) (λ same. some_held (enclave_view e.parts (a.address / 4096)) a.kind ok.held (ap (enclave_view e.parts) (sym same) ∙ none)));
+  marked = λ h low. is.marked h low ∙ unmarked s hart h r.unmarked;
+}
+
+-- what may happen in the other state too
+abbrev Follows : State → State → State → ℕ → ℕ → ℕ → Enclave → Enclave → Event → Reply → Type 0
+Follows s other new hart there id e f event reply = (now : State) × Step other there event reply now × LooksSame id e f new now × ChangesOwn id e s new × ChangesOwn id f other now
+
+-- accesses, by what the view says
+follow_access : (s other new : State) (hart there id : ℕ) (e f : Enclave) (a : Access) (value : ℕ) (reply : Reply) (said : Result (Unit {0}) Cause) → RunsOn s hart id e → RunsOn other there id f → LooksSame id e f s other → verdict (enclave_view e.parts) a ≡ said → Accesses said (without_mark s hart) a value reply new
+    → (now : State) × Accesses said (without_mark other there) a value reply now × LooksSame id e f new now × ChangesOwn id e s new × ChangesOwn id f other now
+follow_access s other new hart there id e f a value reply (Err cause) r q l v x =
+    let now = without_mark other there in
+    (now, (x.0, itself now), same_still s other new now hart there id e f r q l x.1 (itself now), stays s new hart id e r x.1, stays other now there id f q (itself now))
+follow_access s other new hart there id e f a value reply (Ok done) r q l v x = by_kind a.kind x
+  where
+    ok : IsAllowed (enclave_view e.parts) a
+    ok = allowed_by (enclave_view e.parts) a v
+
+    ok' : IsAllowed (enclave_view f.parts) a
+    ok' = subst (λ p. IsAllowed (enclave_view p) a) l.parts ok
+
+    now : State
+    now = without_mark other there
+
+    by_kind : (kind : Kind) → TakesEffect kind (without_mark s hart) a value reply new → (now : State) × TakesEffect kind (without_mark other there) a value reply now × LooksSame id e f new now × ChangesOwn id e s new × ChangesOwn id f other now
+    by_kind Fetch x =
+        let now = without_mark other there in
+        (now, (x.0, itself now), same_still s other new now hart there id e f r q l x.1 (itself now), stays s new hart id e r x.1, stays other now there id f q (itself now))
+    by_kind Load x =
+        let now = without_mark other there in (
+          now,
+          (x.0 ∙ ap (λ xs. replies.Loaded (number_of xs)) (loaded_same s other id e f a l ok), itself now),
+          same_still s other new now hart there id e f r q l x.1 (itself now),
+          stays s new hart id e r x.1,
+          stays other now there id f q (itself now),
+        )
+    by_kind Store (inl x) =
+        let now = storing (without_mark other there) a.address a.size value in (
+          now,
+          inl (x.0, itself now),
+          stored_same s other new now hart there id e f a value r q l x.1 (itself now),
+          stores_own s new hart id e a value r ok x.1,
+          stores_own other now there id f a value q ok' (itself now),
+        )
+    by_kind Store (inr x) =
+        let now = without_mark other there in
+        let seen = l.written (a.address / 4096) (some_held (enclave_view e.parts (a.address / 4096)) a.kind ok.held) in (
+          now,
+          inr (x.0, sym seen ∙ x.1, itself now),
+          same_still s other new now hart there id e f r q l x.2 (itself now),
+          stays s new hart id e r x.2,
+          stays other now there id f q (itself now),
+        )
+
+-- a register set
+set_is : (s new : State) (hart id n value : ℕ) (e : Enclave) → RunsOn s hart id e → SameState new (with_running (without_mark s hart) hart (with_x (running_registers s hart) n value)) → new.registers (EnclaveOf id) ≡ with_x (s.registers (EnclaveOf id)) n value
+set_is s new hart id n value e r is =
+    let who = runner_is s hart id e r in
+    let at : new.registers (EnclaveOf id) ≡ (if is_same (EnclaveOf id) (who_runs s hart) then with_x (s.registers (who_runs s hart)) n value else s.registers (EnclaveOf id)) = is.registers (EnclaveOf id) (has s hart id e r) in
+    let there : (if is_same (EnclaveOf id) (who_runs s hart) then with_x (s.registers (who_runs s hart)) n value else s.registers (EnclaveOf id)) ≡ (if id == id then with_x (s.registers (EnclaveOf id)) n value else s.registers (EnclaveOf id)) =
+    ap (λ w. if is_same (EnclaveOf id) w then with_x (s.registers w) n value else s.registers (EnclaveOf id)) who in
+    at ∙ there ∙ ap (λ b. if b then with_x (s.registers (EnclaveOf id)) n value else s.registers (EnclaveOf id)) (eq-eqb id id refl)
+
+sets_own : (s new : State) (hart id n value : ℕ) (e : Enclave) → RunsOn s hart id e → SameState new (with_running (without_mark s hart) hart (with_x (running_registers s hart) n value)) → ChangesOwn id e s new
+sets_own s new hart id n value e r is = record {
+  table = is.table;
+  worlds = is.worlds;
+  registers = λ who known other. is.registers who known ∙ ap (λ b. if b then with_x (running_registers s hart) n value else s.registers who) (same_not who (who_runs s hart) (λ same. other (same ∙ runner_is s hart id e r)));
+  bytes = λ b none. is.bytes b;
+  written = λ p none. is.written p;
+  marked = λ h low. is.marked h low ∙ unmarked s hart h r.unmarked;
+}
+
+-- one event
+follow : (s other new : State) (hart there id : ℕ) (e f : Enclave) (event : Event) (reply : Reply) → RunsOn s hart id e → RunsOn other there id f → LooksSame id e f s other → IsOwn event → Step s hart event reply new → Follows s other new hart there id e f event reply
+follow s other new hart there id e f (events.Access a value) reply r q l own x =
+    let here = view_is s hart id e r in
+    let other_view : current_view other there ≡ enclave_view e.parts = view_is other there id f q ∙ ap enclave_view (sym l.parts) in
+    let x' : Accesses (verdict (enclave_view e.parts) a) (without_mark s hart) a value reply new = subst (λ view. Accesses (verdict view a) (without_mark s hart) a value reply new) here x in
+    let t = follow_access s other new hart there id e f a value reply (verdict (enclave_view e.parts) a) r q l refl x' in
+    (t.0, subst (λ view. Accesses (verdict view a) (without_mark other there) a value reply t.0) (sym other_view) t.1, t.2, t.3, t.4)
+follow s other new hart there id e f (events.Reg n value) reply r q l own x =
+    let now = with_running (without_mark other there) there (with_x (running_registers other there) n value) in (
+      now,
+      (x.0, itself now),
+      record {
+        parts = l.parts;
+        registers = set_is s new hart id n value e r x.1 ∙ ap (λ file. with_x file n value) l.registers ∙ sym (set_is other now there id n value f q (itself now));
+        bytes = λ b some. x.1.bytes b ∙ l.bytes b some;
+        written = λ p some. x.1.written p ∙ l.written p some;
+      },
+      sets_own s new hart id n value e r x.1,
+      sets_own other now there id n value f q (itself now),
+    )
+follow s other new hart there id e f (events.Ecall words) reply r q l own x = absurd own
+follow s other new hart there id e f events.Irq reply r q l own x = absurd own
+
+-- one change after another
+changes_on : (s mid new : State) (id : ℕ) (e : Enclave) → ChangesOwn id e s mid → ChangesOwn id e mid new → ChangesOwn id e s new
+changes_on s mid new id e a b = record {
+  table = b.table ∙ a.table;
+  worlds = λ h low. b.worlds h (subst (λ t. h < t.layout.harts) (sym a.table) low) ∙ a.worlds h low;
+  registers = λ who known other. b.registers who (subst (λ t. HasRegisters t who) (sym a.table) known) other ∙ a.registers who known other;
+  bytes = λ x none. b.bytes x none ∙ a.bytes x none;
+  written = λ p none. b.written p none ∙ a.written p none;
+  marked = λ h low. b.marked h (subst (λ t. h < t.layout.harts) (sym a.table) low) ∙ a.marked h low;
+}
+
+nothing : (s new : State) (id : ℕ) (e : Enclave) → new ≡ s → ChangesOwn id e s new
+nothing s new id e is = subst (λ x. ChangesOwn id e s x) (sym is) (record { table = refl; worlds = λ h low. refl; registers = λ who known other. refl; bytes = λ x none. refl; written = λ p none. refl; marked = λ h low. refl })
+
+pub private_run : IsPrivate
+private_run s other new hart there id e f [] [] r q l own x = (other, refl, subst (λ y. LooksSame id e f y other) (sym x) l, nothing s new id e x, nothing other other id f refl)
+private_run s other new hart there id e f [] (reply ∷ replies) r q l own x = absurd x
+private_run s other new hart there id e f (event ∷ events) [] r q l own x = absurd x
+private_run s other new hart there id e f (event ∷ events) (reply ∷ replies) r q l own x =
+    let mid = x.0 in
+    let t = follow s other mid hart there id e f event reply r q l own.0 x.1 in
+    let u = private_run mid t.0 new hart there id e f events replies (still_runs s mid hart id e r t.3) (still_runs other t.0 there id f q t.4) t.2 own.1 x.2 in
+    (u.0, (t.0, t.1, u.1), u.2, changes_on s mid new id e t.3 u.3, changes_on other t.0 u.0 id f t.4 u.4)

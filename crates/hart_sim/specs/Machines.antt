@@ -1,0 +1,45 @@
+-- The machine as its caller sees it: its state, and the PMP registers that are loaded on each hart.
+use Rattle.std.specs.Prelude.{◌≡◌, ◌≢◌, ◌⊎◌, ℕ, ◌+◌, ◌/◌, ◌%◌, ◌^◌, ◌<◌, ◌≤◌, true, false, if◌then◌else◌, List, length, None}
+use Rattle.pmp_encoding.specs.declared.bank.Bank.{Bank}
+use Rattle.pmp_encoding.specs.declared.region.Entry.{Entry}
+use Rattle.pmp_encoding.specs.Banks.{HasList}
+use Rattle.pmp_match.specs.declared.access.Access.{Access}
+use Rattle.pmp_match.specs.Meaning.{Means}
+use Rattle.enclave_table.specs.Enclaves.{Live, enclave_at}
+use Rattle.enclave_table.specs.Requests.{is_private}
+use Rattle.enclave_table.specs.Tables.{Kept}
+use Rattle.enclave_table.specs.declared.enclave.Enclave.{Enclave}
+use Rattle.worlds.specs.declared.world.World.TheVariants.{Enclave as InEnclave}
+use Rattle.hart_sim.specs.declared.machine.Machine.{Machine}
+use Rattle.hart_sim.specs.Hardware.{BankOn}
+use Rattle.hart_sim.specs.Parts.{machine_state, LoadsFewest}
+use Rattle.hart_sim.specs.States.{State, current_view}
+
+-- the state of the machine
+abbrev pub state_of : Machine → State
+state_of machine = machine_state machine.parts.table machine.parts.hardware
+
+-- its table of enclaves, with the list of entries that is kept for each view
+abbrev pub kept_of : Machine → Kept
+kept_of machine = machine.parts.table
+
+-- the PMP registers that are loaded on a hart
+abbrev pub HasBank : Machine → ℕ → Bank → Type 0
+HasBank machine hart bank = BankOn machine.parts.hardware hart bank
+
+-- the list that an event on a hart meets: the host's where it is marked, for it loads them first; else what is loaded
+abbrev pub MeetsList : Machine → ℕ → List Entry → Type 0
+MeetsList machine hart list =
+    (((state_of machine).marked hart ≡ true) × (list ≡ (kept_of machine).host_list))
+    ⊎ (((state_of machine).marked hart ≡ false) × (bank : Bank) × HasBank machine hart bank × HasList bank list)
+
+-- what boot makes and every step keeps, and what holds no more once another bank was put in place:
+-- the bank of each hart that is not marked means the view of its world by the fewest entries
+abbrev pub KeepsBanksRight : Machine → Type 0
+KeepsBanksRight machine =
+    (hart : ℕ) (bank : Bank) → hart < (state_of machine).table.layout.harts → (state_of machine).marked hart ≡ false → HasBank machine hart bank
+    → LoadsFewest bank (current_view (state_of machine) hart)
+
+-- only that hart's bank may have changed
+abbrev pub KeepsOtherBanks : Machine → Machine → ℕ → Type 0
+KeepsOtherBanks old new hart = (other : ℕ) (bank : Bank) → other ≢ hart → HasBank old other bank → HasBank new other bank

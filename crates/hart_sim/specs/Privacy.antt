@@ -1,0 +1,81 @@
+-- What an enclave keeps to itself.
+use Rattle.std.specs.Prelude.{◌≡◌, ◌≢◌, ◌⊎◌, ℕ, ◌+◌, ◌/◌, ◌<◌, ◌≤◌, true, false, List, [], ◌∷◌, Ok}
+use Rattle.pmp_encoding.specs.declared.perm.Perm.TheVariants.{NoAccess}
+use Rattle.pmp_match.specs.declared.access.Kind.TheVariants.{Store}
+use Rattle.pmp_match.specs.declared.access.Mode.TheVariants.{Machine}
+use Rattle.enclave_table.specs.Enclaves.{Live}
+use Rattle.enclave_table.specs.Requests.{is_private}
+use Rattle.enclave_table.specs.Views.{enclave_view}
+use Rattle.enclave_table.specs.declared.enclave.Enclave.{Enclave}
+use Rattle.enclave_table.specs.declared.enclave.State.TheVariants.{Running}
+use Rattle.worlds.specs.declared.world.World.TheVariants.{Enclave as InEnclave}
+use Rattle.worlds.specs.Runners.{Runner, EnclaveOf}
+use Rattle.hart_trace.specs.declared.event.Event.{Event}
+use Rattle.hart_trace.specs.declared.event.Event.TheVariants as events
+use Rattle.hart_sim.specs.declared.reply.Reply.{Reply}
+use Rattle.hart_sim.specs.declared.reply.Reply.TheVariants as replies
+use Rattle.hart_sim.specs.States.{State, HasRegisters, current_view}
+use Rattle.hart_sim.specs.Steps.{Step, verdict}
+
+-- an enclave runs on a hart, which is then not marked
+pub record RunsOn (s : State) (hart id : ℕ) (e : Enclave) : Type 0 where
+  pub known : hart < s.table.layout.harts
+  pub world : s.worlds hart ≡ InEnclave id
+  pub live : Live s.table id e
+  pub running : e.state ≡ Running
+  pub unmarked : s.marked hart ≡ false
+
+-- it cannot tell one state from the other: its parts and registers, and the bytes and written pages of its view, are the same
+pub record LooksSame (id : ℕ) (e f : Enclave) (s other : State) : Type 0 where
+  pub parts : e.parts ≡ f.parts
+  pub registers : s.registers (EnclaveOf id) ≡ other.registers (EnclaveOf id)
+  pub bytes : (address : ℕ) → enclave_view e.parts (address / 4096) ≢ NoAccess → s.bytes address ≡ other.bytes address
+  pub written : (page : ℕ) → enclave_view e.parts page ≢ NoAccess → s.written page ≡ other.written page
+
+-- nothing but these changed
+pub record ChangesOwn (id : ℕ) (e : Enclave) (old new : State) : Type 0 where
+  pub table : new.table ≡ old.table
+  pub worlds : (hart : ℕ) → hart < old.table.layout.harts → new.worlds hart ≡ old.worlds hart
+  pub registers : (who : Runner) → HasRegisters old.table who → who ≢ EnclaveOf id → new.registers who ≡ old.registers who
+  pub bytes : (address : ℕ) → enclave_view e.parts (address / 4096) ≡ NoAccess → new.bytes address ≡ old.bytes address
+  pub written : (page : ℕ) → enclave_view e.parts page ≡ NoAccess → new.written page ≡ old.written page
+  pub marked : (hart : ℕ) → hart < old.table.layout.harts → new.marked hart ≡ old.marked hart
+
+-- what an enclave does by itself: accesses, and settings of registers
+abbrev pub IsOwn : Event → Type 0
+IsOwn (events.Access a value) = a.mode ≢ Machine
+IsOwn (events.Reg n value) = n < 32
+IsOwn (events.Ecall words) = ⊥
+IsOwn events.Irq = ⊥
+
+-- events on one hart, one after the other, their replies, and the state after them
+abbrev pub RunsThrough : ℕ → State → List Event → List Reply → State → Type 0
+RunsThrough hart old [] [] new = new ≡ old
+RunsThrough hart old (event ∷ events) (reply ∷ replies) new = (mid : State) × Step old hart event reply mid × RunsThrough hart mid events replies new
+RunsThrough hart old [] (reply ∷ replies) new = ⊥
+RunsThrough hart old (event ∷ events) [] new = ⊥
+
+-- each event is one of its own
+abbrev pub AreOwn : List Event → Type 0
+AreOwn [] = Unit {0}
+AreOwn (event ∷ events) = IsOwn event × AreOwn events
+
+-- where an enclave runs in two states that it cannot tell apart, whatever it is answered in the one it may be answered in the
+-- other, and it cannot tell the states after that apart either; nothing else changes in them
+abbrev pub IsPrivate : Type 0
+IsPrivate =
+    (s other new : State) (hart there id : ℕ) (e f : Enclave) (events : List Event) (replies : List Reply)
+    → RunsOn s hart id e → RunsOn other there id f → LooksSame id e f s other → AreOwn events → RunsThrough hart s events replies new
+    → (now : State) × RunsThrough there other events replies now × LooksSame id e f new now × ChangesOwn id e s new × ChangesOwn id f other now
+
+-- the event is a store by that enclave that its view allowed, that was done, and that reached the byte
+abbrev pub StoresTo : State → ℕ → Event → Reply → ℕ → ℕ → Type 0
+StoresTo old hart (events.Access a value) reply id byte =
+    (a.kind ≡ Store) × (reply ≡ replies.Done) × (old.worlds hart ≡ InEnclave id) × (verdict (current_view old hart) a ≡ Ok tt) × (a.address ≤ byte) × (byte < a.address + a.size)
+StoresTo old hart _ reply id byte = ⊥
+
+-- a byte of a page that is private to an enclave before and after an event stays, but for the enclave's own stores
+abbrev pub KeepsPrivate : State → ℕ → Event → Reply → State → Type 0
+KeepsPrivate old hart event reply new =
+    (id byte : ℕ) (e f : Enclave) → Live old.table id e → Live new.table id f → is_private e.parts (byte / 4096) ≡ true → is_private f.parts (byte / 4096) ≡ true
+    → (new.bytes byte ≡ old.bytes byte) ⊎ StoresTo old hart event reply id byte

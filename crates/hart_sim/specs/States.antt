@@ -1,0 +1,65 @@
+-- The state of the machine. There are no PMP entries in it.
+use Rattle.std.specs.Prelude.{◌≡◌, ◌⊎◌, ℕ, ◌*◌, ◌<◌, Bool, false, List, replicate, Option, None, Some}
+use Rattle.pmp_encoding.specs.declared.perm.Perm.{Perm}
+use Rattle.pmp_encoding.specs.declared.perm.Perm.TheVariants.{NoAccess}
+use Rattle.enclave_table.specs.Platform.{Layout}
+use Rattle.enclave_table.specs.Enclaves.{EnclaveTable, Live, enclave_at}
+use Rattle.enclave_table.specs.Booting.{opening as opening_table}
+pub use Rattle.enclave_table.specs.Views.{view_in, current_view as view_of}
+use Rattle.enclave_table.specs.declared.enclave.Enclave.{Enclave}
+use Rattle.enclave_table.specs.declared.enclave.State.TheVariants.{Running, Stopped}
+use Rattle.worlds.specs.declared.world.World.{World}
+use Rattle.worlds.specs.declared.world.World.TheVariants.{Host, Enclave as InEnclave}
+use Rattle.sbi_decode.specs.Registers.{RegisterFile, zeros}
+use Rattle.worlds.specs.Runners.{Runner, HostOf, EnclaveOf, runner_of}
+use Rattle.hart_sim.specs.Memory.{bytes_at}
+
+-- the enclaves, the world that runs on each hart, the registers of each host and enclave, the byte at each address, the pages
+-- that were written, and the harts that are marked: each of these loads the host's entries before its next event
+pub record State : Type 0 where
+  pub table : EnclaveTable
+  pub worlds : ℕ → World
+  pub registers : Runner → RegisterFile
+  pub bytes : ℕ → ℕ
+  pub written : ℕ → Bool
+  pub marked : ℕ → Bool
+
+-- whose registers there are: those of the host on each hart, and of each enclave that runs or may be resumed
+abbrev pub HasRegisters : EnclaveTable → Runner → Type 0
+HasRegisters table (HostOf hart) = hart < table.layout.harts
+HasRegisters table (EnclaveOf id) = (e : Enclave) × Live table id e × ((e.state ≡ Running) ⊎ (e.state ≡ Stopped))
+
+-- the state is that one
+pub record SameState (s that : State) : Type 0 where
+  pub table : s.table ≡ that.table
+  pub worlds : (hart : ℕ) → hart < that.table.layout.harts → s.worlds hart ≡ that.worlds hart
+  pub registers : (who : Runner) → HasRegisters that.table who → s.registers who ≡ that.registers who
+  pub bytes : (address : ℕ) → s.bytes address ≡ that.bytes address
+  pub written : (page : ℕ) → s.written page ≡ that.written page
+  pub marked : (hart : ℕ) → hart < that.table.layout.harts → s.marked hart ≡ that.marked hart
+
+-- the opening state of a platform: no enclave, each hart in the host's world, all registers and bytes zero, no page written
+abbrev pub opening : Layout → State
+opening layout = record {
+  table = opening_table layout;
+  worlds = λ hart. Host;
+  registers = λ who. zeros;
+  bytes = λ address. 0;
+  written = λ page. false;
+  marked = λ hart. false;
+}
+
+-- the current view of a hart: what the world that runs there may do on each page
+abbrev pub current_view : State → ℕ → ℕ → Perm
+current_view s hart page = view_of s.table (s.worlds hart) page
+
+-- who runs on a hart, and with which registers
+abbrev pub who_runs : State → ℕ → Runner
+who_runs s hart = runner_of hart (s.worlds hart)
+
+abbrev pub running_registers : State → ℕ → RegisterFile
+running_registers s hart = s.registers (who_runs s hart)
+
+-- the bytes of a page
+abbrev pub page_bytes : State → ℕ → List ℕ
+page_bytes s page = bytes_at s.bytes (page * 4096) 4096

@@ -1,0 +1,44 @@
+ghost use Rattle.std.specs.Prelude.{◌≡◌, ℕ};
+ghost use Rattle.enclave_table.specs.Tables.{IsTable};
+ghost use Rattle.hart_trace.specs.declared.event.Event.{Event};
+ghost use Rattle.hart_sim.specs.declared.reply.Reply.{Reply};
+ghost use Rattle.hart_sim.specs.States.{State};
+ghost use Rattle.hart_sim.specs.Steps.{Step};
+ghost use Rattle.hart_sim.specs.Privacy.{IsPrivate, KeepsPrivate};
+ghost use Rattle.hart_sim.specs.Wants.{CreatesByNeed, DestroysByNeed};
+ghost use Rattle.hart_sim.specs.Worlds.{RunsKeepWorlds};
+
+/// Where an enclave runs in two states that it cannot tell apart, its accesses and settings of registers may be answered
+/// alike in both, and then it cannot tell them apart either; nothing else changes in them.
+pub fn privacy_law()
+    ensures { IsPrivate }
+{}
+
+/// A byte of a page that is private to an enclave before and after a step stays, but for the enclave's own stores that
+/// its view allowed and that were done.
+pub fn private_bytes_law()
+    ensures { (old : State) (hart : ℕ) (event : Event) (reply : Reply) (new : State) → IsTable old.table → Step old hart event reply new → KeepsPrivate old hart event reply new }
+{}
+
+/// A step leaves the platform as it is.
+pub fn platform_law()
+    ensures { (old : State) (hart : ℕ) (event : Event) (reply : Reply) (new : State) → Step old hart event reply new → new.table.layout ≡ old.table.layout }
+{}
+
+/// A creation that passes its other checks is refused for want of entries only where the host's view after it, or the
+/// new enclave's, would need more than there are; and where one would, it is refused, for want of entries or of memory.
+pub fn creation_law()
+    ensures { CreatesByNeed }
+{}
+
+/// A destruction that passes its other checks is refused for want of entries only where the host's view after it would
+/// need more than there are; and where it would, it is refused, for want of entries or of memory.
+pub fn destruction_law()
+    ensures { DestroysByNeed }
+{}
+
+/// After every run from the opening state each hart is in the host's world or in that of an enclave that is Running, no
+/// enclave runs on two harts, each that is Running runs on one, and a marked hart is in the host's world.
+pub fn worlds_law()
+    ensures { RunsKeepWorlds }
+{}

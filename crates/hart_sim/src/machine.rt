@@ -1,0 +1,160 @@
+//! The machine: a table of enclaves, harts and memory, to which events happen.
+
+ghost use Rattle.hart_sim.specs.Parts.{HoldsTogether};
+
+use crate::parts::Parts;
+use crate::reply::Reply;
+use crate::running::Steps;
+use enclave_table::{BootFault, Platform, Table, World};
+use hart_trace::Event;
+use pmp_encoding::Bank;
+use sbi_decode::Registers;
+use std::alloc::Global;
+
+/// A table of enclaves, one to four harts, and memory.
+#[derive(Drop)]
+pub struct Machine {
+    pub(crate) parts: Parts,
+    pub ghost whole: { HoldsTogether parts.table parts.hardware },
+}
+
+impl Machine {
+    ghost use Rattle.std.specs.Prelude.{◌≡◌, ◌≢◌, ℕ, ◌+◌, ◌^◌, ◌<◌, ◌≤◌, ◌↔◌, List, IfOk, IfErr, true, false, Err, length, replicate, None};
+    ghost use Rattle.pmp_encoding.specs.declared.bank.Bank.{Bank};
+    ghost use Rattle.pmp_encoding.specs.declared.region.Entry.{Entry};
+    ghost use Rattle.pmp_encoding.specs.Banks.{HasList, limit_of};
+    ghost use Rattle.pmp_encoding.specs.Limits.{limit_number};
+    ghost use Rattle.pmp_match.specs.declared.access.Access.{Access};
+    ghost use Rattle.pmp_match.specs.declared.cause.Cause.{Cause};
+    ghost use Rattle.pmp_match.specs.Judgement.{Judges};
+    ghost use Rattle.pmp_match.specs.Meaning.{Means};
+    ghost use Rattle.enclave_table.specs.Booting.{IsBootFault, opening as opening_table};
+    ghost use Rattle.enclave_table.specs.Fewest.{FitsIn};
+    ghost use Rattle.enclave_table.specs.Views.{host_view};
+    ghost use Rattle.hart_trace.specs.declared.event.Event.{Event};
+    ghost use Rattle.hart_sim.specs.declared.reply.Reply.{Reply};
+    ghost use Rattle.hart_sim.specs.Machines.{state_of, kept_of, HasBank, MeetsList, KeepsBanksRight, KeepsOtherBanks};
+    ghost use Rattle.hart_sim.specs.Privacy.{KeepsPrivate};
+    ghost use Rattle.hart_sim.specs.States.{SameState, opening, current_view, running_registers};
+    ghost use Rattle.hart_sim.specs.Steps.{IsEvent, Step};
+
+    /// The PMP registers that are loaded on a hart.
+    pub fn bank(&self, hart: u8) -> &Bank
+        requires { hart < 4 }
+        ensures bank { HasBank self.now hart result.now }
+        ensures limit { limit_number (limit_of result.now) ≡ limit_number (state_of self.now).table.layout.limit }
+    {
+        self.parts.hardware.hart(hart).bank()
+    }
+
+    /// The world that runs on a hart.
+    pub fn world(&self, hart: u8) -> World
+        requires { hart < 4 }
+        ensures { result ≡ (state_of self.now).worlds hart }
+    {
+        self.parts.hardware.hart(hart).world()
+    }
+
+    /// The registers of the world that runs on a hart.
+    pub fn registers(&self, hart: u8) -> &Registers
+        requires { hart < 4 }
+        ensures { result.now ≡ running_registers (state_of self.now) hart }
+    {
+        self.parts.hardware.hart(hart).registers()
+    }
+
+    /// Whether a hart is marked: it loads the host's entries before its next event.
+    pub fn marked(&self, hart: u8) -> bool
+        requires { hart < 4 }
+        ensures { result ≡ (state_of self.now).marked hart }
+    {
+        self.parts.hardware.is_marked(hart)
+    }
+
+    /// The byte at an address.
+    pub fn byte(&self, address: u64) -> u8
+        requires { address < 2 ^ 56 }
+        ensures { result ≡ (state_of self.now).bytes address }
+    {
+        self.parts.hardware.byte(address)
+    }
+
+    /// The table of enclaves.
+    pub fn table(&self) -> &Table
+        ensures { result.now ≡ kept_of self.now }
+    {
+        &self.parts.table
+    }
+
+    /// How many harts there are.
+    pub fn harts(&self) -> u8
+        ensures value { result ≡ (state_of self.now).table.layout.harts }
+        ensures some { 0 < result }
+        ensures most { result ≤ 4 }
+    {
+        self.parts.table.platform().harts()
+    }
+
+    /// Puts another bank in place on a hart, as faulty hardware might. Nothing else changes. What boot promises of the
+    /// entries on that hart holds no more.
+    pub fn set_bank(&mut self, hart: u8, bank: Bank)
+        requires hart { hart < 4 }
+        requires limit { limit_number (limit_of bank) ≡ limit_number (state_of self.old).table.layout.limit }
+        ensures bank { HasBank self.new hart bank }
+        ensures others { KeepsOtherBanks self.old self.new hart }
+        ensures state { SameState (state_of self.new) (state_of self.old) }
+        ensures table { kept_of self.new ≡ kept_of self.old }
+    {
+        self.parts.hardware.put_bank(hart, bank);
+    }
+
+    /// The machine of a platform: no enclave, each hart in the host's world with the fewest entries of its view. It is
+    /// refused where that view needs more entries than the platform has, and where memory is.
+    pub fn boot(alloc: Global, platform: Platform) -> Result<Machine, BootFault>
+        ensures state { IfOk result (λ m. SameState (state_of m) (opening platform)) }
+        ensures kept { IfOk result (λ m. KeepsBanksRight m) }
+        ensures banks { IfOk result (λ m. (h : ℕ) (bank : Bank) → h < (state_of m).table.layout.harts → (state_of m).marked h ≡ false → HasBank m h bank → (list : List Entry) → HasList bank list → Means list (current_view (state_of m) h) × ((others : List Entry) → Means others (current_view (state_of m) h) → length list ≤ length others)) }
+        ensures fits { IfOk result (λ _. FitsIn platform.limit (host_view (opening_table platform))) }
+        ensures fault { IfErr result (λ fault. IsBootFault platform fault) }
+    {
+        match Parts::boot(alloc, platform) {
+            Ok(parts) => Ok(Machine { parts }),
+            Err(fault) => Err(fault),
+        }
+    }
+
+    /// An event happens on a hart, numbered from 0. On every machine the list that the event meets judges an access. From
+    /// boot on, as long as no other bank was put in place, the event is answered as the state says, and each hart that is
+    /// not marked has the fewest entries of the view of its world.
+    pub fn step(&mut self, hart: u8, event: Event) -> Reply
+        requires hart { hart < (state_of self.old).table.layout.harts }
+        requires event { IsEvent event }
+        ensures judged { (access : Access) (value : ℕ) (list : List Entry) (cause : Cause) → event ≡ Event.Access access value → MeetsList self.old hart list → (result ≡ Reply.Fault cause) ↔ Judges list access (Err cause) }
+        ensures loaded { (access : Access) (value : ℕ) (list : List Entry) (bank : Bank) → event ≡ Event.Access access value → MeetsList self.old hart list → HasBank self.new hart bank → HasList bank list }
+        ensures step { KeepsBanksRight self.old → Step (state_of self.old) hart event result (state_of self.new) }
+        ensures kept { KeepsBanksRight self.old → KeepsBanksRight self.new }
+        ensures banks { KeepsBanksRight self.old → (h : ℕ) (bank : Bank) → h < (state_of self.new).table.layout.harts → (state_of self.new).marked h ≡ false → HasBank self.new h bank → (list : List Entry) → HasList bank list → Means list (current_view (state_of self.new) h) × ((others : List Entry) → Means others (current_view (state_of self.new) h) → length list ≤ length others) }
+        ensures others { KeepsOtherBanks self.old self.new hart }
+        ensures platform { (state_of self.new).table.layout ≡ (state_of self.old).table.layout }
+        ensures private { KeepsBanksRight self.old → KeepsPrivate (state_of self.old) hart event result (state_of self.new) }
+    {
+        self.parts.table.rules();
+        self.parts.step(hart, event)
+    }
+}
+
+impl Steps for Machine {
+    ghost use Rattle.hart_sim.specs.Machines.{state_of, KeepsBanksRight};
+
+    ghost state = { λ m. state_of m };
+
+    ghost keeps = { λ m. KeepsBanksRight m };
+
+    fn harts(&self) -> u8 {
+        self.parts.table.platform().harts()
+    }
+
+    fn step(&mut self, hart: u8, event: Event) -> Reply {
+        self.parts.step(hart, event)
+    }
+}
