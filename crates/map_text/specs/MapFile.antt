@@ -86,3 +86,14 @@ IsUnknown map says = says ≡ None
 -- a line after which there would be too many ranges
 abbrev pub MakesTooMany : List Run → Option (Option Setting) → Type 0
 MakesTooMany map says = (setting : Setting) × (says ≡ Some (Some setting)) × SetsTooMany map setting
+
+-- one setting would lead from a map to one of more ranges, at most 4096: memory can be refused for it
+pub record SetsMore (before : List Run) (setting : Setting) : Type 0 where
+  pub runs : List Run
+  pub overwritten : AreOverwritten before setting.first setting.count setting.perm runs
+  pub more : length before < length runs
+  pub most : length runs ≤ 4096
+
+-- a line after which there would be more ranges
+abbrev pub MakesMore : List Run → Option (Option Setting) → Type 0
+MakesMore map says = (setting : Setting) × (says ≡ Some (Some setting)) × SetsMore map setting

@@ -3,7 +3,7 @@
 ghost use Rattle.std.specs.Prelude.{◌≡◌, ℕ, ◌∷◌, [], ◌-◌, ◌^◌, ◌<◌, ◌≤◌, Err, IfErr, IfOk, None, OnOk, length};
 ghost use Rattle.std.specs.List.{position_or_len};
 ghost use Rattle.map_text.specs.Lines.{is_lf, raw_lines};
-ghost use Rattle.map_text.specs.MapFile.{FaultAt, IsUnknown, Leads, Makes, MakesTooMany, raw_says};
+ghost use Rattle.map_text.specs.MapFile.{FaultAt, IsUnknown, Leads, Makes, MakesMore, MakesTooMany, raw_says};
 
 use crate::map_lines::raw_says;
 use permission_map::{MapFault, PermissionMap};
@@ -16,7 +16,7 @@ pub enum MapFileFault {
     Line(u64),
     /// After some line there would be more than 4096 ranges.
     TooManyRanges,
-    /// Memory was refused.
+    /// Memory was refused, for a line after which there would be more ranges than before.
     Memory,
 }
 
@@ -59,6 +59,7 @@ fn follow(map: &mut PermissionMap, raw: &[u8]) -> Result<(), LineFault>
     ensures said { OnOk result (Leads (raw_says raw.now) map.old map.new) }
     ensures unknown { result ≡ Err LineFault.NotUnderstood → raw_says raw.now ≡ None }
     ensures many { result ≡ Err LineFault.TooManyRanges → MakesTooMany map.old (raw_says raw.now) }
+    ensures memory { result ≡ Err LineFault.Memory → MakesMore map.old (raw_says raw.now) }
 {
     let Ok(said) = raw_says(raw) else {
         return Err(LineFault::NotUnderstood);
@@ -74,12 +75,16 @@ fn follow(map: &mut PermissionMap, raw: &[u8]) -> Result<(), LineFault>
     }
 }
 
-/// The map that the lines of a file make.
+/// The map that the lines of a file make, from the map of no permission on.
+///
+/// The first line at fault answers: it is not understood, or after it there would be more than 4096 ranges, or memory was
+/// refused for what it sets.
 pub fn map_of(alloc: Global, bytes: &[u8]) -> Result<PermissionMap, MapFileFault>
     requires { length bytes.now < 2 ^ 64 - 1 }
     ensures made { IfOk result (Makes bytes.now) }
     ensures unknown { IfErr result (λ fault. (n : ℕ) → fault ≡ MapFileFault.Line n → FaultAt bytes.now n IsUnknown) }
     ensures many { result ≡ Err MapFileFault.TooManyRanges → (n : ℕ) × FaultAt bytes.now n MakesTooMany }
+    ensures memory { result ≡ Err MapFileFault.Memory → (n : ℕ) × FaultAt bytes.now n MakesMore }
 {
     let mut map = PermissionMap::new(alloc);
     let mut rest = bytes;

@@ -31,6 +31,21 @@ returns-in-Err-TooManyRanges-clause-many c = λ _. let f = c.loop-rest.invariant
   },
 )
 
+pub returns-in-Err-Memory-clause-memory : goal.returns-in-Err-Memory-clause-memory
+returns-in-Err-Memory-clause-memory c = λ _. let f = c.loop-rest.invariant.followed in (
+  c.loop-rest.number + 1,
+  record {
+    before = f.0;
+    raw = c.split_line.result.0.now;
+    rest = raw_lines c.split_line.result.1.now;
+    are_lines = rw (f.1 ∙ ap (λ x. f.0 ++ x) c.split_line.ensures.lines) at (raw_lines-are c.args.bytes.now);
+    number = ap (λ n. n + 1) f.2;
+    map = c.loop-rest.map;
+    made = f.3;
+    here = c.in-Err-Memory.ensures.memory (ap (λ e. Err e) c.in-Err-Memory.field-0-is);
+  },
+)
+
 pub returns-in-Err-NotUnderstood-clause-unknown : goal.returns-in-Err-NotUnderstood-clause-unknown
 returns-in-Err-NotUnderstood-clause-unknown c = λ n e. let f = c.loop-rest.invariant.followed in
     let number : c.loop-rest.number + 1 ≡ n = cc in
