@@ -15,9 +15,9 @@ use Rattle.pmp_match.specs.Bytes.{holds_byte, perm_at}
 use Rattle.pmp_match.specs.Meaning.{View, Means}
 use Rattle.pmp_match.proofs.Meant.{Means_at}
 use Rattle.pmp_match.proofs.Pages.{page_law_proof}
-use Rattle.plan_certificate.specs.Spelling.{u64_bytes, pair_bytes, SpellsEntry, SpellsEntries, AreNoSubPages}
-use Rattle.plan_certificate.proofs.Numbers.{number-u64_bytes}
-use Rattle.plan_certificate.proofs.CostBytes.{length-pair_bytes}
+use Rattle.certificate_format.specs.Spelling.{u64_bytes, pair_bytes, SpellsEntry, SpellsEntries, AreNoSubPages}
+use Rattle.certificate_format.proofs.Numbers.{number-u64_bytes}
+use Rattle.certificate_format.proofs.CostBytes.{length-pair_bytes}
 use Rattle.certificate_check.specs.declared.entries.Span.{Span}
 use Rattle.certificate_check.specs.Spans.{IsSpanOf, IsSpanAt, ReadsAs, Covers, Decides, first, none, count_in}
 use Rattle.certificate_check.proofs.Spanned.{page_multiple}

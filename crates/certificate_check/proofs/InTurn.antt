@@ -3,10 +3,10 @@ use Rattle.std.proofs.Common.{◌≡◌, ℕ, ◌+◌, ◌^◌, ◌<◌, ◌≤�
 use Rattle.std.proofs.lemmas.List.{append-nil}
 use Rattle.pmp_encoding.specs.declared.region.Entry.{Entry}
 use Rattle.pmp_encoding.specs.Encoding.{MeansEntry}
-use Rattle.plan_certificate.specs.declared.fault.ReadFault.{ReadFault}
-use Rattle.plan_certificate.specs.declared.fault.ReadFault.TheVariants as Read
-use Rattle.plan_certificate.specs.Faults.{ShortFault}
-use Rattle.plan_certificate.specs.Spelling.{SpellsEntry, SpellsEntries, AreNoSubPages}
+use Rattle.certificate_format.specs.declared.fault.ReadFault.{ReadFault}
+use Rattle.certificate_format.specs.declared.fault.ReadFault.TheVariants as Read
+use Rattle.certificate_format.specs.Faults.{ShortFault}
+use Rattle.certificate_format.specs.Spelling.{SpellsEntry, SpellsEntries, AreNoSubPages}
 use Rattle.certificate_check.specs.Refusals.{refusal_of}
 use Rattle.certificate_check.specs.Listed.{IsListed, EntryFault}
 

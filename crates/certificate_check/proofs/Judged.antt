@@ -7,8 +7,8 @@ use Rattle.pmp_encoding.specs.declared.region.Entry.{Entry}
 use Rattle.pmp_match.specs.Meaning.{View, Means}
 use Rattle.pmp_match.specs.Bounds.{BoundTree, bound_of}
 use Rattle.pmp_match.proofs.Meant.{least}
-use Rattle.plan_certificate.specs.declared.header.Header.{Header}
-use Rattle.plan_certificate.specs.Spelling.{header_bytes, node_bytes}
+use Rattle.certificate_format.specs.declared.header.Header.{Header}
+use Rattle.certificate_format.specs.Spelling.{header_bytes, node_bytes}
 use Rattle.certificate_check.specs.declared.refusal.CheckRefusal.{CheckRefusal}
 use Rattle.certificate_check.specs.Listed.{IsListed}
 use Rattle.certificate_check.specs.Nodes.{IsRightNode}

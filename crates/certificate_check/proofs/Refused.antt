@@ -1,7 +1,7 @@
 -- A reader's fault handed on as the refusal of its number.
 use Rattle.std.proofs.Common.{◌≡◌, sym, subst, Result, Ok, Err}
 use Rattle.std.specs.Result.{IsErrAnd, IfErr}
-use Rattle.plan_certificate.specs.declared.fault.ReadFault.{ReadFault}
+use Rattle.certificate_format.specs.declared.fault.ReadFault.{ReadFault}
 use Rattle.certificate_check.specs.declared.refusal.CheckRefusal.{CheckRefusal}
 use Rattle.certificate_check.specs.Refusals.{refusal_of}
 

@@ -8,11 +8,11 @@ use Rattle.pmp_encoding.specs.Perms.{bits_of}
 use Rattle.pmp_encoding.proofs.Multiples.{multiple_from_mod}
 use Rattle.pmp_match.specs.Meaning.{View}
 use Rattle.pmp_match.specs.Bounds.{BoundTree, Leaf, Branch, bound_of, IsSoundAt}
-use Rattle.plan_certificate.specs.Costs.{SixCosts, cost_of, six_of}
-use Rattle.plan_certificate.specs.Spelling.{costs_bytes, node_bytes}
-use Rattle.plan_certificate.specs.declared.reader.Tag.{Tag}
-use Rattle.plan_certificate.specs.declared.reader.Tag.TheVariants as Tags
-use Rattle.plan_certificate.specs.Tags.{tag_byte}
+use Rattle.certificate_format.specs.Costs.{SixCosts, cost_of, six_of}
+use Rattle.certificate_format.specs.Spelling.{costs_bytes, node_bytes}
+use Rattle.certificate_format.specs.declared.reader.Tag.{Tag}
+use Rattle.certificate_format.specs.declared.reader.Tag.TheVariants as Tags
+use Rattle.certificate_format.specs.Tags.{tag_byte}
 use Rattle.certificate_check.specs.declared.refusal.CheckRefusal.{CheckRefusal}
 use Rattle.certificate_check.specs.declared.refusal.CheckRefusal.TheVariants.{CostTooHigh, CostOverflow}
 use Rattle.certificate_check.specs.declared.numbers.Numbers.{Numbers}

@@ -4,11 +4,11 @@ use Rattle.pmp_encoding.specs.declared.perm.Perm.TheVariants.{NoAccess}
 use Rattle.pmp_encoding.specs.declared.region.Entry.{Entry}
 use Rattle.pmp_match.specs.Meaning.{View, Means}
 use Rattle.pmp_match.specs.Bounds.{BoundTree, bound_of, IsSoundBound}
-use Rattle.plan_certificate.specs.declared.fault.ReadFault.{ReadFault}
-use Rattle.plan_certificate.specs.declared.header.Header.{Header}
-use Rattle.plan_certificate.specs.declared.header.Version.{Version}
-use Rattle.plan_certificate.specs.Faults.{HeaderFault}
-use Rattle.plan_certificate.specs.Spelling.{header_bytes, node_bytes, Spells, IsCertificate}
+use Rattle.certificate_format.specs.declared.fault.ReadFault.{ReadFault}
+use Rattle.certificate_format.specs.declared.header.Header.{Header}
+use Rattle.certificate_format.specs.declared.header.Version.{Version}
+use Rattle.certificate_format.specs.Faults.{HeaderFault}
+use Rattle.certificate_format.specs.Spelling.{header_bytes, node_bytes, Spells, IsCertificate}
 use Rattle.certificate_check.specs.declared.refusal.CheckRefusal.{CheckRefusal}
 use Rattle.certificate_check.specs.declared.refusal.CheckRefusal.TheVariants.{EntriesTooMany, WrongMeaning, Trailing}
 use Rattle.certificate_check.specs.Refusals.{refusal_of}

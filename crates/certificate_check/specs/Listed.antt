@@ -3,7 +3,7 @@ use Rattle.std.specs.Prelude.{◌≡◌, ℕ, ◌<◌, ◌^◌, List, ◌++◌, 
 use Rattle.certificate_check.specs.declared.entries.Entries.{Entries}
 use Rattle.pmp_encoding.specs.declared.region.Entry.{Entry}
 use Rattle.pmp_encoding.specs.Encoding.{MeansEntry}
-use Rattle.plan_certificate.specs.Spelling.{pair_bytes, SpellsEntries, AreNoSubPages}
+use Rattle.certificate_format.specs.Spelling.{pair_bytes, SpellsEntries, AreNoSubPages}
 use Rattle.certificate_check.specs.declared.refusal.CheckRefusal.{CheckRefusal}
 use Rattle.certificate_check.specs.declared.refusal.CheckRefusal.TheVariants.{Truncated, BadEntry, SubPageEntry}
 

@@ -4,9 +4,9 @@ use Rattle.pmp_encoding.specs.declared.perm.Perm.{Perm}
 use Rattle.pmp_encoding.specs.Perms.{bits_of}
 use Rattle.pmp_match.specs.Meaning.{View}
 use Rattle.pmp_match.specs.Bounds.{BoundTree, bound_of, IsSoundAt}
-use Rattle.plan_certificate.specs.Spelling.{costs_bytes, node_bytes, FitsNode, HasNoOverflow}
-use Rattle.plan_certificate.specs.Faults.{ShortFault, TagFault, PermFault}
-use Rattle.plan_certificate.specs.declared.fault.ReadFault.{ReadFault}
+use Rattle.certificate_format.specs.Spelling.{costs_bytes, node_bytes, FitsNode, HasNoOverflow}
+use Rattle.certificate_format.specs.Faults.{ShortFault, TagFault, PermFault}
+use Rattle.certificate_format.specs.declared.fault.ReadFault.{ReadFault}
 use Rattle.certificate_check.specs.declared.refusal.CheckRefusal.{CheckRefusal}
 use Rattle.certificate_check.specs.declared.refusal.CheckRefusal.TheVariants.{TooDeep, LeafNotUniform, WrongLeaf, CostTooHigh, CostOverflow}
 use Rattle.certificate_check.specs.declared.numbers.Numbers.{Numbers}

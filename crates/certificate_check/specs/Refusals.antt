@@ -1,6 +1,6 @@
 -- A reader's fault as the checker's refusal.
-use Rattle.plan_certificate.specs.declared.fault.ReadFault.{ReadFault}
-use Rattle.plan_certificate.specs.declared.fault.ReadFault.TheVariants as Read
+use Rattle.certificate_format.specs.declared.fault.ReadFault.{ReadFault}
+use Rattle.certificate_format.specs.declared.fault.ReadFault.TheVariants as Read
 use Rattle.certificate_check.specs.declared.refusal.CheckRefusal.{CheckRefusal}
 use Rattle.certificate_check.specs.declared.refusal.CheckRefusal.TheVariants.{BadMagic, BadVersion, Truncated, BadTag, BadPerm, BadLimit}
 

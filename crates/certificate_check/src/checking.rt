@@ -8,8 +8,8 @@ use crate::listing::listed;
 use crate::nodes::node;
 use crate::refusal::CheckRefusal;
 use crate::sweep::means;
+use certificate_format::Reader;
 use permission_map::PermissionMap;
-use plan_certificate::Reader;
 
 /// Reads the parts in their order, and answers the first that is not right.
 fn read_whole(map: &PermissionMap, bytes: &[u8]) -> Result<u32, CheckRefusal>

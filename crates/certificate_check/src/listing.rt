@@ -1,12 +1,12 @@
 ghost use Rattle.std.specs.Prelude.{◌≡◌, ℕ, ◌<◌, ◌≤◌, ◌^◌, ◌++◌, List, length, IfOk, IfErr, OnOk, IsOk};
 ghost use Rattle.pmp_encoding.specs.declared.region.Entry.{Entry};
-ghost use Rattle.plan_certificate.specs.Spelling.{pair_bytes, SpellsEntry, SpellsEntries, AreNoSubPages};
+ghost use Rattle.certificate_format.specs.Spelling.{pair_bytes, SpellsEntry, SpellsEntries, AreNoSubPages};
 ghost use Rattle.certificate_check.specs.declared.refusal.CheckRefusal.{CheckRefusal};
 ghost use Rattle.certificate_check.specs.Listed.{IsListed, EntryFault, ListFault, IsListAnswer};
 
 use crate::entries::Entries;
 use crate::refusal::CheckRefusal;
-use plan_certificate::Reader;
+use certificate_format::Reader;
 use pmp_encoding::decode;
 
 /// Reads the nine bytes of an entry of at least a page.

@@ -3,16 +3,16 @@ ghost use Rattle.pmp_encoding.specs.declared.perm.Perm.{Perm};
 ghost use Rattle.pmp_encoding.specs.Perms.{bits_of};
 ghost use Rattle.pmp_match.specs.Bounds.{BoundTree, Leaf, Branch};
 ghost use Rattle.permission_map.specs.Runs.{view_of_runs};
-ghost use Rattle.plan_certificate.specs.Spelling.{costs_bytes, node_bytes};
-ghost use Rattle.plan_certificate.specs.Costs.{cost_of};
+ghost use Rattle.certificate_format.specs.Spelling.{costs_bytes, node_bytes};
+ghost use Rattle.certificate_format.specs.Costs.{cost_of};
 ghost use Rattle.certificate_check.specs.declared.refusal.CheckRefusal.{CheckRefusal};
 ghost use Rattle.certificate_check.specs.Numbers.{number_for};
 ghost use Rattle.certificate_check.specs.Nodes.{IsUniform, IsRightNode, AreNumbersOf, IsAllowed, BranchFault, NodeFault, IsNodeRead, IsAnswer};
 
 use crate::numbers::{Numbers, numbers_of_branch, numbers_of_leaf};
 use crate::refusal::CheckRefusal;
+use certificate_format::{Costs, Reader, Tag};
 use permission_map::PermissionMap;
-use plan_certificate::{Costs, Reader, Tag};
 
 /// How many pages a block has.
 fn pages_of(log2: u32) -> u64

@@ -12,10 +12,10 @@ pub(crate) struct Numbers {
 ghost use Rattle.std.specs.Prelude.{◌≡◌, ℕ, ◌+◌, ◌<◌, ◌≤◌, ◌^◌, ◌⊎◌, false, IsTrue, IfSome, IfNone, SomeIff};
 ghost use Rattle.pmp_encoding.specs.declared.perm.Perm.{Perm};
 ghost use Rattle.pmp_match.specs.Bounds.{Leaf, bound_of};
-ghost use Rattle.plan_certificate.specs.Costs.{cost_of};
+ghost use Rattle.certificate_format.specs.Costs.{cost_of};
 ghost use Rattle.certificate_check.specs.Numbers.{number_for};
 
-use plan_certificate::Costs;
+use certificate_format::Costs;
 use pmp_encoding::Perm;
 
 /// 0, or 1 where the permissions differ.

@@ -1,4 +1,4 @@
-use plan_certificate::ReadFault;
+use certificate_format::ReadFault;
 
 /// Why the bytes are no right certificate for the map. The numbers are those that the program prints.
 #[derive(Clone, Copy, PartialEq, Eq, Debug)]

@@ -1,7 +1,7 @@
 ghost use Rattle.std.specs.Prelude.{◌≡◌, ℕ, ◌<◌, ◌≤◌, ◌^◌, ◌↔◌, List, IsTrue, IfSome};
 ghost use Rattle.pmp_encoding.specs.declared.region.Entry.{Entry};
 ghost use Rattle.pmp_match.specs.Meaning.{Means};
-ghost use Rattle.plan_certificate.specs.Spelling.{SpellsEntries, AreNoSubPages};
+ghost use Rattle.certificate_format.specs.Spelling.{SpellsEntries, AreNoSubPages};
 ghost use Rattle.permission_map.specs.Runs.{view_of_runs};
 ghost use Rattle.certificate_check.specs.declared.entries.Span.{Span};
 ghost use Rattle.certificate_check.specs.Spans.{ReadsAs, Decides, RiseTo, AreChains, count_in};

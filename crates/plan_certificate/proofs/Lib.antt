@@ -1,5 +1,2 @@
-pub mod Numbers
-pub mod CostBytes
-pub mod Headers
 pub mod Spelled
 pub mod Sums

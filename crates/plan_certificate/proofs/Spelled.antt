@@ -5,8 +5,8 @@ use Rattle.pmp_encoding.specs.declared.region.Entry.{Entry}
 use Rattle.pmp_encoding.specs.Encoding.{cfg_of, address_of}
 use Rattle.pmp_encoding.proofs.Pairs.{pair_is}
 use Rattle.pmp_match.specs.Bounds.{BoundTree}
-use Rattle.plan_certificate.specs.declared.header.Version.{Version}
-use Rattle.plan_certificate.specs.Spelling.{SpellsEntries, FitsNode, Spells}
+use Rattle.certificate_format.specs.declared.header.Version.{Version}
+use Rattle.certificate_format.specs.Spelling.{SpellsEntries, FitsNode, Spells}
 use Rattle.plan_certificate.specs.Written.{entry_bytes, certificate_bytes}
 
 entries_spelled : (entries : List Entry) → SpellsEntries (flat_map entry_bytes entries) entries

@@ -10,8 +10,8 @@ use Rattle.prefix_tree.specs.Trees.{PermTree, Uniform, Split}
 use Rattle.prefix_tree.specs.Counts.{splits}
 use Rattle.entry_planner.specs.declared.costs.BlockCost.{BlockCost}
 use Rattle.entry_planner.specs.Plans.{costed}
-use Rattle.plan_certificate.specs.declared.header.Version.{Version}
-use Rattle.plan_certificate.specs.Spelling.{Spells, AreNoSubPages, HasNoOverflow, IsCertificate}
+use Rattle.certificate_format.specs.declared.header.Version.{Version}
+use Rattle.certificate_format.specs.Spelling.{Spells, AreNoSubPages, HasNoOverflow, IsCertificate}
 
 leaves_in : BoundTree → ℕ
 leaves_in (Leaf q) = 1

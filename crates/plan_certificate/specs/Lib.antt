@@ -1,5 +1,2 @@
-pub mod Costs
 pub mod Spelling
-pub mod Tags
-pub mod Faults
 pub mod Written

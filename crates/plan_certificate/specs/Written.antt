@@ -6,9 +6,9 @@ use Rattle.pmp_encoding.specs.declared.limit.Limit.TheVariants.{Sixteen, SixtyFo
 use Rattle.pmp_encoding.specs.declared.region.Entry.{Entry}
 use Rattle.pmp_encoding.specs.Encoding.{cfg_of, address_of}
 use Rattle.pmp_match.specs.Bounds.{BoundTree}
-use Rattle.plan_certificate.specs.declared.header.Version.{Version}
-use Rattle.plan_certificate.specs.declared.header.Version.TheVariants.{One, Two}
-use Rattle.plan_certificate.specs.Spelling.{pair_bytes, header_bytes, node_bytes}
+use Rattle.certificate_format.specs.declared.header.Version.{Version}
+use Rattle.certificate_format.specs.declared.header.Version.TheVariants.{One, Two}
+use Rattle.certificate_format.specs.Spelling.{pair_bytes, header_bytes, node_bytes}
 
 -- sixteen entries are the first form, sixty-four the second
 abbrev pub version_for : Limit → Version

@@ -7,8 +7,8 @@ ghost use Rattle.prefix_tree.specs.Trees.{PermTree};
 ghost use Rattle.prefix_tree.specs.Counts.{splits};
 ghost use Rattle.entry_planner.specs.declared.costs.BlockCost.{BlockCost};
 ghost use Rattle.entry_planner.specs.Plans.{costed};
-ghost use Rattle.plan_certificate.specs.declared.header.Version.{Version};
-ghost use Rattle.plan_certificate.specs.Spelling.{Spells, IsCertificate};
+ghost use Rattle.certificate_format.specs.declared.header.Version.{Version};
+ghost use Rattle.certificate_format.specs.Spelling.{Spells, IsCertificate};
 
 /// Bytes that spell a plan's entries, none of them below a page, and its tree with its costs are a certificate,
 /// where the costs are a sound bound of some view and the root's number for no access is the number of entries.

@@ -4,10 +4,10 @@ ghost use Rattle.prefix_tree.specs.Trees.{Fits};
 ghost use Rattle.prefix_tree.specs.Counts.{splits};
 ghost use Rattle.prefix_tree.specs.Shapes.{shape_of};
 ghost use Rattle.entry_planner.specs.Plans.{cost_in, costed};
-ghost use Rattle.plan_certificate.specs.Spelling.{u32_bytes, u64_bytes, header_bytes, costs_bytes, node_bytes, FitsNode, Spells};
+ghost use Rattle.certificate_format.specs.Spelling.{u32_bytes, u64_bytes, header_bytes, costs_bytes, node_bytes, FitsNode, Spells};
 ghost use Rattle.plan_certificate.specs.Written.{version_for, entry_bytes, certificate_bytes};
 
-use crate::header::{Header, Version};
+use certificate_format::{Header, Version};
 use entry_planner::Plan;
 use permission_map::Memory;
 use pmp_encoding::{Entry, Limit, Perm};

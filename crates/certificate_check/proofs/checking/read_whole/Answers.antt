@@ -4,9 +4,9 @@ use Rattle.std.proofs.lemmas.List.{append-nil}
 use Rattle.std.proofs.lemmas.Bool.{eqb-true, eqb-false}
 use Rattle.pmp_encoding.specs.declared.perm.Perm.TheVariants.{NoAccess}
 use Rattle.permission_map.specs.Runs.{view_of_runs}
-use Rattle.plan_certificate.specs.declared.header.Header.{Header}
-use Rattle.plan_certificate.specs.Faults.{HeaderFault}
-use Rattle.plan_certificate.specs.Spelling.{header_bytes, node_bytes}
+use Rattle.certificate_format.specs.declared.header.Header.{Header}
+use Rattle.certificate_format.specs.Faults.{HeaderFault}
+use Rattle.certificate_format.specs.Spelling.{header_bytes, node_bytes}
 use Rattle.certificate_check.specs.Listed.{IsListed}
 use Rattle.certificate_check.specs.Certificates.{RefusalStands, in_header, in_entries, in_root, too_many, another_meaning, trailing}
 use Rattle.certificate_check.proofs.Refused.{refused, refused_again}

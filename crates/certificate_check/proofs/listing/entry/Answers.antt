@@ -1,7 +1,7 @@
 use Rattle.std.proofs.Common.{◌≡◌, ℕ, ◌++◌, arith, sym, ap, refl, ◌∙◌, Ok}
 use Rattle.pmp_encoding.specs.declared.region.Entry.{Entry}
 use Rattle.pmp_encoding.specs.Encoding.{MeansEntry}
-use Rattle.plan_certificate.specs.Spelling.{pair_bytes}
+use Rattle.certificate_format.specs.Spelling.{pair_bytes}
 use Rattle.certificate_check.specs.Listed.{EntryFault}
 use Rattle.certificate_check.proofs.Refused.{refused}
 use Rattle.certificate_check.proofs.InTurn.{short_entry, means_small}

@@ -1,5 +1,5 @@
 use Rattle.std.proofs.Common.{◌≡◌, ℕ, ◌-◌, List, length, take, sym, subst, ap₂, ◌∙◌}
-use Rattle.plan_certificate.specs.Spelling.{SpellsEntries}
+use Rattle.certificate_format.specs.Spelling.{SpellsEntries}
 use Rattle.certificate_check.proofs.Entered.{cut_listed}
 use Rattle.certificate_check.proofs.listing.listed.Goals as goal
 

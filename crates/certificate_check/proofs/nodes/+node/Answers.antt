@@ -2,9 +2,9 @@
 use Rattle.std.proofs.Common.{◌≡◌, suc, ◌+◌, ◌-◌, ◌^◌, ◌∷◌, ◌++◌, arith, sym, subst, ap, refl, ◌∙◌}
 use Rattle.pmp_match.specs.Bounds.{BoundTree, bound_of}
 use Rattle.permission_map.specs.Runs.{view_of_runs}
-use Rattle.plan_certificate.specs.Costs.{cost_of, six_of}
-use Rattle.plan_certificate.specs.Spelling.{costs_bytes}
-use Rattle.plan_certificate.specs.Tags.{tag_byte}
+use Rattle.certificate_format.specs.Costs.{cost_of, six_of}
+use Rattle.certificate_format.specs.Spelling.{costs_bytes}
+use Rattle.certificate_format.specs.Tags.{tag_byte}
 use Rattle.certificate_check.specs.Numbers.{number_for}
 use Rattle.certificate_check.specs.Nodes.{IsRightNode, IsNodeRead, IsAnswer, NodeFault, in_tag, a_page, in_costs, in_lower, in_upper}
 use Rattle.certificate_check.proofs.Refused.{refused, refused_again}

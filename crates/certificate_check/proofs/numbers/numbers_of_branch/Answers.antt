@@ -1,6 +1,6 @@
 use Rattle.std.proofs.Common.{◌≡◌}
 use Rattle.pmp_encoding.specs.declared.perm.Perm.{Perm}
-use Rattle.plan_certificate.specs.Costs.{cost_of}
+use Rattle.certificate_format.specs.Costs.{cost_of}
 use Rattle.certificate_check.specs.Numbers.{number_for}
 use Rattle.certificate_check.proofs.Six.{six}
 use Rattle.certificate_check.proofs.numbers.numbers_of_branch.Goals as goal

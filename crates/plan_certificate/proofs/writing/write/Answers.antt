@@ -4,8 +4,8 @@ use Rattle.std.specs.List.{flat_map}
 use Rattle.pmp_encoding.specs.declared.region.Entry.{Entry}
 use Rattle.prefix_tree.specs.Trees.{PermTree, Fits}
 use Rattle.entry_planner.specs.Plans.{costed}
-use Rattle.plan_certificate.specs.declared.header.Version.{Version}
-use Rattle.plan_certificate.specs.Spelling.{Spells, FitsNode, header_bytes, node_bytes}
+use Rattle.certificate_format.specs.declared.header.Version.{Version}
+use Rattle.certificate_format.specs.Spelling.{Spells, FitsNode, header_bytes, node_bytes}
 use Rattle.plan_certificate.specs.Written.{version_for, entry_bytes}
 use Rattle.plan_certificate.proofs.Spelled.{certificate_spelled}
 use Rattle.plan_certificate.proofs.writing.write.Goals as goal

@@ -1,0 +1,4 @@
+pub mod Costs
+pub mod Spelling
+pub mod Tags
+pub mod Faults

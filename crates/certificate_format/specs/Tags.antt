@@ -1,0 +1,8 @@
+-- The byte that a node begins with.
+use Rattle.std.specs.Prelude.{ℕ}
+use Rattle.certificate_format.specs.declared.reader.Tag.{Tag}
+use Rattle.certificate_format.specs.declared.reader.Tag.TheVariants.{Leaf, Branch}
+
+abbrev pub tag_byte : Tag → ℕ
+tag_byte Leaf = 0
+tag_byte Branch = 1

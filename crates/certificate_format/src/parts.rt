@@ -1,0 +1,92 @@
+use byteorder::{ByteOrder, LittleEndian};
+use pmp_encoding::Perm;
+use std::marker::Model;
+
+/// The nine bytes of an entry: a configuration byte, and an address register of eight bytes, the lowest first.
+/// (RISC-V Privileged Architecture, Physical Memory Protection CSRs)
+#[derive(Drop)]
+pub struct EntryBytes<'a> {
+    bytes: &'a [u8],
+}
+
+impl<'a> Model for EntryBytes<'a> {
+    ghost use Rattle.std.specs.Prelude.{◌≡◌, ℕ, length, drop, slice_index};
+    ghost use Rattle.byteorder.specs.Endian.{little_number};
+
+    // the pair of the configuration byte and the address register
+    ghost Value = { ℕ × ℕ };
+
+    ghost view = { λ e. (slice_index e.bytes.now 0, little_number 8 (drop 1 e.bytes.now)) };
+
+    ghost invariant = { λ e. length e.bytes.now ≡ 9 };
+}
+
+ghost use Rattle.std.specs.Prelude.{◌≡◌, ◌^◌, ◌<◌, length};
+ghost use Rattle.pmp_encoding.specs.declared.perm.Perm.{Perm};
+ghost use Rattle.certificate_format.specs.Costs.{cost_of};
+ghost use Rattle.certificate_format.specs.Spelling.{pair_bytes, costs_bytes};
+
+impl<'a> EntryBytes<'a> {
+    pub(crate) fn of(bytes: &'a [u8]) -> EntryBytes<'a>
+        requires { length bytes.now ≡ 9 }
+        ensures spelled { bytes.entry.now ≡ pair_bytes result }
+        ensures fits { result.1 < 2 ^ 64 }
+    {
+        EntryBytes { bytes }
+    }
+
+    /// The configuration byte, as in a pmpcfg register.
+    pub fn cfg(&self) -> u8
+        ensures { result ≡ self.now.0 }
+    {
+        self.bytes[0]
+    }
+
+    /// The address register, as in a pmpaddr register: bits 55 to 2 of an address.
+    pub fn address(&self) -> u64
+        ensures { result ≡ self.now.1 }
+    {
+        LittleEndian::read_u64(&self.bytes[1..])
+    }
+}
+
+/// The twenty-four bytes of a split block's six costs, in the order none, R, RW, X, RX, RWX.
+#[derive(Drop)]
+pub struct Costs<'a> {
+    bytes: &'a [u8],
+}
+
+impl<'a> Model for Costs<'a> {
+    ghost use Rattle.std.specs.Prelude.{◌≡◌, length};
+    ghost use Rattle.certificate_format.specs.Costs.{SixCosts, costs_in};
+
+    ghost Value = { SixCosts };
+
+    ghost view = { λ c. costs_in c.bytes.now };
+
+    ghost invariant = { λ c. length c.bytes.now ≡ 24 };
+}
+
+impl<'a> Costs<'a> {
+    pub(crate) fn of(bytes: &'a [u8]) -> Costs<'a>
+        requires { length bytes.now ≡ 24 }
+        ensures spelled { bytes.entry.now ≡ costs_bytes (cost_of result) }
+        ensures fits { (perm : Perm) → cost_of result perm < 2 ^ 32 }
+    {
+        Costs { bytes }
+    }
+
+    /// How many entries the block costs at least, where this permission stands round about it.
+    pub fn cost(&self, perm: Perm) -> u32
+        ensures { result ≡ cost_of self.now perm }
+    {
+        match perm {
+            Perm::NoAccess => LittleEndian::read_u32(self.bytes),
+            Perm::Read => LittleEndian::read_u32(&self.bytes[4..]),
+            Perm::ReadWrite => LittleEndian::read_u32(&self.bytes[8..]),
+            Perm::Execute => LittleEndian::read_u32(&self.bytes[12..]),
+            Perm::ReadExecute => LittleEndian::read_u32(&self.bytes[16..]),
+            Perm::ReadWriteExecute => LittleEndian::read_u32(&self.bytes[20..]),
+        }
+    }
+}

@@ -1,8 +1,0 @@
--- The byte that a node begins with.
-use Rattle.std.specs.Prelude.{ℕ}
-use Rattle.plan_certificate.specs.declared.reader.Tag.{Tag}
-use Rattle.plan_certificate.specs.declared.reader.Tag.TheVariants.{Leaf, Branch}
-
-abbrev pub tag_byte : Tag → ℕ
-tag_byte Leaf = 0
-tag_byte Branch = 1
