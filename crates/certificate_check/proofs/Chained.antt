@@ -1,10 +1,9 @@
 -- Chains of spans, each of which ends at or before the next begins.
-use Rattle.std.proofs.Common.{length, drop, get_or, Option, Some, None, ◌≡◌, ℕ, ◌+◌, ◌<◌, ◌≤◌, List, [], ◌∷◌, ◌++◌, ⊎_elim, min, arith, sym, subst, ap, refl, ◌∙◌}
+use Rattle.std.proofs.Common.{length, drop, get_or, ◌≡◌, ℕ, ◌+◌, ◌<◌, ◌≤◌, List, [], ◌∷◌, ◌++◌, ⊎_elim, min, arith, sym, subst, ap, refl, ◌∙◌}
 use Rattle.std.proofs.lemmas.Bool.{cases_lt}
 use Rattle.std.proofs.lemmas.Grind.{common_steps}
-use Rattle.std.specs.Option.{MatchOption}
 use Rattle.certificate_check.specs.declared.entries.Span.{Span}
-use Rattle.certificate_check.specs.Spans.{Decides, AreClear, IsChain, HaveEnded, RiseTo, AreChains, IsNextInChain}
+use Rattle.certificate_check.specs.Spans.{Decides, AreClear, IsChain, HaveEnded, RiseTo, AreChains}
 use Rattle.certificate_check.proofs.Swept.{decided_by}
 
 pub rise_append : (a : ℕ) (xs : List ℕ) (m k : ℕ) → RiseTo a xs m → m ≤ k → RiseTo a (xs ++ k ∷ []) k
@@ -44,13 +43,6 @@ pub ends_begun : (spans : ℕ → Span) (i : ℕ) (s : Span) → s ≡ spans i �
 ends_begun spans i s is j low high =
     let same : j ≡ i = omega arith in let end : (spans j).end ≡ s.end = ap (λ n. (spans n).end) same ∙ ap (λ (x : Span). x.end) (sym is) in omega arith
 
--- what a search by halves has found once nothing is left between its ends
-pub next_found :
-    (spans : ℕ → Span) (from to low high page : ℕ) (next : Option Span) → low ≡ high → from ≤ low → HaveEnded spans from low page
-    → MatchOption next (high ≡ to) (λ s. (s ≡ spans high) × (high < to)) → IsNextInChain spans from to page next
-next_found spans from to low high page None same order ended last = subst (λ (n : ℕ). HaveEnded spans from n page) (same ∙ last) ended
-next_found spans from to low high page (Some s) same order ended here = (low, order, (let inside = here.1 in omega arith), ended, here.0 ∙ ap spans (sym same))
-
 -- a list of numbers at a place
 pub drop_at : (xs : List ℕ) (i : ℕ) → i < length xs → drop i xs ≡ get_or xs i 0 ∷ drop (i + 1) xs
 drop_at xs i h = grind (arith, common_steps)
@@ -65,16 +57,20 @@ clear_past spans from to page end clear ended j at below after before covers =
     (λ over. let past : (spans j).end ≤ page = ended j over below in let inside : at < (spans j).end = covers.1 in omega arith)
     (cases_lt j from)
 
+-- the span is the first of the chain that ends behind the page
+abbrev pub IsNextInChain : (ℕ → Span) → ℕ → ℕ → ℕ → Span → Type 0
+IsNextInChain spans from to page s = (i : ℕ) × (from ≤ i) × (i < to) × HaveEnded spans from i page × (s ≡ spans i)
+
 -- the next of a chain covers the page
 pub chain_decided :
-    (spans : ℕ → Span) (count page end to' from to : ℕ) (s : Span) → IsNextInChain spans from to page (Some s) → to ≤ count → s.first ≤ page → page < s.end → to' ≡ min end s.end
+    (spans : ℕ → Span) (count page end to' from to : ℕ) (s : Span) → IsNextInChain spans from to page s → to ≤ count → s.first ≤ page → page < s.end → to' ≡ min end s.end
     → AreClear spans from page end → (at : ℕ) → page ≤ at → at < to' → Decides spans count at s.perm
 chain_decided spans count page end to' from to s (i, low, high, ended, is) inside first last shorter clear =
     decided_by spans count page end to' i s is (omega arith) first last shorter (clear_past spans from i page end clear ended)
 
 -- the next of a chain begins later, up to where it begins
 pub chain_clear_later :
-    (spans : ℕ → Span) (page end to' from to : ℕ) (s : Span) → IsNextInChain spans from to page (Some s) → IsChain spans from to → s.first < s.end → to' ≡ min end s.first
+    (spans : ℕ → Span) (page end to' from to : ℕ) (s : Span) → IsNextInChain spans from to page s → IsChain spans from to → s.first < s.end → to' ≡ min end s.first
     → AreClear spans from page end → AreClear spans to page to'
 chain_clear_later spans page end to' from to s (i, low, high, ended, is) chain some shorter clear j at below after before covers =
     ⊎_elim (λ less. clear_past spans from i page end clear ended j at less after (omega arith) covers)

@@ -1,6 +1,7 @@
 pub mod Spanned
 pub mod Swept
 pub mod Chained
+pub mod Placed
 pub mod Views
 pub mod Six
 pub mod Refused

@@ -1,4 +1,5 @@
 pub mod Spans
+pub mod Places
 pub mod Later
 pub mod Refusals
 pub mod Numbers

@@ -1,5 +1,5 @@
 -- The entries of a list as spans of whole pages.
-use Rattle.std.specs.Prelude.{◌≡◌, ℕ, ◌+◌, ◌*◌, ◌/◌, ◌^◌, ◌<◌, ◌≤◌, List, [], ◌∷◌, Option, Some, None, length, drop, slice_index}
+use Rattle.std.specs.Prelude.{◌≡◌, ℕ, ◌+◌, ◌*◌, ◌/◌, ◌^◌, ◌<◌, ◌≤◌, List, [], ◌∷◌, length, drop, slice_index}
 use Rattle.byteorder.specs.Endian.{little_number}
 use Rattle.pmp_encoding.specs.declared.perm.Perm.{Perm}
 use Rattle.pmp_encoding.specs.declared.perm.Perm.TheVariants.{NoAccess}
@@ -58,8 +58,3 @@ RiseTo from (x ∷ xs) to = (from ≤ x) × (x ≤ to) × RiseTo x xs to
 abbrev pub AreChains : (ℕ → Span) → ℕ → List ℕ → ℕ → Type 0
 AreChains spans from [] to = from ≡ to
 AreChains spans from (x ∷ xs) to = IsChain spans from x × AreChains spans x xs to
-
--- the first span of a chain that ends behind the page, or none where all have ended
-abbrev pub IsNextInChain : (ℕ → Span) → ℕ → ℕ → ℕ → Option Span → Type 0
-IsNextInChain spans from to page None = HaveEnded spans from to page
-IsNextInChain spans from to page (Some s) = (i : ℕ) × (from ≤ i) × (i < to) × HaveEnded spans from i page × (s ≡ spans i)

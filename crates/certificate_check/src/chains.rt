@@ -1,7 +1,3 @@
-ghost use Rattle.std.specs.Prelude.{◌≡◌, ℕ, ◌+◌, ◌*◌, ◌/◌, ◌<◌, ◌≤◌, ◌^◌, length, IfSome};
-ghost use Rattle.certificate_check.specs.declared.entries.Span.{Span};
-ghost use Rattle.certificate_check.specs.Spans.{ReadsAs, Decides, IsChain, RiseTo, AreChains, IsNextInChain, count_in};
-
 use crate::entries::{Entries, Span};
 use crate::piece::{PAGES, Piece};
 use arrayvec::ArrayVec;
@@ -10,51 +6,73 @@ use pmp_encoding::Perm;
 /// How many sizes a region of at least a page can have.
 pub(crate) const SIZES: usize = 45;
 
-/// The first of the entries from `from` to before `to`, a chain, that ends behind the page: found by halves.
-fn next_in_chain(entries: &Entries, from: usize, to: usize, page: u64) -> Option<Span>
-    requires order { from ≤ to }
-    requires inside { to ≤ count_in entries.now.bytes.now }
-    ensures open { IfSome result (λ s. page < s.end) }
-    ensures within { IfSome result (λ s. s.end ≤ 2 ^ 44) }
-    ensures some { IfSome result (λ s. s.first < s.end) }
-    ensures value { (spans : ℕ → Span) → ReadsAs entries.now.bytes.now spans → IsChain spans from to → IsNextInChain spans from to page result }
-{
-    let mut next = None;
-    let mut low = from;
-    let mut high = to;
-    while low < high {
-        let middle = low + (high - low) / 2;
-        let span = entries.span(middle);
-        if page < span.end {
-            next = Some(span);
-            high = middle;
-        } else {
-            low = middle + 1;
-        }
-    }
-    next
+/// A place in a chain: the span that was read last, and the number of the one behind it.
+#[derive(Clone, Copy)]
+pub(crate) struct Place {
+    pub(crate) next: usize,
+    pub(crate) span: Span,
 }
 
-/// What the entries give from the page on, where they stand in chains that end at `ends`.
-pub(crate) fn piece_of_chains(entries: &Entries, ends: &[usize], page: u64) -> Piece
+/// Before each chain: no span was read.
+pub(crate) const BEFORE: Place = Place {
+    next: 0,
+    span: Span {
+        first: 0,
+        end: 0,
+        perm: Perm::NoAccess,
+    },
+};
+
+ghost use Rattle.std.specs.Prelude.{◌≡◌, ℕ, ◌+◌, ◌*◌, ◌/◌, ◌<◌, ◌≤◌, ◌^◌, length, IfSome};
+ghost use Rattle.certificate_check.specs.declared.entries.Span.{Span};
+ghost use Rattle.certificate_check.specs.Spans.{ReadsAs, Decides, RiseTo, AreChains, count_in};
+ghost use Rattle.certificate_check.specs.Places.{IsPlace, ArePlaces};
+
+/// Goes on in the chain of the entries from `from` to before `to`, to the first span that ends behind the page.
+fn next_in_chain(entries: &Entries, place: Place, from: usize, to: usize, page: u64) -> Place
+    requires inside { to ≤ count_in entries.now.bytes.now }
+    ensures all { result.span.end ≤ page → to ≤ result.next }
+    ensures value { (spans : ℕ → Span) → ReadsAs entries.now.bytes.now spans → IsPlace spans from to page place → IsPlace spans from to page result }
+{
+    let mut next = place.next.max(from);
+    let mut span = place.span;
+    while span.end <= page && next < to {
+        span = entries.span(next);
+        next += 1;
+    }
+    Place { next, span }
+}
+
+/// What the entries give from the page on, where they stand in chains that end at `ends`. The places go on.
+pub(crate) fn piece_of_chains(
+    entries: &Entries,
+    ends: &[usize],
+    places: &mut [Place; SIZES],
+    page: u64,
+) -> Piece
+    requires few { length ends.now ≤ 45 }
     requires page { page < 2 ^ 44 }
     requires rise { RiseTo 0 ends.now (count_in entries.now.bytes.now) }
     requires chains { (spans : ℕ → Span) → ReadsAs entries.now.bytes.now spans → AreChains spans 0 ends.now (count_in entries.now.bytes.now) }
+    requires placed { (spans : ℕ → Span) → ReadsAs entries.now.bytes.now spans → ArePlaces spans ends.now page places.old }
     ensures some { page < result.end }
     ensures inside { result.end ≤ 2 ^ 44 }
     ensures value { (spans : ℕ → Span) → ReadsAs entries.now.bytes.now spans → (at : ℕ) → page ≤ at → at < result.end → Decides spans (count_in entries.now.bytes.now) at result.perm }
+    ensures places { (spans : ℕ → Span) → ReadsAs entries.now.bytes.now spans → ArePlaces spans ends.now page places.new }
 {
     let mut end = PAGES;
     let mut from = 0;
-    for to in ends {
-        if let Some(span) = next_in_chain(entries, from, *to, page) {
-            if span.first <= page {
+    for (i, to) in ends.iter().enumerate() {
+        let place = next_in_chain(entries, places[i], from, *to, page);
+        places[i] = place;
+        if page < place.span.end {
+            if place.span.first <= page {
                 return Piece {
-                    end: end.min(span.end),
-                    perm: span.perm,
+                    end: end.min(place.span.end),
+                    perm: place.span.perm,
                 };
             }
-            end = end.min(span.first);
+            end = end.min(place.span.first);
         }
         from = *to;
     }
@@ -66,6 +84,7 @@ pub(crate) fn piece_of_chains(entries: &Entries, ends: &[usize], page: u64) -> P
 
 /// Where the entries' chains end, if there are no more than sizes, as in a planner's list by rising size and address.
 pub(crate) fn chains_of(entries: &Entries) -> Option<ArrayVec<usize, SIZES>>
+    ensures few { IfSome result (λ ends. length ends.items ≤ 45) }
     ensures rise { IfSome result (λ ends. RiseTo 0 ends.items (count_in entries.now.bytes.now)) }
     ensures chains { IfSome result (λ ends. (spans : ℕ → Span) → ReadsAs entries.now.bytes.now spans → AreChains spans 0 ends.items (count_in entries.now.bytes.now)) }
 {

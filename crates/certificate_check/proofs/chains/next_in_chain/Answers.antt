@@ -1,19 +1,18 @@
-use Rattle.std.proofs.Common.{◌≡◌, arith}
-use Rattle.certificate_check.proofs.Chained.{next_found}
+-- Each span that was passed has ended.
+use Rattle.std.proofs.Common.{arith}
+use Rattle.certificate_check.proofs.Placed.{place_from, place_on}
 use Rattle.certificate_check.proofs.chains.next_in_chain.Goals as goal
 
-pub loop-low-preserved-then-page-span : goal.loop-low-preserved-then-page-span
-loop-low-preserved-then-page-span c = record {
-  low = c.loop-low.invariant.low;
-  order = omega arith;
-  high = omega arith;
-  behind = (omega arith, omega arith, omega arith);
-  ended = c.loop-low.invariant.ended;
-  next = λ spans reads. (c.span-span.ensures.value spans reads, omega arith);
+pub loop-span-init : goal.loop-span-init
+loop-span-init c = record {
+  low = omega arith;
+  value = λ spans reads place. place_from spans _ _ _ c.args.place _ c.max-next.ensures place;
 }
 
-pub returns-clause-value : goal.returns-clause-value
-returns-clause-value c =
-    λ spans reads chain.
-    let same : c.loop-low.low ≡ c.loop-low.high = omega arith in
-    next_found spans _ _ _ _ _ _ same c.loop-low.invariant.low (c.loop-low.invariant.ended spans reads chain) (c.loop-low.invariant.next spans reads)
+pub loop-span-preserved : goal.loop-span-preserved
+loop-span-preserved c = record {
+  low = omega arith;
+  value = λ spans reads place.
+      place_on spans _ _ _ _ c.span-span.result (c.loop-span.invariant.value spans reads place) (omega arith) c.loop-span.invariant.low (omega arith) (c.span-span.ensures.value spans reads)
+      c.span-span.ensures.some;
+}

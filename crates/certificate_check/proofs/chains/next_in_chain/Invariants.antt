@@ -1,18 +1,14 @@
-use Rattle.std.proofs.Common.{◌-◌, ◌≡◌, ℕ, ◌<◌, ◌≤◌, ◌^◌}
-use Rattle.std.specs.Option.{IfSome, MatchOption}
+use Rattle.std.proofs.Common.{◌-◌, ℕ, ◌≤◌}
 use Rattle.certificate_check.specs.declared.entries.Span.{Span}
-use Rattle.certificate_check.specs.Spans.{ReadsAs, IsChain, HaveEnded}
+use Rattle.certificate_check.specs.Spans.{ReadsAs}
+use Rattle.certificate_check.specs.Places.{IsPlace}
 use Rattle.certificate_check.proofs.chains.next_in_chain.Given as goal
 
-abbrev pub invariant-loop-low : goal.invariant-loop-low
-invariant-loop-low l = record {
-  low : l.from ≤ l.low;
-  order : l.low ≤ l.high;
-  high : l.high ≤ l.to;
-  behind : IfSome l.next (λ s. (l.page < s.end) × (s.end ≤ 2 ^ 44) × (s.first < s.end));
-  ended : (spans : ℕ → Span) → ReadsAs l.entries.bytes.now spans → IsChain spans l.from l.to → HaveEnded spans l.from l.low l.page;
-  next : (spans : ℕ → Span) → ReadsAs l.entries.bytes.now spans → MatchOption l.next (l.high ≡ l.to) (λ s. (s ≡ spans l.high) × (l.high < l.to));
+abbrev pub invariant-loop-span : goal.invariant-loop-span
+invariant-loop-span l = record {
+  low : l.from ≤ l.next;
+  value : (spans : ℕ → Span) → ReadsAs l.entries.bytes.now spans → IsPlace spans l.from l.to l.page l.fn.place → IsPlace spans l.from l.to l.page (record { next = l.next; span = l.span });
 }
 
-abbrev pub decreases-loop-low : goal.decreases-loop-low
-decreases-loop-low l = l.high - l.low
+abbrev pub decreases-loop-span : goal.decreases-loop-span
+decreases-loop-span l = l.to - l.next

@@ -1,8 +1,10 @@
 -- Where the two permissions differ at some page, no list of those spans gives the runs' view there.
-use Rattle.std.proofs.Common.{ℕ, arith, sym, ◌∙◌}
+use Rattle.std.proofs.Common.{ℕ, arith, rules, sym, refl, ◌∙◌}
+use Rattle.std.proofs.lemmas.Option.{IfSome_then}
 use denote.Enum.Bare.{differs_true}
 use Rattle.pmp_encoding.specs.contracts.perm.Perm.{the_type}
 use Rattle.certificate_check.proofs.Swept.{one_decided}
+use Rattle.certificate_check.proofs.Placed.{places_begun, places_later}
 use Rattle.certificate_check.proofs.sweep.agrees.Goals as goal
 
 pub returns-then-ne : goal.returns-then-ne
@@ -17,3 +19,22 @@ returns-then-ne c =
           ∙ c.piece_of_runs-wanted.ensures.value page (omega arith) c.piece_of_runs-wanted.ensures.some in
           absurd (differs_true the_type _ _ (sym c.ne.ensures ∙ c.if-ne.true) (one_decided spans _ page _ _ here there ∙ view)),
     )
+
+pub loop-page-init : goal.loop-page-init
+loop-page-init c = record {
+  inside = omega arith;
+  later = c.requires;
+  same = λ at h. refl;
+  places = IfSome_then c.chains_of-chains.result c.chains_of-chains.ensures.few (λ ends few. λ spans reads. places_begun spans ends.items 0 45 _ few refl refl);
+  given = λ spans reads at less. absurd (omega arith);
+}
+
+pub loop-page-preserved : goal.loop-page-preserved
+loop-page-preserved c = record {
+  inside = omega arith;
+  later = c.runs_from-rest.ensures.later;
+  same = search rules;
+  places = IfSome_then c.chains_of-chains.result c.piece_at-given.ensures.places
+      (λ ends placed. λ spans reads. places_later spans ends.items c.loop-page.page _ _ (omega arith) (placed spans reads));
+  given = search rules;
+}

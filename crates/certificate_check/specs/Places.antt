@@ -1,0 +1,22 @@
+-- Places in the chains of a list of spans.
+use Rattle.std.specs.Prelude.{◌≡◌, ℕ, zero, suc, ◌<◌, ◌≤◌, List, length, slice_index, slice_index_or}
+use Rattle.certificate_check.specs.declared.entries.Span.{Span}
+use Rattle.certificate_check.specs.declared.chains.Place.{Place}
+use Rattle.certificate_check.specs.Spans.{HaveEnded}
+
+-- the place is before the chain of the spans from one number to before another, or behind one of them where those before it have ended before the page
+pub data IsPlace (spans : ℕ → Span) (from to page : ℕ) (place : Place) : Type 0 where
+  before : place.next ≤ from → place.span.end ≡ 0 → IsPlace spans from to page place
+  stands :
+      (i : ℕ) → place.next ≡ suc i → from ≤ i → i < to → HaveEnded spans from i page → place.span ≡ spans i → place.span.first < place.span.end
+      → IsPlace spans from to page place
+
+-- where a chain begins: at the end of the one before it
+abbrev pub start_of : List ℕ → ℕ → ℕ
+start_of ends zero = 0
+start_of ends (suc k) = slice_index ends k
+
+-- each chain has its place
+abbrev pub ArePlaces : (ℕ → Span) → List ℕ → ℕ → List Place → Type 0
+ArePlaces spans ends page places =
+    (k : ℕ) (d : Place) → k < length ends → IsPlace spans (start_of ends k) (slice_index ends k) page (slice_index_or places k d)
