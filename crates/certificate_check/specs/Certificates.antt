@@ -58,6 +58,8 @@ pub data RefusalStands (view : View) (bytes : List ℕ) : CheckRefusal → Type 
       (entries : List Entry) (tree : BoundTree) (rest : List ℕ) → IsReadWhole view bytes rest entries tree → bound_of tree NoAccess < length entries
       → RefusalStands view bytes EntriesTooMany
   another_meaning :
-      (entries : List Entry) (tree : BoundTree) (rest : List ℕ) → IsReadWhole view bytes rest entries tree → ¬ Means entries view → RefusalStands view bytes WrongMeaning
+      (entries : List Entry) (tree : BoundTree) (rest : List ℕ) → IsReadWhole view bytes rest entries tree → length entries ≤ bound_of tree NoAccess → ¬ Means entries view
+      → RefusalStands view bytes WrongMeaning
   trailing :
-      (entries : List Entry) (tree : BoundTree) (rest : List ℕ) → IsReadWhole view bytes rest entries tree → rest ≢ [] → RefusalStands view bytes Trailing
+      (entries : List Entry) (tree : BoundTree) (rest : List ℕ) → IsReadWhole view bytes rest entries tree → length entries ≤ bound_of tree NoAccess → Means entries view → rest ≢ []
+      → RefusalStands view bytes Trailing

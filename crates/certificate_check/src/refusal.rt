@@ -37,7 +37,44 @@ pub enum CheckRefusal {
     BadLimit = 16,
 }
 
+impl CheckRefusal {
+    ghost use Rattle.std.specs.Prelude.{◌≡◌};
+    ghost use Rattle.certificate_check.specs.Refusals.{refusal_number, refusal_name};
+
+    /// Its number, from 1 to 16.
+    pub fn number(self) -> u8
+        ensures { result ≡ refusal_number self }
+    {
+        self as u8
+    }
+
+    /// Its name, as the program prints it: at most fourteen ASCII letters.
+    pub fn name(self) -> &'static str
+        ensures { result.now ≡ refusal_name self }
+    {
+        match self {
+            CheckRefusal::BadMagic => "BadMagic",
+            CheckRefusal::BadVersion => "BadVersion",
+            CheckRefusal::Truncated => "Truncated",
+            CheckRefusal::BadTag => "BadTag",
+            CheckRefusal::BadPerm => "BadPerm",
+            CheckRefusal::BadEntry => "BadEntry",
+            CheckRefusal::SubPageEntry => "SubPageEntry",
+            CheckRefusal::TooDeep => "TooDeep",
+            CheckRefusal::LeafNotUniform => "LeafNotUniform",
+            CheckRefusal::WrongLeaf => "WrongLeaf",
+            CheckRefusal::CostTooHigh => "CostTooHigh",
+            CheckRefusal::CostOverflow => "CostOverflow",
+            CheckRefusal::EntriesTooMany => "EntriesTooMany",
+            CheckRefusal::WrongMeaning => "WrongMeaning",
+            CheckRefusal::Trailing => "Trailing",
+            CheckRefusal::BadLimit => "BadLimit",
+        }
+    }
+}
+
 impl From<ReadFault> for CheckRefusal {
+    ghost use Rattle.std.specs.Prelude.{◌≡◌};
     ghost use Rattle.certificate_check.specs.Refusals.{refusal_of};
 
     ghost from_gives = { λ fault refusal. refusal ≡ refusal_of fault };
@@ -53,5 +90,3 @@ impl From<ReadFault> for CheckRefusal {
         }
     }
 }
-
-ghost use Rattle.std.specs.Prelude.{◌≡◌};

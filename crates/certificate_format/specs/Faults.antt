@@ -7,6 +7,15 @@ use Rattle.certificate_format.specs.declared.fault.ReadFault.TheVariants.{BadMag
 use Rattle.certificate_format.specs.declared.header.Version.{Version}
 use Rattle.certificate_format.specs.Spelling.{magic, version_bytes}
 
+-- the number of a fault
+abbrev pub read_fault_number : ReadFault → ℕ
+read_fault_number BadMagic = 1
+read_fault_number BadVersion = 2
+read_fault_number Truncated = 3
+read_fault_number BadTag = 4
+read_fault_number BadPerm = 5
+read_fault_number BadLimit = 16
+
 -- too few bytes for a part of that many
 abbrev pub ShortFault : ℕ → List ℕ → ReadFault → Type 0
 ShortFault n bytes Truncated = length bytes < n

@@ -14,3 +14,15 @@ pub enum ReadFault {
     /// The limit of a version 2 certificate is neither 16 nor 64.
     BadLimit = 16,
 }
+
+impl ReadFault {
+    ghost use Rattle.std.specs.Prelude.{◌≡◌};
+    ghost use Rattle.certificate_format.specs.Faults.{read_fault_number};
+
+    /// Its number, which is that of the checker's refusal of the same name.
+    pub fn number(self) -> u8
+        ensures { result ≡ read_fault_number self }
+    {
+        self as u8
+    }
+}

@@ -99,7 +99,9 @@ returns-then-not-means-clause-fault c =
     let root = c.in_ok-root.ensures.read in
     let whole = whole_read (view_of_runs c.args.map.now) c.args.bytes.now c.header.new.self c.listed.new.reader c.node.new.reader c.in_ok-header.header list.0 root.tree headed c.in_ok-header.ensures.fits list.2 list.1 root.right root.spelled in
     let says = c.means.ensures list.0 list.3 list.1.pages in
-    another_meaning list.0 root.tree c.node.new.reader whole (λ m. let t = says.1 m in let no = c.if-not-means.true in cc (t, no))
+    another_meaning list.0 root.tree c.node.new.reader whole
+    (let number = root.numbers_of NoAccess in let over = c.if-header-root.false in omega (arith, number, over, list.2))
+    (λ m. let t = says.1 m in let no = c.if-not-means.true in cc (t, no))
 
 pub returns-then-not-is_empty-clause-given : goal.returns-then-not-is_empty-clause-given
 returns-then-not-is_empty-clause-given c =
@@ -119,7 +121,10 @@ returns-then-not-is_empty-clause-fault c =
     let list = c.in_ok-list.ensures.read in
     let root = c.in_ok-root.ensures.read in
     let whole = whole_read (view_of_runs c.args.map.now) c.args.bytes.now c.header.new.self c.listed.new.reader c.node.new.reader c.in_ok-header.header list.0 root.tree headed c.in_ok-header.ensures.fits list.2 list.1 root.right root.spelled in
-    trailing list.0 root.tree c.node.new.reader whole (λ none. eqb-false _ _ (sym c.is_empty.ensures ∙ c.if-not-is_empty.true) (ap (λ (xs : List ℕ). length xs) (c.rest.ensures ∙ none)))
+    let says = c.means.ensures list.0 list.3 list.1.pages in
+    trailing list.0 root.tree c.node.new.reader whole
+    (let number = root.numbers_of NoAccess in let over = c.if-header-root.false in omega (arith, number, over, list.2))
+    (says.0 c.if-not-means.false) (λ none. eqb-false _ _ (sym c.is_empty.ensures ∙ c.if-not-is_empty.true) (ap (λ (xs : List ℕ). length xs) (c.rest.ensures ∙ none)))
 
 pub returns-clause-right : goal.returns-clause-right
 returns-clause-right c =
