@@ -1,18 +1,20 @@
 -- Ranges set one before the other.
-use Rattle.std.proofs.Common.{ℕ, suc, ◌≡◌, ◌+◌, ◌/◌, ◌<◌, ◌∙◌, sym, ap, refl, Bool, true, false, ◌||◌, cond, List, ◌∷◌, length, get_or, drop, map, Option, None, Some, drop-cons, add-one}
-use Rattle.std.proofs.lemmas.List.{get_or_default}
+use Rattle.std.proofs.Common.{ℕ, suc, ◌≡◌, ◌+◌, ◌/◌, ◌<◌, ◌∙◌, sym, ap, subst, refl, Bool, true, false, ◌||◌, cond, List, ◌∷◌, length, get_or, drop, map, Option, None, Some, drop-cons, add-one, arith}
+use Rattle.std.specs.List.{All}
+use Rattle.std.proofs.lemmas.List.{get_or_default, get_or-map, length-map}
 use Rattle.pmp_encoding.specs.declared.perm.Perm.{Perm}
 use Rattle.pmp_encoding.specs.declared.perm.Perm.TheVariants.{NoAccess, ReadWriteExecute}
 use Rattle.pmp_match.specs.Meaning.{View}
 use Rattle.permission_map.specs.Runs.{in_range}
 use Rattle.permission_map.specs.Views.{SameView, overwritten}
 use Rattle.enclave_table.specs.Devices.{triple_of}
-use Rattle.enclave_table.specs.Platform.{device_perm}
-use Rattle.enclave_table.specs.Ranges.{has_page, is_among}
+use Rattle.enclave_table.specs.Platform.{Layout, device_perm, is_monitor, platform_perm}
+use Rattle.enclave_table.specs.Ranges.{IsRange, has_page, is_among, range_of}
 use Rattle.enclave_table.specs.Requests.{is_private}
 use Rattle.enclave_table.specs.Views.{any_private}
 use Rattle.enclave_table.specs.declared.device.Device.{Device}
 use Rattle.enclave_table.specs.declared.enclave.Enclave.{Enclave}
+use Rattle.enclave_table.specs.declared.request.PageRange.{PageRange}
 
 -- the list from a place on
 pub from_place : {X : Type 0} (xs : List X) (i : ℕ) (x : X) → i < length xs → x ≡ get_or xs i x → drop i xs ≡ x ∷ drop (i + 1) xs
@@ -66,3 +68,20 @@ pub none_hidden :
 none_hidden es i monitor allowed old inside is before page small =
     before page small
     ∙ sym (ap (λ s. cond (monitor page || any_private s page) NoAccess (allowed page)) (from_place es i None inside (sym is)))
+
+-- devices that are ranges as they are given are ranges as they are kept
+pub device_ranges : (devices : List Device) → All (λ device. IsRange (range_of device)) (map triple_of devices) → All (λ d. IsRange (d.base, d.size)) devices
+device_ranges devices all = λ k d below.
+    subst (λ triple. IsRange (range_of triple)) (get_or-map triple_of devices k d (triple_of d) below) (all k (triple_of d) (omega (arith, below, length-map devices triple_of)))
+
+-- the devices set first, then the memory, then nothing on the monitor's pages: that is what the platform allows
+pub platform_view :
+    (layout : Layout) (devices : List Device) (ram : List (ℕ × ℕ)) (pages : PageRange) (first second third : View) → layout.devices ≡ map triple_of devices → layout.ram ≡ ram
+    → pages ≡ record { first = layout.monitor.0 / 4096; count = layout.monitor.1 / 4096 } → SameView first (device_perm (map triple_of devices))
+    → SameView second (λ page. cond (is_among ram page) ReadWriteExecute (first page)) → SameView third (overwritten second pages.first pages.count NoAccess)
+    → SameView third (λ page. cond (is_monitor layout page) NoAccess (platform_perm layout page))
+platform_view layout devices ram pages first second third devices_are ram_is pages_are on_devices on_ram on_monitor page small =
+    on_monitor page small
+    ∙ ap (λ (r : PageRange). cond (in_range r.first r.count page) NoAccess (second page)) pages_are
+    ∙ ap (λ p. cond (is_monitor layout page) NoAccess p)
+    (on_ram page small ∙ ap (λ p. cond (is_among ram page) ReadWriteExecute p) (on_devices page small ∙ sym (ap (λ ds. device_perm ds page) devices_are)) ∙ sym (ap (λ rs. cond (is_among rs page) ReadWriteExecute (device_perm layout.devices page)) ram_is))

@@ -49,7 +49,8 @@ pub(crate) fn enclave_list(
     limit: Limit,
     parts: &Create,
 ) -> Result<EntryList, Refusal>
-    requires { HasCounts parts.now }
+    requires counts { HasCounts parts.now }
+    requires places { HasPlaces parts.now }
     ensures list { IfOk result (λ list. IsListOf limit (enclave_view parts.now) list) }
     ensures want { IfErr result (λ refusal. IsWant limit (enclave_view parts.now) refusal) }
 {

@@ -22,8 +22,9 @@ loop-i-preserved c =
     let next : i + 1 ≡ c.loop-i.i = omega (arith, c.loop-i-test.true) in
     let before : SameView (view_of_runs c.loop-i.perms) (device_perm (map triple_of (drop (i + 1) devices))) = rw next c.loop-i.invariant.view in
     let P : PageRange → Type 0 = λ r. SameView (view_of_runs c.put.new.map) (overwritten (view_of_runs c.loop-i.perms) r.first r.count d.perm) in
-    let set : SameView (view_of_runs c.put.new.map) (overwritten (view_of_runs c.loop-i.perms) (d.base / 4096) (d.size / 4096) d.perm) = subst P c.pages.ensures c.in_ok-put.ensures in
+    let set : SameView (view_of_runs c.put.new.map) (overwritten (view_of_runs c.loop-i.perms) (d.base / 4096) (d.size / 4096) d.perm) = subst P c.pages.ensures c.in_ok-put.ensures.view in
     record {
       inside = omega (arith, inside);
+      few = omega (arith, c.loop-i.invariant.few, c.in_ok-put.ensures.few, next);
       view = device_set devices i d (view_of_runs c.loop-i.perms) (view_of_runs c.put.new.map) inside (get_or_default devices i nothing d inside) before set;
     }

@@ -16,7 +16,7 @@ pub returns-then-needed-number-clause-fault : goal.returns-then-needed-number-cl
 returns-then-needed-number-clause-fault c =
     let view : View = host_view (opening c.args.platform) in
     let means : TreeMeans view c.in-Ok-build.tree =
-    tree_same (view_of_runs c.in-Ok.map) view c.in-Ok-build.tree (opening_view c.args.platform (view_of_runs c.in-Ok.map) c.in-Ok.ensures) c.in-Ok-build.ensures.means in
+    tree_same (view_of_runs c.in-Ok.map) view c.in-Ok-build.tree (opening_view c.args.platform (view_of_runs c.in-Ok.map) c.in-Ok.ensures.view) c.in-Ok-build.ensures.means in
     let needs : Needs view (length c.in-Ok-fewest.list) = c.in-Ok-fewest.ensures.needs view means in
     let more : limit_number c.args.platform.limit < c.len-needed.result = omega (arith, c.if-needed-number.true, c.number.ensures.value, ap limit_number c.limit.ensures) in
     (rw c.len-needed.ensures needs, more)
@@ -25,7 +25,7 @@ pub invariant_of-result : goal.invariant_of-result
 invariant_of-result c =
     let view : View = host_view (opening c.args.platform) in
     let means : TreeMeans view c.in-Ok-build.tree =
-    tree_same (view_of_runs c.in-Ok.map) view c.in-Ok-build.tree (opening_view c.args.platform (view_of_runs c.in-Ok.map) c.in-Ok.ensures) c.in-Ok-build.ensures.means in
+    tree_same (view_of_runs c.in-Ok.map) view c.in-Ok-build.tree (opening_view c.args.platform (view_of_runs c.in-Ok.map) c.in-Ok.ensures.view) c.in-Ok-build.ensures.means in
     let room : length c.in-Ok-fewest.list ≤ limit_number c.args.platform.limit = omega (arith, c.if-needed-number.false, c.number.ensures.value, ap limit_number c.limit.ensures, c.len-needed.ensures) in
     let host : IsListOf c.args.platform.limit view c.in-Ok-fewest.list =
     record { means = c.in-Ok-fewest.ensures.means view means; needs = c.in-Ok-fewest.ensures.needs view means; room = room } in
@@ -40,6 +40,6 @@ pub returns-clause-fits : goal.returns-clause-fits
 returns-clause-fits c =
     let view : View = host_view (opening c.args.platform) in
     let means : TreeMeans view c.in-Ok-build.tree =
-    tree_same (view_of_runs c.in-Ok.map) view c.in-Ok-build.tree (opening_view c.args.platform (view_of_runs c.in-Ok.map) c.in-Ok.ensures) c.in-Ok-build.ensures.means in
+    tree_same (view_of_runs c.in-Ok.map) view c.in-Ok-build.tree (opening_view c.args.platform (view_of_runs c.in-Ok.map) c.in-Ok.ensures.view) c.in-Ok-build.ensures.means in
     let room : length c.in-Ok-fewest.list ≤ limit_number c.args.platform.limit = omega (arith, c.if-needed-number.false, c.number.ensures.value, ap limit_number c.limit.ensures, c.len-needed.ensures) in
     (length c.in-Ok-fewest.list, c.in-Ok-fewest.ensures.needs view means, room)

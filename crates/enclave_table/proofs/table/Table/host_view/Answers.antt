@@ -16,9 +16,10 @@ loop-id-init c =
     let layout = c.args.self.now.table.layout in
     let es = c.args.self.now.table.enclaves in
     let L : Layout → Type 0 = λ l. SameView (view_of_runs c.in_ok-map.map) (λ page. cond (is_monitor l page) NoAccess (platform_perm l page)) in
-    let here : SameView (view_of_runs c.in_ok-map.map) (λ page. cond (is_monitor layout page) NoAccess (platform_perm layout page)) = subst L c.platform.ensures c.in_ok-map.ensures in
+    let here : SameView (view_of_runs c.in_ok-map.map) (λ page. cond (is_monitor layout page) NoAccess (platform_perm layout page)) = subst L c.platform.ensures c.in_ok-map.ensures.view in
     record {
       inside = omega arith;
+      few = omega (arith, c.in_ok-map.ensures.few);
       view = λ page small.
           let rest : any_private (drop 64 es) page ≡ false = at_drop_all (λ s. any_private s page) es 64 (omega (arith, c.rules.ensures.table.places)) in
           let same : (is_monitor layout page || any_private (drop 64 es) page) ≡ is_monitor layout page = ap (λ t. is_monitor layout page || t) rest ∙ or_none (is_monitor layout page) in

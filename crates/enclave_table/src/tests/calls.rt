@@ -1,0 +1,297 @@
+ghost use Rattle.std.specs.Prelude.{replicate, ◌<◌, ◌^◌};
+
+use crate::{
+    Create, Entering, Leaving, Owner, PageRange, Pages, Platform, Refusal, State, Table, World,
+};
+use pmp_encoding::{Bank, Entry, Perm};
+use std::alloc::Global;
+use std::process::Abort;
+use std::test::Fail;
+
+/// Pages whose bytes are all the same.
+struct Filled {
+    byte: u8,
+}
+
+impl Pages for Filled {
+    ghost bytes_of = { λ f page. replicate 4096 f.byte };
+
+    fn copy_page(&self, page: u64, into: &mut [u8; 4096]) {
+        let _page = page;
+        *into = [self.byte; 4096];
+    }
+}
+
+const ZEROS: Filled = Filled { byte: 0 };
+
+fn example_table(alloc: Global, entries: u8) -> Result<Table, Fail> {
+    let platform = Platform::new(
+        (0x8000_0000, 0x20_0000),
+        [(0x8000_0000, 0x800_0000)].as_slice(),
+        [(0x1000_0000, 0x1000, Perm::ReadWrite)].as_slice(),
+    )?
+    .with_entries(entries)?;
+    let table = Table::boot(alloc, platform)?;
+    Ok(table)
+}
+
+/// One page of text at this address, and nothing else.
+fn page_at(base: u64) -> Create {
+    Create {
+        base,
+        text_pages: 1,
+        data_pages: 0,
+        shared_base: 0,
+        shared_count: 0,
+        entry_offset: 0,
+    }
+}
+
+fn created(table: &mut Table, asked: Create) -> Result<u64, Refusal> {
+    table.create(World::Host, &ZEROS, asked)
+}
+
+fn destroyed(table: &mut Table, id: u64) -> Result<PageRange, Refusal> {
+    table.destroy(World::Host, id)
+}
+
+fn entered(table: &mut Table, id: u64, entering: Entering) -> Result<(), Refusal> {
+    table.enter(World::Host, id, entering)
+}
+
+/// Leaves an enclave that runs.
+fn left(table: &mut Table, id: u64, leaving: Leaving) -> Result<u64, Refusal> {
+    let Some(enclave) = table.find(id) else {
+        return Err(Refusal::BadId);
+    };
+    if enclave.state != State::Running {
+        return Err(Refusal::BadState);
+    }
+    table.leave(World::Enclave(id), leaving)
+}
+
+fn word(table: &Table, id: u64, k: u64) -> Result<u64, Refusal> {
+    table.word(id, k)
+}
+
+fn owner(table: &Table, page: u64) -> Owner
+    requires { page < 2 ^ 44 }
+{
+    table.owner(page)
+}
+
+fn used(table: &Table) -> usize {
+    table.host_entries().len()
+}
+
+/// The table with enclaves of one page each, the next a step behind the last.
+fn table_of(alloc: Global, entries: u8, count: u64, step: u64) -> Result<Table, Fail> {
+    let mut table = example_table(alloc, entries)?;
+    for i in 0..count.min(64) {
+        let _ = created(&mut table, page_at(0x8020_0000 + i * step.min(0x1_0000)))?;
+    }
+    Ok(table)
+}
+
+fn addresses(entries: &[Entry], wanted: &[u64], rt: &impl Abort) {
+    assert_eq!(rt; entries.len(), wanted.len());
+    for (i, entry) in entries.iter().enumerate() {
+        if i < wanted.len() {
+            assert_eq!(rt; entry.encode().1, wanted[i]);
+        }
+    }
+}
+
+#[test]
+fn boot_of_the_example_platform_uses_three_entries(rt: HostRuntime) -> Result<(), Fail> {
+    let table = example_table(rt.alloc(), 16)?;
+    addresses(
+        table.host_entries(),
+        &[0x0400_01FF, 0x2003_FFFF, 0x20FF_FFFF],
+        &rt,
+    );
+    assert!(rt; table.enclave_entries(1).is_none());
+    assert_eq!(rt; owner(&table, 0x80000), Owner::Monitor);
+    assert_eq!(rt; owner(&table, 0x80200), Owner::Host);
+    Ok(())
+}
+
+#[test]
+fn seven_pages_need_two_entries(rt: HostRuntime) -> Result<(), Fail> {
+    let mut table = example_table(rt.alloc(), 16)?;
+    let mut asked = page_at(0x8020_8000);
+    asked.text_pages = 7;
+    assert_eq!(rt; created(&mut table, asked), Ok(1));
+    let Some(entries) = table.enclave_entries(1) else {
+        panic!(rt; "no enclave");
+    };
+    addresses(entries, &[0x2008_3DFF, 0x2008_2FFF], &rt);
+    assert_eq!(rt; used(&table), 5);
+    Ok(())
+}
+
+#[test]
+fn views_and_owners_of_text_data_and_shared_pages(rt: HostRuntime) -> Result<(), Fail> {
+    let mut table = example_table(rt.alloc(), 16)?;
+    let mut asked = page_at(0x8020_0000);
+    asked.data_pages = 1;
+    asked.shared_base = 0x8040_0000;
+    asked.shared_count = 1;
+    assert_eq!(rt; created(&mut table, asked), Ok(1));
+    let Some(entries) = table.enclave_entries(1) else {
+        panic!(rt; "no enclave");
+    };
+    addresses(entries, &[0x2008_01FF, 0x2008_05FF, 0x2010_01FF], &rt);
+    assert_eq!(rt; used(&table), 4);
+    assert_eq!(rt; owner(&table, 0x80201), Owner::Private(1));
+    assert_eq!(rt; owner(&table, 0x80400), Owner::Shared(1));
+    assert_eq!(rt; table.entry_point(1), Some(0x8020_0000));
+    let Some(view) = table.enclave_view(1)? else {
+        panic!(rt; "no enclave");
+    };
+    assert_eq!(rt; view.ranges().len(), 3);
+    assert_eq!(rt; view.get(0x80200), Perm::ReadExecute);
+    assert_eq!(rt; view.get(0x80201), Perm::ReadWrite);
+    assert_eq!(rt; view.get(0x80400), Perm::ReadWrite);
+    assert!(rt; table.enclave_view(2)?.is_none());
+    let host = table.host_view()?;
+    assert_eq!(rt; host.get(0x80200), Perm::NoAccess);
+    assert_eq!(rt; host.get(0x80400), Perm::ReadWriteExecute);
+    Ok(())
+}
+
+#[test]
+fn thirteenth_scattered_enclave_fits_and_fourteenth_does_not(rt: HostRuntime) -> Result<(), Fail> {
+    let mut table = table_of(rt.alloc(), 16, 13, 0x2000)?;
+    assert_eq!(rt; used(&table), 16);
+    let bank = Bank::of(table.host_entries(), table.limit());
+    assert_eq!(rt; bank.cfg0(), 0x1818_1818_1818_181B);
+    assert_eq!(rt;
+        created(&mut table, page_at(0x8021_A000)),
+        Err(Refusal::NoEntries)
+    );
+    assert_eq!(rt; used(&table), 16);
+    assert_eq!(rt; owner(&table, 0x8021A), Owner::Host);
+    let mut both = page_at(0x8021_A000);
+    both.shared_base = 0x8021_A000;
+    both.shared_count = 1;
+    assert_eq!(rt; created(&mut table, both), Err(Refusal::Overlap));
+    assert_eq!(rt;
+        created(&mut table, page_at(0x8000_0000)),
+        Err(Refusal::Overlap)
+    );
+    Ok(())
+}
+
+#[test]
+fn fourteenth_scattered_enclave_fits_sixty_four_entries(rt: HostRuntime) -> Result<(), Fail> {
+    let table = table_of(rt.alloc(), 64, 14, 0x2000)?;
+    assert_eq!(rt; used(&table), 17);
+    Ok(())
+}
+
+#[test]
+fn destroying_every_second_page_is_refused_at_seventeen(rt: HostRuntime) -> Result<(), Fail> {
+    let mut table = table_of(rt.alloc(), 16, 32, 0x1000)?;
+    assert_eq!(rt; used(&table), 4);
+    for k in 0..12u64 {
+        let range = destroyed(&mut table, 2 * k + 1)?;
+        assert_eq!(rt; range.first, 0x80200 + 2 * k);
+        assert_eq!(rt; range.count, 1);
+    }
+    assert_eq!(rt; used(&table), 16);
+    let first = word(&table, 25, 0)?;
+    assert!(rt; matches!(destroyed(&mut table, 25), Err(Refusal::NoEntries)));
+    assert_eq!(rt; used(&table), 16);
+    assert_eq!(rt; owner(&table, 0x80218), Owner::Private(25));
+    assert_eq!(rt; word(&table, 25, 0), Ok(first));
+    assert_eq!(rt;
+        created(&mut table, page_at(0x8040_0000)),
+        Err(Refusal::NoEntries)
+    );
+    Ok(())
+}
+
+#[test]
+fn sixty_fifth_enclave_finds_the_table_full(rt: HostRuntime) -> Result<(), Fail> {
+    let mut table = table_of(rt.alloc(), 16, 64, 0x1000)?;
+    assert_eq!(rt; used(&table), 4);
+    assert_eq!(rt;
+        created(&mut table, page_at(0x8030_0000)),
+        Err(Refusal::TableFull)
+    );
+    Ok(())
+}
+
+#[test]
+fn checks_come_in_their_order(rt: HostRuntime) -> Result<(), Fail> {
+    let mut table = example_table(rt.alloc(), 16)?;
+    let mut many = page_at(0x8020_0000);
+    many.text_pages = 0xFFFF_FFFF_FFFF_FFFF;
+    assert_eq!(rt; created(&mut table, many), Err(Refusal::BadCount));
+    assert_eq!(rt;
+        created(&mut table, page_at(0x8020_0800)),
+        Err(Refusal::BadAddress)
+    );
+    let mut entry = page_at(0x8020_0000);
+    entry.data_pages = 1;
+    entry.entry_offset = 0x1000;
+    assert_eq!(rt; created(&mut table, entry), Err(Refusal::BadEntry));
+    let mut device = page_at(0x8020_0000);
+    device.shared_base = 0x1000_0000;
+    device.shared_count = 1;
+    assert_eq!(rt; created(&mut table, device), Err(Refusal::NotRam));
+    let mut unused = page_at(0x8020_0000);
+    unused.shared_base = 0x1234;
+    assert_eq!(rt; created(&mut table, unused), Ok(1));
+    Ok(())
+}
+
+#[test]
+fn the_enclave_s_own_view_can_need_too_many(rt: HostRuntime) -> Result<(), Fail> {
+    let mut table = example_table(rt.alloc(), 16)?;
+    let mut asked = Create {
+        base: 0x804A_B000,
+        text_pages: 170,
+        data_pages: 342,
+        shared_base: 0x8100_0000,
+        shared_count: 11,
+        entry_offset: 0,
+    };
+    assert_eq!(rt; created(&mut table, asked), Err(Refusal::NoEntries));
+    asked.shared_count = 10;
+    assert_eq!(rt; created(&mut table, asked), Ok(1));
+    assert_eq!(rt; used(&table), 13);
+    let Some(entries) = table.enclave_entries(1) else {
+        panic!(rt; "no enclave");
+    };
+    assert_eq!(rt; entries.len(), 16);
+    Ok(())
+}
+
+#[test]
+fn an_enclave_is_entered_stopped_resumed_and_exits(rt: HostRuntime) -> Result<(), Fail> {
+    let mut table = table_of(rt.alloc(), 16, 1, 0x1000)?;
+    assert_eq!(rt;
+        entered(&mut table, 1, Entering::Resume),
+        Err(Refusal::BadState)
+    );
+    assert_eq!(rt; entered(&mut table, 2, Entering::Run), Err(Refusal::BadId));
+    assert_eq!(rt;
+        table.leave(World::Host, Leaving::Stop),
+        Err(Refusal::NotEnclave)
+    );
+    assert_eq!(rt; entered(&mut table, 1, Entering::Run), Ok(()));
+    assert!(rt; matches!(destroyed(&mut table, 1), Err(Refusal::BadState)));
+    assert_eq!(rt; left(&mut table, 1, Leaving::Stop), Ok(1));
+    assert_eq!(rt; entered(&mut table, 1, Entering::Resume), Ok(()));
+    assert_eq!(rt; left(&mut table, 1, Leaving::Exit), Ok(1));
+    assert_eq!(rt;
+        entered(&mut table, 1, Entering::Resume),
+        Err(Refusal::BadState)
+    );
+    assert_eq!(rt; word(&table, 1, 4), Err(Refusal::BadWord));
+    let _ = destroyed(&mut table, 1)?;
+    assert_eq!(rt; word(&table, 1, 0), Err(Refusal::BadId));
+    Ok(())
+}
