@@ -1,11 +1,19 @@
--- What a device tells of its last write.
-use Rattle.std.specs.Prelude.{◌≡◌, ℕ, Bool, ◌<◌, List, length, Result, MatchResult}
+-- What devices tell of their failures.
+use Rattle.std.specs.Prelude.{◌≡◌, ◌⊎◌, ℕ, ◌+◌, ◌^◌, ◌%◌, ◌<◌, ◌==◌, ◌&&◌, nat_lt, if◌then◌else◌, List, length, Result, MatchResult}
 use Rattle.byte_streams.specs.declared.streams.Counted.{Counted}
 use Rattle.byte_streams.specs.declared.streams.DeviceFault.{DeviceFault}
 
--- some bytes were offered, and the write took none of them
-abbrev pub TakesNone : Result ℕ DeviceFault → List ℕ → Type 0
-TakesNone result offered = MatchResult result (λ n. (n ≡ 0) × (0 < length offered)) (λ _. ⊥)
+-- a count of 64 bits goes on
+abbrev pub one_more : ℕ → ℕ
+one_more n = (n + 1) % 2 ^ 64
+
+-- a write that took none of some bytes is counted, and no other
+abbrev pub CountsStall : Result ℕ DeviceFault → List ℕ → ℕ → ℕ → Type 0
+CountsStall result offered before after = MatchResult result (λ n. after ≡ (if n == 0 && nat_lt 0 (length offered) then one_more before else before)) (λ _. after ≡ before)
+
+-- a write failed, or one took none of some bytes
+abbrev pub WriteFails : ℕ → ℕ → ℕ → ℕ → Type 0
+WriteFails failures failed stalls stalled = ((failed ≡ failures + 1) × (stalled ≡ stalls)) ⊎ ((failed ≡ failures) × (stalled ≡ one_more stalls))
 
 -- the reader or writer in a device, and how often it has failed
 abbrev pub inner_of : {T : Type 0} → Counted T → T
@@ -14,6 +22,6 @@ inner_of device = device.inner
 abbrev pub failures_of : {T : Type 0} → Counted T → ℕ
 failures_of device = device.failures
 
--- whether its last write took none of some bytes
-abbrev pub has_stalled : {T : Type 0} → Counted T → Bool
-has_stalled device = device.stalled
+-- how often its writes took none of some bytes
+abbrev pub stalls_of : {T : Type 0} → Counted T → ℕ
+stalls_of device = device.stalls

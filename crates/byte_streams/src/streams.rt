@@ -4,7 +4,7 @@
 
 ghost use Rattle.std.specs.Prelude.{◌≡◌, ℕ, ◌+◌, ◌-◌, ◌^◌, ◌<◌, ◌≤◌, ◌⊎◌, ◌↔◌, List, Bool, IsTrue, Option, IfOk, IfErr, MatchResult, length, take};
 ghost use Rattle.std.specs.Io.KnownBytes.{ReadConsumes, WriteAppends, Appends};
-ghost use Rattle.byte_streams.specs.Streams.{TakesNone, inner_of, failures_of, has_stalled};
+ghost use Rattle.byte_streams.specs.Streams.{CountsStall, WriteFails, inner_of, failures_of, stalls_of};
 
 use std::io::{Read, Write};
 
@@ -37,8 +37,8 @@ pub trait Sink {
     /// How often a write has failed.
     ghost failures: { Self → ℕ };
 
-    /// Whether the last write took none of some bytes.
-    ghost stalled: { Self → Bool };
+    /// How often a write took none of some bytes, in 64 bits.
+    ghost stalls: { Self → ℕ };
 
     /// Takes some bytes of the front of `buf`, and says how many.
     fn write(&mut self, buf: &[u8]) -> Result<usize, DeviceFault>
@@ -46,15 +46,15 @@ pub trait Sink {
         ensures bound { IfOk result (λ n. n ≤ length buf.now) }
         ensures bytes { WriteAppends (contents self.old) (contents self.new) result buf.now }
         ensures failures { MatchResult result (λ _. failures self.new ≡ failures self.old) (λ _. failures self.new ≡ failures self.old + 1) }
-        ensures stalled { IsTrue (stalled self.new) ↔ TakesNone result buf.now };
+        ensures stalls { CountsStall result buf.now (stalls self.old) (stalls self.new) };
 }
 
-/// A reader or writer of std, with the number of its failures.
+/// A reader or writer of std, with the number of its failures, and of its writes that took none of some bytes.
 #[derive(Drop)]
 pub struct Counted<T> {
     inner: T,
     failures: u64,
-    stalled: bool,
+    stalls: u64,
 }
 
 impl<T> Counted<T> {
@@ -62,11 +62,12 @@ impl<T> Counted<T> {
     pub fn new(inner: T) -> Counted<T>
         ensures inner { inner_of result ≡ inner }
         ensures failures { failures_of result ≡ 0 }
+        ensures stalls { stalls_of result ≡ 0 }
     {
         Counted {
             inner,
             failures: 0,
-            stalled: false,
+            stalls: 0,
         }
     }
 
@@ -77,7 +78,7 @@ impl<T> Counted<T> {
         let Counted {
             inner,
             failures: _,
-            stalled: _,
+            stalls: _,
         } = self;
         inner
     }
@@ -104,16 +105,17 @@ impl<T: Write> Sink for Counted<T> {
 
     ghost failures = { failures_of };
 
-    ghost stalled = { has_stalled };
+    ghost stalls = { stalls_of };
 
     fn write(&mut self, buf: &[u8]) -> Result<usize, DeviceFault> {
         match self.inner.write(buf) {
             Ok(n) => {
-                self.stalled = n == 0 && !buf.is_empty();
+                if n == 0 && !buf.is_empty() {
+                    self.stalls = self.stalls.wrapping_add(1);
+                }
                 Ok(n)
             }
             Err(_) => {
-                self.stalled = false;
                 self.failures += 1;
                 Err(DeviceFault)
             }
@@ -125,9 +127,9 @@ impl<T: Write> Sink for Counted<T> {
 pub fn write_whole<W: Sink>(sink: &mut W, bytes: &[u8]) -> Result<(), DeviceFault>
     requires { W.failures sink.old < 2 ^ 64 - 1 }
     ensures whole { IfOk result (λ _. Appends (W.contents sink.old) (W.contents sink.new) bytes.now) }
-    ensures well { IfOk result (λ _. W.failures sink.new ≡ W.failures sink.old) }
+    ensures well { IfOk result (λ _. (W.failures sink.new ≡ W.failures sink.old) × (W.stalls sink.new ≡ W.stalls sink.old)) }
     ensures part { IfErr result (λ _. (n : ℕ) × (n < length bytes.now) × Appends (W.contents sink.old) (W.contents sink.new) (take n bytes.now)) }
-    ensures failed { IfErr result (λ _. (W.failures sink.new ≡ W.failures sink.old + 1) ⊎ (IsTrue (W.stalled sink.new) × (W.failures sink.new ≡ W.failures sink.old))) }
+    ensures failed { IfErr result (λ _. WriteFails (W.failures sink.old) (W.failures sink.new) (W.stalls sink.old) (W.stalls sink.new)) }
 {
     let mut done = 0;
     while done < bytes.len() {

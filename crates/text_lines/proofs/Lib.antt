@@ -4,3 +4,4 @@ pub mod Buffered
 pub mod LinesRead
 pub mod InputLines
 pub mod WordsOfText
+pub mod Looped

@@ -8,8 +8,8 @@ use Rattle.std.proofs.lemmas.List.{drop_all}
 use Rattle.std.proofs.lemmas.List.Sums.{prefix_len_stops, split_at_first}
 use Rattle.std.proofs.lemmas.List.Folds.{list_all-append}
 use Rattle.std.proofs.lemmas.Bool.{and_parts, and_from, eqb-true, not-false, ltb-false}
-use Rattle.text_lines.specs.declared.fault.RunFault.{RunFault}
-use Rattle.text_lines.specs.declared.fault.RunFault.TheVariants as faults
+use Rattle.text_lines.specs.declared.fault.ReadFault.{ReadFault}
+use Rattle.text_lines.specs.declared.fault.ReadFault.TheVariants.{LongLine, TooManyBytes, Device}
 use Rattle.text_lines.specs.declared.lines.LineReader.{LineReader}
 use Rattle.text_lines.specs.Lines.{has_no_end, IsShortLine, BeginsLongLine, without_return}
 use Rattle.text_lines.specs.LineReaders.{line_of, pending_of, number_of, came_of, ended_of, Came, Hands, Holds, NextLine, ReadsMore}
@@ -77,7 +77,7 @@ short_line old now before after bytes slice len g same is all few =
     (ap has_no_end (sym there) ∙ has_no_end-whole slice len is all, omega (arith, ap length (sym there), all, few))
 
 -- 1024 bytes have come and no LF among them
-pub refuses_long : (old now : LineReader) (before after : Option (List ℕ)) (bytes slice : List ℕ) (len : ℕ) → Gathers old now before after bytes → now.taken ≡ 0 → now.number ≡ old.number → slice ≡ now.buffer → len ≡ position_or_len (λ b. b == 10) slice → len ≤ length slice → 1023 < len → NextLine (Err (faults.Line (now.number + 1))) old now before after
+pub refuses_long : (old now : LineReader) (before after : Option (List ℕ)) (bytes slice : List ℕ) (len : ℕ) → Gathers old now before after bytes → now.taken ≡ 0 → now.number ≡ old.number → slice ≡ now.buffer → len ≡ position_or_len (λ b. b == 10) slice → len ≤ length slice → 1023 < len → NextLine (Err (LongLine (now.number + 1))) old now before after
 refuses_long old now before after bytes slice len g taken number same is inside long =
     let there : slice ≡ pending_of old ++ bytes = same ∙ g.held in
     let begins : BeginsLongLine (pending_of old ++ bytes) = rw (← there) (long_line slice len is inside long) in
@@ -118,9 +118,9 @@ hands_last old now next new before middle after bytes more slice len g number sa
     (bytes ++ more, [], after, gathered old next new before after (bytes ++ more) grown came, Consumes-nil after, refl, (slice, hands))
 
 -- the source failed, or a byte past the limit came
-pub refuses_read : (old now next : LineReader) (before middle after : Option (List ℕ)) (bytes more slice : List ℕ) (len : ℕ) (fault : RunFault) → Gathers old now before middle bytes → next.taken ≡ 0 → next.number ≡ old.number → slice ≡ now.buffer → len ≡ position_or_len (λ b. b == 10) slice → length slice ≤ len → len ≤ 1023 → ReadsMore (Err fault) now next middle after more → NextLine (Err fault) old next before after
-refuses_read old now next before middle after bytes more slice len (faults.Line n) g taken number same is all few read = absurd read
-refuses_read old now next before middle after bytes more slice len faults.TooLong g taken number same is all few read = (
+pub refuses_read : (old now next : LineReader) (before middle after : Option (List ℕ)) (bytes more slice : List ℕ) (len : ℕ) (fault : ReadFault) → Gathers old now before middle bytes → next.taken ≡ 0 → next.number ≡ old.number → slice ≡ now.buffer → len ≡ position_or_len (λ b. b == 10) slice → length slice ≤ len → len ≤ 1023 → ReadsMore (Err fault) now next middle after more → NextLine (Err fault) old next before after
+refuses_read old now next before middle after bytes more slice len (LongLine n) g taken number same is all few read = absurd read
+refuses_read old now next before middle after bytes more slice len TooManyBytes g taken number same is all few read = (
   bytes,
   more,
   middle,
@@ -129,7 +129,7 @@ refuses_read old now next before middle after bytes more slice len faults.TooLon
   read.1,
   (read.4 ∙ read.3, short_line old now before middle bytes slice len g same is all few, holding old now next before middle bytes g read.2 taken number),
 )
-refuses_read old now next before middle after bytes more slice len faults.Read g taken number same is all few read = (
+refuses_read old now next before middle after bytes more slice len Device g taken number same is all few read = (
   bytes,
   more,
   middle,
@@ -138,5 +138,3 @@ refuses_read old now next before middle after bytes more slice len faults.Read g
   read.1,
   (short_line old now before middle bytes slice len g same is all few, holding old now next before middle bytes g read.2 taken number),
 )
-refuses_read old now next before middle after bytes more slice len faults.Write g taken number same is all few read = absurd read
-refuses_read old now next before middle after bytes more slice len faults.Memory g taken number same is all few read = absurd read

@@ -1,8 +1,8 @@
 -- What a reader of lines has of its input, and what it answers.
 use Rattle.std.specs.Prelude.{◌≡◌, ◌⊎◌, ℕ, ◌+◌, ◌^◌, ◌<◌, Bool, true, false, List, [], ◌∷◌, ◌++◌, length, take, drop, nat_lt, Option, Result, Ok, Err}
 use Rattle.std.specs.Io.KnownBytes.{Consumes, IsAtEnd}
-use Rattle.text_lines.specs.declared.fault.RunFault.{RunFault}
-use Rattle.text_lines.specs.declared.fault.RunFault.TheVariants as faults
+use Rattle.text_lines.specs.declared.fault.ReadFault.{ReadFault}
+use Rattle.text_lines.specs.declared.fault.ReadFault.TheVariants.{LongLine, TooManyBytes, Device}
 use Rattle.text_lines.specs.declared.lines.LineReader.{LineReader}
 use Rattle.text_lines.specs.Lines.{has_no_end, IsShortLine, BeginsLongLine, without_return}
 
@@ -44,34 +44,30 @@ pub record Holds (old new : LineReader) (bytes : List ℕ) : Type 0 where
   pub number : number_of new ≡ number_of old
 
 -- the answer of a reader, by the bytes that were there in the end
-abbrev pub Answers : Result Bool RunFault → LineReader → LineReader → List ℕ → Option (List ℕ) → Type 0
+abbrev pub Answers : Result Bool ReadFault → LineReader → LineReader → List ℕ → Option (List ℕ) → Type 0
 Answers (Ok true) old new bytes after = (line : List ℕ) × Hands old new bytes after line
 Answers (Ok false) old new bytes after = (bytes ≡ []) × IsAtEnd after × Holds old new bytes
-Answers (Err (faults.Line n)) old new bytes after = (n ≡ number_of old + 1) × BeginsLongLine bytes × Holds old new bytes
-Answers (Err faults.TooLong) old new bytes after = (came_of new ≡ 2 ^ 40) × IsShortLine bytes × Holds old new bytes
-Answers (Err faults.Read) old new bytes after = IsShortLine bytes × Holds old new bytes
-Answers (Err faults.Write) old new bytes after = ⊥
-Answers (Err faults.Memory) old new bytes after = ⊥
+Answers (Err (LongLine n)) old new bytes after = (n ≡ number_of old + 1) × BeginsLongLine bytes × Holds old new bytes
+Answers (Err TooManyBytes) old new bytes after = (came_of new ≡ 2 ^ 40) × IsShortLine bytes × Holds old new bytes
+Answers (Err Device) old new bytes after = IsShortLine bytes × Holds old new bytes
 
 -- a byte past the limit left the source too, where that is the answer
-abbrev pub BeyondLimit : Result Bool RunFault → List ℕ → Type 0
-BeyondLimit (Err faults.TooLong) beyond = length beyond ≡ 1
+abbrev pub BeyondLimit : Result Bool ReadFault → List ℕ → Type 0
+BeyondLimit (Err TooManyBytes) beyond = length beyond ≡ 1
 BeyondLimit _ beyond = beyond ≡ []
 
 -- the source failed in this call, where that is the answer, and else it did not
-abbrev pub FailsOnRead : Result Bool RunFault → ℕ → ℕ → Type 0
-FailsOnRead (Err faults.Read) before after = after ≡ before + 1
+abbrev pub FailsOnRead : Result Bool ReadFault → ℕ → ℕ → Type 0
+FailsOnRead (Err Device) before after = after ≡ before + 1
 FailsOnRead _ before after = after ≡ before
 
 -- what a call did
-abbrev pub NextLine : Result Bool RunFault → LineReader → LineReader → Option (List ℕ) → Option (List ℕ) → Type 0
+abbrev pub NextLine : Result Bool ReadFault → LineReader → LineReader → Option (List ℕ) → Option (List ℕ) → Type 0
 NextLine result old new before after = (bytes beyond : List ℕ) × (middle : Option (List ℕ)) × Came old new before middle bytes × Consumes middle after beyond × BeyondLimit result beyond × Answers result old new (pending_of old ++ bytes) after
 
 -- the same of one read: new bytes stand behind the others, and none came at the end alone
-abbrev pub ReadsMore : Result Bool RunFault → LineReader → LineReader → Option (List ℕ) → Option (List ℕ) → List ℕ → Type 0
+abbrev pub ReadsMore : Result Bool ReadFault → LineReader → LineReader → Option (List ℕ) → Option (List ℕ) → List ℕ → Type 0
 ReadsMore (Ok more) old new before after bytes = Consumes before after bytes × (new.buffer ≡ old.buffer ++ bytes) × (new.came ≡ old.came + length bytes) × (more ≡ nat_lt 0 (length bytes)) × (more ≡ false → IsAtEnd after)
-ReadsMore (Err faults.TooLong) old new before after bytes = Consumes before after bytes × (length bytes ≡ 1) × (new.buffer ≡ old.buffer) × (old.came ≡ 2 ^ 40) × (new.came ≡ old.came)
-ReadsMore (Err faults.Read) old new before after bytes = Consumes before after bytes × (bytes ≡ []) × (new.buffer ≡ old.buffer) × (new.came ≡ old.came)
-ReadsMore (Err (faults.Line n)) old new before after bytes = ⊥
-ReadsMore (Err faults.Write) old new before after bytes = ⊥
-ReadsMore (Err faults.Memory) old new before after bytes = ⊥
+ReadsMore (Err TooManyBytes) old new before after bytes = Consumes before after bytes × (length bytes ≡ 1) × (new.buffer ≡ old.buffer) × (old.came ≡ 2 ^ 40) × (new.came ≡ old.came)
+ReadsMore (Err Device) old new before after bytes = Consumes before after bytes × (bytes ≡ []) × (new.buffer ≡ old.buffer) × (new.came ≡ old.came)
+ReadsMore (Err (LongLine n)) old new before after bytes = ⊥

@@ -2,8 +2,8 @@
 use Rattle.std.specs.Prelude.{◌≡◌, ◌⊎◌, ℕ, ◌+◌, ◌-◌, ◌<◌, ◌≤◌, ◌==◌, Bool, true, not, List, [], ◌∷◌, ◌++◌, length, take, slice_index, if◌then◌else◌, Option, Result, Ok, Err}
 use Rattle.std.specs.List.{list_all}
 use Rattle.std.specs.Io.KnownBytes.{Consumes, IsAtEnd}
-use Rattle.text_lines.specs.declared.fault.RunFault.{RunFault}
-use Rattle.text_lines.specs.declared.fault.RunFault.TheVariants as faults
+use Rattle.text_lines.specs.declared.fault.ReadFault.{ReadFault}
+use Rattle.text_lines.specs.declared.fault.ReadFault.TheVariants.{LongLine, TooManyBytes, Device}
 
 -- no LF among the bytes
 abbrev pub has_no_end : List ℕ → Bool
@@ -35,10 +35,8 @@ abbrev pub OneListOfLines : Type 0
 OneListOfLines = (input : List ℕ) (lines others : List (List ℕ)) → AreLines input lines → AreLines input others → lines ≡ others
 
 -- what one read where no byte may follow says: there was none, there was one, or the source failed
-abbrev pub EndsInput : Result (Unit {0}) RunFault → Option (List ℕ) → Option (List ℕ) → ℕ → ℕ → Type 0
+abbrev pub EndsInput : Result (Unit {0}) ReadFault → Option (List ℕ) → Option (List ℕ) → ℕ → ℕ → Type 0
 EndsInput (Ok done) before after failures failed = Consumes before after [] × IsAtEnd after × (failed ≡ failures)
-EndsInput (Err faults.TooLong) before after failures failed = ((beyond : List ℕ) × (length beyond ≡ 1) × Consumes before after beyond) × (failed ≡ failures)
-EndsInput (Err faults.Read) before after failures failed = Consumes before after [] × (failed ≡ failures + 1)
-EndsInput (Err (faults.Line n)) before after failures failed = ⊥
-EndsInput (Err faults.Write) before after failures failed = ⊥
-EndsInput (Err faults.Memory) before after failures failed = ⊥
+EndsInput (Err TooManyBytes) before after failures failed = ((beyond : List ℕ) × (length beyond ≡ 1) × Consumes before after beyond) × (failed ≡ failures)
+EndsInput (Err Device) before after failures failed = Consumes before after [] × (failed ≡ failures + 1)
+EndsInput (Err (LongLine n)) before after failures failed = ⊥

@@ -1,14 +1,60 @@
-/// Why a run over a trace ended early.
+//! Why no more lines can be had, and why a run over lines ended early.
+
+ghost use Rattle.text_lines.specs.Faults.{run_fault, run_fault_number};
+
+/// Why a reader of lines hands out no line.
+#[derive(Clone, Copy, Debug, PartialEq, Eq)]
+pub enum ReadFault {
+    /// The line of this number, from 1, has more than 1023 bytes before its LF.
+    LongLine(u64),
+    /// More than 2^40 bytes came.
+    TooManyBytes,
+    /// The source failed.
+    Device,
+}
+
+/// Why a run over the lines of an input ended early.
 #[derive(Clone, Copy, Debug, PartialEq, Eq)]
 pub enum RunFault {
     /// The line of this number, from 1, is not understood.
     Line(u64),
     /// More than 2^40 bytes came.
     TooLong,
-    /// The reader failed.
+    /// The source failed.
     Read,
-    /// The writer failed, or took no byte of some.
+    /// The sink failed, or took none of some bytes.
     Write,
     /// Memory was refused.
     Memory,
+}
+
+impl RunFault {
+    ghost use Rattle.std.specs.Prelude.{◌≡◌};
+
+    /// Its number, from 1 to 5.
+    pub fn number(self) -> u8
+        ensures { result ≡ run_fault_number self }
+    {
+        match self {
+            RunFault::Line(_) => 1,
+            RunFault::TooLong => 2,
+            RunFault::Read => 3,
+            RunFault::Write => 4,
+            RunFault::Memory => 5,
+        }
+    }
+}
+
+impl From<ReadFault> for RunFault {
+    ghost use Rattle.std.specs.Prelude.{◌≡◌};
+
+    ghost from_gives = { λ fault e. e ≡ run_fault fault };
+
+    fn from(fault: ReadFault) -> RunFault {
+        match fault {
+            ReadFault::LongLine(number) => RunFault::Line(number),
+            ReadFault::TooManyBytes => RunFault::TooLong,
+            ReadFault::Device => RunFault::Read,
+        }
+    }
 }

@@ -24,11 +24,13 @@ mod buffer;
 mod fault;
 mod laws;
 mod lexical;
+mod line_loop;
 mod lines;
 #[cfg(test)]
 mod tests;
 
-pub use fault::RunFault;
+pub use fault::{ReadFault, RunFault};
 pub use laws::{lines_law, words_law};
 pub use lexical::{NotUnderstood, Words, number, numeral, permission};
+pub use line_loop::{Interpreter, Line, Refusal, interpret_lines};
 pub use lines::LineReader;

@@ -5,7 +5,7 @@ ghost use Rattle.std.specs.List.{position_or_len};
 ghost use Rattle.text_lines.specs.Lines.{without_return, EndsInput};
 
 use crate::buffer::{Buffer, CAPACITY};
-use crate::fault::RunFault;
+use crate::fault::ReadFault;
 use byte_streams::Source;
 
 /// How many bytes may come in all.
@@ -39,15 +39,15 @@ fn text_len(line: &[u8]) -> usize
 }
 
 /// Reads where no further byte may come.
-fn read_end<R: Source>(source: &mut R) -> Result<(), RunFault>
+fn read_end<R: Source>(source: &mut R) -> Result<(), ReadFault>
     requires { R.failures source.old < 2 ^ 64 - 1 }
     ensures { EndsInput result (R.remaining source.old) (R.remaining source.new) (R.failures source.old) (R.failures source.new) }
 {
     let mut byte = [0];
     match source.read(&mut byte) {
         Ok(0) => Ok(()),
-        Ok(_) => Err(RunFault::TooLong),
-        Err(_) => Err(RunFault::Read),
+        Ok(_) => Err(ReadFault::TooManyBytes),
+        Err(_) => Err(ReadFault::Device),
     }
 }
 
@@ -76,6 +76,7 @@ impl LineReader {
         ensures pending { pending_of result ≡ [] }
         ensures number { number_of result ≡ 0 }
         ensures came { came_of result ≡ 0 }
+        ensures ended { ended_of result ≡ false }
     {
         LineReader {
             buffer: Buffer::new(),
@@ -142,7 +143,7 @@ impl LineReader {
     }
 
     /// Reads some bytes behind those that have come, and says whether there were any.
-    fn read_more<R: Source>(&mut self, source: &mut R) -> Result<bool, RunFault>
+    fn read_more<R: Source>(&mut self, source: &mut R) -> Result<bool, ReadFault>
         requires taken { self.old.taken ≡ 0 }
         requires room { length self.old.buffer < 4096 }
         requires failures { R.failures source.old < 2 ^ 64 - 1 }
@@ -158,7 +159,7 @@ impl LineReader {
         }
         let room = (LIMIT - self.came).min(CAPACITY as u64) as usize;
         let Ok(n) = self.buffer.fill(source, room) else {
-            return Err(RunFault::Read);
+            return Err(ReadFault::Device);
         };
         self.came += n as u64;
         Ok(n > 0)
@@ -167,10 +168,11 @@ impl LineReader {
     /// Hands out the next line: true where there was one, false at the end of the input. Nothing is
     /// read while a whole line is there. A line of more than 1023 bytes before its LF is not
     /// understood, and more than 2^40 bytes are too long.
-    pub fn next_line<R: Source>(&mut self, source: &mut R) -> Result<bool, RunFault>
+    pub fn next_line<R: Source>(&mut self, source: &mut R) -> Result<bool, ReadFault>
         requires { R.failures source.old < 2 ^ 64 - 1 }
         ensures line { NextLine result self.old self.new (R.remaining source.old) (R.remaining source.new) }
         ensures failures { FailsOnRead result (R.failures source.old) (R.failures source.new) }
+        ensures few { came_of self.new ≤ 2 ^ 40 }
     {
         self.let_go();
         'reads: loop {
@@ -178,7 +180,7 @@ impl LineReader {
             let held = bytes.len();
             let len = line_len(bytes);
             if len > LONGEST {
-                return Err(RunFault::Line(self.number + 1));
+                return Err(ReadFault::LongLine(self.number + 1));
             }
             if len < held {
                 self.hand_out(len, len + 1);

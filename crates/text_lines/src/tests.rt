@@ -1,6 +1,6 @@
 ghost use Rattle.std.specs.Prelude.{◌≡◌};
 
-use crate::{LineReader, RunFault, Words, number, permission};
+use crate::{LineReader, ReadFault, Words, number, permission};
 use byte_streams::fakes::PieceSource;
 use pmp_encoding::Perm;
 
@@ -84,7 +84,7 @@ fn hands_out(input: &[u8], piece: usize, wanted: &[&[u8]]) -> bool {
 }
 
 /// How many lines come before the reader's answer that there is none, or its fault.
-fn ends(source: &mut PieceSource<'_>) -> (u64, Result<bool, RunFault>)
+fn ends(source: &mut PieceSource<'_>) -> (u64, Result<bool, ReadFault>)
     requires { source.old.failures ≡ 0 }
 {
     let mut reader = LineReader::new();
@@ -130,9 +130,9 @@ fn a_line_has_at_most_1023_bytes(rt: HostRuntime) {
     input[1024] = b'\n';
     for piece in [1, 1000, 4096] {
         let mut source = PieceSource::new(&input, piece, None);
-        assert_eq!(rt; ends(&mut source), (0, Err(RunFault::Line(1))));
+        assert_eq!(rt; ends(&mut source), (0, Err(ReadFault::LongLine(1))));
         let mut source = PieceSource::new(&input[..1024], piece, None);
-        assert_eq!(rt; ends(&mut source), (0, Err(RunFault::Line(1))));
+        assert_eq!(rt; ends(&mut source), (0, Err(ReadFault::LongLine(1))));
     }
 }
 
@@ -140,16 +140,16 @@ fn a_line_has_at_most_1023_bytes(rt: HostRuntime) {
 fn the_1024th_byte_is_answered_before_a_further_read(rt: HostRuntime) {
     let input = [b'#'; 1030];
     let mut source = PieceSource::new(&input, 1, Some(1025));
-    assert_eq!(rt; ends(&mut source), (0, Err(RunFault::Line(1))));
+    assert_eq!(rt; ends(&mut source), (0, Err(ReadFault::LongLine(1))));
     assert_eq!(rt; source.reads(), 1024);
     let mut source = PieceSource::new(&input, 1, Some(1024));
-    assert_eq!(rt; ends(&mut source), (0, Err(RunFault::Read)));
+    assert_eq!(rt; ends(&mut source), (0, Err(ReadFault::Device)));
 }
 
 #[test]
 fn lines_that_have_come_are_handed_out_before_a_further_read(rt: HostRuntime) {
     let mut source = PieceSource::new(b"a\nb\nc", 4, Some(2));
-    assert_eq!(rt; ends(&mut source), (2, Err(RunFault::Read)));
+    assert_eq!(rt; ends(&mut source), (2, Err(ReadFault::Device)));
     assert_eq!(rt; source.rest().len(), 1);
 }
 
@@ -158,7 +158,7 @@ fn each_read_that_fails_is_told(rt: HostRuntime) {
     for k in 1..8 {
         let mut source = PieceSource::new(b"a\n\nbc\n", 1, Some(k));
         let (lines, end) = ends(&mut source);
-        assert_eq!(rt; end, Err(RunFault::Read), "read {k}");
+        assert_eq!(rt; end, Err(ReadFault::Device), "read {k}");
         assert!(rt; lines < k);
     }
     let mut source = PieceSource::new(b"a\n\nbc\n", 1, Some(8));

@@ -6,6 +6,7 @@ abbrev pub invariant-loop-done : goal.invariant-loop-done
 invariant-loop-done g l = record {
   within : l.done ≤ length l.bytes;
   well : g.W.Sink.failures l.sink ≡ g.W.Sink.failures l.initial.sink;
+  stalls : g.W.Sink.stalls l.sink ≡ g.W.Sink.stalls l.initial.sink;
   written : Appends (g.W.Sink.contents l.initial.sink) (g.W.Sink.contents l.sink) (take l.done l.bytes);
 }
 

@@ -1,0 +1,321 @@
+-- How far the lines of an input have been interpreted.
+use Rattle.std.proofs.Common.{◌≡◌, inl, inr, ℕ, ◌+◌, ◌<◌, ◌≤◌, ◌^◌, ◌⊎◌, ◌∙◌, Bool, true, false, List, [], ◌∷◌, ◌++◌, length, take, Option, None, Some, Ok, Err, refl, ap, sym, arith, length-append, append_assoc, append-nil}
+use Rattle.std.specs.List.{concat}
+use Rattle.std.specs.Io.KnownBytes.{Appends, Consumes, IsAtEnd}
+use Rattle.std.proofs.KnownBytes.{Appends-nil, Appends-trans, Consumes-nil, Consumes-trans}
+use Rattle.std.proofs.lemmas.List.Folds.{concat-append}
+use Rattle.text_lines.specs.declared.lines.LineReader.{LineReader}
+use Rattle.text_lines.specs.declared.fault.ReadFault.{ReadFault}
+use Rattle.text_lines.specs.declared.fault.ReadFault.TheVariants.{LongLine, TooManyBytes, Device}
+use Rattle.text_lines.specs.declared.fault.RunFault.TheVariants.{Line, TooLong, Read}
+use Rattle.text_lines.specs.Faults.{run_fault}
+use Rattle.text_lines.specs.Lines.{has_no_end, AreLines, IsShortLine, without_return}
+use Rattle.text_lines.specs.LineReaders.{line_of, pending_of, number_of, came_of, ended_of, NextLine}
+use Rattle.text_lines.specs.LineLoop.{Meaning, Does, counted, told, ended, Stands, DoesAll, DoesLines, ComesTo, StopsAt, StopsForMemory, StopsReading, StopsTooLong, StopsWriting}
+use Rattle.text_lines.specs.LineLoop.{none, silent, answer}
+
+-- the lines that were handed out are interpreted, and what came behind them is held
+pub record Progress {S : Type 0} (does : Meaning S) (old now : S) (reader : LineReader) (count : ℕ) (before after held holds : Option (List ℕ)) : Type 0 where
+  pub lines : List (List ℕ)
+  pub answers : List (List ℕ)
+  pub done : Does does old lines answers now
+  pub count_is : count ≡ length answers
+  pub number : number_of reader ≡ length lines
+  pub consumed : Consumes before after (ended lines ++ pending_of reader)
+  pub came : came_of reader ≡ length (ended lines ++ pending_of reader)
+  pub written : Appends held holds (concat answers)
+
+-- no line has an LF in it
+abbrev NoEnds : List (List ℕ) → Type 0
+NoEnds [] = Unit {0}
+NoEnds (line ∷ lines) = (has_no_end line ≡ true) × NoEnds lines
+
+no_ends-snoc : (lines : List (List ℕ)) (line : List ℕ) → NoEnds lines → has_no_end line ≡ true → NoEnds (lines ++ line ∷ [])
+no_ends-snoc [] line h e = (e, tt)
+no_ends-snoc (first ∷ lines) line h e = (h.0, no_ends-snoc lines line h.1 e)
+
+done_no_ends : {S : Type 0} {does : Meaning S} {old new : S} {lines answers : List (List ℕ)} → Does does old lines answers new → NoEnds lines
+done_no_ends none = tt
+done_no_ends (silent done line short new is) = no_ends-snoc _ line (done_no_ends done) short.0
+done_no_ends (answer done line short new text is) = no_ends-snoc _ line (done_no_ends done) short.0
+
+ended-snoc : (lines : List (List ℕ)) (line : List ℕ) → ended (lines ++ line ∷ []) ≡ ended lines ++ (line ++ 10 ∷ [])
+ended-snoc [] line = refl
+ended-snoc (first ∷ lines) line = ap (λ xs. first ++ 10 ∷ xs) (ended-snoc lines line) ∙ sym (append_assoc first (10 ∷ ended lines) (line ++ 10 ∷ []))
+
+-- one line more, and what stands behind its LF
+ended-rest : (lines : List (List ℕ)) (line rest : List ℕ) → ended lines ++ (line ++ 10 ∷ rest) ≡ ended (lines ++ line ∷ []) ++ rest
+ended-rest lines line rest =
+    sym (ap (λ xs. xs ++ rest) (ended-snoc lines line) ∙ append_assoc (ended lines) (line ++ 10 ∷ []) rest ∙ ap (λ xs. ended lines ++ xs) (append_assoc line (10 ∷ []) rest))
+
+-- lines with their LFs, and the lines of what stands behind them
+are_lines : (lines : List (List ℕ)) (rest : List ℕ) (tail : List (List ℕ)) → NoEnds lines → AreLines rest tail → AreLines (ended lines ++ rest) (lines ++ tail)
+are_lines [] rest tail h a = a
+are_lines (line ∷ lines) rest tail h a = (h.0, ended lines ++ rest, inl (append_assoc line (10 ∷ ended lines) rest), are_lines lines rest tail h.1 a)
+
+-- the answers, and one more
+concat-snoc : (answers : List (List ℕ)) (text : List ℕ) → concat (answers ++ text ∷ []) ≡ concat answers ++ text
+concat-snoc answers text = concat-append answers (text ∷ []) ∙ ap (λ xs. concat answers ++ xs) (append-nil text)
+
+gathered : (before now middle after : Option (List ℕ)) (e p bytes beyond : List ℕ) → Consumes before now (e ++ p) → Consumes now middle bytes → Consumes middle after beyond → Consumes before after ((e ++ (p ++ bytes)) ++ beyond)
+gathered before now middle after e p bytes beyond a b c =
+    let ab : Consumes before middle (e ++ (p ++ bytes)) = rw (← append_assoc e p bytes) (Consumes-trans before now middle (e ++ p) bytes a b) in
+    Consumes-trans before middle after (e ++ (p ++ bytes)) beyond ab c
+
+-- the same where no byte came beyond the limit
+gathered_all : (before now middle after : Option (List ℕ)) (e p bytes beyond : List ℕ) → Consumes before now (e ++ p) → Consumes now middle bytes → Consumes middle after beyond → beyond ≡ [] → Consumes before after (e ++ (p ++ bytes))
+gathered_all before now middle after e p bytes beyond a b c nothing_more =
+    let all : Consumes before after ((e ++ (p ++ bytes)) ++ []) = rw (← nothing_more) (gathered before now middle after e p bytes beyond a b c) in
+    rw (← append-nil (e ++ (p ++ bytes))) all
+
+came_all : (n m : ℕ) (e p bytes : List ℕ) → n ≡ length (e ++ p) → m ≡ n + length bytes → m ≡ length (e ++ (p ++ bytes))
+came_all n m e p bytes h k = omega (arith, h, k, length-append (e ++ p) bytes, length-append e p, length-append e (p ++ bytes), length-append p bytes)
+
+consumed_as : (before after : Option (List ℕ)) (xs ys : List ℕ) → xs ≡ ys → Consumes before after xs → Consumes before after ys
+consumed_as before after xs ys e c = rw (← e) c
+
+appended_as : (held holds : Option (List ℕ)) (xs ys : List ℕ) → xs ≡ ys → Appends held holds xs → Appends held holds ys
+appended_as held holds xs ys e c = rw (← e) c
+
+few_as : (n : ℕ) (xs : List ℕ) → n ≡ length xs → n ≤ 2 ^ 40 → length xs ≤ 2 ^ 40
+few_as n xs e h = omega (arith, e, h)
+
+-- a line was handed out behind those that are interpreted
+pub record Handed {S : Type 0} (does : Meaning S) (old now : S) (reader : LineReader) (count : ℕ) (before after held holds : Option (List ℕ)) : Type 0 where
+  pub lines : List (List ℕ)
+  pub answers : List (List ℕ)
+  pub done : Does does old lines answers now
+  pub count_is : count ≡ length answers
+  pub written : Appends held holds (concat answers)
+  pub line : List ℕ
+  pub short : IsShortLine line
+  pub is_text : line_of reader ≡ without_return line
+  pub number : number_of reader ≡ length lines + 1
+  pub bytes : List ℕ
+  pub consumed : Consumes before after (ended lines ++ bytes)
+  pub came : came_of reader ≡ length (ended lines ++ bytes)
+  pub few : came_of reader ≤ 2 ^ 40
+  pub ends : ((bytes ≡ line ++ 10 ∷ pending_of reader) × (ended_of reader ≡ false)) ⊎ ((0 < length line) × (bytes ≡ line) × (pending_of reader ≡ []) × IsAtEnd after × (ended_of reader ≡ true))
+
+pub hands : {S : Type 0} (does : Meaning S) (old now : S) (reader next : LineReader) (count : ℕ) (before middle after held holds : Option (List ℕ)) → Progress does old now reader count before middle held holds → NextLine (Ok true) reader next middle after → came_of next ≤ 2 ^ 40 → Handed does old now next count before after held holds
+hands does old now reader next count before middle after held holds p n few = record {
+  lines = p.lines;
+  answers = p.answers;
+  done = p.done;
+  count_is = p.count_is;
+  written = p.written;
+  line = n.6.0;
+  short = n.6.1.short;
+  is_text = n.6.1.text;
+  number = n.6.1.number ∙ ap (λ k. k + 1) p.number;
+  bytes = pending_of reader ++ n.0;
+  consumed = gathered_all before middle n.2 after (ended p.lines) (pending_of reader) n.0 n.1 p.consumed n.3.consumed n.4 n.5;
+  came = came_all _ _ (ended p.lines) (pending_of reader) n.0 p.came n.3.counted;
+  few = few;
+  ends = n.6.1.ends;
+}
+
+-- one line more is interpreted
+pub record Grown {S : Type 0} (does : Meaning S) (old new : S) (lines answers : List (List ℕ)) (line : List ℕ) (said : Option (List ℕ)) : Type 0 where
+  pub all : List (List ℕ)
+  pub done : Does does old (lines ++ line ∷ []) all new
+  pub count : length all ≡ counted (length answers) said
+  pub text : concat all ≡ concat answers ++ told said
+
+grown : {S : Type 0} (does : Meaning S) (old now new : S) (lines answers : List (List ℕ)) (line : List ℕ) (said : Option (List ℕ)) → Does does old lines answers now → IsShortLine line → does now (length answers) (without_return line) said new → Grown does old new lines answers line said
+grown does old now new lines answers line None done short is = record { all = answers; done = silent done line short new is; count = refl; text = sym (append-nil (concat answers)) }
+grown does old now new lines answers line (Some text) done short is = record { all = answers ++ text ∷ []; done = answer done line short new text is; count = length-append answers (text ∷ []); text = concat-snoc answers text }
+
+-- the line that was handed out, interpreted
+handed_grown : {S : Type 0} (does : Meaning S) (old now new : S) (reader : LineReader) (count : ℕ) (before after held holds : Option (List ℕ)) (h : Handed does old now reader count before after held holds) (said : Option (List ℕ)) → does now count (line_of reader) said new → Grown does old new h.lines h.answers h.line said
+handed_grown does old now new reader count before after held holds h said is = grown does old now new h.lines h.answers h.line said h.done h.short (rw (h.count_is, h.is_text) at is)
+
+-- what came, with the LF of the line that was handed out
+parted : {S : Type 0} (does : Meaning S) (old now : S) (reader : LineReader) (count : ℕ) (before after held holds : Option (List ℕ)) (h : Handed does old now reader count before after held holds) → h.bytes ≡ h.line ++ 10 ∷ pending_of reader → ended h.lines ++ h.bytes ≡ ended (h.lines ++ h.line ∷ []) ++ pending_of reader
+parted does old now reader count before after held holds h e = ap (λ xs. ended h.lines ++ xs) e ∙ ended-rest h.lines h.line (pending_of reader)
+
+-- a line that its LF ended is interpreted and answered, and the next may come
+pub goes_on : {S : Type 0} (does : Meaning S) (old now new : S) (reader : LineReader) (count : ℕ) (before after held middle holds : Option (List ℕ)) (h : Handed does old now reader count before after held middle) (said : Option (List ℕ)) → does now count (line_of reader) said new → Appends middle holds (told said) → ended_of reader ≡ false → Progress does old new reader (counted count said) before after held holds
+goes_on does old now new reader count before after held middle holds h said is w unclosed =
+    let g = handed_grown does old now new reader count before after held middle h said is in
+    elim h.ends [
+      | inl p ↦ record {
+        lines = h.lines ++ h.line ∷ [];
+        answers = g.all;
+        done = g.done;
+        count_is = ap (λ k. counted k said) h.count_is ∙ sym g.count;
+        number = h.number ∙ sym (length-append h.lines (h.line ∷ []));
+        consumed = consumed_as before after _ _ (parted does old now reader count before after held middle h p.0) h.consumed;
+        came = h.came ∙ ap length (parted does old now reader count before after held middle h p.0);
+        written = appended_as held holds _ _ (sym g.text) (Appends-trans held middle holds (concat h.answers) (told said) h.written w);
+      }
+      | inr p ↦ let f : true ≡ false = sym p.4 ∙ unclosed in cc
+    ]
+
+-- the last line is interpreted and answered
+pub ends : {S : Type 0} (does : Meaning S) (old now new : S) (reader : LineReader) (count : ℕ) (before after held middle holds : Option (List ℕ)) (h : Handed does old now reader count before after held middle) (said : Option (List ℕ)) → does now count (line_of reader) said new → Appends middle holds (told said) → ended_of reader ≡ true → DoesAll does old new before after held holds
+ends does old now new reader count before after held middle holds h said is w closed =
+    let g = handed_grown does old now new reader count before after held middle h said is in
+    elim h.ends [
+      | inl p ↦ let f : true ≡ false = sym closed ∙ p.1 in cc
+      | inr p ↦ record {
+        input = ended h.lines ++ h.line;
+        lines = h.lines ++ h.line ∷ [];
+        answers = g.all;
+        consumed = consumed_as before after _ _ (ap (λ xs. ended h.lines ++ xs) p.1) h.consumed;
+        at_end = p.3;
+        few = few_as _ _ (h.came ∙ ap (λ xs. length (ended h.lines ++ xs)) p.1) h.few;
+        are_lines = are_lines h.lines h.line (h.line ∷ []) (done_no_ends h.done) (h.short.0, [], inr (p.0, refl, refl), refl);
+        done = g.done;
+        written = appended_as held holds _ _ (sym g.text) (Appends-trans held middle holds (concat h.answers) (told said) h.written w);
+      }
+    ]
+
+-- no line is left
+pub finishes : {S : Type 0} (does : Meaning S) (old now : S) (reader next : LineReader) (count : ℕ) (before middle after held holds : Option (List ℕ)) → Progress does old now reader count before middle held holds → NextLine (Ok false) reader next middle after → came_of next ≤ 2 ^ 40 → DoesAll does old now before after held holds
+finishes does old now reader next count before middle after held holds p n few =
+    let all = gathered_all before middle n.2 after (ended p.lines) (pending_of reader) n.0 n.1 p.consumed n.3.consumed n.4 n.5 in
+    let same = ap (λ xs. ended p.lines ++ xs) n.6.0 in
+    record {
+      input = ended p.lines ++ [];
+      lines = p.lines;
+      answers = p.answers;
+      consumed = consumed_as before after _ _ same all;
+      at_end = n.6.1;
+      few = few_as _ _ (came_all _ _ (ended p.lines) (pending_of reader) n.0 p.came n.3.counted ∙ ap length same) few;
+      are_lines = rw (append-nil p.lines) at (are_lines p.lines [] [] (done_no_ends p.done) refl);
+      done = p.done;
+      written = p.written;
+    }
+
+-- what was read before a fault
+read_before : {S : Type 0} (does : Meaning S) (old now : S) (reader next : LineReader) (count : ℕ) (before middle read after held holds : Option (List ℕ)) (bytes beyond : List ℕ) (p : Progress does old now reader count before middle held holds) → Consumes middle read bytes → Consumes read after beyond → beyond ≡ [] → DoesLines does old now before after held holds p.lines (pending_of reader ++ bytes)
+read_before does old now reader next count before middle read after held holds bytes beyond p a b e = record {
+  answers = p.answers;
+  done = p.done;
+  consumed = gathered_all before middle read after (ended p.lines) (pending_of reader) bytes beyond p.consumed a b e;
+  written = p.written;
+}
+
+-- a line is too long
+pub stops_long : {S : Type 0} (does : Meaning S) (refuses : S → List ℕ → Type 0) (old now : S) (reader next : LineReader) (count m : ℕ) (before middle after held holds : Option (List ℕ)) → Progress does old now reader count before middle held holds → NextLine (Err (LongLine m)) reader next middle after → came_of next ≤ 2 ^ 40 → StopsAt m does refuses old now before after held holds
+stops_long does refuses old now reader next count m before middle after held holds p n few = record {
+  lines = p.lines;
+  bytes = pending_of reader ++ n.0;
+  before_it = read_before does old now reader next count before middle n.2 after held holds n.0 n.1 p n.3.consumed n.4 n.5;
+  few = few_as _ _ (came_all _ _ (ended p.lines) (pending_of reader) n.0 p.came n.3.counted) few;
+  number = ap (λ k. k + 1) (sym p.number) ∙ sym n.6.0;
+  refused = inl n.6.1;
+}
+
+-- a byte came behind the limit
+pub stops_past : {S : Type 0} (does : Meaning S) (old now : S) (reader next : LineReader) (count : ℕ) (before middle after held holds : Option (List ℕ)) → Progress does old now reader count before middle held holds → NextLine (Err TooManyBytes) reader next middle after → StopsTooLong does old now before after held holds
+stops_past does old now reader next count before middle after held holds p n = record {
+  lines = p.lines;
+  bytes = pending_of reader ++ n.0;
+  beyond = n.1;
+  before_it = record {
+    answers = p.answers;
+    done = p.done;
+    consumed = consumed_as before after _ _ (append_assoc (ended p.lines) (pending_of reader ++ n.0) n.1) (gathered before middle n.2 after (ended p.lines) (pending_of reader) n.0 n.1 p.consumed n.3.consumed n.4);
+    written = p.written;
+  };
+  unended = n.6.1;
+  limit = sym (came_all _ _ (ended p.lines) (pending_of reader) n.0 p.came n.3.counted) ∙ n.6.0;
+  more = n.5;
+}
+
+-- the source failed
+pub stops_reading : {S : Type 0} (does : Meaning S) (old now : S) (reader next : LineReader) (count : ℕ) (before middle after held holds : Option (List ℕ)) → Progress does old now reader count before middle held holds → NextLine (Err Device) reader next middle after → came_of next ≤ 2 ^ 40 → StopsReading does old now before after held holds
+stops_reading does old now reader next count before middle after held holds p n few = record {
+  lines = p.lines;
+  bytes = pending_of reader ++ n.0;
+  before_it = read_before does old now reader next count before middle n.2 after held holds n.0 n.1 p n.3.consumed n.4 n.5;
+  few = few_as _ _ (came_all _ _ (ended p.lines) (pending_of reader) n.0 p.came n.3.counted) few;
+  unended = n.6.0;
+}
+
+-- the line stands where it was handed out
+stands : {S : Type 0} (does : Meaning S) (old now : S) (reader : LineReader) (count : ℕ) (before after held holds : Option (List ℕ)) (h : Handed does old now reader count before after held holds) → Stands h.bytes after h.line
+stands does old now reader count before after held holds h = elim h.ends [ inl p ↦ inl (pending_of reader, p.0) | inr p ↦ inr (p.0, p.1, p.3) ]
+
+-- a line is not understood
+pub stops_at : {S : Type 0} (does : Meaning S) (refuses : S → List ℕ → Type 0) (old now : S) (reader : LineReader) (count : ℕ) (before after held holds : Option (List ℕ)) (h : Handed does old now reader count before after held holds) → refuses now (line_of reader) → StopsAt (number_of reader) does refuses old now before after held holds
+stops_at does refuses old now reader count before after held holds h e = record {
+  lines = h.lines;
+  bytes = h.bytes;
+  before_it = record { answers = h.answers; done = h.done; consumed = h.consumed; written = h.written };
+  few = few_as _ _ h.came h.few;
+  number = sym h.number;
+  refused = inr (h.line, h.short, stands does old now reader count before after held holds h, rw h.is_text at e);
+}
+
+comes_to : {S : Type 0} (does : Meaning S) (old now : S) (reader : LineReader) (count : ℕ) (before after held holds : Option (List ℕ)) (h : Handed does old now reader count before after held holds) → ComesTo does old now before after h.answers h.line
+comes_to does old now reader count before after held holds h = record {
+  lines = h.lines;
+  bytes = h.bytes;
+  done = h.done;
+  consumed = h.consumed;
+  few = few_as _ _ h.came h.few;
+  short = h.short;
+  stands = stands does old now reader count before after held holds h;
+}
+
+-- an answer was written in part
+pub stops_writing : {S : Type 0} (does : Meaning S) (old now new : S) (reader : LineReader) (count : ℕ) (before after held middle holds : Option (List ℕ)) (h : Handed does old now reader count before after held middle) (said : Option (List ℕ)) (text : List ℕ) (part : ℕ) → does now count (line_of reader) said new → said ≡ Some text → part < length text → Appends middle holds (take part text) → StopsWriting does old new before after held holds
+stops_writing does old now new reader count before after held middle holds h said text part is e less w = record {
+  now = now;
+  answers = h.answers;
+  line = h.line;
+  comes = comes_to does old now reader count before after held middle h;
+  text = text;
+  done = rw (h.count_is, h.is_text, e) at is;
+  part = part;
+  less = less;
+  written = Appends-trans held middle holds (concat h.answers) (take part text) h.written w;
+}
+
+-- memory was refused
+pub stops_for_memory : {S : Type 0} (does : Meaning S) (starves : S → List ℕ → S → Type 0) (old now new : S) (reader : LineReader) (count : ℕ) (before after held holds : Option (List ℕ)) (h : Handed does old now reader count before after held holds) → starves now (line_of reader) new → StopsForMemory does starves old new before after held holds
+stops_for_memory does starves old now new reader count before after held holds h e = record {
+  now = now;
+  answers = h.answers;
+  line = h.line;
+  comes = comes_to does old now reader count before after held holds h;
+  starved = rw h.is_text at e;
+  written = h.written;
+}
+
+-- nothing has come and nothing was written
+pub begins : {S : Type 0} (does : Meaning S) (old : S) (reader : LineReader) (before held : Option (List ℕ)) → pending_of reader ≡ [] → number_of reader ≡ 0 → came_of reader ≡ 0 → Progress does old old reader 0 before before held held
+begins does old reader before held pending number came = record {
+  lines = [];
+  answers = [];
+  done = none;
+  count_is = refl;
+  number = number;
+  consumed = rw pending (Consumes-nil before);
+  came = came ∙ sym (ap length pending);
+  written = Appends-nil held;
+}
+
+-- which fault of the reader a fault of the run is
+pub fault_is_long : (fault : ReadFault) (n : ℕ) → run_fault fault ≡ Line n → fault ≡ LongLine n
+fault_is_long (LongLine m) n e = cc
+fault_is_long TooManyBytes n e = cc
+fault_is_long Device n e = cc
+
+pub fault_is_many : (fault : ReadFault) → run_fault fault ≡ TooLong → fault ≡ TooManyBytes
+fault_is_many (LongLine m) e = cc
+fault_is_many TooManyBytes e = refl
+fault_is_many Device e = cc
+
+pub fault_is_device : (fault : ReadFault) → run_fault fault ≡ Read → fault ≡ Device
+fault_is_device (LongLine m) e = cc
+fault_is_device TooManyBytes e = cc
+fault_is_device Device e = refl
+
+-- there are no more answers than lines
+pub few_more : (n count number next : ℕ) (said : Option (List ℕ)) → n ≡ counted count said → count ≤ number → next ≡ number + 1 → n ≤ next
+few_more n count number next None is few e = omega arith
+few_more n count number next (Some text) is few e = omega arith

@@ -1,0 +1,129 @@
+-- What comes of an input whose lines are interpreted one after another.
+use Rattle.std.specs.Prelude.{◌≡◌, ◌⊎◌, ℕ, ◌+◌, ◌^◌, ◌<◌, ◌≤◌, List, [], ◌∷◌, ◌++◌, length, take, Option, Some, None, Result, Ok, Err, option_map}
+use Rattle.std.specs.List.{concat}
+use Rattle.std.specs.Io.KnownBytes.{Appends, Consumes, IsAtEnd}
+use Rattle.arrayvec.specs.declared.array_vec.ArrayVec.{ArrayVec}
+use Rattle.byte_streams.specs.Streams.{WriteFails}
+use Rattle.text_lines.specs.declared.fault.RunFault.{RunFault}
+use Rattle.text_lines.specs.declared.fault.RunFault.TheVariants as faults
+use Rattle.text_lines.specs.Lines.{AreLines, BeginsLongLine, IsShortLine, without_return}
+
+-- what a line does, behind so many answers: from one state to the next, with the text of its answer where it has one
+abbrev pub Meaning : Type 0 → Type 1
+Meaning S = S → ℕ → List ℕ → Option (List ℕ) → S → Type 0
+
+-- lines that were interpreted in turn, from one state to another, and the answers of those that have one
+pub data Does {S : Type 0} (does : Meaning S) (old : S) : List (List ℕ) → List (List ℕ) → S → Type 0 where
+  none : Does does old [] [] old
+  silent : {lines answers : List (List ℕ)} {mid : S} → Does does old lines answers mid → (line : List ℕ) → IsShortLine line → (new : S) → does mid (length answers) (without_return line) None new → Does does old (lines ++ line ∷ []) answers new
+  answer : {lines answers : List (List ℕ)} {mid : S} → Does does old lines answers mid → (line : List ℕ) → IsShortLine line → (new : S) → (text : List ℕ) → does mid (length answers) (without_return line) (Some text) new → Does does old (lines ++ line ∷ []) (answers ++ text ∷ []) new
+
+-- the text of an answer, where there is one
+abbrev pub text_of : Option (ArrayVec ℕ 128 (Unit {0})) → Option (List ℕ)
+text_of line = option_map (λ l. l.items) line
+
+-- how many answers there are with that one
+abbrev pub counted : ℕ → Option (List ℕ) → ℕ
+counted n None = n
+counted n (Some text) = n + 1
+
+-- what was written with that one
+abbrev pub told : Option (List ℕ) → List ℕ
+told None = []
+told (Some text) = text
+
+-- lines, each with its LF
+abbrev pub ended : List (List ℕ) → List ℕ
+ended [] = []
+ended (line ∷ lines) = line ++ 10 ∷ ended lines
+
+-- the line stands at the front of the bytes that have come: before a LF, or at the end of the input
+abbrev pub Stands : List ℕ → Option (List ℕ) → List ℕ → Type 0
+Stands bytes after line = ((rest : List ℕ) × (bytes ≡ line ++ 10 ∷ rest)) ⊎ ((0 < length line) × (bytes ≡ line) × IsAtEnd after)
+
+-- all of the input was read, and each of its lines interpreted and answered
+pub record DoesAll {S : Type 0} (does : Meaning S) (old new : S) (before after held holds : Option (List ℕ)) : Type 0 where
+  pub input : List ℕ
+  pub lines : List (List ℕ)
+  pub answers : List (List ℕ)
+  pub consumed : Consumes before after input
+  pub at_end : IsAtEnd after
+  pub few : length input ≤ 2 ^ 40
+  pub are_lines : AreLines input lines
+  pub done : Does does old lines answers new
+  pub written : Appends held holds (concat answers)
+
+-- lines that a LF ended were interpreted and answered, and `bytes` came behind them
+pub record DoesLines {S : Type 0} (does : Meaning S) (old new : S) (before after held holds : Option (List ℕ)) (lines : List (List ℕ)) (bytes : List ℕ) : Type 0 where
+  pub answers : List (List ℕ)
+  pub done : Does does old lines answers new
+  pub consumed : Consumes before after (ended lines ++ bytes)
+  pub written : Appends held holds (concat answers)
+
+-- the lines before line n were interpreted, and line n is too long or is refused
+pub record StopsAt {S : Type 0} (n : ℕ) (does : Meaning S) (refuses : S → List ℕ → Type 0) (old new : S) (before after held holds : Option (List ℕ)) : Type 0 where
+  pub lines : List (List ℕ)
+  pub bytes : List ℕ
+  pub before_it : DoesLines does old new before after held holds lines bytes
+  pub few : length (ended lines ++ bytes) ≤ 2 ^ 40
+  pub number : length lines + 1 ≡ n
+  pub refused : BeginsLongLine bytes ⊎ ((line : List ℕ) × IsShortLine line × Stands bytes after line × refuses new (without_return line))
+
+-- a byte came behind the first 2^40, and the lines that a LF ended among these were interpreted
+pub record StopsTooLong {S : Type 0} (does : Meaning S) (old new : S) (before after held holds : Option (List ℕ)) : Type 0 where
+  pub lines : List (List ℕ)
+  pub bytes : List ℕ
+  pub beyond : List ℕ
+  pub before_it : DoesLines does old new before after held holds lines (bytes ++ beyond)
+  pub unended : IsShortLine bytes
+  pub limit : length (ended lines ++ bytes) ≡ 2 ^ 40
+  pub more : length beyond ≡ 1
+
+-- the lines that a LF ended were interpreted, and no other
+pub record StopsReading {S : Type 0} (does : Meaning S) (old new : S) (before after held holds : Option (List ℕ)) : Type 0 where
+  pub lines : List (List ℕ)
+  pub bytes : List ℕ
+  pub before_it : DoesLines does old new before after held holds lines bytes
+  pub few : length (ended lines ++ bytes) ≤ 2 ^ 40
+  pub unended : IsShortLine bytes
+
+-- a line stands in what was read, behind lines that were interpreted and have these answers
+pub record ComesTo {S : Type 0} (does : Meaning S) (old now : S) (before after : Option (List ℕ)) (answers : List (List ℕ)) (line : List ℕ) : Type 0 where
+  pub lines : List (List ℕ)
+  pub bytes : List ℕ
+  pub done : Does does old lines answers now
+  pub consumed : Consumes before after (ended lines ++ bytes)
+  pub few : length (ended lines ++ bytes) ≤ 2 ^ 40
+  pub short : IsShortLine line
+  pub stands : Stands bytes after line
+
+-- a line was interpreted, and of its answer a beginning was written, not all of it
+pub record StopsWriting {S : Type 0} (does : Meaning S) (old new : S) (before after held holds : Option (List ℕ)) : Type 0 where
+  pub now : S
+  pub answers : List (List ℕ)
+  pub line : List ℕ
+  pub comes : ComesTo does old now before after answers line
+  pub text : List ℕ
+  pub done : does now (length answers) (without_return line) (Some text) new
+  pub part : ℕ
+  pub less : part < length text
+  pub written : Appends held holds (concat answers ++ take part text)
+
+-- a line was interpreted for which memory was refused, and it has no answer
+pub record StopsForMemory {S : Type 0} (does : Meaning S) (starves : S → List ℕ → S → Type 0) (old new : S) (before after held holds : Option (List ℕ)) : Type 0 where
+  pub now : S
+  pub answers : List (List ℕ)
+  pub line : List ℕ
+  pub comes : ComesTo does old now before after answers line
+  pub starved : starves now (without_return line) new
+  pub written : Appends held holds (concat answers)
+
+-- a read failed where the run ended so, and else none did
+abbrev pub CountsReads : Result (Unit {0}) RunFault → ℕ → ℕ → Type 0
+CountsReads (Err faults.Read) before after = after ≡ before + 1
+CountsReads _ before after = after ≡ before
+
+-- a write failed or took none where the run ended so, and else none did
+abbrev pub CountsWrites : Result (Unit {0}) RunFault → ℕ → ℕ → ℕ → ℕ → Type 0
+CountsWrites (Err faults.Write) failures failed stalls stalled = WriteFails failures failed stalls stalled
+CountsWrites _ failures failed stalls stalled = (failed ≡ failures) × (stalled ≡ stalls)

@@ -1,0 +1,107 @@
+//! The one loop over the lines of an input: a line is read, understood and done, and its answer is written before the
+//! next line is read.
+
+ghost use Rattle.std.specs.Prelude.{◌≡◌, ℕ, ◌+◌, ◌-◌, ◌^◌, ◌<◌, List, Option, Some, Err, IfErr, IfOk, length, take};
+ghost use Rattle.std.specs.Io.KnownBytes.{Appends};
+ghost use Rattle.byte_streams.specs.Streams.{WriteFails};
+ghost use Rattle.text_lines.specs.LineLoop.{counted, told, text_of, CountsReads, CountsWrites, DoesAll, StopsAt, StopsForMemory, StopsReading, StopsTooLong, StopsWriting};
+
+use crate::fault::RunFault;
+use crate::lines::LineReader;
+use arrayvec::ArrayVec;
+use byte_streams::{DeviceFault, Sink, Source, write_whole};
+
+/// A line that is written.
+pub type Line = ArrayVec<u8, 128>;
+
+/// Why a line has no answer that should have one.
+#[derive(Clone, Copy, Debug, PartialEq, Eq)]
+pub enum Refusal {
+    /// It fits no form.
+    NotUnderstood,
+    /// Memory was refused for what it does.
+    Memory,
+}
+
+/// What understands lines and does what they say.
+pub trait Interpreter {
+    /// What a line does behind so many answers, from one state to the next, with the text of its answer where it has one.
+    ghost does: { Self → ℕ → List ℕ → Option (List ℕ) → Self → Type 0 };
+
+    /// A line that is not understood.
+    ghost refuses: { Self → List ℕ → Type 0 };
+
+    /// What a line does for which memory was refused. It has no answer.
+    ghost starves: { Self → List ℕ → Self → Type 0 };
+
+    /// What is kept from line to line.
+    ghost keeps: { Self → Type 0 };
+
+    /// Does what a line says, which comes without its LF and its CR, and tells its answer, the one behind `count` others.
+    fn interpret(&mut self, line: &[u8], count: u64) -> Result<Option<Line>, Refusal>
+        requires { count < 2 ^ 64 - 1 }
+        ensures done { keeps self.old → IfOk result (λ answer. does self.old count line.now (text_of answer) self.new) }
+        ensures unknown { result ≡ Err Refusal.NotUnderstood → refuses self.old line.now }
+        ensures untouched { result ≡ Err Refusal.NotUnderstood → self.new ≡ self.old }
+        ensures starved { result ≡ Err Refusal.Memory → keeps self.old → starves self.old line.now self.new }
+        ensures keeps { keeps self.old → keeps self.new };
+}
+
+/// Writes an answer, where there is one, and says how many there are with it.
+fn write_answer<W: Sink>(
+    answer: &Option<Line>,
+    count: u64,
+    sink: &mut W,
+) -> Result<u64, DeviceFault>
+    requires count { count < 2 ^ 64 - 1 }
+    requires failures { W.failures sink.old < 2 ^ 64 - 1 }
+    ensures counted { IfOk result (λ n. n ≡ counted count (text_of answer.now)) }
+    ensures whole { IfOk result (λ _. Appends (W.contents sink.old) (W.contents sink.new) (told (text_of answer.now))) }
+    ensures well { IfOk result (λ _. (W.failures sink.new ≡ W.failures sink.old) × (W.stalls sink.new ≡ W.stalls sink.old)) }
+    ensures part { IfErr result (λ _. (text : List ℕ) × (part : ℕ) × (text_of answer.now ≡ Some text) × (part < length text) × Appends (W.contents sink.old) (W.contents sink.new) (take part text)) }
+    ensures failed { IfErr result (λ _. WriteFails (W.failures sink.old) (W.failures sink.new) (W.stalls sink.old) (W.stalls sink.new)) }
+{
+    let Some(text) = answer else {
+        return Ok(count);
+    };
+    write_whole(sink, text.as_slice())?;
+    Ok(count + 1)
+}
+
+/// Interprets the lines of an input one by one, and writes the answer of each before the next is read. A line that is not
+/// understood, a device that fails and a refusal of memory end it.
+pub fn interpret_lines<I: Interpreter, R: Source, W: Sink>(
+    interpreter: &mut I,
+    source: &mut R,
+    sink: &mut W,
+) -> Result<(), RunFault>
+    requires source { R.failures source.old < 2 ^ 64 - 1 }
+    requires sink { W.failures sink.old < 2 ^ 64 - 1 }
+    ensures all { I.keeps interpreter.old → IfOk result (λ _. DoesAll I.does interpreter.old interpreter.new (R.remaining source.old) (R.remaining source.new) (W.contents sink.old) (W.contents sink.new)) }
+    ensures line { I.keeps interpreter.old → (n : ℕ) → result ≡ Err (RunFault.Line n) → StopsAt n I.does I.refuses interpreter.old interpreter.new (R.remaining source.old) (R.remaining source.new) (W.contents sink.old) (W.contents sink.new) }
+    ensures too_long { I.keeps interpreter.old → result ≡ Err RunFault.TooLong → StopsTooLong I.does interpreter.old interpreter.new (R.remaining source.old) (R.remaining source.new) (W.contents sink.old) (W.contents sink.new) }
+    ensures read { I.keeps interpreter.old → result ≡ Err RunFault.Read → StopsReading I.does interpreter.old interpreter.new (R.remaining source.old) (R.remaining source.new) (W.contents sink.old) (W.contents sink.new) }
+    ensures write { I.keeps interpreter.old → result ≡ Err RunFault.Write → StopsWriting I.does interpreter.old interpreter.new (R.remaining source.old) (R.remaining source.new) (W.contents sink.old) (W.contents sink.new) }
+    ensures memory { I.keeps interpreter.old → result ≡ Err RunFault.Memory → StopsForMemory I.does I.starves interpreter.old interpreter.new (R.remaining source.old) (R.remaining source.new) (W.contents sink.old) (W.contents sink.new) }
+    ensures keeps { I.keeps interpreter.old → I.keeps interpreter.new }
+    ensures reads { CountsReads result (R.failures source.old) (R.failures source.new) }
+    ensures writes { CountsWrites result (W.failures sink.old) (W.failures sink.new) (W.stalls sink.old) (W.stalls sink.new) }
+{
+    let mut reader = LineReader::new();
+    let mut count: u64 = 0;
+    'lines: while reader.next_line(source)? {
+        let answer = match interpreter.interpret(reader.line(), count) {
+            Ok(answer) => answer,
+            Err(Refusal::NotUnderstood) => return Err(RunFault::Line(reader.number())),
+            Err(Refusal::Memory) => return Err(RunFault::Memory),
+        };
+        let Ok(told) = write_answer(&answer, count, sink) else {
+            return Err(RunFault::Write);
+        };
+        count = told;
+        if reader.has_ended() {
+            return Ok(());
+        }
+    }
+    Ok(())
+}
