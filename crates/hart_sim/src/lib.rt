@@ -30,5 +30,6 @@ pub use report::reply_line;
 pub use running::{Steps, run_over};
 pub use running_machine::run;
 pub use text_lines::{
-    LineReader, NotUnderstood, RunFault, Words, lines_law, number, permission, words_law,
+    Interpreter, Line, LineReader, NotUnderstood, ReadFault, Refusal, RunFault, Words,
+    interpret_lines, lines_law, number, permission, push_decimal, push_hex, push_text, words_law,
 };

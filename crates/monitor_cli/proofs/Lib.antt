@@ -1,2 +1,1 @@
-mod Judged
 pub mod SameViews

@@ -1,1 +1,1 @@
-pub mod Judging
+pub use Rattle.trace_judge.specs.Judging

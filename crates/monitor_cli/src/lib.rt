@@ -11,7 +11,6 @@
 
 mod certifying;
 mod devices;
-mod judging;
 mod program;
 mod trouble;
 mod whole;
@@ -19,13 +18,13 @@ mod whole;
 pub use certifying::certified;
 pub use command_line::{Task, command_of};
 pub use devices::{FileToRead, FileToWrite, RetryInterrupted};
-pub use judging::judge_trace;
 pub use map_text::{MapFileFault, Setting, map_of, raw_says};
 pub use printed_lines::{
-    Line, accepted_line, accepted_of_line, answer_line, count_line, entry_line, print_plan,
-    refused_line, word_line,
+    accepted_line, accepted_of_line, count_line, entry_line, print_plan, refused_line, word_line,
 };
 pub use program::perform;
+pub use text_lines::Line;
+pub use trace_judge::{answer_line, judge_trace};
 pub use trouble::Trouble;
 pub use whole::{WholeFault, read_whole};
 

@@ -3,7 +3,6 @@
 ghost use Rattle.std.specs.Prelude.{◌-◌, ◌^◌, ◌<◌, ◌≤◌, IfOk, length};
 
 use crate::certifying::certified;
-use crate::judging::judge_trace;
 use crate::trouble::Trouble;
 use crate::whole::{WholeFault, read_whole};
 use byte_streams::{Sink, Source, write_whole};
@@ -15,9 +14,10 @@ use permission_map::PermissionMap;
 use plan_certificate::{Reader, Version};
 use pmp_encoding::{Bank, Limit};
 use prefix_tree::build;
-use printed_lines::{Line, accepted_line, accepted_of_line, print_plan, refused_line};
+use printed_lines::{accepted_line, accepted_of_line, print_plan, refused_line};
 use std::alloc::Global;
-use text_lines::RunFault;
+use text_lines::{Line, RunFault};
+use trace_judge::judge_trace;
 
 /// How many bytes a map file may have.
 const MAP_BYTES: usize = 1 << 20;

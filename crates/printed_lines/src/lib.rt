@@ -12,7 +12,4 @@ mod printing;
 mod texts;
 
 pub use printing::print_plan;
-pub use texts::{
-    Line, accepted_line, accepted_of_line, answer_line, count_line, entry_line, refused_line,
-    word_line,
-};
+pub use texts::{accepted_line, accepted_of_line, count_line, entry_line, refused_line, word_line};

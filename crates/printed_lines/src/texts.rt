@@ -1,62 +1,10 @@
 //! The lines that the program prints, in a buffer of a fixed length.
 
-ghost use Rattle.std.specs.Prelude.{◌≡◌, ◌++◌, ◌+◌, ◌<◌, ◌≤◌, codes, decimal, length};
-ghost use Rattle.arrayvec.specs.ArrayVec.{array_vec_len};
-ghost use Rattle.printed_lines.specs.Texts.{accepted_of_text, accepted_text, answer_text, count_text, entry_text, hex, hex_digit, refused_text, word_text};
+ghost use Rattle.std.specs.Prelude.{◌≡◌, ◌≤◌, length};
+ghost use Rattle.printed_lines.specs.Texts.{accepted_of_text, accepted_text, count_text, entry_text, refused_text, word_text};
 
 use arrayvec::ArrayVec;
-use itoa::Buffer;
-use pmp_match::Cause;
-
-/// A line that is being written.
-pub type Line = ArrayVec<u8, 96>;
-
-/// The digit of a value below 16.
-fn hex_digit(value: u8) -> u8
-    requires { value < 16 }
-    ensures { result ≡ hex_digit value }
-{
-    if value < 10 {
-        b'0' + value
-    } else {
-        b'a' + (value - 10)
-    }
-}
-
-/// Appends the lowest digits of a number, the highest of them first.
-fn push_hex(line: &mut Line, value: u64, digits: u8)
-    requires { array_vec_len line.old + digits ≤ 96 }
-    ensures items { line.new.items ≡ line.old.items ++ hex digits value }
-    ensures len { array_vec_len line.new ≡ array_vec_len line.old + digits }
-{
-    if digits == 0 {
-        return;
-    }
-    push_hex(line, value / 16, digits - 1);
-    line.push(hex_digit((value % 16) as u8));
-}
-
-/// Appends a text.
-fn push_text(line: &mut Line, text: &[u8])
-    requires { array_vec_len line.old + length text.now ≤ 96 }
-    ensures items { line.new.items ≡ line.old.items ++ text.now }
-    ensures len { array_vec_len line.new ≡ array_vec_len line.old + length text.now }
-{
-    let Ok(()) = line.try_extend_from_slice(text) else {
-        unreachable!();
-    };
-}
-
-/// Appends a number in decimal.
-fn push_decimal(line: &mut Line, n: u64)
-    requires { array_vec_len line.old + 20 ≤ 96 }
-    ensures items { line.new.items ≡ line.old.items ++ decimal n }
-    ensures len { array_vec_len line.new ≤ array_vec_len line.old + 20 }
-{
-    let mut buffer = Buffer::new();
-    let text = buffer.format(n);
-    push_text(line, text.as_bytes());
-}
+use text_lines::{Line, push_decimal, push_hex, push_text};
 
 /// `entries N`.
 pub fn count_line(n: u64) -> Line
@@ -132,24 +80,4 @@ pub fn refused_line(code: u64, name: &str) -> Line
     push_text(&mut line, name.as_bytes());
     line.push(b'\n');
     line
-}
-
-/// `N ok`, or `N fault CAUSE`.
-pub fn answer_line(n: u64, answer: Result<(), Cause>) -> Line
-    ensures { result.items ≡ answer_text n answer }
-{
-    let mut line = ArrayVec::new();
-    push_decimal(&mut line, n);
-    match answer {
-        Ok(()) => {
-            push_text(&mut line, b" ok\n");
-            line
-        }
-        Err(cause) => {
-            push_text(&mut line, b" fault ");
-            push_decimal(&mut line, u64::from(cause.number()));
-            line.push(b'\n');
-            line
-        }
-    }
 }

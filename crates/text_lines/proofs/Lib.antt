@@ -5,3 +5,4 @@ pub mod LinesRead
 pub mod InputLines
 pub mod WordsOfText
 pub mod Looped
+pub mod Mapped

@@ -4,3 +4,4 @@ pub mod Numbers
 pub mod Lines
 pub mod LineReaders
 pub mod LineLoop
+pub mod Written

@@ -28,9 +28,11 @@ mod line_loop;
 mod lines;
 #[cfg(test)]
 mod tests;
+mod written;
 
 pub use fault::{ReadFault, RunFault};
 pub use laws::{lines_law, words_law};
 pub use lexical::{NotUnderstood, Words, number, numeral, permission};
-pub use line_loop::{Interpreter, Line, Refusal, interpret_lines};
+pub use line_loop::{Interpreter, Refusal, interpret_lines};
 pub use lines::LineReader;
+pub use written::{Line, push_decimal, push_hex, push_text};

@@ -8,11 +8,8 @@ ghost use Rattle.text_lines.specs.LineLoop.{counted, told, text_of, CountsReads,
 
 use crate::fault::RunFault;
 use crate::lines::LineReader;
-use arrayvec::ArrayVec;
+use crate::written::Line;
 use byte_streams::{DeviceFault, Sink, Source, write_whole};
-
-/// A line that is written.
-pub type Line = ArrayVec<u8, 128>;
 
 /// Why a line has no answer that should have one.
 #[derive(Clone, Copy, Debug, PartialEq, Eq)]
@@ -57,7 +54,8 @@ fn write_answer<W: Sink>(
     requires failures { W.failures sink.old < 2 ^ 64 - 1 }
     ensures counted { IfOk result (λ n. n ≡ counted count (text_of answer.now)) }
     ensures whole { IfOk result (λ _. Appends (W.contents sink.old) (W.contents sink.new) (told (text_of answer.now))) }
-    ensures well { IfOk result (λ _. (W.failures sink.new ≡ W.failures sink.old) × (W.stalls sink.new ≡ W.stalls sink.old)) }
+    ensures well { IfOk result (λ _. W.failures sink.new ≡ W.failures sink.old) }
+    ensures unstalled { IfOk result (λ _. W.stalls sink.new ≡ W.stalls sink.old) }
     ensures part { IfErr result (λ _. (text : List ℕ) × (part : ℕ) × (text_of answer.now ≡ Some text) × (part < length text) × Appends (W.contents sink.old) (W.contents sink.new) (take part text)) }
     ensures failed { IfErr result (λ _. WriteFails (W.failures sink.old) (W.failures sink.new) (W.stalls sink.old) (W.stalls sink.new)) }
 {

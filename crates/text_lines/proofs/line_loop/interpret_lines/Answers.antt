@@ -73,8 +73,8 @@ lines-preserved g c =
     let next = rw c.if-branch.true at c.in_ok-next_line.ensures.line in
     record {
       reads = c.in_ok-next_line.ensures.failures ∙ c.lines.invariant.reads;
-      writes = c.in-Ok-write_answer.ensures.well.0 ∙ c.lines.invariant.writes;
-      stalls = c.in-Ok-write_answer.ensures.well.1 ∙ c.lines.invariant.stalls;
+      writes = c.in-Ok-write_answer.ensures.well ∙ c.lines.invariant.writes;
+      stalls = c.in-Ok-write_answer.ensures.unstalled ∙ c.lines.invariant.stalls;
       progress = λ k.
           let h = hands g.I.Interpreter.does _ _ c.lines.reader c.next_line.new.self c.lines.count _ _ (g.R.Source.remaining c.next_line.new.source) _ _ (c.lines.invariant.progress k) next c.next_line.ensures.few in
           let done = rw c.line.ensures at c.in-Ok.ensures.done (c.lines.invariant.keeps k) in

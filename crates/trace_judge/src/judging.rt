@@ -1,0 +1,75 @@
+//! The accesses of a trace, judged by a bank.
+
+ghost use Rattle.std.specs.Prelude.{◌≡◌, ℕ, ◌+◌, ◌-◌, ◌^◌, ◌<◌, Err, IfOk};
+ghost use Rattle.std.specs.Result.{result_ok};
+ghost use Rattle.text_lines.specs.LineLoop.{CountsReads, CountsWrites, DoesAll, StopsAt, StopsReading, StopsTooLong, StopsWriting};
+ghost use Rattle.trace_judge.specs.Judging.{access_on, is_no_access, judged_by};
+
+use crate::answers::answer_line;
+use byte_streams::{Sink, Source};
+use hart_trace::{Event, parse_line};
+use pmp_encoding::Bank;
+use pmp_match::{Access, judge};
+use text_lines::{Interpreter, Line, NotUnderstood, Refusal, RunFault, interpret_lines};
+
+/// The access of a line, and none where it has no words.
+fn access_in(line: &[u8]) -> Result<Option<Access>, NotUnderstood>
+    ensures { result_ok result ≡ access_on line.now }
+{
+    match parse_line(line, 0) {
+        Ok(None) => Ok(None),
+        Ok(Some((_, Event::Access(access, _)))) => Ok(Some(access)),
+        _ => Err(NotUnderstood),
+    }
+}
+
+/// What judges the access of each line by a bank.
+#[derive(Drop)]
+struct Judge<'a> {
+    bank: &'a Bank,
+}
+
+impl Interpreter for Judge<'_> {
+    ghost use Rattle.std.specs.Prelude.{◌≡◌};
+    ghost use Rattle.trace_judge.specs.Judging.{is_no_access, judged_by};
+
+    ghost does = { λ old n line answer new. judged_by old.bank.now tt n line answer tt × (new ≡ old) };
+
+    ghost refuses = { λ now line. is_no_access tt line };
+
+    ghost starves = { λ old line new. ⊥ };
+
+    ghost keeps = { λ now. Unit {0} };
+
+    fn interpret(&mut self, line: &[u8], count: u64) -> Result<Option<Line>, Refusal> {
+        let Ok(found) = access_in(line) else {
+            return Err(Refusal::NotUnderstood);
+        };
+        match found {
+            Some(access) => Ok(Some(answer_line(count + 1, judge(self.bank, &access)))),
+            None => Ok(None),
+        }
+    }
+}
+
+/// Judges the accesses of a trace by a bank: the first three forms of trace lines alone, without `@H`. A store changes
+/// nothing. The answer to each line is written before the next line is read. It takes no memory.
+pub fn judge_trace<R: Source, W: Sink>(
+    bank: &Bank,
+    source: &mut R,
+    sink: &mut W,
+) -> Result<(), RunFault>
+    requires source { R.failures source.old < 2 ^ 64 - 1 }
+    requires sink { W.failures sink.old < 2 ^ 64 - 1 }
+    ensures all { IfOk result (λ _. DoesAll (judged_by bank.now) tt tt (R.remaining source.old) (R.remaining source.new) (W.contents sink.old) (W.contents sink.new)) }
+    ensures line { (n : ℕ) → result ≡ Err (RunFault.Line n) → StopsAt n (judged_by bank.now) is_no_access tt tt (R.remaining source.old) (R.remaining source.new) (W.contents sink.old) (W.contents sink.new) }
+    ensures too_long { result ≡ Err RunFault.TooLong → StopsTooLong (judged_by bank.now) tt tt (R.remaining source.old) (R.remaining source.new) (W.contents sink.old) (W.contents sink.new) }
+    ensures read { result ≡ Err RunFault.Read → StopsReading (judged_by bank.now) tt tt (R.remaining source.old) (R.remaining source.new) (W.contents sink.old) (W.contents sink.new) }
+    ensures write { result ≡ Err RunFault.Write → StopsWriting (judged_by bank.now) tt tt (R.remaining source.old) (R.remaining source.new) (W.contents sink.old) (W.contents sink.new) }
+    ensures no_memory { result ≡ Err RunFault.Memory → ⊥ }
+    ensures reads { CountsReads result (R.failures source.old) (R.failures source.new) }
+    ensures writes { CountsWrites result (W.failures sink.old) (W.failures sink.new) (W.stalls sink.old) (W.stalls sink.new) }
+{
+    let mut by_bank = Judge { bank };
+    interpret_lines(&mut by_bank, source, sink)
+}
