@@ -6,3 +6,6 @@ pub mod Parted
 pub mod Overwritten
 pub mod Answered
 pub mod Counted
+pub mod PointLists
+pub mod PointRuns
+pub mod PointSets

@@ -23,7 +23,7 @@ at_front P runs i d inside all =
     rw read at (All-get_or P (drop i runs) 0 d (omega (arith, length-drop i runs)) all)
 
 -- what holds before an index holds at the one below it
-pub at_back : (P : Run → Type 0) (runs : List Run) (i : ℕ) (d : Run) → 0 < i → i ≤ length runs → All P (take i runs) → P (get_or runs (i - 1) d)
+pub at_back : {X : Type 0} (P : X → Type 0) (runs : List X) (i : ℕ) (d : X) → 0 < i → i ≤ length runs → All P (take i runs) → P (get_or runs (i - 1) d)
 at_back P runs i d some inside all =
     let low : i - 1 < i = omega arith in
     rw (get_or-take i runs (i - 1) d low) at (All-get_or P (take i runs) (i - 1) d (omega (arith, length-take i runs)) all)

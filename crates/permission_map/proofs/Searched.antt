@@ -48,12 +48,12 @@ ends_rise at p runs are = λ i j d order inside. ends_rise_at at p runs are i j 
 
 -- ---- what a search by halves finds, as two parts of the list
 
-pub point_front : (P Q : Run → Type 0) (xs : List Run) (i : ℕ) → i ≤ length xs → IsPartitionPoint P Q xs i → All P (take i xs)
+pub point_front : {X : Type 0} (P Q : X → Type 0) (xs : List X) (i : ℕ) → i ≤ length xs → IsPartitionPoint P Q xs i → All P (take i xs)
 point_front P Q xs i most point = λ k d inside.
     let low : k < i = omega (arith, length-take i xs) in
     rw (get_or-take i xs k d low) (point.0 k d (omega arith) low)
 
-pub point_rest : (P Q : Run → Type 0) (xs : List Run) (i : ℕ) → i ≤ length xs → IsPartitionPoint P Q xs i → All Q (drop i xs)
+pub point_rest : {X : Type 0} (P Q : X → Type 0) (xs : List X) (i : ℕ) → i ≤ length xs → IsPartitionPoint P Q xs i → All Q (drop i xs)
 point_rest P Q xs i most point = λ k d inside.
     rw (get_or-drop i xs k d) (point.1 (i + k) d (omega arith) (omega (arith, length-drop i xs)))
 

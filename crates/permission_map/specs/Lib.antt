@@ -2,3 +2,4 @@ pub mod Runs
 pub mod Views
 pub mod Searching
 pub mod Overwriting
+pub mod Points

@@ -10,6 +10,9 @@
 //! - the runs are maximal and in order, and the view determines them (`same_runs_law`);
 //! - one range adds at most two runs (`runs_law`).
 //!
+//! A [`MapBuilder`] takes many ranges one after another, as a map file sets them, by the same contract of `set_range`, and
+//! becomes a map at the end. It keeps the points at which the permission changes in place of runs.
+//!
 //! ```text
 //! let mut map = PermissionMap::new(alloc);
 //! map.set_range(0x80000, 0x8000, Perm::ReadWriteExecute)?;
@@ -19,15 +22,18 @@
 //! ```
 #![tactic(auto)]
 
+mod builder;
 mod fault;
 mod laws;
 mod map;
 mod overwriting;
+mod points;
 mod runs;
 mod searching;
 #[cfg(test)]
 mod tests;
 
+pub use builder::MapBuilder;
 pub use fault::MapFault;
 pub use laws::{runs_law, same_runs_law};
 pub use map::{Memory, PermissionMap};

@@ -50,6 +50,15 @@ impl PermissionMap {
         }
     }
 
+    /// The map of these runs.
+    pub(crate) fn of_runs(runs: Vec<Run>) -> PermissionMap
+        requires runs { AreRuns runs.items }
+        requires most { length runs.items ≤ 4096 }
+        ensures { result ≡ runs.items }
+    {
+        PermissionMap { runs }
+    }
+
     /// The maximal runs of a permission other than none, by rising page: at most 4096 of them.
     pub fn ranges(&self) -> &[Run]
         ensures value { result.now ≡ self.now }

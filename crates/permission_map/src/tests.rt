@@ -1,4 +1,4 @@
-use crate::{MapFault, PermissionMap, Run};
+use crate::{MapBuilder, MapFault, PermissionMap, Run};
 use pmp_encoding::Perm;
 use std::alloc::Global;
 use std::process::Abort;
@@ -116,4 +116,39 @@ fn ranges_past_the_end_are_refused(rt: HostRuntime) {
         assert_eq!(rt; refused, Err(MapFault::PastEnd), "{first} {count}");
     }
     assert_eq!(rt; map.set_range(SPACE, 0, Perm::Read), Ok(()));
+}
+
+#[test]
+fn a_built_map_is_the_map_of_its_ranges(rt: HostRuntime) -> Result<(), Fail> {
+    let mut built = MapBuilder::new(rt.alloc());
+    let mut map = PermissionMap::new(rt.alloc());
+    let over = [
+        run(0x80000, 0x8000, Perm::ReadWriteExecute),
+        run(0x80000, 0x200, Perm::NoAccess),
+        run(0x80400, 2, Perm::Read),
+        run(0x80401, 3, Perm::Read),
+        run(SPACE - 1, 1, Perm::Execute),
+        run(0x803FF, 1, Perm::ReadWrite),
+    ];
+    for Run { first, count, perm } in &over {
+        built.set_range(*first, *count, *perm)?;
+        map.set_range(*first, *count, *perm)?;
+    }
+    assert_eq!(rt; built.finish()?.ranges(), map.ranges());
+    let empty = MapBuilder::new(rt.alloc());
+    assert_eq!(rt; empty.finish()?.ranges().len(), 0);
+    Ok(())
+}
+
+#[test]
+fn a_builder_counts_its_runs(rt: HostRuntime) -> Result<(), Fail> {
+    let mut built = MapBuilder::new(rt.alloc());
+    for i in 0..4096u64 {
+        built.set_range(2 * i, 1, Perm::Read)?;
+    }
+    let refused = built.set_range(8192, 1, Perm::Read);
+    assert_eq!(rt; refused, Err(MapFault::TooManyRanges));
+    built.set_range(8191, 1, Perm::Read)?;
+    assert_eq!(rt; built.finish()?.ranges().len(), 4096);
+    Ok(())
 }

@@ -1,0 +1,287 @@
+-- Points with one range overwritten.
+use Rattle.std.proofs.Common.{◌≡◌, ◌≢◌, ℕ, ◌+◌, ◌-◌, ◌^◌, ◌<◌, ◌≤◌, ◌⊎◌, inl, inr, ⊎_elim, List, [], ◌∷◌, ◌++◌, length, take, drop, get_or, count_by, All, Bool, true, false, nat_lt, cond, Option, None, Some, option_to_list, refl, sym, ap, subst, ◌∙◌, arith}
+use Rattle.std.specs.List.{AllByRecursion}
+use Rattle.std.proofs.lemmas.Bool.{cases_lt, cond-true, cond-false, lt-ltb, le-ltb}
+use Rattle.std.proofs.lemmas.List.{take-append-drop, get_or-drop, length-drop}
+use Rattle.std.proofs.lemmas.List.Elements.{recursion_from_All, All-get_or}
+use Rattle.pmp_encoding.specs.declared.perm.Perm.{Perm}
+use Rattle.pmp_encoding.specs.declared.perm.Perm.TheVariants.{NoAccess}
+use Rattle.permission_map.specs.declared.points.Point.{Point}
+use Rattle.permission_map.specs.Runs.{in_range, view_of_runs}
+use Rattle.permission_map.specs.Views.{overwritten}
+use Rattle.permission_map.specs.Overwriting.{AreOverwritten}
+use Rattle.permission_map.specs.Points.{ArePoints, ArePointsAfter, IsBuilt, IsStop, IsTurn, allows, page_of, perm_of, runs_of, standing}
+use Rattle.permission_map.proofs.Parted.{at_back}
+use Rattle.permission_map.proofs.Overwritten.{changed_below, changed_in, changed_past}
+use Rattle.permission_map.proofs.PointLists.{count_by-append}
+use Rattle.permission_map.proofs.PointRuns.{runs_are, runs_count, view_from, view_is}
+
+abbrev Behind : ℕ → List Point → Type 0
+Behind page ps = AllByRecursion (λ q. page < page_of q) ps
+
+abbrev UpTo : ℕ → List Point → Type 0
+UpTo page ps = AllByRecursion (λ q. page_of q ≤ page) ps
+
+-- ---- one list after another
+
+-- the page behind the last point
+abbrev last_at : ℕ → List Point → ℕ
+last_at at [] = at
+last_at at (q ∷ ps) = last_at (page_of q + 1) ps
+
+points_first : (at : ℕ) (p : Perm) (xs ys : List Point) → ArePointsAfter at p (xs ++ ys) → ArePointsAfter at p xs
+points_first at p [] ys are = tt
+points_first at p (x ∷ xs) ys are = (are.0, points_first (page_of x + 1) (perm_of x) xs ys are.1)
+
+points_second : (at : ℕ) (p : Perm) (xs ys : List Point) → ArePointsAfter at p (xs ++ ys) → ArePointsAfter (last_at at xs) (standing p xs) ys
+points_second at p [] ys are = are
+points_second at p (x ∷ xs) ys are = points_second (page_of x + 1) (perm_of x) xs ys are.1
+
+points_append : (at : ℕ) (p : Perm) (xs ys : List Point) → ArePointsAfter at p xs → ArePointsAfter (last_at at xs) (standing p xs) ys → ArePointsAfter at p (xs ++ ys)
+points_append at p [] ys are more = more
+points_append at p (x ∷ xs) ys are more = (are.0, points_append (page_of x + 1) (perm_of x) xs ys are.1 more)
+
+last_low : (at first : ℕ) (xs : List Point) → at ≤ first → AllByRecursion (λ q. page_of q < first) xs → last_at at xs ≤ first
+last_low at first [] low all = low
+last_low at first (x ∷ xs) low all = last_low (page_of x + 1) first xs (let here : page_of x < first = all.0 in omega (arith, here)) all.1
+
+-- where the first point is does not count for those behind it
+points_from : (at from : ℕ) (p : Perm) (ps : List Point) → ArePointsAfter at p ps → AllByRecursion (λ q. from ≤ page_of q) ps → ArePointsAfter from p ps
+points_from at from p [] are all = tt
+points_from at from p (q ∷ ps) are all = (record { rising = all.0; changes = are.0.changes; inside = are.0.inside }, are.1)
+
+points_earlier : (at from : ℕ) (p : Perm) (ps : List Point) → ArePointsAfter at p ps → from ≤ at → ArePointsAfter from p ps
+points_earlier at from p [] are low = tt
+points_earlier at from p (q ∷ ps) are low =
+    (record { rising = (let here : at ≤ page_of q = are.0.rising in omega (arith, here, low)); changes = are.0.changes; inside = are.0.inside }, are.1)
+
+weaker : (P Q : Point → Type 0) → ((q : Point) → P q → Q q) → (ps : List Point) → AllByRecursion P ps → AllByRecursion Q ps
+weaker P Q f [] all = tt
+weaker P Q f (q ∷ ps) all = (f q all.0, weaker P Q f ps all.1)
+
+-- ---- a turn
+
+turned : (at page : ℕ) (before perm : Perm) (turn : Option Point) (ps : List Point) → at ≤ page → page < 2 ^ 44 → IsTurn before page perm turn → ArePointsAfter (page + 1) perm ps
+    → ArePointsAfter at before (option_to_list turn ++ ps)
+turned at page before perm None ps low small same are =
+    let A : Perm → Type 0 = λ p. ArePointsAfter at p ps in
+    subst A same (points_earlier (page + 1) at perm ps are (omega (arith, low)))
+turned at page before perm (Some q) ps low small turn are =
+    let there : page_of q ≡ page = turn.1 in
+    let A : ℕ → Type 0 = λ n. ArePointsAfter (n + 1) perm ps in
+    let B : Perm → Type 0 = λ p. ArePointsAfter (page_of q + 1) p ps in (
+      record { rising = omega (arith, there, low); changes = λ same. turn.0 (sym turn.2 ∙ same); inside = omega (arith, there, small) },
+      subst B (sym turn.2) (subst A (sym there) are),
+    )
+
+turned_behind : (page at : ℕ) (before perm : Perm) (turn : Option Point) (ps : List Point) → page < at → IsTurn before at perm turn → Behind page ps → Behind page (option_to_list turn ++ ps)
+turned_behind page at before perm None ps low turn behind = behind
+turned_behind page at before perm (Some q) ps low turn behind = ((let there : page_of q ≡ at = turn.1 in omega (arith, there, low)), behind)
+
+turned_view : (page at : ℕ) (before perm : Perm) (turn : Option Point) (ps : List Point) → at ≤ page → IsTurn before at perm turn → view_from before (option_to_list turn ++ ps) page ≡ view_from perm ps page
+turned_view page at before perm None ps high same = ap (λ p. view_from p ps page) (sym same)
+turned_view page at before perm (Some q) ps high turn =
+    let there : page_of q ≡ at = turn.1 in
+    cond-false (nat_lt page (page_of q)) before (view_from (perm_of q) ps page) (le-ltb _ _ (omega (arith, there, high))) ∙ ap (λ p. view_from p ps page) turn.2
+
+-- ---- a page and points before and behind it
+
+stands : (p : Perm) (ps : List Point) (page : ℕ) → Behind page ps → view_from p ps page ≡ p
+stands p [] page behind = refl
+stands p (q ∷ ps) page behind = cond-true (nat_lt page (page_of q)) p (view_from (perm_of q) ps page) (lt-ltb _ _ behind.0)
+
+view_first : (p : Perm) (xs ys : List Point) (page : ℕ) → Behind page ys → view_from p (xs ++ ys) page ≡ view_from p xs page
+view_first p [] ys page behind = stands p ys page behind
+view_first p (x ∷ xs) ys page behind = ap (λ q. cond (nat_lt page (page_of x)) p q) (view_first (perm_of x) xs ys page behind)
+
+view_second : (p : Perm) (xs ys : List Point) (page : ℕ) → UpTo page xs → view_from p (xs ++ ys) page ≡ view_from (standing p xs) ys page
+view_second p [] ys page low = refl
+view_second p (x ∷ xs) ys page low =
+    cond-false (nat_lt page (page_of x)) p (view_from (perm_of x) (xs ++ ys) page) (le-ltb _ _ low.0) ∙ view_second (perm_of x) xs ys page low.1
+
+-- ---- a range
+
+-- where the points before a range, and those behind its end, are cut off
+pub record IsCut (ps : List Point) (first end from to : ℕ) : Type 0 where
+  pub before : All (λ q. page_of q < first) (take from ps)
+  pub rest : All (λ q. first ≤ page_of q) (drop from ps)
+  pub up_to : All (λ q. page_of q ≤ end) (take to ps)
+  pub behind : All (λ q. end < page_of q) (drop to ps)
+
+abbrev pub replaced : List Point → ℕ → ℕ → Option Point → Option Point → List Point
+replaced ps from to start stop = take from ps ++ (option_to_list start ++ (option_to_list stop ++ drop to ps))
+
+whole : (ps : List Point) (i : ℕ) → ArePoints ps → ArePoints (take i ps ++ drop i ps)
+whole ps i are = (let A : List Point → Type 0 = ArePoints in subst A (sym (take-append-drop i ps)) are)
+
+tail_are :
+    (ps : List Point) (first end from to : ℕ) (perm : Perm) (stop : Option Point) → ArePoints ps → first < end → end ≤ 2 ^ 44 → IsCut ps first end from to
+    → IsStop perm end (standing NoAccess (take to ps)) stop → ArePointsAfter (first + 1) perm (option_to_list stop ++ drop to ps)
+tail_are ps first end from to perm stop are some small cut is =
+    let back : Behind end (drop to ps) = recursion_from_All (λ q. end < page_of q) (drop to ps) cut.behind in
+    let rest = points_second 0 NoAccess (take to ps) (drop to ps) (whole ps to are) in
+    ⊎_elim
+    (λ edge.
+    let none : drop to ps ≡ [] = nothing (last_at 0 (take to ps)) (standing NoAccess (take to ps)) (drop to ps) rest back edge.0 in
+    rw (edge.1, none) tt)
+    (λ turn.
+    turned (first + 1) end perm (standing NoAccess (take to ps)) stop (drop to ps) (omega (arith, some)) turn.0 turn.1
+    (points_from (last_at 0 (take to ps)) (end + 1) (standing NoAccess (take to ps)) (drop to ps) rest
+    (weaker (λ q. end < page_of q) (λ q. end + 1 ≤ page_of q) (λ q h. omega (arith, h)) (drop to ps) back)))
+    is
+  where
+    nothing : (at : ℕ) (p : Perm) (qs : List Point) → ArePointsAfter at p qs → Behind end qs → end ≡ 2 ^ 44 → qs ≡ []
+    nothing at p [] are behind edge = refl
+    nothing at p (q ∷ qs) are behind edge = absurd (let inside : page_of q < 2 ^ 44 = are.0.inside in let far : end < page_of q = behind.0 in omega (arith, inside, far, edge))
+
+pub replaced_are :
+    (ps : List Point) (first end from to : ℕ) (perm : Perm) (start stop : Option Point) → ArePoints ps → first < end → end ≤ 2 ^ 44 → IsCut ps first end from to
+    → IsTurn (standing NoAccess (take from ps)) first perm start → IsStop perm end (standing NoAccess (take to ps)) stop → ArePoints (replaced ps from to start stop)
+replaced_are ps first end from to perm start stop are some small cut turn is =
+    let front : AllByRecursion (λ q. page_of q < first) (take from ps) = recursion_from_All (λ q. page_of q < first) (take from ps) cut.before in
+    points_append 0 NoAccess (take from ps) (option_to_list start ++ (option_to_list stop ++ drop to ps)) (points_first 0 NoAccess (take from ps) (drop from ps) (whole ps from are))
+    (turned (last_at 0 (take from ps)) first (standing NoAccess (take from ps)) perm start (option_to_list stop ++ drop to ps) (last_low 0 first (take from ps) (omega arith) front)
+    (omega (arith, some, small)) turn (tail_are ps first end from to perm stop are some small cut is))
+
+tail_behind :
+    (ps : List Point) (first end from to page : ℕ) (perm : Perm) (stop : Option Point) → page < end → IsCut ps first end from to → IsStop perm end (standing NoAccess (take to ps)) stop
+    → Behind page (option_to_list stop ++ drop to ps)
+tail_behind ps first end from to page perm stop low cut is =
+    let back : Behind page (drop to ps) =
+    weaker (λ q. end < page_of q) (λ q. page < page_of q) (λ q h. omega (arith, h, low)) (drop to ps) (recursion_from_All (λ q. end < page_of q) (drop to ps) cut.behind) in
+    ⊎_elim (λ edge. rw edge.1 back) (λ turn. turned_behind page end perm (standing NoAccess (take to ps)) stop (drop to ps) low turn.1 back) is
+
+replaced_view :
+    (ps : List Point) (first count from to : ℕ) (perm : Perm) (start stop : Option Point) → 0 < count → first + count ≤ 2 ^ 44 → IsCut ps first (first + count) from to
+    → IsTurn (standing NoAccess (take from ps)) first perm start → IsStop perm (first + count) (standing NoAccess (take to ps)) stop → (page : ℕ) → page < 2 ^ 44
+    → view_from NoAccess (replaced ps from to start stop) page ≡ overwritten (view_from NoAccess ps) first count perm page
+replaced_view ps first count from to perm start stop some small cut turn is page inside =
+    let tail = option_to_list stop ++ drop to ps in
+    let before = standing NoAccess (take from ps) in
+    let front : AllByRecursion (λ q. page_of q < first) (take from ps) = recursion_from_All (λ q. page_of q < first) (take from ps) cut.before in
+    ⊎_elim
+    (λ less.
+    let behind : Behind page (option_to_list start ++ (option_to_list stop ++ drop to ps)) =
+    turned_behind page first before perm start tail less turn (tail_behind ps first (first + count) from to page perm stop (omega (arith, less)) cut is) in
+    let others : Behind page (drop from ps) =
+    weaker (λ q. first ≤ page_of q) (λ q. page < page_of q) (λ q h. omega (arith, h, less)) (drop from ps) (recursion_from_All (λ q. first ≤ page_of q) (drop from ps) cut.rest) in
+    view_first NoAccess (take from ps) (option_to_list start ++ tail) page behind
+    ∙ sym (view_first NoAccess (take from ps) (drop from ps) page others)
+    ∙ ap (λ qs. view_from NoAccess qs page) (take-append-drop from ps)
+    ∙ sym (changed_below (view_from NoAccess ps) first count perm page less))
+    (λ more.
+    let low : UpTo page (take from ps) = weaker (λ q. page_of q < first) (λ q. page_of q ≤ page) (λ q h. omega (arith, h, more)) (take from ps) front in
+    view_second NoAccess (take from ps) (option_to_list start ++ tail) page low
+    ∙ turned_view page first before perm start tail more turn
+    ∙ ⊎_elim
+    (λ under.
+    stands perm tail page (tail_behind ps first (first + count) from to page perm stop under cut is)
+    ∙ sym (changed_in (view_from NoAccess ps) first count perm page more under))
+    (λ past.
+    let below : UpTo page (take to ps) =
+    weaker (λ q. page_of q ≤ first + count) (λ q. page_of q ≤ page) (λ q h. omega (arith, h, past)) (take to ps)
+    (recursion_from_All (λ q. page_of q ≤ first + count) (take to ps) cut.up_to) in
+    ⊎_elim (λ edge. absurd (omega (arith, edge.0, past, inside)))
+    (λ end. turned_view page (first + count) perm (standing NoAccess (take to ps)) stop (drop to ps) past end.1) is
+    ∙ sym (view_second NoAccess (take to ps) (drop to ps) page below)
+    ∙ ap (λ qs. view_from NoAccess qs page) (take-append-drop to ps)
+    ∙ sym (changed_past (view_from NoAccess ps) first count perm page past))
+    (cases_lt page (first + count)))
+    (cases_lt page first)
+
+pub replaced_overwritten :
+    (ps : List Point) (first count from to : ℕ) (perm : Perm) (start stop : Option Point) → ArePoints ps → 0 < count → first + count ≤ 2 ^ 44 → IsCut ps first (first + count) from to
+    → IsTurn (standing NoAccess (take from ps)) first perm start → IsStop perm (first + count) (standing NoAccess (take to ps)) stop
+    → AreOverwritten (runs_of ps) first count perm (runs_of (replaced ps from to start stop))
+replaced_overwritten ps first count from to perm start stop are some small cut turn is =
+    let new = replaced ps from to start stop in
+    let new_are = replaced_are ps first (first + count) from to perm start stop are (omega (arith, some)) small cut turn is in
+    record {
+      are_runs = runs_are new new_are;
+      view_is =
+          λ page inside.
+          view_is new page new_are inside
+          ∙ replaced_view ps first count from to perm start stop some small cut turn is page inside
+          ∙ ap (λ q. cond (in_range first count page) perm q) (sym (view_is ps page are inside));
+    }
+
+-- ---- how many runs there are then, and where the cuts are
+
+pub replaced_count :
+    (ps : List Point) (from to gone : ℕ) (start stop : Option Point)
+    → count_by allows (take from ps) + (gone + count_by allows (drop to ps)) ≡ count_by allows ps
+    → length (runs_of (replaced ps from to start stop)) + gone ≡ length (runs_of ps) + count_by allows (option_to_list start) + count_by allows (option_to_list stop)
+replaced_count ps from to gone start stop parts =
+    let a = count_by-append allows (take from ps) (option_to_list start ++ (option_to_list stop ++ drop to ps)) in
+    let b = count_by-append allows (option_to_list start) (option_to_list stop ++ drop to ps) in
+    let c = count_by-append allows (option_to_list stop) (drop to ps) in
+    omega (arith, a, b, c, parts, runs_count ps, runs_count (replaced ps from to start stop))
+
+pub gone_few : (ps : List Point) (from to gone : ℕ) → count_by allows (take from ps) + (gone + count_by allows (drop to ps)) ≡ count_by allows ps → gone ≤ length (runs_of ps)
+gone_few ps from to gone parts = omega (arith, parts, runs_count ps)
+
+pub cuts_in_order :
+    (ps : List Point) (from to first end : ℕ) (d : Point) → from ≤ length ps → All (λ q. page_of q < first) (take from ps) → All (λ q. end < page_of q) (drop to ps) → first ≤ end → from ≤ to
+cuts_in_order ps from to first end d inside low high order =
+    ⊎_elim
+    (λ crossed.
+    let below : page_of (get_or ps (from - 1) d) < first = at_back (λ q. page_of q < first) ps from d (omega (arith, crossed)) inside low in
+    let place : to + (from - 1 - to) ≡ from - 1 = omega (arith, crossed) in
+    let above : end < page_of (get_or ps (from - 1) d) =
+    rw place at (rw (get_or-drop to ps (from - 1 - to) d) at (All-get_or (λ q. end < page_of q) (drop to ps) (from - 1 - to) d (omega (arith, length-drop to ps, crossed)) high)) in
+    absurd (omega (arith, below, above, order)))
+    (λ fine. fine)
+    (cases_lt to from)
+
+-- ---- as the code says it
+
+-- the cuts, and the points that are put between them
+pub record AreCuts (ps : List Point) (first end from to : ℕ) (perm : Perm) (start stop : Option Point) : Type 0 where
+  pub cut : IsCut ps first end from to
+  pub turn : IsTurn (standing NoAccess (take from ps)) first perm start
+  pub ends : IsStop perm end (standing NoAccess (take to ps)) stop
+
+pub row_cuts :
+    (ps row : List Point) (first end from to : ℕ) (perm before after : Perm) (start stop : Option Point) → row ≡ ps → All (λ q. page_of q < first) (take from row)
+    → All (λ q. first ≤ page_of q) (drop from row) → All (λ q. page_of q ≤ end) (take to row) → All (λ q. end < page_of q) (drop to row)
+    → before ≡ standing NoAccess (take from row) → after ≡ standing NoAccess (take to row) → IsTurn before first perm start → IsStop perm end after stop
+    → AreCuts ps first end from to perm start stop
+row_cuts ps row first end from to perm before after start stop same b r u e is_before is_after turn ends =
+    let T : Perm → Type 0 = λ p. IsTurn p first perm start in
+    let S : Perm → Type 0 = λ p. IsStop perm end p stop in
+    let C : List Point → Type 0 = λ l. AreCuts l first end from to perm start stop in
+    let own : AreCuts row first end from to perm start stop =
+    record { cut = record { before = b; rest = r; up_to = u; behind = e }; turn = subst T is_before turn; ends = subst S is_after ends } in
+    subst C same own
+
+pub row_parts :
+    (ps row : List Point) (from to gone : ℕ) → row ≡ ps → count_by allows (take from row) + (gone + count_by allows (drop to row)) ≡ count_by allows row
+    → count_by allows (take from ps) + (gone + count_by allows (drop to ps)) ≡ count_by allows ps
+row_parts ps row from to gone same parts =
+    let P : List Point → Type 0 = λ l. count_by allows (take from l) + (gone + count_by allows (drop to l)) ≡ count_by allows l in
+    subst P same parts
+
+pub cuts_overwritten :
+    (ps : List Point) (first count from to : ℕ) (perm : Perm) (start stop : Option Point) → ArePoints ps → 0 < count → first + count ≤ 2 ^ 44
+    → AreCuts ps first (first + count) from to perm start stop → AreOverwritten (runs_of ps) first count perm (runs_of (replaced ps from to start stop))
+cuts_overwritten ps first count from to perm start stop are some small cuts =
+    replaced_overwritten ps first count from to perm start stop are some small cuts.cut cuts.turn cuts.ends
+
+pub cuts_built :
+    (ps items : List Point) (first count from to runs gone a b before capacity room : ℕ) (perm : Perm) (start stop : Option Point) → IsBuilt ps runs before → 0 < count
+    → first + count ≤ 2 ^ 44 → AreCuts ps first (first + count) from to perm start stop
+    → count_by allows (take from ps) + (gone + count_by allows (drop to ps)) ≡ count_by allows ps → a ≡ count_by allows (option_to_list start)
+    → b ≡ count_by allows (option_to_list stop) → runs - gone + a + b ≤ 4096 → items ≡ replaced ps from to start stop → 8195 ≤ capacity → capacity ≤ room
+    → IsBuilt items (runs - gone + a + b) room
+cuts_built ps items first count from to runs gone a b before capacity room perm start stop built some small cuts parts is_a is_b few is wide more =
+    let number = replaced_count ps from to gone start stop parts in
+    let most = gone_few ps from to gone parts in
+    let B : List Point → Type 0 = λ l. IsBuilt l (runs - gone + a + b) room in
+    let own : IsBuilt (replaced ps from to start stop) (runs - gone + a + b) room =
+    record {
+      are_points = replaced_are ps first (first + count) from to perm start stop built.are_points (omega (arith, some)) small cuts.cut cuts.turn cuts.ends;
+      count = omega (arith, number, most, built.count, is_a, is_b);
+      few = few;
+      room = λ any. omega (arith, wide, more);
+    } in
+    subst B (sym is) own

@@ -1,0 +1,164 @@
+ghost use Rattle.std.specs.Prelude.{◌≡◌, ◌≢◌, ◌≤◌, ◌<◌, ◌+◌, ◌++◌, ◌^◌, ◌↔◌, List, [], length, take, drop, option_to_list, Err, OnOk, OnErr, IfOk, vec_capacity};
+ghost use Rattle.permission_map.specs.declared.runs.Run.{Run};
+ghost use Rattle.permission_map.specs.declared.fault.MapFault as MapFault;
+ghost use Rattle.permission_map.specs.Overwriting.{AreOverwritten, Becomes};
+ghost use Rattle.permission_map.specs.Points.{ArePoints, IsBuilt, next_page, runs_of};
+
+use crate::fault::MapFault;
+use crate::map::{Memory, PermissionMap};
+use crate::overwriting::MOST_RUNS;
+use crate::points::{
+    Point, before, begun_at, begun_between, replace, standing_behind, stop, turn, up_to,
+};
+use crate::runs::Run;
+use page_views::SPACE_PAGES;
+use pmp_encoding::Perm;
+use std::alloc::{AllocError, Global};
+use std::marker::Model;
+
+/// The most points of a map, two for each run and one more, and room for two to come before others go.
+const MOST_POINTS: usize = 2 * MOST_RUNS + 3;
+
+/// A map on which many ranges are set one after another, as the lines of a map file do. It is seen as the runs of the
+/// [`PermissionMap`] that it becomes. It keeps the pages at which the permission changes: a range replaces the few that
+/// lie in it, and what stands behind them moves once, in one block. Room for all of them is taken with the first run.
+#[derive(Drop)]
+pub struct MapBuilder {
+    alloc: Global,
+    points: Vec<Point>,
+    runs: usize,
+}
+
+impl Model for MapBuilder {
+    ghost use Rattle.std.specs.Prelude.{List, vec_capacity};
+    ghost use Rattle.permission_map.specs.declared.runs.Run.{Run};
+    ghost use Rattle.permission_map.specs.Points.{IsBuilt, runs_of};
+
+    ghost Value = { List Run };
+
+    ghost view = { λ b. runs_of b.points.items };
+
+    ghost invariant = { λ b. IsBuilt b.points.items b.runs (vec_capacity b.points) };
+}
+
+/// The page at which the first of the points stands, or the end of the space.
+fn next_page(points: &[Point]) -> u64
+    ensures { result ≡ next_page points.now }
+{
+    match points {
+        [] => SPACE_PAGES,
+        [point, ..] => point.page(),
+    }
+}
+
+/// Appends the runs between the points.
+fn push_runs(points: &[Point], runs: &mut Vec<Run>) -> Result<(), AllocError>
+    requires { ArePoints points.now }
+    ensures { OnOk result (runs.new.items ≡ runs.old.items ++ runs_of points.now) }
+{
+    let mut rest = points;
+    while let [point, behind @ ..] = rest {
+        if point.allows() {
+            let first = point.page();
+            let count = next_page(behind) - first;
+            let perm = point.perm();
+            runs.push(Run { first, count, perm })?;
+        }
+        rest = behind;
+    }
+    Ok(())
+}
+
+/// Takes room for all points that a map may have, where there is no run yet.
+fn make_room(points: &mut Vec<Point>, runs: usize) -> Result<(), AllocError>
+    requires { 0 < runs → 8195 ≤ vec_capacity points.old }
+    ensures items { points.new.items ≡ points.old.items }
+    ensures room { OnOk result (8195 ≤ vec_capacity points.new) }
+    ensures first { OnErr result (runs ≡ 0) }
+{
+    if runs == 0 {
+        points.reserve(MOST_POINTS)?;
+    }
+    Ok(())
+}
+
+/// Sets the permission of the `count` pages from `first` on, or leaves the points as they were. The second is the number of
+/// their runs.
+fn overwrite(
+    points: &mut Vec<Point>,
+    runs: &mut usize,
+    first: u64,
+    count: u64,
+    perm: Perm,
+) -> Result<(), MapFault>
+    requires built { IsBuilt points.old.items runs.old (vec_capacity points.old) }
+    requires inside { first + count ≤ 2 ^ 44 }
+    ensures built { IsBuilt points.new.items runs.new (vec_capacity points.new) }
+    ensures wanted { (wanted : List Run) × AreOverwritten (runs_of points.old.items) first count perm wanted × Becomes (runs_of points.old.items) (runs_of points.new.items) wanted result }
+{
+    if count == 0 {
+        return Ok(());
+    }
+    let end = first + count;
+    let row = points.as_slice();
+    let from = before(row, first);
+    let to = up_to(row, end);
+    let start = turn(standing_behind(row, from), first, perm);
+    let stop = stop(perm, end, standing_behind(row, to));
+    let gone = begun_between(row, from, to);
+    let wanted = *runs - gone + begun_at(&start) + begun_at(&stop);
+    if wanted > MOST_RUNS {
+        return Err(MapFault::TooManyRanges);
+    }
+    if *runs + wanted == 0 {
+        return Ok(());
+    }
+    let Ok(()) = make_room(points, *runs) else {
+        return Err(MapFault::Memory);
+    };
+    replace(points, from, to, start, stop);
+    *runs = wanted;
+    Ok(())
+}
+
+impl MapBuilder {
+    /// The map that has no permission on any page.
+    pub fn new(alloc: Global) -> MapBuilder
+        ensures { result ≡ [] }
+    {
+        MapBuilder {
+            alloc,
+            points: Vec::new(alloc),
+            runs: 0,
+        }
+    }
+
+    /// Sets the permission of the `count` pages from `first` on, and of no other page, as
+    /// [`PermissionMap::set_range`] does. Only the first run takes memory.
+    pub fn set_range(&mut self, first: u64, count: u64, perm: Perm) -> Result<(), MapFault>
+        ensures done { OnOk result (AreOverwritten self.old first count perm self.new) }
+        ensures kept { OnErr result (self.new ≡ self.old) }
+        ensures nothing { count ≡ 0 → self.new ≡ self.old }
+        ensures past_end { (result ≡ Err MapFault.PastEnd) ↔ (2 ^ 44 < first + count) }
+        ensures too_many { (result ≡ Err MapFault.TooManyRanges) ↔ ((first + count ≤ 2 ^ 44) × ((runs : List Run) × AreOverwritten self.old first count perm runs × (4096 < length runs))) }
+        ensures memory { result ≡ Err MapFault.Memory → (runs : List Run) × AreOverwritten self.old first count perm runs × (length self.old < length runs) × (length runs ≤ 4096) }
+    {
+        if first > SPACE_PAGES || count > SPACE_PAGES - first {
+            return Err(MapFault::PastEnd);
+        }
+        overwrite(&mut self.points, &mut self.runs, first, count, perm)
+    }
+
+    /// The map. It can fail for want of memory alone, and not where it has no run.
+    pub fn finish(self) -> Result<PermissionMap, Memory>
+        ensures map { IfOk result (λ map. map ≡ self) }
+        ensures memory { OnErr result (0 < length self) }
+    {
+        if self.runs == 0 {
+            return Ok(PermissionMap::new(self.alloc));
+        }
+        let mut runs = Vec::with_capacity(self.alloc, self.runs)?;
+        push_runs(&self.points, &mut runs)?;
+        Ok(PermissionMap::of_runs(runs))
+    }
+}
