@@ -1,5 +1,6 @@
 -- What `plan` prints.
-use Rattle.std.specs.Prelude.{◌≡◌, ℕ, ◌+◌, ◌*◌, ◌<◌, ◌≤◌, zero, suc, List, [], ◌∷◌, ◌++◌, length}
+use Rattle.std.specs.Prelude.{◌≡◌, ℕ, ◌+◌, ◌*◌, ◌<◌, ◌≤◌, zero, suc, List, [], ◌∷◌, ◌++◌, length, take, Option}
+use Rattle.std.specs.Io.KnownBytes.{Appends}
 use Rattle.pmp_encoding.specs.declared.bank.Bank.{Bank}
 use Rattle.pmp_encoding.specs.declared.limit.Limit.{Limit}
 use Rattle.pmp_encoding.specs.declared.region.Entry.{Entry}
@@ -12,6 +13,10 @@ use Rattle.printed_lines.specs.Texts.{count_text, entry_text, word_text}
 abbrev pub entries_text : ℕ → List Entry → List ℕ
 entries_text i [] = []
 entries_text i (entry ∷ entries) = entry_text i (cfg_of entry) (address_of entry) ++ entries_text (i + 1) entries
+
+-- the number of entries, and a line for each
+abbrev pub list_text : List Entry → List ℕ
+list_text entries = count_text (length entries) ++ entries_text 0 entries
 
 -- a line for each of `count` words of a bank, from pmpcfg(2 * i) on
 abbrev pub words_text : Bank → ℕ → ℕ → List ℕ
@@ -29,6 +34,10 @@ pub record HasWords (limit : Limit) (entries : List Entry) (text : List ℕ) : T
 -- the number of entries, a line for each, and behind them the words of their bank, where they fit in one
 pub record IsPlanText (limit : Limit) (entries : List Entry) (text : List ℕ) : Type 0 where
   pub words : List ℕ
-  pub lines : text ≡ count_text (length entries) ++ entries_text 0 entries ++ words
+  pub lines : text ≡ list_text entries ++ words
   pub fits : length entries ≤ limit_number limit → HasWords limit entries words
   pub too_many : limit_number limit < length entries → words ≡ []
+
+-- a beginning of a text was taken, and not all of it
+abbrev pub TakesPart : List ℕ → Option (List ℕ) → Option (List ℕ) → Type 0
+TakesPart text old new = (n : ℕ) × (n < length text) × Appends old new (take n text)

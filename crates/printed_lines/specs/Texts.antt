@@ -1,5 +1,6 @@
 -- What the program prints.
 use Rattle.std.specs.Prelude.{ℕ, List, ◌++◌, codes, decimal}
+use Rattle.hex.specs.Hex.{encode_lower}
 use Rattle.text_lines.specs.Written.{hex}
 
 -- `entries N`
@@ -25,3 +26,7 @@ accepted_of_text n limit = codes "accepted " ++ decimal n ++ codes " of " ++ dec
 -- `refused CODE NAME`
 abbrev pub refused_text : ℕ → List ℕ → List ℕ
 refused_text code name = codes "refused " ++ decimal code ++ codes " " ++ name ++ codes "\n"
+
+-- `measure ID DIGEST`, the digest in lower-case hexadecimal
+abbrev pub measure_text : ℕ → List ℕ → List ℕ
+measure_text id digest = codes "measure " ++ decimal id ++ codes " " ++ encode_lower digest ++ codes "\n"

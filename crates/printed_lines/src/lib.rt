@@ -8,8 +8,10 @@
 //! ```
 #![tactic(auto)]
 
+mod digests;
 mod printing;
 mod texts;
 
+pub use digests::{digest_text, measure_line};
 pub use printing::print_plan;
 pub use texts::{accepted_line, accepted_of_line, count_line, entry_line, refused_line, word_line};

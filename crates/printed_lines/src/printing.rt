@@ -1,9 +1,10 @@
 //! What `plan` prints.
 
-ghost use Rattle.std.specs.Prelude.{◌≡◌, ◌+◌, ◌*◌, ◌-◌, ◌^◌, ◌<◌, ◌≤◌, ◌++◌, List, ℕ, IfOk, length};
+ghost use Rattle.std.specs.Prelude.{◌≡◌, ◌+◌, ◌*◌, ◌-◌, ◌^◌, ◌<◌, ◌≤◌, List, ℕ, IfErr, IfOk, length};
 ghost use Rattle.std.specs.Io.KnownBytes.{Appends};
+ghost use Rattle.byte_streams.specs.Streams.{WriteFails};
 ghost use Rattle.pmp_encoding.specs.Limits.{limit_number};
-ghost use Rattle.printed_lines.specs.Plans.{IsPlanText, entries_text, words_text};
+ghost use Rattle.printed_lines.specs.Plans.{IsPlanText, TakesPart, entries_text, list_text, words_text};
 
 use crate::texts::{count_line, entry_line, word_line};
 use byte_streams::{DeviceFault, Sink, write_whole};
@@ -13,7 +14,10 @@ use pmp_encoding::{Bank, Entry, Limit};
 fn print_entries<W: Sink>(entries: &[Entry], out: &mut W) -> Result<(), DeviceFault>
     requires { W.failures out.old < 2 ^ 64 - 1 }
     ensures well { IfOk result (λ _. W.failures out.new ≡ W.failures out.old) }
+    ensures unstalled { IfOk result (λ _. W.stalls out.new ≡ W.stalls out.old) }
     ensures written { IfOk result (λ _. Appends (W.contents out.old) (W.contents out.new) (entries_text 0 entries.now)) }
+    ensures part { IfErr result (λ _. TakesPart (entries_text 0 entries.now) (W.contents out.old) (W.contents out.new)) }
+    ensures failed { IfErr result (λ _. WriteFails (W.failures out.old) (W.failures out.new) (W.stalls out.old) (W.stalls out.new)) }
 {
     for (i, entry) in entries.iter().enumerate() {
         let (cfg, address) = entry.encode();
@@ -23,11 +27,30 @@ fn print_entries<W: Sink>(entries: &[Entry], out: &mut W) -> Result<(), DeviceFa
     Ok(())
 }
 
+/// Writes the number of entries, and a line for each.
+fn print_list<W: Sink>(entries: &[Entry], out: &mut W) -> Result<(), DeviceFault>
+    requires { W.failures out.old < 2 ^ 64 - 1 }
+    ensures well { IfOk result (λ _. W.failures out.new ≡ W.failures out.old) }
+    ensures unstalled { IfOk result (λ _. W.stalls out.new ≡ W.stalls out.old) }
+    ensures written { IfOk result (λ _. Appends (W.contents out.old) (W.contents out.new) (list_text entries.now)) }
+    ensures part { IfErr result (λ _. TakesPart (list_text entries.now) (W.contents out.old) (W.contents out.new)) }
+    ensures failed { IfErr result (λ _. WriteFails (W.failures out.old) (W.failures out.new) (W.stalls out.old) (W.stalls out.new)) }
+{
+    let count = count_line(entries.len() as u64);
+    write_whole(out, count.as_slice())?;
+    print_entries(entries, out)?;
+    Ok(())
+}
+
 /// Writes the first words of a bank, a line for each.
 fn print_words<W: Sink>(bank: &Bank, count: usize, out: &mut W) -> Result<(), DeviceFault>
     requires failures { W.failures out.old < 2 ^ 64 - 1 }
     requires count { count ≤ 8 }
+    ensures well { IfOk result (λ _. W.failures out.new ≡ W.failures out.old) }
+    ensures unstalled { IfOk result (λ _. W.stalls out.new ≡ W.stalls out.old) }
     ensures written { IfOk result (λ _. Appends (W.contents out.old) (W.contents out.new) (words_text bank.now 0 count)) }
+    ensures part { IfErr result (λ _. TakesPart (words_text bank.now 0 count) (W.contents out.old) (W.contents out.new)) }
+    ensures failed { IfErr result (λ _. WriteFails (W.failures out.old) (W.failures out.new) (W.stalls out.old) (W.stalls out.new)) }
 {
     for i in 0..count {
         let k = 2 * i;
@@ -49,17 +72,24 @@ fn words_of(limit: Limit) -> usize
 }
 
 /// Writes the number of entries, a line for each, and the configuration words of the bank that they fit in.
+///
+/// On an `Err` a beginning of this text was written, not all of it, and the device failed, or took none of some bytes, in
+/// this call.
 pub fn print_plan<W: Sink>(entries: &[Entry], limit: Limit, out: &mut W) -> Result<(), DeviceFault>
     requires { W.failures out.old < 2 ^ 64 - 1 }
-    ensures { IfOk result (λ _. (text : List ℕ) × IsPlanText limit entries.now text × Appends (W.contents out.old) (W.contents out.new) text) }
+    ensures written { IfOk result (λ _. (text : List ℕ) × IsPlanText limit entries.now text × Appends (W.contents out.old) (W.contents out.new) text) }
+    ensures well { IfOk result (λ _. W.failures out.new ≡ W.failures out.old) }
+    ensures unstalled { IfOk result (λ _. W.stalls out.new ≡ W.stalls out.old) }
+    ensures part { IfErr result (λ _. (text : List ℕ) × IsPlanText limit entries.now text × TakesPart text (W.contents out.old) (W.contents out.new)) }
+    ensures failed { IfErr result (λ _. WriteFails (W.failures out.old) (W.failures out.new) (W.stalls out.old) (W.stalls out.new)) }
 {
-    let count = count_line(entries.len() as u64);
-    write_whole(out, count.as_slice())?;
-    print_entries(entries, out)?;
     if entries.len() > limit.number() as usize {
+        print_list(entries, out)?;
         return Ok(());
     }
     let bank = Bank::of(entries, limit);
-    print_words(&bank, words_of(limit), out)?;
+    let count = words_of(limit);
+    print_list(entries, out)?;
+    print_words(&bank, count, out)?;
     Ok(())
 }
