@@ -1,7 +1,7 @@
 mod Bytes
 mod Verdicts
 mod KnownEvents
-mod RunSoFar
+mod Reported
 mod Alike
 mod Loaded
 mod Accessed

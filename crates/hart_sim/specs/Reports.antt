@@ -1,14 +1,45 @@
--- What a run over a trace reads and writes.
-use Rattle.std.specs.Prelude.{◌≡◌, ◌≢◌, ◌⊎◌, ℕ, ◌+◌, ◌^◌, ◌<◌, List, [], ◌∷◌, ◌++◌, length, take, Option, Some, None}
-use Rattle.std.specs.Io.KnownBytes.{Appends, Consumes, IsAtEnd}
+-- What a run over a trace does and writes.
+use Rattle.std.specs.Prelude.{◌≡◌, ◌≢◌, ℕ, ◌+◌, ◌<◌, List, [], ◌∷◌, ◌++◌, Option, Some, None}
+use Rattle.std.specs.List.{concat}
+use Rattle.pmp_encoding.specs.declared.bank.Bank.{Bank}
 use Rattle.hart_trace.specs.declared.event.Event.{Event}
+use Rattle.hart_trace.specs.Events.{meaning_of}
+use Rattle.text_lines.specs.Lines.{IsShortLine, without_return}
+use Rattle.text_lines.specs.LineLoop.{Does}
+use Rattle.hart_sim.specs.declared.machine.Machine.{Machine}
 use Rattle.hart_sim.specs.declared.reply.Reply.{Reply}
 use Rattle.hart_sim.specs.declared.reply.Reply.TheVariants.{NoMemory}
-use Rattle.hart_trace.specs.Events.{meaning_of}
-use Rattle.text_lines.specs.Lines.{AreLines, BeginsLongLine, IsShortLine, without_return}
-use Rattle.hart_sim.specs.Texts.{reply_text, report_text}
-use Rattle.hart_sim.specs.States.{State}
+use Rattle.hart_sim.specs.Machines.{state_of, HasBank, KeepsBanksRight, KeepsOtherBanks}
 use Rattle.hart_sim.specs.Steps.{IsEvent, Step, Run}
+use Rattle.hart_sim.specs.Texts.{reply_text, report_text}
+
+-- an event happens on a hart of the machine: it is a step of its state, the banks of the other harts stay, and those of the
+-- harts that are not marked mean what they should by the fewest entries
+pub record Happens (old : Machine) (hart : ℕ) (event : Event) (reply : Reply) (new : Machine) : Type 0 where
+  pub known : hart < (state_of old).table.layout.harts
+  pub possible : IsEvent event
+  pub happened : Step (state_of old) hart event reply (state_of new)
+  pub others : KeepsOtherBanks old new hart
+  pub kept : KeepsBanksRight new
+
+-- how many harts a line may name
+abbrev pub harts_of : Machine → ℕ
+harts_of machine = (state_of machine).table.layout.harts
+
+-- what a line does behind so many replies: nothing where it has no words; else its event happens, and the reply is told
+abbrev pub DoesLine : Machine → ℕ → List ℕ → Option (List ℕ) → Machine → Type 0
+DoesLine old count line None new = (meaning_of (harts_of old) line ≡ Some None) × (new ≡ old)
+DoesLine old count line (Some text) new =
+    (hart : ℕ) × (event : Event) × (reply : Reply) × (meaning_of (harts_of old) line ≡ Some (Some (hart, event)))
+    × Happens old hart event reply new × (reply ≢ NoMemory) × (text ≡ reply_text (count + 1) reply)
+
+-- a line that is not understood
+abbrev pub RefusesLine : Machine → List ℕ → Type 0
+RefusesLine machine line = meaning_of (harts_of machine) line ≡ None
+
+-- a line whose event happens and wants memory that is refused
+abbrev pub StarvesLine : Machine → List ℕ → Machine → Type 0
+StarvesLine old line new = (hart : ℕ) × (event : Event) × (meaning_of (harts_of old) line ≡ Some (Some (hart, event))) × Happens old hart event NoMemory new
 
 -- lines that say events or have no words, and the events with their harts, in their order
 pub data Spells (harts : ℕ) : List (List ℕ) → List (ℕ × Event) → Type 0 where
@@ -21,97 +52,22 @@ abbrev pub AreAnswered : List Reply → Type 0
 AreAnswered [] = Unit {0}
 AreAnswered (reply ∷ replies) = (reply ≢ NoMemory) × AreAnswered replies
 
--- what lines say happened from one state to another, and the text tells the replies; none of them wanted memory
-pub record Report (harts : ℕ) (old : State) (lines : List (List ℕ)) (text : List ℕ) (new : State) : Type 0 where
+-- none of the events was on this hart
+abbrev pub AreElsewhere : ℕ → List (ℕ × Event) → Type 0
+AreElsewhere hart [] = Unit {0}
+AreElsewhere hart (event ∷ events) = (hart ≢ event.0) × AreElsewhere hart events
+
+-- the events that lines say are a run from one state to the other, the text tells the replies, none of which wanted memory,
+-- and a hart on which none of them was has the bank that it had
+pub record Report (old : Machine) (lines : List (List ℕ)) (text : List ℕ) (new : Machine) : Type 0 where
   pub events : List (ℕ × Event)
   pub replies : List Reply
-  pub spelled : Spells harts lines events
-  pub run : Run old events replies new
+  pub spelled : Spells (harts_of old) lines events
+  pub run : Run (state_of old) events replies (state_of new)
   pub told : text ≡ report_text replies
   pub each : AreAnswered replies
+  pub idle : (hart : ℕ) (bank : Bank) → AreElsewhere hart events → HasBank old hart bank → HasBank new hart bank
 
--- lines, each with its LF
-abbrev pub ended : List (List ℕ) → List ℕ
-ended [] = []
-ended (line ∷ lines) = line ++ 10 ∷ ended lines
-
--- the line stands at the front of the bytes that have come: before a LF, or at the end of the input
-abbrev pub Stands : List ℕ → Option (List ℕ) → List ℕ → Type 0
-Stands bytes after line = ((rest : List ℕ) × (bytes ≡ line ++ 10 ∷ rest)) ⊎ ((0 < length line) × (bytes ≡ line) × IsAtEnd after)
-
--- all of the input was read, and what it says has happened
-pub record RunsAll (harts : ℕ) (old new : State) (before after written_before written_after : Option (List ℕ)) : Type 0 where
-  pub input : List ℕ
-  pub lines : List (List ℕ)
-  pub text : List ℕ
-  pub consumed : Consumes before after input
-  pub at_end : IsAtEnd after
-  pub are_lines : AreLines input lines
-  pub report : Report harts old lines text new
-  pub written : Appends written_before written_after text
-
--- what the lines that an LF ended say has happened, and `bytes` came behind them
-pub record RunsLines (harts : ℕ) (old new : State) (before after written_before written_after : Option (List ℕ)) (lines : List (List ℕ)) (bytes : List ℕ) : Type 0 where
-  pub text : List ℕ
-  pub report : Report harts old lines text new
-  pub consumed : Consumes before after (ended lines ++ bytes)
-  pub written : Appends written_before written_after text
-
--- what the lines before line n say has happened, and line n is not understood
-pub record StopsAt (n harts : ℕ) (old new : State) (before after written_before written_after : Option (List ℕ)) : Type 0 where
-  pub lines : List (List ℕ)
-  pub bytes : List ℕ
-  pub ran : RunsLines harts old new before after written_before written_after lines bytes
-  pub number : length lines + 1 ≡ n
-  pub refused : BeginsLongLine bytes ⊎ ((line : List ℕ) × IsShortLine line × Stands bytes after line × (meaning_of harts (without_return line) ≡ None))
-
--- a byte came behind the first 2^40; what the lines that an LF ended among these say has happened
-pub record StopsTooLong (harts : ℕ) (old new : State) (before after written_before written_after : Option (List ℕ)) : Type 0 where
-  pub lines : List (List ℕ)
-  pub bytes : List ℕ
-  pub beyond : List ℕ
-  pub ran : RunsLines harts old new before after written_before written_after lines (bytes ++ beyond)
-  pub unended : IsShortLine bytes
-  pub limit : length (ended lines ++ bytes) ≡ 2 ^ 40
-  pub more : length beyond ≡ 1
-
--- what the lines that an LF ended say has happened, and nothing else
-pub record StopsReading (harts : ℕ) (old new : State) (before after written_before written_after : Option (List ℕ)) : Type 0 where
-  pub lines : List (List ℕ)
-  pub bytes : List ℕ
-  pub ran : RunsLines harts old new before after written_before written_after lines bytes
-  pub unended : IsShortLine bytes
-
--- one event more has happened, which the line behind the others says
-pub record OneMore (harts : ℕ) (old new : State) (before after written_before written_after : Option (List ℕ)) (reply : Reply) (part : List ℕ) : Type 0 where
-  pub lines : List (List ℕ)
-  pub text : List ℕ
-  pub mid : State
-  pub report : Report harts old lines text mid
-  pub line : List ℕ
-  pub bytes : List ℕ
-  pub stands : Stands bytes after line
-  pub consumed : Consumes before after (ended lines ++ bytes)
-  pub hart : ℕ
-  pub event : Event
-  pub said : meaning_of harts (without_return line) ≡ Some (Some (hart, event))
-  pub happened : Step mid hart event reply new
-  pub written : Appends written_before written_after (text ++ part)
-
--- it was answered, and a beginning of its line was written, not all of it
-pub record StopsWriting (harts : ℕ) (old new : State) (before after written_before written_after : Option (List ℕ)) : Type 0 where
-  pub reply : Reply
-  pub number : ℕ
-  pub part : ℕ
-  pub less : part < length (reply_text number reply)
-  pub more : OneMore harts old new before after written_before written_after reply (take part (reply_text number reply))
-  pub numbered : number ≡ length more.report.replies + 1
-
--- it wanted memory, and has no line
-abbrev pub StopsForMemory : ℕ → State → State → Option (List ℕ) → Option (List ℕ) → Option (List ℕ) → Option (List ℕ) → Type 0
-StopsForMemory harts old new before after written_before written_after = OneMore harts old new before after written_before written_after NoMemory []
-
--- what comes of one line, by what it says: the n-th event and the ones before it have happened, and this was written
-abbrev pub Says : Option (ℕ × Event) → State → State → ℕ → ℕ → List ℕ → Type 0
-Says None old new count n text = (new ≡ old) × (n ≡ count) × (text ≡ [])
-Says (Some (hart, event)) old new count n text = (reply : Reply) × Step old hart event reply new × (reply ≢ NoMemory) × (n ≡ count + 1) × (text ≡ reply_text (count + 1) reply) × (hart < old.table.layout.harts) × IsEvent event
+-- so it is wherever lines were done in turn
+abbrev pub IsReported : Type 0
+IsReported = (old new : Machine) (lines answers : List (List ℕ)) → Does DoesLine old lines answers new → Report old lines (concat answers) new

@@ -14,7 +14,6 @@ mod refusing;
 mod reply;
 mod report;
 mod running;
-mod running_machine;
 #[cfg(test)]
 mod tests_machine;
 
@@ -24,11 +23,8 @@ pub use laws::{
     creation_law, destruction_law, platform_law, privacy_law, private_bytes_law, worlds_law,
 };
 pub use machine::Machine;
-pub use memory::Memory;
 pub use reply::Reply;
-pub use report::reply_line;
-pub use running::{Steps, run_over};
-pub use running_machine::run;
+pub use running::run;
 pub use text_lines::{
     Interpreter, Line, LineReader, NotUnderstood, ReadFault, Refusal, RunFault, Words,
     interpret_lines, lines_law, number, permission, push_decimal, push_hex, push_text, words_law,

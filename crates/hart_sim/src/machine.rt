@@ -4,7 +4,6 @@ ghost use Rattle.hart_sim.specs.Parts.{HoldsTogether};
 
 use crate::parts::Parts;
 use crate::reply::Reply;
-use crate::running::Steps;
 use enclave_table::{BootFault, Platform, Table, World};
 use hart_trace::Event;
 use pmp_encoding::Bank;
@@ -139,22 +138,6 @@ impl Machine {
         ensures private { KeepsBanksRight self.old → KeepsPrivate (state_of self.old) hart event result (state_of self.new) }
     {
         self.parts.table.rules();
-        self.parts.step(hart, event)
-    }
-}
-
-impl Steps for Machine {
-    ghost use Rattle.hart_sim.specs.Machines.{state_of, KeepsBanksRight};
-
-    ghost state = { λ m. state_of m };
-
-    ghost keeps = { λ m. KeepsBanksRight m };
-
-    fn harts(&self) -> u8 {
-        self.parts.table.platform().harts()
-    }
-
-    fn step(&mut self, hart: u8, event: Event) -> Reply {
         self.parts.step(hart, event)
     }
 }

@@ -79,13 +79,13 @@ fn page_with(at: usize, size: usize, value: u64) -> [u8; 4096]
 
 /// The pages that were written, by their numbers.
 #[derive(Drop)]
-pub struct Memory {
+pub(crate) struct Memory {
     pages: BTreeMap<u64, Box<[u8; 4096]>>,
 }
 
 impl Memory {
     /// Nothing was written.
-    pub fn new(alloc: Global) -> Memory
+    pub(crate) fn new(alloc: Global) -> Memory
         ensures bytes { (a : ℕ) → byte_at result a ≡ 0 }
         ensures written { (page : ℕ) → is_written result page ≡ false }
     {
@@ -95,7 +95,7 @@ impl Memory {
     }
 
     /// The byte at an address.
-    pub fn byte(&self, address: u64) -> u8
+    pub(crate) fn byte(&self, address: u64) -> u8
         ensures { result ≡ byte_at self.now address }
     {
         match self.pages.get(&(address / PAGE)) {
@@ -105,7 +105,7 @@ impl Memory {
     }
 
     /// The little-endian number of bytes within one page.
-    pub fn load(&self, address: u64, size: usize) -> u64
+    pub(crate) fn load(&self, address: u64, size: usize) -> u64
         requires size { size ≤ 8 }
         requires inside { address % 4096 + size ≤ 4096 }
         ensures { result ≡ number_of (bytes_at (byte_at self.now) address size) }
@@ -118,7 +118,7 @@ impl Memory {
 
     /// Puts the lowest bytes of a value at an address, within one page, which is written from then on. Only a page
     /// that was not written takes memory.
-    pub fn store(
+    pub(crate) fn store(
         &mut self,
         alloc: Global,
         address: u64,
@@ -153,7 +153,7 @@ impl Memory {
     }
 
     /// Makes every byte of some pages zero, and the pages not written.
-    pub fn forget(&mut self, first: u64, count: u64)
+    pub(crate) fn forget(&mut self, first: u64, count: u64)
         requires { first + count < 2 ^ 64 }
         ensures bytes { (a : ℕ) → byte_at self.new a ≡ zeroed (byte_at self.old) first count a }
         ensures written { (page : ℕ) → is_written self.new page ≡ (if in_range first count page then false else is_written self.old page) }
@@ -164,7 +164,7 @@ impl Memory {
     }
 
     /// Copies the bytes of a page.
-    pub fn copy(&self, page: u64, into: &mut [u8; 4096])
+    pub(crate) fn copy(&self, page: u64, into: &mut [u8; 4096])
         requires { page < 2 ^ 44 }
         ensures { into.new ≡ bytes_at (byte_at self.now) (page * 4096) 4096 }
     {

@@ -1,154 +1,77 @@
-//! A trace that happens line by line, each reply written before the next line is parsed.
+//! A trace that happens to a machine, line by line, each reply written before the next line is read.
 
-ghost use Rattle.std.specs.Prelude.{◌≡◌, ◌⊎◌, ℕ, ◌+◌, ◌-◌, ◌^◌, ◌<◌, ◌≤◌, List, Err, IfErr, IfOk, IsTrue, None, Option, Some, length, take};
-ghost use Rattle.std.specs.Result.{result_ok};
-ghost use Rattle.std.specs.Io.KnownBytes.{Appends};
-ghost use Rattle.hart_trace.specs.declared.event.Event.{Event};
-ghost use Rattle.hart_sim.specs.declared.reply.Reply.{Reply};
+ghost use Rattle.std.specs.Prelude.{◌≡◌, ◌≢◌, ℕ, ◌-◌, ◌^◌, ◌<◌, ◌≤◌, List, Err, IfOk, true, false, length};
+ghost use Rattle.pmp_encoding.specs.declared.bank.Bank.{Bank};
+ghost use Rattle.pmp_encoding.specs.declared.region.Entry.{Entry};
+ghost use Rattle.pmp_encoding.specs.Banks.{HasList};
+ghost use Rattle.pmp_match.specs.Meaning.{Means};
+ghost use Rattle.text_lines.specs.LineLoop.{Does, DoesAll, StopsAt, StopsTooLong, StopsReading, StopsWriting, StopsForMemory, CountsReads, CountsWrites};
 ghost use Rattle.hart_sim.specs.declared.reply.Reply.TheVariants.{NoMemory};
-ghost use Rattle.hart_trace.specs.Events.{meaning_of};
-ghost use Rattle.hart_sim.specs.States.{State};
-ghost use Rattle.hart_sim.specs.Steps.{Step, IsEvent};
-ghost use Rattle.hart_sim.specs.Texts.{reply_text};
-ghost use Rattle.hart_sim.specs.Reports.{Says, RunsAll, StopsAt, StopsTooLong, StopsReading, StopsWriting, StopsForMemory};
+ghost use Rattle.hart_sim.specs.States.{current_view};
+ghost use Rattle.hart_sim.specs.Machines.{state_of, HasBank, KeepsBanksRight};
+ghost use Rattle.hart_sim.specs.Reports.{DoesLine, RefusesLine, StarvesLine, IsReported};
 
+use crate::machine::Machine;
 use crate::reply::Reply;
 use crate::report::reply_line;
-use byte_streams::{Sink, Source, write_whole};
-use hart_trace::{Event, parse_line};
-use text_lines::{LineReader, RunFault};
+use byte_streams::{Sink, Source};
+use hart_trace::parse_line;
+use text_lines::{Interpreter, Line, Refusal, RunFault, interpret_lines};
 
-/// What events happen to, one by one.
-pub trait Steps {
-    /// Its state.
-    ghost state: { Self → State };
-
-    /// What it keeps from step to step.
-    ghost keeps: { Self → Type 0 };
-
-    /// How many harts there are.
-    fn harts(&self) -> u8
-        ensures value { result ≡ (state self.now).table.layout.harts }
-        ensures some { 0 < result };
-
-    /// An event happens on a hart.
-    fn step(&mut self, hart: u8, event: Event) -> Reply
-        requires hart { hart < (state self.old).table.layout.harts }
-        requires event { IsEvent event }
-        ensures step { keeps self.old → Step (state self.old) hart event result (state self.new) }
-        ensures harts { (state self.new).table.layout.harts ≡ (state self.old).table.layout.harts }
-        ensures keeps { keeps self.old → keeps self.new };
-}
-
-/// Why the trace goes no further than a line.
-#[derive(Clone, Copy, Debug, PartialEq, Eq)]
-enum LineFault {
-    NotUnderstood,
-    Write,
-    Memory,
-}
-
-/// An event happens, the one behind `count` others, and its reply is written.
-fn happen<M: Steps, W: Sink>(
-    machine: &mut M,
-    hart: u8,
-    event: Event,
-    count: u64,
-    sink: &mut W,
-) -> Result<(), LineFault>
-    requires count { count < 2 ^ 64 - 1 }
-    requires failures { W.failures sink.old < 2 ^ 64 - 1 }
-    requires hart { hart < (M.state machine.old).table.layout.harts }
-    requires event { IsEvent event }
-    ensures ok { IfOk result (λ _. M.keeps machine.old → (reply : Reply) × Step (M.state machine.old) hart event reply (M.state machine.new) × (reply ≡ NoMemory → ⊥) × Appends (W.contents sink.old) (W.contents sink.new) (reply_text (count + 1) reply)) }
-    ensures well { IfOk result (λ _. W.failures sink.new ≡ W.failures sink.old) }
-    ensures part { result ≡ Err LineFault.Write → M.keeps machine.old → (reply : Reply) × (part : ℕ) × Step (M.state machine.old) hart event reply (M.state machine.new) × (part < length (reply_text (count + 1) reply)) × Appends (W.contents sink.old) (W.contents sink.new) (take part (reply_text (count + 1) reply)) }
-    ensures failed { result ≡ Err LineFault.Write → (W.failures sink.new ≡ W.failures sink.old + 1) ⊎ (IsTrue (W.stalled sink.new) × (W.failures sink.new ≡ W.failures sink.old)) }
-    ensures memory { result ≡ Err LineFault.Memory → M.keeps machine.old → Step (M.state machine.old) hart event NoMemory (M.state machine.new) }
-    ensures unwritten { result ≡ Err LineFault.Memory → sink.new ≡ sink.old }
-    ensures understood { result ≡ Err LineFault.NotUnderstood → ⊥ }
-    ensures harts { (M.state machine.new).table.layout.harts ≡ (M.state machine.old).table.layout.harts }
-    ensures keeps { M.keeps machine.old → M.keeps machine.new }
+/// Whether a reply says that memory was refused.
+fn wants_memory(reply: &Reply) -> bool
+    ensures yes { result ≡ true → reply.now ≡ NoMemory }
+    ensures no { result ≡ false → reply.now ≢ NoMemory }
 {
-    let reply = machine.step(hart, event);
-    if reply == Reply::NoMemory {
-        return Err(LineFault::Memory);
-    }
-    let text = reply_line(count + 1, &reply);
-    match write_whole(sink, text.as_slice()) {
-        Ok(()) => Ok(()),
-        Err(_) => Err(LineFault::Write),
+    matches!(reply, Reply::NoMemory)
+}
+
+impl Interpreter for Machine {
+    ghost does = { DoesLine };
+
+    ghost refuses = { RefusesLine };
+
+    ghost starves = { StarvesLine };
+
+    ghost keeps = { KeepsBanksRight };
+
+    fn interpret(&mut self, line: &[u8], count: u64) -> Result<Option<Line>, Refusal> {
+        let Ok(said) = parse_line(line, self.harts()) else {
+            return Err(Refusal::NotUnderstood);
+        };
+        let Some((hart, event)) = said else {
+            return Ok(None);
+        };
+        let reply = self.step(hart, event);
+        if wants_memory(&reply) {
+            return Err(Refusal::Memory);
+        }
+        Ok(Some(reply_line(count + 1, &reply)))
     }
 }
 
-/// What a line says happens, behind `count` events, and its reply is written. Answers how many events have happened.
-fn run_line<M: Steps, W: Sink>(
-    machine: &mut M,
-    line: &[u8],
-    count: u64,
-    sink: &mut W,
-) -> Result<u64, LineFault>
-    requires count { count < 2 ^ 64 - 1 }
-    requires failures { W.failures sink.old < 2 ^ 64 - 1 }
-    ensures ok { let harts = (M.state machine.old).table.layout.harts in IfOk result (λ n. M.keeps machine.old → (said : Option (ℕ × Event)) × (text : List ℕ) × (meaning_of harts line.now ≡ Some said) × Says said (M.state machine.old) (M.state machine.new) count n text × Appends (W.contents sink.old) (W.contents sink.new) text) }
-    ensures few { IfOk result (λ n. n ≤ count + 1) }
-    ensures well { IfOk result (λ n. W.failures sink.new ≡ W.failures sink.old) }
-    ensures unknown { result ≡ Err LineFault.NotUnderstood → meaning_of (M.state machine.old).table.layout.harts line.now ≡ None }
-    ensures untouched { result ≡ Err LineFault.NotUnderstood → sink.new ≡ sink.old }
-    ensures unmoved { result ≡ Err LineFault.NotUnderstood → machine.new ≡ machine.old }
-    ensures part { result ≡ Err LineFault.Write → M.keeps machine.old → (hart : ℕ) × (event : Event) × (reply : Reply) × (part : ℕ) × (meaning_of (M.state machine.old).table.layout.harts line.now ≡ Some (Some (hart, event))) × Step (M.state machine.old) hart event reply (M.state machine.new) × (part < length (reply_text (count + 1) reply)) × Appends (W.contents sink.old) (W.contents sink.new) (take part (reply_text (count + 1) reply)) }
-    ensures failed { result ≡ Err LineFault.Write → (W.failures sink.new ≡ W.failures sink.old + 1) ⊎ (IsTrue (W.stalled sink.new) × (W.failures sink.new ≡ W.failures sink.old)) }
-    ensures memory { result ≡ Err LineFault.Memory → M.keeps machine.old → (hart : ℕ) × (event : Event) × (meaning_of (M.state machine.old).table.layout.harts line.now ≡ Some (Some (hart, event))) × Step (M.state machine.old) hart event NoMemory (M.state machine.new) }
-    ensures unwritten { result ≡ Err LineFault.Memory → sink.new ≡ sink.old }
-    ensures harts { (M.state machine.new).table.layout.harts ≡ (M.state machine.old).table.layout.harts }
-    ensures keeps { M.keeps machine.old → M.keeps machine.new }
-{
-    let Ok(said) = parse_line(line, machine.harts()) else {
-        return Err(LineFault::NotUnderstood);
-    };
-    let Some((hart, event)) = said else {
-        return Ok(count);
-    };
-    match happen(machine, hart, event, count, sink) {
-        Ok(()) => Ok(count + 1),
-        Err(fault) => Err(fault),
-    }
-}
-
-/// Runs over a trace: each line's event happens, and its reply is written before the next line is parsed.
-pub fn run_over<M: Steps, R: Source, W: Sink>(
-    machine: &mut M,
+/// Runs a trace on a machine: each line's event happens, and its reply is written before the next line is read. A line
+/// that is not understood ends it, as do more than 2^40 bytes, a device that fails, and a store that wants memory which
+/// is refused. The lines that were done are a run of their events from the state in which the machine was lent, and what
+/// was written is the text of its replies.
+pub fn run<R: Source, W: Sink>(
+    machine: &mut Machine,
     source: &mut R,
     sink: &mut W,
 ) -> Result<(), RunFault>
     requires source { R.failures source.old < 2 ^ 64 - 1 }
     requires sink { W.failures sink.old < 2 ^ 64 - 1 }
-    ensures all { M.keeps machine.old → IfOk result (λ _. RunsAll (M.state machine.old).table.layout.harts (M.state machine.old) (M.state machine.new) (R.remaining source.old) (R.remaining source.new) (W.contents sink.old) (W.contents sink.new)) }
-    ensures line { (n : ℕ) → result ≡ Err (RunFault.Line n) → M.keeps machine.old → StopsAt n (M.state machine.old).table.layout.harts (M.state machine.old) (M.state machine.new) (R.remaining source.old) (R.remaining source.new) (W.contents sink.old) (W.contents sink.new) }
-    ensures too_long { result ≡ Err RunFault.TooLong → M.keeps machine.old → StopsTooLong (M.state machine.old).table.layout.harts (M.state machine.old) (M.state machine.new) (R.remaining source.old) (R.remaining source.new) (W.contents sink.old) (W.contents sink.new) }
-    ensures read { result ≡ Err RunFault.Read → M.keeps machine.old → StopsReading (M.state machine.old).table.layout.harts (M.state machine.old) (M.state machine.new) (R.remaining source.old) (R.remaining source.new) (W.contents sink.old) (W.contents sink.new) }
-    ensures read_failed { result ≡ Err RunFault.Read → R.failures source.new ≡ R.failures source.old + 1 }
-    ensures write { result ≡ Err RunFault.Write → M.keeps machine.old → StopsWriting (M.state machine.old).table.layout.harts (M.state machine.old) (M.state machine.new) (R.remaining source.old) (R.remaining source.new) (W.contents sink.old) (W.contents sink.new) }
-    ensures write_failed { result ≡ Err RunFault.Write → (W.failures sink.new ≡ W.failures sink.old + 1) ⊎ (IsTrue (W.stalled sink.new) × (W.failures sink.new ≡ W.failures sink.old)) }
-    ensures memory { result ≡ Err RunFault.Memory → M.keeps machine.old → StopsForMemory (M.state machine.old).table.layout.harts (M.state machine.old) (M.state machine.new) (R.remaining source.old) (R.remaining source.new) (W.contents sink.old) (W.contents sink.new) }
-    ensures keeps { M.keeps machine.old → M.keeps machine.new }
+    ensures reported { IsReported }
+    ensures all { KeepsBanksRight machine.old → IfOk result (λ _. DoesAll DoesLine machine.old machine.new (R.remaining source.old) (R.remaining source.new) (W.contents sink.old) (W.contents sink.new)) }
+    ensures line { KeepsBanksRight machine.old → (n : ℕ) → result ≡ Err (RunFault.Line n) → StopsAt n DoesLine RefusesLine machine.old machine.new (R.remaining source.old) (R.remaining source.new) (W.contents sink.old) (W.contents sink.new) }
+    ensures too_long { KeepsBanksRight machine.old → result ≡ Err RunFault.TooLong → StopsTooLong DoesLine machine.old machine.new (R.remaining source.old) (R.remaining source.new) (W.contents sink.old) (W.contents sink.new) }
+    ensures read { KeepsBanksRight machine.old → result ≡ Err RunFault.Read → StopsReading DoesLine machine.old machine.new (R.remaining source.old) (R.remaining source.new) (W.contents sink.old) (W.contents sink.new) }
+    ensures write { KeepsBanksRight machine.old → result ≡ Err RunFault.Write → StopsWriting DoesLine machine.old machine.new (R.remaining source.old) (R.remaining source.new) (W.contents sink.old) (W.contents sink.new) }
+    ensures memory { KeepsBanksRight machine.old → result ≡ Err RunFault.Memory → StopsForMemory DoesLine StarvesLine machine.old machine.new (R.remaining source.old) (R.remaining source.new) (W.contents sink.old) (W.contents sink.new) }
+    ensures kept { KeepsBanksRight machine.old → KeepsBanksRight machine.new }
+    ensures banks { KeepsBanksRight machine.old → (h : ℕ) (bank : Bank) → h < (state_of machine.new).table.layout.harts → (state_of machine.new).marked h ≡ false → HasBank machine.new h bank → (list : List Entry) → HasList bank list → Means list (current_view (state_of machine.new) h) × ((others : List Entry) → Means others (current_view (state_of machine.new) h) → length list ≤ length others) }
+    ensures reads { CountsReads result (R.failures source.old) (R.failures source.new) }
+    ensures writes { CountsWrites result (W.failures sink.old) (W.failures sink.new) (W.stalls sink.old) (W.stalls sink.new) }
 {
-    let mut reader = LineReader::new();
-    let mut count: u64 = 0;
-    'lines: loop {
-        match reader.next_line(source) {
-            Ok(true) => {}
-            Ok(false) => return Ok(()),
-            Err(fault) => return Err(fault),
-        }
-        match run_line(machine, reader.line(), count, sink) {
-            Ok(n) => count = n,
-            Err(LineFault::NotUnderstood) => return Err(RunFault::Line(reader.number())),
-            Err(LineFault::Write) => return Err(RunFault::Write),
-            Err(LineFault::Memory) => return Err(RunFault::Memory),
-        }
-        if reader.has_ended() {
-            return Ok(());
-        }
-    }
+    interpret_lines(machine, source, sink)
 }

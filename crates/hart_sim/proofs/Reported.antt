@@ -1,0 +1,88 @@
+-- The lines that were done are a run of the events that they say, and what was written tells its replies.
+use Rattle.std.proofs.Common.{◌≡◌, ◌≢◌, ◌∙◌, ℕ, zero, suc, ◌+◌, List, [], ◌∷◌, ◌++◌, length, Option, Some, None, refl, ap, sym, subst, arith, length-append, append_assoc, append-nil}
+use Rattle.std.specs.List.{concat}
+use Rattle.pmp_encoding.specs.declared.bank.Bank.{Bank}
+use Rattle.hart_trace.specs.declared.event.Event.{Event}
+use Rattle.hart_trace.specs.Events.{meaning_of}
+use Rattle.text_lines.specs.Lines.{IsShortLine, without_return}
+use Rattle.text_lines.specs.LineLoop.{Does}
+use Rattle.text_lines.specs.LineLoop as loop
+use Rattle.hart_sim.specs.declared.machine.Machine.{Machine}
+use Rattle.hart_sim.specs.declared.reply.Reply.{Reply}
+use Rattle.hart_sim.specs.declared.reply.Reply.TheVariants.{NoMemory}
+use Rattle.hart_sim.specs.Machines.{state_of, HasBank}
+use Rattle.hart_sim.specs.Steps.{Run, still, step}
+use Rattle.hart_sim.specs.Texts.{reply_text, lines_from, report_text}
+use Rattle.hart_sim.specs.Reports.{Happens, harts_of, DoesLine, Spells, none, blank, one, AreAnswered, AreElsewhere, Report, IsReported}
+use Rattle.hart_sim.proofs.Alike.{itself}
+use Rattle.hart_sim.proofs.Layouts.{layout_stays}
+
+-- one reply more
+lines_from-snoc : (n : ℕ) (replies : List Reply) (reply : Reply) → lines_from n (replies ++ reply ∷ []) ≡ lines_from n replies ++ reply_text (n + length replies) reply
+lines_from-snoc n [] reply =
+    let e : n ≡ n + 0 = omega arith in append-nil (reply_text n reply) ∙ ap (λ k. reply_text k reply) e
+lines_from-snoc n (first ∷ replies) reply =
+    let e : n + 1 + length replies ≡ n + suc (length replies) = omega arith in
+    ap (λ xs. reply_text n first ++ xs) (lines_from-snoc (n + 1) replies reply ∙ ap (λ k. lines_from (n + 1) replies ++ reply_text k reply) e)
+    ∙ sym (append_assoc (reply_text n first) (lines_from (n + 1) replies) (reply_text (n + suc (length replies)) reply))
+
+answered-snoc : (replies : List Reply) (reply : Reply) → AreAnswered replies → reply ≢ NoMemory → AreAnswered (replies ++ reply ∷ [])
+answered-snoc [] reply h a = (a, tt)
+answered-snoc (first ∷ replies) reply h a = (h.0, answered-snoc replies reply h.1 a)
+
+elsewhere_parts : (hart : ℕ) (events : List (ℕ × Event)) (there : ℕ) (event : Event) → AreElsewhere hart (events ++ (there, event) ∷ []) → AreElsewhere hart events × (hart ≢ there)
+elsewhere_parts hart [] there event e = (tt, e.0)
+elsewhere_parts hart (first ∷ events) there event e = let p = elsewhere_parts hart events there event e.1 in ((e.0, p.0), p.1)
+
+concat-snoc : (answers : List (List ℕ)) (text : List ℕ) → concat (answers ++ text ∷ []) ≡ concat answers ++ text
+concat-snoc [] text = append-nil text
+concat-snoc (first ∷ answers) text = ap (λ xs. first ++ xs) (concat-snoc answers text) ∙ sym (append_assoc first (concat answers) text)
+
+-- what is known on the way: the harts are as many as at first, and there is an answer for each reply
+record Way (old : Machine) (lines answers : List (List ℕ)) (new : Machine) : Type 0 where
+  report : Report old lines (concat answers) new
+  counted : length answers ≡ length report.replies
+  harts : harts_of new ≡ harts_of old
+
+way : (old new : Machine) (lines answers : List (List ℕ)) → Does DoesLine old lines answers new → Way old lines answers new
+way old new _ _ loop.none = record {
+  report = record { events = []; replies = []; spelled = none; run = still (itself (state_of old)); told = refl; each = tt; idle = λ hart bank other has. has };
+  counted = refl;
+  harts = refl;
+}
+way old new _ _ (loop.silent {lines} {answers} {mid} done line short _ x) =
+    let w = way old mid lines answers done in
+    let said : meaning_of (harts_of old) (without_return line) ≡ Some None = ap (λ n. meaning_of n (without_return line)) (sym w.harts) ∙ x.0 in
+    record {
+      report = record {
+        events = w.report.events;
+        replies = w.report.replies;
+        spelled = blank w.report.spelled line short said;
+        run = subst (λ m. Run (state_of old) w.report.events w.report.replies (state_of m)) (sym x.1) w.report.run;
+        told = w.report.told;
+        each = w.report.each;
+        idle = λ hart bank other has. subst (λ m. HasBank m hart bank) (sym x.1) (w.report.idle hart bank other has);
+      };
+      counted = w.counted;
+      harts = ap harts_of x.1 ∙ w.harts;
+    }
+way old new _ _ (loop.answer {lines} {answers} {mid} done line short _ text x) =
+    let w = way old mid lines answers done in
+    let said : meaning_of (harts_of old) (without_return line) ≡ Some (Some (x.0, x.1)) = ap (λ n. meaning_of n (without_return line)) (sym w.harts) ∙ x.3 in
+    let order : length answers + 1 ≡ 1 + length w.report.replies = omega (arith, w.counted) in
+    record {
+      report = record {
+        events = w.report.events ++ (x.0, x.1) ∷ [];
+        replies = w.report.replies ++ x.2 ∷ [];
+        spelled = one w.report.spelled line short x.0 x.1 said;
+        run = step w.report.run x.0 x.1 x.2 x.4.known x.4.possible x.4.happened;
+        told = concat-snoc answers text ∙ ap (λ xs. xs ++ text) w.report.told ∙ ap (λ xs. report_text w.report.replies ++ xs) (x.6 ∙ ap (λ k. reply_text k x.2) order) ∙ sym (lines_from-snoc 1 w.report.replies x.2);
+        each = answered-snoc w.report.replies x.2 w.report.each x.5;
+        idle = λ hart bank other has. let p = elsewhere_parts hart w.report.events x.0 x.1 other in x.4.others hart bank p.1 (w.report.idle hart bank p.0 has);
+      };
+      counted = length-append answers (text ∷ []) ∙ ap (λ n. n + 1) w.counted ∙ sym (length-append w.report.replies (x.2 ∷ []));
+      harts = ap (λ l. l.harts) (layout_stays (state_of mid) x.0 x.1 x.2 (state_of new) x.4.happened) ∙ w.harts;
+    }
+
+pub is_reported : IsReported
+is_reported old new lines answers done = (way old new lines answers done).report
