@@ -6,7 +6,7 @@ ghost use Rattle.map_text.specs.Lines.{is_lf, raw_lines};
 ghost use Rattle.map_text.specs.MapFile.{FaultAt, IsUnknown, Leads, Makes, MakesMore, MakesTooMany, raw_says};
 
 use crate::map_lines::raw_says;
-use permission_map::{MapFault, PermissionMap};
+use permission_map::{MapBuilder, MapFault, PermissionMap};
 use std::alloc::Global;
 
 /// Why a file gives no map.
@@ -55,7 +55,7 @@ fn split_line(bytes: &[u8]) -> (&[u8], &[u8])
 }
 
 /// Does to the map what a line says.
-fn follow(map: &mut PermissionMap, raw: &[u8]) -> Result<(), LineFault>
+fn follow(map: &mut MapBuilder, raw: &[u8]) -> Result<(), LineFault>
     ensures said { OnOk result (Leads (raw_says raw.now) map.old map.new) }
     ensures unknown { result ≡ Err LineFault.NotUnderstood → raw_says raw.now ≡ None }
     ensures many { result ≡ Err LineFault.TooManyRanges → MakesTooMany map.old (raw_says raw.now) }
@@ -77,8 +77,8 @@ fn follow(map: &mut PermissionMap, raw: &[u8]) -> Result<(), LineFault>
 
 /// The map that the lines of a file make, from the map of no permission on.
 ///
-/// The first line at fault answers: it is not understood, or after it there would be more than 4096 ranges, or memory was
-/// refused for what it sets.
+/// The first line at fault answers: it is not understood, or after it there would be more than 4096 ranges. Memory can be
+/// refused for the first range that the lines set, and for the map at the end where it has a range.
 pub fn map_of(alloc: Global, bytes: &[u8]) -> Result<PermissionMap, MapFileFault>
     requires { length bytes.now < 2 ^ 64 - 1 }
     ensures made { IfOk result (Makes bytes.now) }
@@ -86,7 +86,7 @@ pub fn map_of(alloc: Global, bytes: &[u8]) -> Result<PermissionMap, MapFileFault
     ensures many { result ≡ Err MapFileFault.TooManyRanges → (n : ℕ) × FaultAt bytes.now n MakesTooMany }
     ensures memory { result ≡ Err MapFileFault.Memory → (n : ℕ) × FaultAt bytes.now n MakesMore }
 {
-    let mut map = PermissionMap::new(alloc);
+    let mut map = MapBuilder::new(alloc);
     let mut rest = bytes;
     let mut number: u64 = 0;
     while !rest.is_empty() {
@@ -100,5 +100,8 @@ pub fn map_of(alloc: Global, bytes: &[u8]) -> Result<PermissionMap, MapFileFault
         }
         rest = behind;
     }
+    let Ok(map) = map.finish() else {
+        return Err(MapFileFault::Memory);
+    };
     Ok(map)
 }
