@@ -7,14 +7,14 @@ use Rattle.pmp_encoding.specs.declared.fault.EncodingFault.{EncodingFault}
 use Rattle.pmp_encoding.specs.declared.fault.EncodingFault.TheVariants.{ReservedPerm, Tor, Locked, ReservedBits, AddressBits, NoSuchCsr}
 use Rattle.pmp_encoding.specs.Perms.{bits_of}
 use Rattle.pmp_encoding.specs.Encoding.{IsOff, MeansEntry}
-use Rattle.pmp_encoding.specs.Faults.{fault_number, Stands, IsFaultless, IsLeastFault}
+use Rattle.pmp_encoding.specs.Faults.{fault_number, HasFault, IsFaultless, IsLeastFault}
 use Rattle.pmp_encoding.proofs.Pairs.{one_entry, not_off}
 
 -- ---- a pair that is OFF or means an entry has no fault
 
 -- the bits of a permission below a mode of 0, 2 or 3
 module _ (cfg address mode : ℕ) (perm : Perm) (bits : cfg ≡ mode * 8 + bits_of perm) (short : mode < 4) (known : mode ≢ 1) (small : address < 2 ^ 54) where
-  apart : (p : Perm) → cfg ≡ mode * 8 + bits_of p → ¬ Stands ReservedPerm cfg address
+  apart : (p : Perm) → cfg ≡ mode * 8 + bits_of p → ¬ HasFault ReservedPerm cfg address
   apart NoAccess e s = omega arith
   apart Read e s = omega arith
   apart ReadWrite e s = omega arith
@@ -35,7 +35,7 @@ module _ (cfg address mode : ℕ) (perm : Perm) (bits : cfg ≡ mode * 8 + bits_
       let inside = within perm bits in
       record { byte = omega (arith, inside.1); none = go }
     where
-      go : (fault : EncodingFault) → ¬ Stands fault cfg address
+      go : (fault : EncodingFault) → ¬ HasFault fault cfg address
       go ReservedPerm s = apart perm bits s
       go Tor s = let inside = within perm bits in omega (arith, inside.0, s)
       go Locked s = let inside = within perm bits in omega (arith, inside.1, s)
@@ -55,7 +55,7 @@ entry_faultless cfg address e p =
 
 -- a fault of a pair is no fault of a faultless one, and the least one is one
 pub one_fault : (cfg address : ℕ) (f g : EncodingFault) → IsLeastFault cfg address f → IsLeastFault cfg address g → f ≡ g
-one_fault cfg address f g p q = same_number f g (omega (arith, p.least g q.stands, q.least f p.stands))
+one_fault cfg address f g p q = same_number f g (omega (arith, p.least g q.has, q.least f p.has))
   where
     fault_from : ℕ → EncodingFault
     fault_from n =
@@ -79,13 +79,13 @@ IsMeaning cfg address o = MatchOption o (IsOff cfg address) (MeansEntry cfg addr
 pub entry_decoded :
     (cfg address : ℕ) (r : Result (Option Entry) EncodingFault) → MatchResult r (λ _. IsFaultless cfg address) (IsLeastFault cfg address) → IfOk r (IsMeaning cfg address) → (e : Entry) → MeansEntry cfg address e
     → r ≡ Ok (Some e)
-entry_decoded cfg address (Err f) fault meaning e p = absurd ((entry_faultless cfg address e p).none f fault.stands)
+entry_decoded cfg address (Err f) fault meaning e p = absurd ((entry_faultless cfg address e p).none f fault.has)
 entry_decoded cfg address (Ok None) fault meaning e p = absurd (not_off cfg address e p meaning)
 entry_decoded cfg address (Ok (Some d)) fault meaning e p = ap (λ x. Ok (Some x)) (one_entry cfg address d e meaning p)
 
 pub off_decoded :
     (cfg address : ℕ) (r : Result (Option Entry) EncodingFault) → MatchResult r (λ _. IsFaultless cfg address) (IsLeastFault cfg address) → IfOk r (IsMeaning cfg address) → IsOff cfg address → r ≡ Ok None
-off_decoded cfg address (Err f) fault meaning off = absurd ((off_faultless cfg address off).none f fault.stands)
+off_decoded cfg address (Err f) fault meaning off = absurd ((off_faultless cfg address off).none f fault.has)
 off_decoded cfg address (Ok None) fault meaning off = refl
 off_decoded cfg address (Ok (Some d)) fault meaning off = absurd (not_off cfg address d meaning off)
 
@@ -93,4 +93,4 @@ pub fault_decoded :
     (cfg address : ℕ) (r : Result (Option Entry) EncodingFault) → MatchResult r (λ _. IsFaultless cfg address) (IsLeastFault cfg address) → (f : EncodingFault)
     → IsLeastFault cfg address f → r ≡ Err f
 fault_decoded cfg address (Err g) fault f p = ap (λ x. Err x) (one_fault cfg address g f fault p)
-fault_decoded cfg address (Ok o) clean f p = absurd (clean.none f p.stands)
+fault_decoded cfg address (Ok o) clean f p = absurd (clean.none f p.has)

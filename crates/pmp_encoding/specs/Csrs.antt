@@ -8,11 +8,11 @@ use Rattle.pmp_encoding.specs.Limits.{limit_number}
 use Rattle.pmp_encoding.specs.Registers.{byte_of}
 use Rattle.pmp_encoding.specs.Banks.{word_at, address_at}
 
--- pmpcfg(k) is CSR 0x3A0 + k. There is one for an even k, whose eight places from 4 * k on are below the limit
+-- pmpcfg(k) is CSR 0x3A0 + k. There is one for an even k, whose eight entries from 4 * k on are below the limit
 abbrev pub IsCfgCsr : Limit → ℕ → ℕ → Type 0
 IsCfgCsr limit number k = (number ≡ 0x3A0 + k) × (k % 2 ≡ 0) × (4 * k < limit_number limit)
 
--- pmpaddr(i) is CSR 0x3B0 + i, for a place i below the limit
+-- pmpaddr(i) is CSR 0x3B0 + i, for an entry i below the limit
 abbrev pub IsAddressCsr : Limit → ℕ → ℕ → Type 0
 IsAddressCsr limit number i = (number ≡ 0x3B0 + i) × (i < limit_number limit)
 
@@ -38,7 +38,7 @@ pub record WritesWord (old new : Bank) (k value : ℕ) : Type 0 where
   pub words : (other : ℕ) → other % 2 ≡ 0 → other ≢ k → word_at new other ≡ word_at old other
   pub addresses : (i : ℕ) → address_at new i ≡ address_at old i
 
--- the address register of place i holds the value, and all else is as it was
+-- the address register of entry i holds the value, and all else is as it was
 pub record WritesAddress (old new : Bank) (i value : ℕ) : Type 0 where
   pub limit_is : new.limit ≡ old.limit
   pub written : address_at new i ≡ value

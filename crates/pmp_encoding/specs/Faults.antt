@@ -11,22 +11,22 @@ fault_number ReservedBits = 4
 fault_number AddressBits = 5
 fault_number NoSuchCsr = 6
 
--- the fault stands in the pair: W (bit 1) without R (bit 0); mode 1, TOR, in bits 4:3; L, bit 7; a bit of 6:5;
+-- the pair has the fault: W (bit 1) without R (bit 0); mode 1, TOR, in bits 4:3; L, bit 7; a bit of 6:5;
 -- an address register with a bit above 53. That a CSR is not there is no fault of a pair
-abbrev pub Stands : EncodingFault → ℕ → ℕ → Type 0
-Stands ReservedPerm cfg address = (cfg / 2 % 2 ≡ 1) × (cfg % 2 ≡ 0)
-Stands Tor cfg address = cfg / 8 % 4 ≡ 1
-Stands Locked cfg address = cfg / 128 % 2 ≡ 1
-Stands ReservedBits cfg address = cfg / 32 % 4 ≢ 0
-Stands AddressBits cfg address = 2 ^ 54 ≤ address
-Stands NoSuchCsr cfg address = ⊥
+abbrev pub HasFault : EncodingFault → ℕ → ℕ → Type 0
+HasFault ReservedPerm cfg address = (cfg / 2 % 2 ≡ 1) × (cfg % 2 ≡ 0)
+HasFault Tor cfg address = cfg / 8 % 4 ≡ 1
+HasFault Locked cfg address = cfg / 128 % 2 ≡ 1
+HasFault ReservedBits cfg address = cfg / 32 % 4 ≢ 0
+HasFault AddressBits cfg address = 2 ^ 54 ≤ address
+HasFault NoSuchCsr cfg address = ⊥
 
--- a configuration byte and an address register in which no fault stands
+-- a configuration byte and an address register that have no fault
 pub record IsFaultless (cfg address : ℕ) : Type 0 where
   pub byte : cfg < 256
-  pub none : (fault : EncodingFault) → ¬ Stands fault cfg address
+  pub none : (fault : EncodingFault) → ¬ HasFault fault cfg address
 
--- the fault stands in the pair, and none of a lesser number does
+-- the pair has the fault, and none of a lesser number
 pub record IsLeastFault (cfg address : ℕ) (fault : EncodingFault) : Type 0 where
-  pub stands : Stands fault cfg address
-  pub least : (other : EncodingFault) → Stands other cfg address → fault_number fault ≤ fault_number other
+  pub has : HasFault fault cfg address
+  pub least : (other : EncodingFault) → HasFault other cfg address → fault_number fault ≤ fault_number other

@@ -1,4 +1,4 @@
--- The registers of a bank by their places.
+-- The registers of a bank, entry by entry.
 use Rattle.std.specs.Prelude.{◌≡◌, ℕ, zero, suc, ◌*◌, ◌/◌, ◌%◌, ◌^◌, ◌<◌, ◌≤◌, List, [], ◌∷◌, slice_index}
 use Rattle.pmp_encoding.specs.declared.limit.Limit.{Limit}
 use Rattle.pmp_encoding.specs.Limits.{limit_number}
@@ -8,11 +8,11 @@ use Rattle.pmp_encoding.specs.Faults.{IsFaultless}
 abbrev pub byte_of : ℕ → ℕ → ℕ
 byte_of word j = word / 2 ^ (8 * j) % 256
 
--- the configuration byte of place i is byte i mod 8 of the word i / 8
+-- the configuration byte of entry i is byte i mod 8 of the word i / 8
 abbrev pub cfg_byte : List ℕ → ℕ → ℕ
 cfg_byte words i = byte_of (slice_index words (i / 8)) (i % 8)
 
--- the pairs of the places from `first` on, `count` of them
+-- the pairs of the entries from `first` on, `count` of them
 abbrev pub pairs_from : List ℕ → List ℕ → ℕ → ℕ → List (ℕ × ℕ)
 pairs_from words addresses first zero = []
 pairs_from words addresses first (suc count) = (cfg_byte words first, slice_index addresses first) ∷ pairs_from words addresses (suc first) count

@@ -1,9 +1,13 @@
 ghost use Rattle.pmp_encoding.specs.Registers.{AreRegisters};
+ghost use Rattle.pmp_encoding.specs.Extents.{AreExtents};
+ghost use Rattle.pmp_encoding.specs.Limits.{limit_number};
 
 use crate::csr::{Csr, csr_of, fault_of_word};
 use crate::decoding::decode;
+use crate::extent::Extent;
 use crate::fault::EncodingFault;
 use crate::limit::Limit;
+use crate::perm::Perm;
 use crate::region::Entry;
 
 /// The PMP registers of a hart: eight configuration words pmpcfg0, pmpcfg2, .. pmpcfg14, of eight bytes each, the
@@ -14,17 +18,29 @@ pub struct Bank {
     limit: Limit,
     words: [u64; 8],
     addresses: [u64; 64],
+    /// The entries in their order, decoded once; what stands from `used` on says nothing.
+    extents: [Extent; 64],
+    used: usize,
     pub ghost registers: { AreRegisters limit words addresses },
+    pub ghost decoded: { AreExtents words addresses (limit_number limit) extents used },
 }
 
+/// What stands in a bank behind the extents of its entries.
+const NOWHERE: Extent = Extent {
+    base: 0,
+    end: 0,
+    perm: Perm::NoAccess,
+};
+
 impl Bank {
-    ghost use Rattle.std.specs.Prelude.{◌≡◌, ◌%◌, ◌*◌, ◌^◌, ◌<◌, ◌≤◌, ◌↔◌, length, MatchOption, MatchResult, OnOk, OnErr, ℕ};
+    ghost use Rattle.std.specs.Prelude.{◌≡◌, ◌%◌, ◌*◌, ◌^◌, ◌<◌, ◌≤◌, ◌↔◌, length, MatchOption, MatchResult, OnOk, OnErr, ℕ, List, map};
+    ghost use Rattle.pmp_encoding.specs.declared.region.Entry.{Entry};
     ghost use Rattle.pmp_encoding.specs.Encoding.{IsOff, MeansEntry};
-    ghost use Rattle.pmp_encoding.specs.Limits.{limit_number};
+    ghost use Rattle.pmp_encoding.specs.Extents.{extent_of};
     ghost use Rattle.pmp_encoding.specs.Csrs.{IsCfgCsr, IsAddressCsr, IsCsr, IsFaultlessWord, IsFaultOfWord, WritesWord, WritesAddress};
     ghost use Rattle.pmp_encoding.specs.Banks.{limit_of, word_at, cfg_at, address_at, HasList, IsBankOf};
 
-    /// The bank with these entries from place 0 on, each in its canonical pair, and OFF with address 0 after them.
+    /// The bank whose entries 0, 1, .. are these, each in its canonical pair, and whose others are OFF with address 0.
     pub fn of(entries: &[Entry], limit: Limit) -> Bank
         requires { length entries.now ≤ limit_number limit }
         ensures list { HasList result entries.now }
@@ -37,10 +53,32 @@ impl Bank {
             words[i / 8] = with_byte(words[i / 8], i % 8, cfg);
             addresses[i] = address;
         }
+        Bank::holding(limit, words, addresses)
+    }
+
+    /// The bank with these registers.
+    fn holding(limit: Limit, words: [u64; 8], addresses: [u64; 64]) -> Bank
+        requires { AreRegisters limit words addresses }
+        ensures limit { limit_of result ≡ limit }
+        ensures words { result.words ≡ words }
+        ensures addresses { result.addresses ≡ addresses }
+    {
+        let mut extents = [NOWHERE; 64];
+        let mut used = 0;
+        let count = limit.number() as usize;
+        for i in 0..count {
+            let cfg = byte_of(words[i / 8], i % 8);
+            if let Some(entry) = entry_of(cfg, addresses[i]) {
+                extents[used] = Extent::of(&entry);
+                used += 1;
+            }
+        }
         Bank {
             limit,
             words,
             addresses,
+            extents,
+            used,
         }
     }
 
@@ -61,21 +99,21 @@ impl Bank {
         self.words[word]
     }
 
-    /// The word pmpcfg0, of the places 0 to 7.
+    /// The word pmpcfg0, of the entries 0 to 7.
     pub fn cfg0(&self) -> u64
         ensures { result ≡ word_at self.now 0 }
     {
         self.words[0]
     }
 
-    /// The word pmpcfg2, of the places 8 to 15.
+    /// The word pmpcfg2, of the entries 8 to 15.
     pub fn cfg2(&self) -> u64
         ensures { result ≡ word_at self.now 2 }
     {
         self.words[1]
     }
 
-    /// The address register of place i.
+    /// The address register of entry i.
     pub fn addr(&self, i: usize) -> u64
         requires { i < 64 }
         ensures { result ≡ address_at self.now i }
@@ -83,20 +121,20 @@ impl Bank {
         self.addresses[i]
     }
 
-    /// The entry that the pair of place i means, or `None` where it is OFF.
+    /// What entry i means, or `None` where it is OFF.
     pub fn entry(&self, i: usize) -> Option<Entry>
         requires { i < 64 }
         ensures { MatchOption result (IsOff (cfg_at self.now i) (address_at self.now i)) (MeansEntry (cfg_at self.now i) (address_at self.now i)) }
     {
-        let cfg = byte_of(self.words[i / 8], i % 8);
-        // Most places hold nothing, and need no decoding.
-        if cfg == 0 {
-            return None;
-        }
-        match decode(cfg, self.addr(i)) {
-            Ok(entry) => entry,
-            Err(_) => unreachable!(),
-        }
+        entry_of(byte_of(self.words[i / 8], i % 8), self.addr(i))
+    }
+
+    /// What accesses are matched against: the entries of the pairs below the limit, in order, without those that are
+    /// OFF.
+    pub fn extents(&self) -> &[Extent]
+        ensures { (entries : List Entry) → HasList self.now entries → result.now ≡ map extent_of entries }
+    {
+        &self.extents[..self.used]
     }
 
     /// Writes the CSR of this number, as the instruction csrw does. A configuration word with a fault answers the
@@ -141,19 +179,25 @@ impl Bank {
         requires clean { IsFaultlessWord value }
         ensures { WritesWord self.old self.new k value }
     {
-        self.words[k / 2] = value;
+        let mut words = self.words;
+        words[k / 2] = value;
+        *self = Bank::holding(self.limit, words, self.addresses);
     }
 
-    fn put_address(&mut self, place: usize, value: u64)
-        requires there { place < limit_number (limit_of self.old) }
+    fn put_address(&mut self, i: usize, value: u64)
+        requires there { i < limit_number (limit_of self.old) }
         requires small { value < 2 ^ 54 }
-        ensures { WritesAddress self.old self.new place value }
+        ensures { WritesAddress self.old self.new i value }
     {
-        self.addresses[place] = value;
+        let mut addresses = self.addresses;
+        addresses[i] = value;
+        *self = Bank::holding(self.limit, self.words, addresses);
     }
 }
 
-ghost use Rattle.std.specs.Prelude.{◌≡◌, ◌≢◌, ◌+◌, ◌*◌, ◌^◌, ◌<◌, ℕ};
+ghost use Rattle.std.specs.Prelude.{◌≡◌, ◌≢◌, ◌+◌, ◌*◌, ◌^◌, ◌<◌, ℕ, MatchOption};
+ghost use Rattle.pmp_encoding.specs.Encoding.{IsOff, MeansEntry};
+ghost use Rattle.pmp_encoding.specs.Faults.{IsFaultless};
 ghost use Rattle.pmp_encoding.specs.Registers.{byte_of};
 
 /// Byte j of a word, the lowest first.
@@ -162,6 +206,21 @@ pub(crate) fn byte_of(word: u64, j: usize) -> u8
     ensures { result ≡ byte_of word j }
 {
     ((word >> (8 * j)) % 256) as u8
+}
+
+/// What a pair with no fault means.
+fn entry_of(cfg: u8, address: u64) -> Option<Entry>
+    requires { IsFaultless cfg address }
+    ensures { MatchOption result (IsOff cfg address) (MeansEntry cfg address) }
+{
+    // Most entries are OFF, and need no decoding.
+    if cfg == 0 {
+        return None;
+    }
+    match decode(cfg, address) {
+        Ok(entry) => entry,
+        Err(_) => unreachable!(),
+    }
 }
 
 /// The word with the byte put above all others.

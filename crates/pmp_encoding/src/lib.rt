@@ -21,6 +21,7 @@
 mod bank;
 mod csr;
 mod decoding;
+mod extent;
 mod fault;
 mod laws;
 mod limit;
@@ -31,6 +32,7 @@ mod tests;
 
 pub use bank::Bank;
 pub use decoding::decode;
+pub use extent::Extent;
 pub use fault::EncodingFault;
 pub use laws::{bank_law, faultless_law, list_law, one_law, pair_law, round_trip_law};
 pub use limit::Limit;

@@ -6,8 +6,21 @@ pub enum Limit {
 }
 
 impl Limit {
-    ghost use Rattle.std.specs.Prelude.{◌≡◌, ◌≤◌};
+    ghost use Rattle.std.specs.Prelude.{◌≡◌, ◌≢◌, ◌≤◌, IfSome, IfNone};
+    ghost use Rattle.pmp_encoding.specs.declared.limit.Limit.{Limit};
     ghost use Rattle.pmp_encoding.specs.Limits.{limit_number};
+
+    /// The limit of so many entries, or `None` where that is neither 16 nor 64.
+    pub fn of(number: u32) -> Option<Limit>
+        ensures some { IfSome result (λ limit. limit_number limit ≡ number) }
+        ensures none { IfNone result ((limit : Limit) → limit_number limit ≢ number) }
+    {
+        match number {
+            16 => Some(Limit::Sixteen),
+            64 => Some(Limit::SixtyFour),
+            _ => None,
+        }
+    }
 
     /// The number of entries, 16 or 64.
     pub fn number(self) -> u32

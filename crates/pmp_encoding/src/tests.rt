@@ -108,6 +108,11 @@ fn numbers_of_faults_and_limits(rt: HostRuntime) {
     assert_eq!(rt; EncodingFault::NoSuchCsr.number(), 6);
     assert_eq!(rt; Limit::Sixteen.number(), 16);
     assert_eq!(rt; Limit::SixtyFour.number(), 64);
+    assert_eq!(rt;
+        (Limit::of(16), Limit::of(64)),
+        (Some(Limit::Sixteen), Some(Limit::SixtyFour))
+    );
+    assert_eq!(rt; (Limit::of(0), Limit::of(17)), (None, None));
 }
 
 #[test]
@@ -118,6 +123,21 @@ fn bits_of_permissions(rt: HostRuntime) {
     for bits in [2u8, 6, 8, 255] {
         assert_eq!(rt; Perm::from_bits(bits), None);
     }
+}
+
+#[test]
+fn indices_and_blanks(rt: HostRuntime) {
+    assert_eq!(rt;
+        (Perm::default().index(), Perm::ReadWriteExecute.index()),
+        (0, 5)
+    );
+    assert_eq!(rt;
+        Entry::default(),
+        Entry {
+            region: Region::default(),
+            perm: Perm::NoAccess
+        }
+    );
 }
 
 #[test]
@@ -170,6 +190,14 @@ fn written_registers_are_read_back(rt: HostRuntime) -> Result<(), Fail> {
     assert_eq!(rt; bank.cfg2(), 0x1F00);
     assert_eq!(rt; bank.entry(8), None);
     assert_eq!(rt; bank.entry(9), Some(page));
+    let extent = Extent {
+        base: 0x8000_0000,
+        end: 0x8000_1000,
+        perm: Perm::ReadWriteExecute,
+    };
+    assert_eq!(rt; bank.extents(), [extent].as_slice());
+    assert_eq!(rt; bank.write_csr(0x3A2, 0), Ok(()));
+    assert_eq!(rt; bank.extents().len(), 0);
     Ok(())
 }
 

@@ -1,16 +1,16 @@
-ghost use Rattle.std.specs.Prelude.{◌≡◌, ◌+◌, ◌^◌, ◌≤◌, ◌<◌, true, ◌&&◌, ◌||◌, List};
+ghost use Rattle.std.specs.Prelude.{◌≡◌, ◌+◌, ◌^◌, ◌≤◌, ◌<◌, true, ◌&&◌, ◌||◌, ◌%◌, ◌==◌, List};
 ghost use Rattle.pmp_encoding.specs.declared.region.Entry.{Entry};
 ghost use Rattle.pmp_encoding.specs.Banks.{HasList};
 ghost use Rattle.pmp_encoding.specs.Perms.{can_read, can_write, can_execute};
 ghost use Rattle.pmp_match.specs.Kinds.{holds};
-ghost use Rattle.pmp_match.specs.Accesses.{meets, contains_all};
 ghost use Rattle.pmp_match.specs.Decision.{allows, is_machine};
+ghost use Rattle.pmp_match.specs.Matching.{touches, grants, lets_through};
 ghost use Rattle.pmp_match.specs.Judgement.{Judges, judgement, access_fault, misaligned};
 
 use crate::access::{Access, Kind, Mode};
 use crate::cause::Cause;
 use page_views::SPACE_SIZE;
-use pmp_encoding::{Bank, Entry, Perm, Region};
+use pmp_encoding::{Bank, Extent, Perm};
 
 fn holds(perm: Perm, kind: Kind) -> bool
     ensures { result ≡ holds perm kind }
@@ -25,39 +25,42 @@ fn holds(perm: Perm, kind: Kind) -> bool
     }
 }
 
-fn end_of(region: &Region) -> u64
-    ensures { result ≡ region.now.base + 2 ^ region.now.log2 }
-{
-    region.base + (1u64 << region.log2)
-}
-
-fn meets(region: &Region, access: &Access) -> bool
-    requires { access.now.address < 2 ^ 56 }
-    ensures { result ≡ meets region.now access.now }
-{
-    region.base < access.address + u64::from(access.size) && access.address < end_of(region)
-}
-
-fn contains_all(region: &Region, access: &Access) -> bool
-    requires { access.now.address < 2 ^ 56 }
-    ensures { result ≡ contains_all region.now access.now }
-{
-    region.base <= access.address && access.address + u64::from(access.size) <= end_of(region)
-}
-
 fn is_machine(mode: Mode) -> bool
     ensures { result ≡ is_machine mode }
 {
     mode == Mode::Machine
 }
 
-/// Whether the entry, being the first that the access meets, lets it through.
-fn is_granted(entry: &Entry, access: &Access) -> bool
+/// Whether some byte of the access is in the extent.
+fn touches(extent: &Extent, access: &Access) -> bool
     requires { access.now.address < 2 ^ 56 }
-    ensures { result ≡ contains_all entry.now.region access.now && (is_machine access.now.mode || holds entry.now.perm access.now.kind) }
+    ensures { result ≡ touches extent.now access.now }
 {
-    contains_all(&entry.region, access)
-        && (is_machine(access.mode) || holds(entry.perm, access.kind))
+    extent.base < access.address + u64::from(access.size) && access.address < extent.end
+}
+
+/// Whether the extent, being the first with a byte of the access, lets it through.
+fn grants(extent: &Extent, access: &Access) -> bool
+    requires { access.now.address < 2 ^ 56 }
+    ensures { result ≡ grants extent.now access.now }
+{
+    let end = access.address + u64::from(access.size);
+    extent.base <= access.address
+        && end <= extent.end
+        && (is_machine(access.mode) || holds(extent.perm, access.kind))
+}
+
+/// Whether the first extent with a byte of the access lets it through; where there is none, machine mode may.
+fn lets_through(extents: &[Extent], access: &Access) -> bool
+    requires { access.now.address < 2 ^ 56 }
+    ensures { result ≡ lets_through extents.now access.now }
+{
+    for extent in extents {
+        if touches(extent, access) {
+            return grants(extent, access);
+        }
+    }
+    is_machine(access.mode)
 }
 
 /// What the bank's list says of the access.
@@ -65,16 +68,14 @@ fn is_allowed(bank: &Bank, access: &Access) -> bool
     requires { access.now.address < 2 ^ 56 }
     ensures { (entries : List Entry) → HasList bank.now entries → result ≡ allows entries access.now }
 {
-    let count = bank.limit().number() as usize;
-    for i in 0..count {
-        let Some(entry) = bank.entry(i) else {
-            continue;
-        };
-        if meets(&entry.region, access) {
-            return is_granted(&entry, access);
-        }
-    }
-    is_machine(access.mode)
+    lets_through(bank.extents(), access)
+}
+
+/// Whether the access is at a multiple of its size, a power of two.
+fn is_aligned(access: &Access) -> bool
+    ensures { result ≡ (access.now.address % access.now.size == 0) }
+{
+    access.address & (u64::from(access.size) - 1) == 0
 }
 
 fn misaligned(kind: Kind) -> Cause
@@ -100,7 +101,7 @@ fn access_fault(kind: Kind) -> Cause
 fn judged(bank: &Bank, access: &Access) -> Result<(), Cause>
     ensures { (entries : List Entry) → HasList bank.now entries → result ≡ judgement entries access.now }
 {
-    if access.address % u64::from(access.size) != 0 {
+    if !is_aligned(access) {
         return Err(misaligned(access.kind));
     }
     if access.address >= SPACE_SIZE || !is_allowed(bank, access) {

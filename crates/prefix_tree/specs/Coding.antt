@@ -4,15 +4,8 @@ use Rattle.std.proofs.Common.{◌∙◌, ap}
 use Rattle.std.specs.Coded.{Coded, code_by, coded_list, coded_ℕ}
 use Rattle.pmp_encoding.specs.declared.perm.Perm.{Perm}
 use Rattle.pmp_encoding.specs.declared.perm.Perm.TheVariants.{NoAccess, Read, ReadWrite, Execute, ReadExecute, ReadWriteExecute}
+use Rattle.pmp_encoding.specs.Perms.{index_of}
 use Rattle.prefix_tree.specs.Trees.{PermTree, Uniform, Split}
-
-abbrev pub number_of : Perm → ℕ
-number_of NoAccess = 0
-number_of Read = 1
-number_of ReadWrite = 2
-number_of Execute = 3
-number_of ReadExecute = 4
-number_of ReadWriteExecute = 5
 
 abbrev pub perm_of : ℕ → Perm
 perm_of zero = NoAccess
@@ -24,7 +17,7 @@ perm_of (suc (suc (suc (suc (suc n))))) = ReadWriteExecute
 
 -- the lower half, the upper half, and 0 for the split itself
 abbrev pub written : PermTree → List ℕ → List ℕ
-written (Uniform q) rest = suc (number_of q) ∷ rest
+written (Uniform q) rest = suc (index_of q) ∷ rest
 written (Split lower upper) rest = written lower (written upper (0 ∷ rest))
 
 -- the two trees that were read last become one

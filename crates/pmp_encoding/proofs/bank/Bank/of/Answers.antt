@@ -16,21 +16,21 @@ loop-i-preserved c =
     (filled_more c.args.entries.now c.loop-i.words c.loop-i.addresses c.loop-i.i c.loop-i.invariant few entry next c.with_byte.result (c.with_byte.ensures.here ∙ c.encode-cfg.ensures.cfg)
     c.with_byte.ensures.others c.with_byte.ensures.small)
 
-pub invariant_of-result : goal.invariant_of-result
-invariant_of-result c =
+pub holding-requires : goal.holding-requires
+holding-requires c =
     let whole = filled_all c.args.entries.now c.loop-i.words c.loop-i.addresses c.loop-i.i c.loop-i.invariant (omega arith) in
-    record { registers = filled_registers c.args.entries.now c.loop-i.words c.loop-i.addresses whole c.args.limit c.requires }
+    filled_registers c.args.entries.now c.loop-i.words c.loop-i.addresses whole c.args.limit c.requires
 
 pub returns-clause-list : goal.returns-clause-list
 returns-clause-list c =
     let whole = filled_all c.args.entries.now c.loop-i.words c.loop-i.addresses c.loop-i.i c.loop-i.invariant (omega arith) in
-    filled_list c.args.entries.now c.loop-i.words c.loop-i.addresses whole c.args.limit c.requires
+    rw (c.holding.ensures.words, c.holding.ensures.addresses, c.holding.ensures.limit) (filled_list c.args.entries.now c.loop-i.words c.loop-i.addresses whole c.args.limit c.requires)
 
 pub returns-clause-registers : goal.returns-clause-registers
 returns-clause-registers c =
     let whole = filled_all c.args.entries.now c.loop-i.words c.loop-i.addresses c.loop-i.i c.loop-i.invariant (omega arith) in
     record {
-      limit_is = refl;
-      canonical = filled_canonical c.args.entries.now c.loop-i.words c.loop-i.addresses whole;
-      off = λ i h most. filled_off c.args.entries.now c.loop-i.words c.loop-i.addresses whole i h;
+      limit_is = c.holding.ensures.limit;
+      canonical = rw (c.holding.ensures.words, c.holding.ensures.addresses) (filled_canonical c.args.entries.now c.loop-i.words c.loop-i.addresses whole);
+      off = λ i h most. rw (c.holding.ensures.words, c.holding.ensures.addresses) (filled_off c.args.entries.now c.loop-i.words c.loop-i.addresses whole i h);
     }

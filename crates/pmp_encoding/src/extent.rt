@@ -1,0 +1,28 @@
+ghost use Rattle.std.specs.Prelude.{◌≡◌};
+ghost use Rattle.pmp_encoding.specs.Extents.{extent_of};
+
+use crate::perm::Perm;
+use crate::region::{Entry, bytes_of};
+
+/// An entry as accesses are matched against it: the addresses from `base` to before `end`, and its permission.
+#[derive(Clone, Copy, PartialEq, Eq, Debug)]
+pub struct Extent {
+    /// The lowest address.
+    pub base: u64,
+    /// The first address behind it, at most 2^56.
+    pub end: u64,
+    pub perm: Perm,
+}
+
+impl Extent {
+    /// What an entry matches.
+    pub(crate) fn of(entry: &Entry) -> Extent
+        ensures { result ≡ extent_of entry.now }
+    {
+        Extent {
+            base: entry.region.base,
+            end: entry.region.base + bytes_of(entry.region.log2),
+            perm: entry.perm,
+        }
+    }
+}
