@@ -16,7 +16,7 @@ use Rattle.enclave_table.specs.Creating.{fresh, RefusesCreate, Creates}
 use Rattle.enclave_table.specs.Tables.{IsSound}
 use Rattle.enclave_table.specs.declared.request.Create.{Create}
 use Rattle.enclave_table.specs.declared.enclave.Enclave.{Enclave}
-use Rattle.enclave_table.specs.declared.request.PageRange.{PageRange}
+use Rattle.page_views.specs.declared.pages.PageRange.{PageRange}
 use Rattle.enclave_table.specs.declared.refusal.Refusal.{Refusal}
 use Rattle.worlds.specs.declared.world.World.{World}
 use Rattle.enclave_table.proofs.Refused.{create_host_want, create_enclave_want}

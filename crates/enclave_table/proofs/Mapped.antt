@@ -14,7 +14,7 @@ use Rattle.enclave_table.specs.Requests.{is_private}
 use Rattle.enclave_table.specs.Views.{any_private}
 use Rattle.enclave_table.specs.declared.device.Device.{Device}
 use Rattle.enclave_table.specs.declared.enclave.Enclave.{Enclave}
-use Rattle.enclave_table.specs.declared.request.PageRange.{PageRange}
+use Rattle.page_views.specs.declared.pages.PageRange.{PageRange}
 
 -- the list from a place on
 pub from_place : {X : Type 0} (xs : List X) (i : ℕ) (x : X) → i < length xs → x ≡ get_or xs i x → drop i xs ≡ x ∷ drop (i + 1) xs

@@ -9,7 +9,7 @@ use Rattle.enclave_table.specs.Fewest.{FitsIn, NeedsMore}
 use Rattle.enclave_table.specs.declared.enclave.Enclave.{Enclave}
 use Rattle.enclave_table.specs.declared.refusal.Refusal.{Refusal}
 use Rattle.enclave_table.specs.declared.refusal.Refusal.TheVariants.{NoEntries, NoMemory}
-use Rattle.enclave_table.specs.declared.request.PageRange.{PageRange}
+use Rattle.page_views.specs.declared.pages.PageRange.{PageRange}
 
 -- destroy, where it is not refused: the enclave is gone, its private pages are to be zeroed, and the host fits
 pub record Destroys (old : EnclaveTable) (world : World) (id : ℕ) (range : PageRange) (new : EnclaveTable) : Type 0 where

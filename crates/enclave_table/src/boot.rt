@@ -4,7 +4,7 @@ ghost use Rattle.pmp_match.specs.Meaning.{Means, Needs};
 ghost use Rattle.prefix_tree.specs.Trees.{TreeMeans};
 ghost use Rattle.enclave_table.specs.Fewest.{FitsIn};
 ghost use Rattle.enclave_table.specs.Views.{host_view};
-ghost use Rattle.enclave_table.specs.Booting.{opening, IsBootFault};
+ghost use Rattle.enclave_table.specs.Booting.{opening, IsBootFault, boot_fault_number};
 
 use crate::enclave::Enclave;
 use crate::entry_list::EntryList;
@@ -22,6 +22,18 @@ pub enum BootFault {
     NeedsMoreEntries(u64),
     /// A growth was refused.
     Memory,
+}
+
+impl BootFault {
+    /// Its number, 1 or 2.
+    pub fn number(self) -> u8
+        ensures { result ≡ boot_fault_number self }
+    {
+        match self {
+            BootFault::NeedsMoreEntries(_) => 1,
+            BootFault::Memory => 2,
+        }
+    }
 }
 
 /// No enclave at any place.

@@ -6,8 +6,8 @@ ghost use Rattle.enclave_table.specs.Destroying.{Destroys, RefusesDestroy};
 
 use crate::entry_list::EntryList;
 use crate::refusal::Refusal;
-use crate::request::PageRange;
 use crate::table::Table;
+use page_views::PageRange;
 use pmp_encoding::Perm;
 use worlds::World;
 

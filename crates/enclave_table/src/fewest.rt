@@ -10,10 +10,11 @@ ghost use Rattle.enclave_table.specs.Fewest.{IsListOf, IsWant};
 
 use crate::entry_list::EntryList;
 use crate::refusal::Refusal;
-use crate::request::{Create, PageRange};
+use crate::request::Create;
 use crate::table::Table;
 use crate::views::enclave_map;
 use entry_planner::plan;
+use page_views::PageRange;
 use permission_map::{MapFault, Memory};
 use pmp_encoding::{Limit, Perm};
 use prefix_tree::{Tree, build};

@@ -2,7 +2,7 @@ ghost use Rattle.std.specs.Prelude.{◌≡◌, ℕ, ◌+◌, ◌*◌, ◌/◌, �
 ghost use Rattle.permission_map.specs.Runs.{in_range};
 ghost use Rattle.enclave_table.specs.Requests.{parts_of, is_private, is_shared, is_part, ArePartsApart, HasCounts, IsPlaced, HasPlaces, HasEntry};
 
-use crate::ranges::{PAGE, SPACE};
+use page_views::{PAGE_SIZE, PageRange, SPACE_SIZE};
 
 /// How many pages of text and data, and how many shared pages, an enclave may have.
 const MOST_PRIVATE: u64 = 1024;
@@ -26,52 +26,16 @@ pub struct Create {
     pub entry_offset: u64,
 }
 
-/// Pages one behind the other.
-#[derive(Clone, Copy, PartialEq, Eq, Debug)]
-pub struct PageRange {
-    pub first: u64,
-    pub count: u64,
-}
-
-impl PageRange {
-    /// Whether the page is one of these.
-    pub(crate) fn has(self, page: u64) -> bool
-        requires { self.first + self.count < 2 ^ 64 }
-        ensures { result ≡ in_range self.first self.count page }
-    {
-        self.first <= page && page < self.first + self.count
-    }
-
-    /// Whether two ranges have no page in common.
-    pub(crate) fn is_apart_from(self, other: PageRange) -> bool
-        requires fits { self.first + self.count < 2 ^ 64 }
-        requires other_fits { other.first + other.count < 2 ^ 64 }
-        ensures apart { IsTrue result → (page : ℕ) → in_range self.first self.count page ≡ true → in_range other.first other.count page ≡ true → ⊥ }
-        ensures met { result ≡ false → ((page : ℕ) → in_range self.first self.count page ≡ true → in_range other.first other.count page ≡ true → ⊥) → ⊥ }
-    {
-        if self.count == 0 {
-            return true;
-        }
-        if other.count == 0 {
-            return true;
-        }
-        if self.first + self.count <= other.first {
-            return true;
-        }
-        other.first + other.count <= self.first
-    }
-}
-
 /// Whether so many pages from an address on begin with a page and end in the space.
 fn is_placed(base: u64, count: u64) -> bool
     requires { count ≤ 1024 }
     ensures placed { IsTrue result → IsPlaced base count }
     ensures other { result ≡ false → IsPlaced base count → ⊥ }
 {
-    if base % PAGE != 0 {
+    if base % PAGE_SIZE != 0 {
         return false;
     }
-    base <= SPACE - count * PAGE
+    base <= SPACE_SIZE - count * PAGE_SIZE
 }
 
 impl Create {
@@ -124,7 +88,7 @@ impl Create {
         if self.entry_offset % 2 != 0 {
             return false;
         }
-        self.entry_offset < self.text_pages * PAGE
+        self.entry_offset < self.text_pages * PAGE_SIZE
     }
 
     /// Its text and data.
@@ -135,7 +99,7 @@ impl Create {
         ensures inside { HasPlaces self.now → result.first + result.count ≤ 2 ^ 44 }
     {
         PageRange {
-            first: self.base / PAGE,
+            first: self.base / PAGE_SIZE,
             count: self.text_pages + self.data_pages,
         }
     }
@@ -147,7 +111,7 @@ impl Create {
         ensures fits { result.first + result.count < 2 ^ 64 }
     {
         PageRange {
-            first: self.shared_base / PAGE,
+            first: self.shared_base / PAGE_SIZE,
             count: self.shared_count,
         }
     }

@@ -24,7 +24,7 @@ use Rattle.enclave_table.specs.Living.{state_after}
 use Rattle.enclave_table.specs.Living.{Enters, Leaves, Turns, RefusesLeave}
 use Rattle.enclave_table.specs.Destroying.{Destroys}
 use Rattle.enclave_table.specs.declared.refusal.Refusal.{Refusal}
-use Rattle.enclave_table.specs.declared.request.PageRange.{PageRange}
+use Rattle.page_views.specs.declared.pages.PageRange.{PageRange}
 use Rattle.context_switch.specs.declared.hart.Hart.{Hart}
 use Rattle.worlds.specs.Runners.{EnclaveOf, runner_of}
 use Rattle.hart_sim.specs.Harts.{runner_on}

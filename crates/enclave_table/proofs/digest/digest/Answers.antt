@@ -2,7 +2,7 @@ use Rattle.std.proofs.Common.{ℕ, ◌≡◌, ◌∙◌, ◌+◌, ◌/◌, ◌++
 use Rattle.measurement.specs.Progress.{HasMeasured}
 use Rattle.measurement.specs.Measured.{digest_of}
 use Rattle.enclave_table.specs.Digests.{layout_of, pages_from}
-use Rattle.enclave_table.specs.declared.request.PageRange.{PageRange}
+use Rattle.page_views.specs.declared.pages.PageRange.{PageRange}
 use Rattle.enclave_table.proofs.digest.digest.Goals as goal
 
 more : (pages : ℕ → List ℕ) (first n : ℕ) → pages_from pages first (n + 1) ≡ pages_from pages first n ++ (pages (first + n) ∷ [])

@@ -6,7 +6,7 @@ use Rattle.permission_map.specs.Views.{SameView, overwritten}
 use Rattle.enclave_table.specs.Devices.{triple_of}
 use Rattle.enclave_table.specs.Platform.{device_perm}
 use Rattle.enclave_table.specs.declared.device.Device.{Device}
-use Rattle.enclave_table.specs.declared.request.PageRange.{PageRange}
+use Rattle.page_views.specs.declared.pages.PageRange.{PageRange}
 use Rattle.enclave_table.proofs.Mapped.{device_set}
 use Rattle.enclave_table.proofs.views.put_devices.Goals as goal
 

@@ -10,7 +10,7 @@ use Rattle.enclave_table.specs.Creating.{fresh}
 use Rattle.enclave_table.specs.declared.request.Create.{Create}
 use Rattle.enclave_table.specs.declared.enclave.Enclave.{Enclave}
 use Rattle.enclave_table.specs.declared.enclave.State.TheVariants.{Fresh}
-use Rattle.enclave_table.specs.declared.request.PageRange.{PageRange}
+use Rattle.page_views.specs.declared.pages.PageRange.{PageRange}
 use Rattle.enclave_table.proofs.Placed.{free_place, host_added, added_kept}
 use Rattle.enclave_table.proofs.SameViews.{list_same, tree_same, fits_same}
 use Rattle.enclave_table.proofs.Created.{along, fits_from, sound_from, apart_from, host_want, enclave_want, creates}

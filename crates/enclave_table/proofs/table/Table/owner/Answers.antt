@@ -5,7 +5,7 @@ use Rattle.permission_map.specs.Runs.{in_range}
 use Rattle.enclave_table.specs.Enclaves.{enclave_at}
 use Rattle.enclave_table.specs.Requests.{is_private, is_shared, is_part}
 use Rattle.enclave_table.specs.declared.enclave.Enclave.{Enclave}
-use Rattle.enclave_table.specs.declared.request.PageRange.{PageRange}
+use Rattle.page_views.specs.declared.pages.PageRange.{PageRange}
 use Rattle.enclave_table.proofs.table.Table.owner.Goals as goal
 
 pub loop-id-preserved : goal.loop-id-preserved

@@ -1,28 +1,26 @@
 ghost use Rattle.std.specs.Prelude.{replicate, ◌<◌, ◌^◌};
 
-use crate::{
-    Create, Entering, Leaving, Owner, PageRange, Pages, Platform, Refusal, State, Table, World,
-};
+use enclave_table::{Create, Owner, PageRange, Pages, Platform, Refusal, Table, World};
+use entry_planner::plan;
+use plan_certificate::write;
 use pmp_encoding::{Bank, Entry, Perm};
+use prefix_tree::{Tree, build};
 use std::alloc::Global;
 use std::process::Abort;
 use std::test::Fail;
 
-/// Pages whose bytes are all the same.
-struct Filled {
-    byte: u8,
-}
+/// Pages whose bytes are all zero.
+#[derive(Drop)]
+struct Zeros {}
 
-impl Pages for Filled {
-    ghost bytes_of = { λ f page. replicate 4096 f.byte };
+impl Pages for Zeros {
+    ghost bytes_of = { λ f page. replicate 4096 0 };
 
     fn copy_page(&self, page: u64, into: &mut [u8; 4096]) {
         let _page = page;
-        *into = [self.byte; 4096];
+        *into = [0; 4096];
     }
 }
-
-const ZEROS: Filled = Filled { byte: 0 };
 
 fn example_table(alloc: Global, entries: u8) -> Result<Table, Fail> {
     let platform = Platform::new(
@@ -48,26 +46,11 @@ fn page_at(base: u64) -> Create {
 }
 
 fn created(table: &mut Table, asked: Create) -> Result<u64, Refusal> {
-    table.create(World::Host, &ZEROS, asked)
+    table.create(World::Host, &Zeros {}, asked)
 }
 
 fn destroyed(table: &mut Table, id: u64) -> Result<PageRange, Refusal> {
     table.destroy(World::Host, id)
-}
-
-fn entered(table: &mut Table, id: u64, entering: Entering) -> Result<(), Refusal> {
-    table.enter(World::Host, id, entering)
-}
-
-/// Leaves an enclave that runs.
-fn left(table: &mut Table, id: u64, leaving: Leaving) -> Result<u64, Refusal> {
-    let Some(enclave) = table.find(id) else {
-        return Err(Refusal::BadId);
-    };
-    if enclave.state != State::Running {
-        return Err(Refusal::BadState);
-    }
-    table.leave(World::Enclave(id), leaving)
 }
 
 fn word(table: &Table, id: u64, k: u64) -> Result<u64, Refusal> {
@@ -82,6 +65,23 @@ fn owner(table: &Table, page: u64) -> Owner
 
 fn used(table: &Table) -> usize {
     table.host_entries().len()
+}
+
+/// The certificate of a tree and its plan.
+fn certificate(alloc: Global, table: &Table, tree: &Tree) -> Result<Vec<u8>, Fail> {
+    let plan = plan(alloc, tree)?;
+    let bytes = write(alloc, tree, &plan, table.limit())?;
+    Ok(bytes)
+}
+
+/// Whether the tree that is kept has the certificate of one that is built anew of the host's view, and so the same
+/// plan.
+fn is_as_built_anew(alloc: Global, table: &Table) -> Result<bool, Fail> {
+    let map = table.host_view()?;
+    let tree = build(alloc, &map)?;
+    let anew = certificate(alloc, table, &tree)?;
+    let kept = certificate(alloc, table, table.host_tree())?;
+    Ok(anew.as_slice() == kept.as_slice())
 }
 
 /// The table with enclaves of one page each, the next a step behind the last.
@@ -166,49 +166,87 @@ fn thirteenth_scattered_enclave_fits_and_fourteenth_does_not(rt: HostRuntime) ->
     assert_eq!(rt; used(&table), 16);
     let bank = Bank::of(table.host_entries(), table.limit());
     assert_eq!(rt; bank.cfg0(), 0x1818_1818_1818_181B);
-    assert_eq!(rt;
-        created(&mut table, page_at(0x8021_A000)),
-        Err(Refusal::NoEntries)
-    );
+    let next = page_at(0x8021_A000);
+    assert_eq!(rt; created(&mut table, next), Err(Refusal::NoEntries));
     assert_eq!(rt; used(&table), 16);
     assert_eq!(rt; owner(&table, 0x8021A), Owner::Host);
-    let mut both = page_at(0x8021_A000);
-    both.shared_base = 0x8021_A000;
-    both.shared_count = 1;
-    assert_eq!(rt; created(&mut table, both), Err(Refusal::Overlap));
-    assert_eq!(rt;
-        created(&mut table, page_at(0x8000_0000)),
-        Err(Refusal::Overlap)
-    );
     Ok(())
 }
 
 #[test]
-fn fourteenth_scattered_enclave_fits_sixty_four_entries(rt: HostRuntime) -> Result<(), Fail> {
+fn an_overlap_comes_before_want_of_entries(rt: HostRuntime) -> Result<(), Fail> {
+    let mut table = table_of(rt.alloc(), 16, 13, 0x2000)?;
+    let mut both = page_at(0x8021_A000);
+    both.shared_base = 0x8021_A000;
+    both.shared_count = 1;
+    assert_eq!(rt; created(&mut table, both), Err(Refusal::Overlap));
+    let monitor = page_at(0x8000_0000);
+    assert_eq!(rt; created(&mut table, monitor), Err(Refusal::Overlap));
+    Ok(())
+}
+
+#[test]
+fn sixty_first_scattered_enclave_fits_sixty_four_entries(rt: HostRuntime) -> Result<(), Fail> {
     let table = table_of(rt.alloc(), 64, 14, 0x2000)?;
     assert_eq!(rt; used(&table), 17);
+    let mut table = table_of(rt.alloc(), 64, 61, 0x2000)?;
+    assert_eq!(rt; used(&table), 64);
+    let next = page_at(0x8027_A000);
+    assert_eq!(rt; created(&mut table, next), Err(Refusal::NoEntries));
     Ok(())
+}
+
+/// Destroys the ids 1, 3, 5 and so on, and answers the pages of the last; each call leaves the tree as if built anew.
+fn every_second_destroyed(alloc: Global, table: &mut Table, count: u64) -> Result<u64, Fail> {
+    let mut last = 0;
+    for k in 0..count.min(16) {
+        last = destroyed(table, 2 * k + 1)?.first;
+        if !is_as_built_anew(alloc, table)? {
+            return Ok(0);
+        }
+    }
+    Ok(last)
 }
 
 #[test]
 fn destroying_every_second_page_is_refused_at_seventeen(rt: HostRuntime) -> Result<(), Fail> {
     let mut table = table_of(rt.alloc(), 16, 32, 0x1000)?;
     assert_eq!(rt; used(&table), 4);
-    for k in 0..12u64 {
-        let range = destroyed(&mut table, 2 * k + 1)?;
-        assert_eq!(rt; range.first, 0x80200 + 2 * k);
-        assert_eq!(rt; range.count, 1);
-    }
+    assert_eq!(rt;
+        every_second_destroyed(rt.alloc(), &mut table, 12)?,
+        0x80216
+    );
     assert_eq!(rt; used(&table), 16);
     let first = word(&table, 25, 0)?;
     assert!(rt; matches!(destroyed(&mut table, 25), Err(Refusal::NoEntries)));
     assert_eq!(rt; used(&table), 16);
     assert_eq!(rt; owner(&table, 0x80218), Owner::Private(25));
     assert_eq!(rt; word(&table, 25, 0), Ok(first));
+    Ok(())
+}
+
+#[test]
+fn all_of_every_second_page_fit_sixty_four_entries(rt: HostRuntime) -> Result<(), Fail> {
+    let mut table = table_of(rt.alloc(), 64, 32, 0x1000)?;
+    assert_eq!(rt; used(&table), 4);
     assert_eq!(rt;
-        created(&mut table, page_at(0x8040_0000)),
-        Err(Refusal::NoEntries)
+        every_second_destroyed(rt.alloc(), &mut table, 16)?,
+        0x8021E
     );
+    assert_eq!(rt; used(&table), 19);
+    Ok(())
+}
+
+#[test]
+fn each_of_thirty_two_creations_leaves_the_tree_as_if_built_anew(
+    rt: HostRuntime,
+) -> Result<(), Fail> {
+    let mut table = example_table(rt.alloc(), 16)?;
+    for i in 0..32u64 {
+        let _ = created(&mut table, page_at(0x8020_0000 + i * 0x1000))?;
+        assert!(rt; is_as_built_anew(rt.alloc(), &table)?);
+    }
+    assert_eq!(rt; used(&table), 4);
     Ok(())
 }
 
@@ -216,10 +254,8 @@ fn destroying_every_second_page_is_refused_at_seventeen(rt: HostRuntime) -> Resu
 fn sixty_fifth_enclave_finds_the_table_full(rt: HostRuntime) -> Result<(), Fail> {
     let mut table = table_of(rt.alloc(), 16, 64, 0x1000)?;
     assert_eq!(rt; used(&table), 4);
-    assert_eq!(rt;
-        created(&mut table, page_at(0x8030_0000)),
-        Err(Refusal::TableFull)
-    );
+    let next = page_at(0x8030_0000);
+    assert_eq!(rt; created(&mut table, next), Err(Refusal::TableFull));
     Ok(())
 }
 
@@ -229,10 +265,8 @@ fn checks_come_in_their_order(rt: HostRuntime) -> Result<(), Fail> {
     let mut many = page_at(0x8020_0000);
     many.text_pages = 0xFFFF_FFFF_FFFF_FFFF;
     assert_eq!(rt; created(&mut table, many), Err(Refusal::BadCount));
-    assert_eq!(rt;
-        created(&mut table, page_at(0x8020_0800)),
-        Err(Refusal::BadAddress)
-    );
+    let inside = page_at(0x8020_0800);
+    assert_eq!(rt; created(&mut table, inside), Err(Refusal::BadAddress));
     let mut entry = page_at(0x8020_0000);
     entry.data_pages = 1;
     entry.entry_offset = 0x1000;
@@ -248,7 +282,7 @@ fn checks_come_in_their_order(rt: HostRuntime) -> Result<(), Fail> {
 }
 
 #[test]
-fn the_enclave_s_own_view_can_need_too_many(rt: HostRuntime) -> Result<(), Fail> {
+fn an_enclaves_own_view_can_need_too_many(rt: HostRuntime) -> Result<(), Fail> {
     let mut table = example_table(rt.alloc(), 16)?;
     let mut asked = Create {
         base: 0x804A_B000,
@@ -266,32 +300,5 @@ fn the_enclave_s_own_view_can_need_too_many(rt: HostRuntime) -> Result<(), Fail>
         panic!(rt; "no enclave");
     };
     assert_eq!(rt; entries.len(), 16);
-    Ok(())
-}
-
-#[test]
-fn an_enclave_is_entered_stopped_resumed_and_exits(rt: HostRuntime) -> Result<(), Fail> {
-    let mut table = table_of(rt.alloc(), 16, 1, 0x1000)?;
-    assert_eq!(rt;
-        entered(&mut table, 1, Entering::Resume),
-        Err(Refusal::BadState)
-    );
-    assert_eq!(rt; entered(&mut table, 2, Entering::Run), Err(Refusal::BadId));
-    assert_eq!(rt;
-        table.leave(World::Host, Leaving::Stop),
-        Err(Refusal::NotEnclave)
-    );
-    assert_eq!(rt; entered(&mut table, 1, Entering::Run), Ok(()));
-    assert!(rt; matches!(destroyed(&mut table, 1), Err(Refusal::BadState)));
-    assert_eq!(rt; left(&mut table, 1, Leaving::Stop), Ok(1));
-    assert_eq!(rt; entered(&mut table, 1, Entering::Resume), Ok(()));
-    assert_eq!(rt; left(&mut table, 1, Leaving::Exit), Ok(1));
-    assert_eq!(rt;
-        entered(&mut table, 1, Entering::Resume),
-        Err(Refusal::BadState)
-    );
-    assert_eq!(rt; word(&table, 1, 4), Err(Refusal::BadWord));
-    let _ = destroyed(&mut table, 1)?;
-    assert_eq!(rt; word(&table, 1, 0), Err(Refusal::BadId));
     Ok(())
 }
