@@ -14,6 +14,7 @@ mod Woken
 mod Moved
 mod Meeting
 mod Wanted
+mod Promised
 mod WorldsKept
 mod Respects
 mod Opened

@@ -77,7 +77,7 @@ part_held parts page kind false false true t d s h = or_second (is_private parts
 part_held parts page kind false false false t d s h = absurd (none_held kind h)
 
 -- whoever may do something with a private page is the enclave itself
-only_itself : (table : EnclaveTable) (world : World) (id page : ℕ) (e : Enclave) (kind : Kind) → IsTable table → Live table id e → is_private e.parts page ≡ true → holds (view_of table world page) kind ≡ true → world ≡ InEnclave id
+pub only_itself : (table : EnclaveTable) (world : World) (id page : ℕ) (e : Enclave) (kind : Kind) → IsTable table → Live table id e → is_private e.parts page ≡ true → holds (view_of table world page) kind ≡ true → world ≡ InEnclave id
 only_itself table Host id page e kind right live p h = absurd (none_held kind (ap (λ q. holds q kind) (sym (host_none table id page e live p)) ∙ h))
 only_itself table (InEnclave k) id page e kind right live p h = by_slot (enclave_at table.enclaves k) refl
   where

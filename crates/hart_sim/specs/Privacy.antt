@@ -1,9 +1,11 @@
 -- What an enclave keeps to itself.
-use Rattle.std.specs.Prelude.{◌≡◌, ◌≢◌, ◌⊎◌, ℕ, ◌+◌, ◌/◌, ◌<◌, ◌≤◌, true, false, List, [], ◌∷◌, Ok}
+use Rattle.std.specs.Prelude.{◌≡◌, ◌≢◌, ◌⊎◌, ℕ, ◌+◌, ◌/◌, ◌<◌, ◌≤◌, true, false, List, [], ◌∷◌, Ok, None, if◌then◌else◌}
 use Rattle.pmp_encoding.specs.declared.perm.Perm.TheVariants.{NoAccess}
 use Rattle.pmp_match.specs.declared.access.Kind.TheVariants.{Store}
+use Rattle.pmp_match.specs.declared.access.Access.{Access}
 use Rattle.pmp_match.specs.declared.access.Mode.TheVariants.{Machine}
-use Rattle.enclave_table.specs.Enclaves.{Live}
+use Rattle.pmp_match.specs.declared.cause.Cause.{Cause}
+use Rattle.enclave_table.specs.Enclaves.{Live, enclave_at}
 use Rattle.enclave_table.specs.Requests.{is_private}
 use Rattle.enclave_table.specs.Views.{enclave_view}
 use Rattle.enclave_table.specs.declared.enclave.Enclave.{Enclave}
@@ -79,3 +81,15 @@ abbrev pub KeepsPrivate : State → ℕ → Event → Reply → State → Type 0
 KeepsPrivate old hart event reply new =
     (id byte : ℕ) (e f : Enclave) → Live old.table id e → Live new.table id f → is_private e.parts (byte / 4096) ≡ true → is_private f.parts (byte / 4096) ≡ true
     → (new.bytes byte ≡ old.bytes byte) ⊎ StoresTo old hart event reply id byte
+
+-- an access of a page that is private to an enclave, by any other world, is a fault
+abbrev pub DeniesOthers : State → ℕ → Event → Reply → Type 0
+DeniesOthers old hart event reply =
+    (a : Access) (value id byte : ℕ) (e : Enclave) → event ≡ events.Access a value → Live old.table id e → is_private e.parts (byte / 4096) ≡ true
+    → a.address ≤ byte → byte < a.address + a.size → old.worlds hart ≢ InEnclave id → (cause : Cause) × (reply ≡ replies.Fault cause)
+
+-- where an enclave is no more, each byte of its private pages is zero, and every other byte is as it was
+abbrev pub ZeroesDestroyed : State → State → Type 0
+ZeroesDestroyed old new =
+    (id : ℕ) (e : Enclave) → Live old.table id e → enclave_at new.table.enclaves id ≡ None → (byte : ℕ)
+    → new.bytes byte ≡ (if is_private e.parts (byte / 4096) then 0 else old.bytes byte)

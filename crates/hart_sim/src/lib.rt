@@ -1,4 +1,25 @@
-//! A modelled RV64 hart. It hands on the streams and the lines of its trace.
+//! A modelled RV64 machine: one to four harts, their PMP registers, memory, and the monitor's calls.
+//!
+//! A [`Machine`] is booted for a platform, and [`Machine::step`] makes one event happen on one hart: an access by
+//! supervisor or user mode, a setting of a register, a call to the monitor, or the timer's interrupt. An access is judged
+//! by the words that are loaded on the hart, and by nothing else. [`run`] does so for each line of a trace and writes a
+//! line for each reply.
+//!
+//! For the layer above: each reply and the state behind it are a step of the small machine in `specs/Steps`, which has no
+//! PMP entries in it; after boot and after every event the list of each hart that is not marked means what its world may
+//! do, and no list of entries of any regions in any order that means it is shorter. A hart is marked where another hart's
+//! call changed the host's view: it loads the host's entries before its next event. The laws say what follows for whole
+//! runs: [`privacy_law`], [`private_bytes_law`], [`worlds_law`], [`creation_law`], [`destruction_law`].
+//!
+//! Only a store to a page that was not written, and a creation or a destruction that passes its other checks, take memory.
+//!
+//! ```text
+//! let mut machine = Machine::boot(rt.alloc(), platform)?;
+//! let reply = machine.step(0, Event::Irq);
+//! run(&mut machine, &mut trace, &mut report)?;
+//! ```
+//!
+//! The streams, the lines and the events of traces are handed on from the crates below.
 #![tactic(auto)]
 
 mod acting;
@@ -15,7 +36,7 @@ mod reply;
 mod report;
 mod running;
 #[cfg(test)]
-mod tests_machine;
+mod tests;
 
 pub use byte_streams::{Counted, DeviceFault, Sink, Source, fakes, write_whole};
 pub use hart_trace::{Event, parse_line};

@@ -18,13 +18,15 @@ pub struct Machine {
 }
 
 impl Machine {
-    ghost use Rattle.std.specs.Prelude.{◌≡◌, ◌≢◌, ℕ, ◌+◌, ◌^◌, ◌<◌, ◌≤◌, ◌↔◌, List, IfOk, IfErr, true, false, Err, length, replicate, None};
+    ghost use Rattle.std.specs.Prelude.{◌≡◌, ◌≢◌, ℕ, ◌+◌, ◌/◌, ◌^◌, ◌<◌, ◌≤◌, ◌↔◌, List, IfOk, IfErr, true, false, Err, length, replicate, None};
     ghost use Rattle.pmp_encoding.specs.declared.bank.Bank.{Bank};
     ghost use Rattle.pmp_encoding.specs.declared.region.Entry.{Entry};
     ghost use Rattle.pmp_encoding.specs.Banks.{HasList, limit_of};
     ghost use Rattle.pmp_encoding.specs.Limits.{limit_number};
     ghost use Rattle.pmp_match.specs.declared.access.Access.{Access};
     ghost use Rattle.pmp_match.specs.declared.cause.Cause.{Cause};
+    ghost use Rattle.pmp_match.specs.Accesses.{IsAligned};
+    ghost use Rattle.pmp_match.specs.Kinds.{holds};
     ghost use Rattle.pmp_match.specs.Judgement.{Judges};
     ghost use Rattle.pmp_match.specs.Meaning.{Means};
     ghost use Rattle.enclave_table.specs.Booting.{IsBootFault, opening as opening_table};
@@ -33,7 +35,7 @@ impl Machine {
     ghost use Rattle.hart_trace.specs.declared.event.Event.{Event};
     ghost use Rattle.hart_sim.specs.declared.reply.Reply.{Reply};
     ghost use Rattle.hart_sim.specs.Machines.{state_of, kept_of, HasBank, MeetsList, KeepsBanksRight, KeepsOtherBanks};
-    ghost use Rattle.hart_sim.specs.Privacy.{KeepsPrivate};
+    ghost use Rattle.hart_sim.specs.Privacy.{KeepsPrivate, DeniesOthers, ZeroesDestroyed};
     ghost use Rattle.hart_sim.specs.States.{SameState, opening, current_view, running_registers};
     ghost use Rattle.hart_sim.specs.Steps.{IsEvent, Step};
 
@@ -135,6 +137,9 @@ impl Machine {
         ensures banks { KeepsBanksRight self.old → (h : ℕ) (bank : Bank) → h < (state_of self.new).table.layout.harts → (state_of self.new).marked h ≡ false → HasBank self.new h bank → (list : List Entry) → HasList bank list → Means list (current_view (state_of self.new) h) × ((others : List Entry) → Means others (current_view (state_of self.new) h) → length list ≤ length others) }
         ensures others { KeepsOtherBanks self.old self.new hart }
         ensures platform { (state_of self.new).table.layout ≡ (state_of self.old).table.layout }
+        ensures allowed { KeepsBanksRight self.old → (access : Access) (value : ℕ) → event ≡ Event.Access access value → IsAligned access → access.address < 2 ^ 56 → ((cause : Cause) → result ≢ Reply.Fault cause) ↔ (holds (current_view (state_of self.old) hart (access.address / 4096)) access.kind ≡ true) }
+        ensures denied { KeepsBanksRight self.old → DeniesOthers (state_of self.old) hart event result }
+        ensures destroyed { KeepsBanksRight self.old → ZeroesDestroyed (state_of self.old) (state_of self.new) }
         ensures private { KeepsBanksRight self.old → KeepsPrivate (state_of self.old) hart event result (state_of self.new) }
     {
         self.parts.table.rules();

@@ -1,6 +1,9 @@
+use Rattle.std.proofs.Common.{subst}
 use Rattle.hart_sim.specs.Parts.{machine_state}
 use Rattle.hart_sim.proofs.Opened.{each_list}
 use Rattle.hart_sim.proofs.PrivateBytes.{keeps_private}
+use Rattle.hart_sim.specs.Steps.{Step}
+use Rattle.hart_sim.proofs.Promised.{allowed_by_view, denies_others, zeroes_destroyed}
 use Rattle.hart_sim.proofs.machine.Machine.step.Goals as goal
 
 pub returns-clause-banks : goal.returns-clause-banks
@@ -11,3 +14,22 @@ returns-clause-private c = λ right.
     let old = c.args.self.now.parts in
     let new = c.step.new.self in
     keeps_private (machine_state old.table old.hardware) c.args.hart c.args.event c.step.result (machine_state new.table new.hardware) c.rules.ensures.table (c.step.ensures.step right)
+
+pub returns-clause-allowed : goal.returns-clause-allowed
+returns-clause-allowed c = λ right access value is aligned inside.
+    let old = c.args.self.now.parts in
+    let new = c.step.new.self in
+    allowed_by_view (machine_state old.table old.hardware) c.args.hart access value c.step.result (machine_state new.table new.hardware) aligned inside
+    (subst (λ e. Step (machine_state old.table old.hardware) c.args.hart e c.step.result (machine_state new.table new.hardware)) is (c.step.ensures.step right))
+
+pub returns-clause-denied : goal.returns-clause-denied
+returns-clause-denied c = λ right.
+    let old = c.args.self.now.parts in
+    let new = c.step.new.self in
+    denies_others (machine_state old.table old.hardware) c.args.hart c.args.event c.step.result (machine_state new.table new.hardware) c.rules.ensures.table (c.step.ensures.step right)
+
+pub returns-clause-destroyed : goal.returns-clause-destroyed
+returns-clause-destroyed c = λ right.
+    let old = c.args.self.now.parts in
+    let new = c.step.new.self in
+    zeroes_destroyed (machine_state old.table old.hardware) c.args.hart c.args.event c.step.result (machine_state new.table new.hardware) (c.step.ensures.step right)
