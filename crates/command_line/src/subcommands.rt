@@ -3,16 +3,19 @@
 ghost use Rattle.std.specs.Prelude.{◌≡◌, IfOk, false};
 ghost use Rattle.clap.specs.Words.{app_of, new_app, rule_of};
 ghost use Rattle.clap.specs.declared.builder.command.Command.TheViews.{out-Command};
-ghost use Rattle.command_line.specs.CommandLine.{bare_app, check_app, entries_rule, file_rule, judge_app, plan_app, program_app};
+ghost use Rattle.command_line.specs.CommandLine.{bare_app, check_app, entries_rule, file_rule, judge_app, measure_rule, plan_app, program_app, run_app, running_app};
 
 use clap::{Arg, ArgAction, Command};
 use std::alloc::{AllocError, Global};
 
 const ABOUT: &str =
-    "Plans RISC-V PMP entries for a permission map with the fewest entries, certifies the plan, and judges accesses by it";
+    "Runs traces on a modelled RISC-V hart whose monitor isolates enclaves by PMP, with the fewest entries, and plans, certifies and checks such entries";
 
 const EXAMPLE: &str =
     "Example, with a file map.txt that holds the line\n\n  0x80000000 0x1000 rwx\n\n  pmpmon plan map.txt map.pmpc      prints one entry, and writes its certificate\n  pmpmon check map.txt map.pmpc     prints 'accepted 1'\n\nStatus: 0 done, 1 refused by the checker, 2 bad input, 3 input or output failed, 4 memory";
+
+const RUN_HELP: &str =
+    "A platform file is TOML: [monitor] and one [[ram]] or more, each with base and size in bytes, whole pages of 4096;\n[[device]] with a perm too; and, above them, harts = 1 to 4 (1) and entries = 16 or 64 (16).\n\nA trace has a line for each event, with M s or u, and SIZE 1, 2, 4 or 8 (for a fetch 2 or 4):\n\n  fetch M SIZE ADDR\n  load M SIZE ADDR\n  store M SIZE ADDR VALUE\n  reg xN VALUE\n  ecall W1 .. Wk         up to 8 words, put in a7, a6, a0 to a5\n  irq                    the timer's interrupt\n\n@H before an event names its hart, from 0. # begins a comment. The monitor's calls are\n\n  ecall 0x08454E43 0 BASE TEXT DATA SHARED_BASE SHARED ENTRY    create (pages; ENTRY is an offset in bytes)\n  ecall 0x08454E43 1 ID     destroy         ecall 0x08454E43 2 ID     run\n  ecall 0x08454E43 3        stop            ecall 0x08454E43 4 ID     resume\n  ecall 0x08454E43 5 VALUE  exit            ecall 0x08454E43 6 ID K   word K of the measurement\n\nEach event N is answered by 'N ok', 'N ok VALUE' (a load), 'N fault CAUSE', 'N call STATUS VALUE WORLD USED' or\n'N irq WORLD USED': WORLD is 0 for the host or an enclave's id, and USED how many PMP entries are loaded.\n\nExample:\n  pmpmon run platform.toml trace.txt --measure";
 
 const PLAN_HELP: &str =
     "Prints 'entries N', each entry as 'I 0xCC 0xAAAAAAAAAAAAAAAA' (configuration byte and address register),\nand the configuration words where the entries fit. The certificate shows that no shorter list means the map.\n\nA map file has lines 'BASE SIZE PERM', in bytes: whole pages of 4096 bytes, and one of none, r, rw, x, rx, rwx.\n\nExample:\n  pmpmon plan map.txt map.pmpc --entries 64";
@@ -53,6 +56,32 @@ fn named<'a>(alloc: Global, name: &'a str, about: &'a str, more: &'a str) -> Com
     ensures local { (out-Command result).has_globals ≡ false }
 {
     Command::new(alloc, name).about(about).after_help(more)
+}
+
+/// The flag that asks for measurements.
+fn measure_arg<'a>(alloc: Global) -> Arg<'a>
+    ensures rule { rule_of result ≡ measure_rule }
+    ensures local { result.global ≡ false }
+{
+    Arg::new(alloc, "measure")
+        .long("measure")
+        .help("Print the measurement of each live enclave behind the report")
+        .action(ArgAction::SetTrue)
+}
+
+fn run_command<'a>(alloc: Global) -> Result<Command<'a>, AllocError>
+    ensures app { IfOk result (λ c. app_of c ≡ run_app) }
+    ensures local { IfOk result (λ c. (out-Command c).has_globals ≡ false) }
+{
+    let platform = file_arg(alloc, "PLATFORM", "The platform file", true);
+    let trace = file_arg(alloc, "TRACE", "The trace of events", true);
+    let measure = measure_arg(alloc);
+    let about = "Boot a platform and run a trace of accesses, calls and interrupts on it";
+    let run = named(alloc, "run", about, RUN_HELP)
+        .arg(platform)?
+        .arg(trace)?
+        .arg(measure)?;
+    Ok(run)
 }
 
 fn plan_command<'a>(alloc: Global) -> Result<Command<'a>, AllocError>
@@ -106,15 +135,26 @@ fn bare_program<'a>(alloc: Global) -> Command<'a>
     named(alloc, "pmpmon", ABOUT, EXAMPLE).subcommand_required(true)
 }
 
+/// The program with the first of its subcommands.
+fn running_program<'a>(alloc: Global) -> Result<Command<'a>, AllocError>
+    ensures app { IfOk result (λ c. app_of c ≡ running_app) }
+    ensures local { IfOk result (λ c. (out-Command c).has_globals ≡ false) }
+{
+    let run = run_command(alloc)?;
+    let program = bare_program(alloc).subcommand(run)?;
+    Ok(program)
+}
+
 /// The program with its subcommands.
 pub fn program<'a>(alloc: Global) -> Result<Command<'a>, AllocError>
     ensures app { IfOk result (λ c. app_of c ≡ program_app) }
     ensures local { IfOk result (λ c. (out-Command c).has_globals ≡ false) }
 {
+    let running = running_program(alloc)?;
     let plan = plan_command(alloc)?;
     let judge = judge_command(alloc)?;
     let check = check_command(alloc)?;
-    let program = bare_program(alloc)
+    let program = running
         .subcommand(plan)?
         .subcommand(judge)?
         .subcommand(check)?;

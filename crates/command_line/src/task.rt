@@ -5,6 +5,15 @@ use pmp_encoding::Limit;
 /// One command of the program. The names of files are the words that were given.
 #[derive(Clone, Copy, Debug, PartialEq, Eq)]
 pub enum Task<'a> {
+    /// Boot a platform, run a trace on it, and report every answer.
+    Run {
+        /// The platform file.
+        platform: &'a str,
+        /// The trace.
+        trace: &'a str,
+        /// Whether the measurement of each live enclave is printed behind the report.
+        measure: bool,
+    },
     /// Plan a map, and write the certificate where a file for it is named.
     Plan {
         /// The map file.

@@ -4,6 +4,35 @@ use pmp_encoding::Limit;
 use std::test::Fail;
 
 #[test]
+fn run_takes_a_platform_and_a_trace(rt: HostRuntime) -> Result<(), Fail> {
+    let plain = command_of(rt.alloc(), &["pmpmon", "run", "p.toml", "t.txt"])?;
+    assert_eq!(rt;
+        plain,
+        Task::Run {
+            platform: "p.toml",
+            trace: "t.txt",
+            measure: false
+        }
+    );
+    let lines: [&[&str]; 2] = [
+        &["pmpmon", "run", "p.toml", "t.txt", "--measure"],
+        &["pmpmon", "run", "--measure", "p.toml", "t.txt"],
+    ];
+    for words in lines {
+        let measured = command_of(rt.alloc(), words)?;
+        assert_eq!(rt;
+            measured,
+            Task::Run {
+                platform: "p.toml",
+                trace: "t.txt",
+                measure: true
+            }
+        );
+    }
+    Ok(())
+}
+
+#[test]
 fn plan_takes_a_map_and_maybe_a_certificate(rt: HostRuntime) -> Result<(), Fail> {
     let sixteen = command_of(rt.alloc(), &["pmpmon", "plan", "map.txt"])?;
     assert_eq!(rt;
@@ -89,9 +118,12 @@ fn check_takes_a_map_and_a_certificate(rt: HostRuntime) -> Result<(), Fail> {
 
 #[test]
 fn other_words_are_faults_of_the_command_line(rt: HostRuntime) {
-    let lines: [&[&str]; 10] = [
+    let lines: [&[&str]; 13] = [
         &["pmpmon"],
         &["pmpmon", "draw", "map.txt"],
+        &["pmpmon", "run", "p.toml"],
+        &["pmpmon", "run", "p.toml", "t.txt", "more"],
+        &["pmpmon", "run", "p.toml", "t.txt", "--entries", "64"],
         &["pmpmon", "plan"],
         &["pmpmon", "plan", "map.txt", "out.pmpc", "more"],
         &["pmpmon", "plan", "map.txt", "--entries", "016"],

@@ -28,6 +28,16 @@ fn task_of<'a>(matches: &ArgMatches<'a>) -> Option<Task<'a>>
     ensures { IfSome result (λ task. IsTask (subcommand_rows_of matches.now) task) }
 {
     let (name, found) = matches.subcommand()?;
+    if name == "run" {
+        let platform = found.get_str("PLATFORM")?;
+        let trace = found.get_str("TRACE")?;
+        let measure = found.get_flag("measure");
+        return Some(Task::Run {
+            platform,
+            trace,
+            measure,
+        });
+    }
     if name == "plan" {
         let map = found.get_str("MAP")?;
         let cert = found.get_str("CERT");

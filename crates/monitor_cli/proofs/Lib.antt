@@ -1,1 +1,3 @@
+pub mod Names
+mod Parts
 pub mod SameViews

@@ -1,1 +1,4 @@
 pub use Rattle.trace_judge.specs.Judging
+pub mod Tasks
+pub mod Troubles
+pub mod Verdicts

@@ -1,20 +1,47 @@
 //! Plans with their certificates.
 
-ghost use Rattle.std.specs.Prelude.{◌≡◌, ◌≤◌, List, IfOk, length};
+ghost use Rattle.std.specs.Prelude.{◌≡◌, ◌≤◌, ◌<◌, ◌-◌, ◌^◌, ◌⊎◌, ◌↔◌, ℕ, List, Err, IfErr, IfOk, IfSome, None, length};
+ghost use Rattle.std.specs.Io.KnownBytes.{Appends};
 ghost use Rattle.pmp_encoding.specs.declared.region.Entry.{Entry};
+ghost use Rattle.pmp_encoding.specs.Banks.{HasList, IsBankOf};
+ghost use Rattle.pmp_encoding.specs.Limits.{limit_number};
 ghost use Rattle.pmp_match.specs.Meaning.{Means};
 ghost use Rattle.permission_map.specs.Runs.{view_of_runs};
 ghost use Rattle.certificate_check.specs.Certificates.{IsRight};
-ghost use Rattle.plan_certificate.specs.Spelling.{Spells};
+ghost use Rattle.certificate_format.specs.Spelling.{Spells};
 ghost use Rattle.plan_certificate.specs.Written.{version_for};
 ghost use Rattle.pmp_match.specs.Bounds.{BoundTree};
 
+use crate::trouble::Trouble;
+use byte_streams::{Sink, write_whole};
 use entry_planner::{Plan, plan};
 use permission_map::{Memory, PermissionMap};
 use plan_certificate::write;
-use pmp_encoding::Limit;
+use pmp_encoding::{Bank, Entry, Limit};
 use prefix_tree::build;
 use std::alloc::Global;
+
+/// The fewest entries that mean a map.
+pub fn planned(alloc: Global, map: &PermissionMap) -> Result<Plan, Memory>
+    ensures means { IfOk result (λ plan. Means plan.entries (view_of_runs map.now)) }
+    ensures least { IfOk result (λ plan. (others : List Entry) → Means others (view_of_runs map.now) → length plan.entries ≤ length others) }
+{
+    let tree = build(alloc, map)?;
+    let plan = plan(alloc, &tree)?;
+    Ok(plan)
+}
+
+/// The bank of a list of entries; none exactly where there are more than the limit.
+pub fn bank_of(entries: &[Entry], limit: Limit) -> Option<Bank>
+    ensures registers { IfSome result (λ bank. IsBankOf bank limit entries.now) }
+    ensures list { IfSome result (λ bank. HasList bank entries.now) }
+    ensures none { (result ≡ None) ↔ (limit_number limit < length entries.now) }
+{
+    if entries.len() > limit.number() as usize {
+        return None;
+    }
+    Some(Bank::of(entries, limit))
+}
 
 /// The fewest entries that mean a map, and their certificate for a hart of that limit. [`check`](certificate_check::check)
 /// accepts it, with the number of entries.
@@ -34,4 +61,27 @@ pub fn certified(
     prove!(branches == plan.branches());
     let bytes = write(alloc, &tree, &plan, limit)?;
     Ok((plan, bytes))
+}
+
+/// Plans a map and writes its certificate to a sink. Where it answers Ok, the sink took bytes that
+/// [`check`](certificate_check::check) accepts, with the number of entries.
+pub fn write_certified<'a, C: Sink>(
+    alloc: Global,
+    map: &PermissionMap,
+    limit: Limit,
+    file: &'a str,
+    sink: &mut C,
+) -> Result<Plan, Trouble<'a>>
+    requires { C.failures sink.old < 2 ^ 64 - 1 }
+    ensures means { IfOk result (λ plan. Means plan.entries (view_of_runs map.now)) }
+    ensures least { IfOk result (λ plan. (others : List Entry) → Means others (view_of_runs map.now) → length plan.entries ≤ length others) }
+    ensures accepted { IfOk result (λ plan. (bytes : List ℕ) × IsRight (view_of_runs map.now) bytes (length plan.entries) × Appends (C.contents sink.old) (C.contents sink.new) bytes) }
+    ensures refused { IfErr result (λ trouble. (trouble ≡ Trouble.Memory) ⊎ (trouble ≡ Trouble.CannotWrite file.entry)) }
+    ensures untouched { result ≡ Err Trouble.Memory → sink.new ≡ sink.old }
+{
+    let (plan, bytes) = certified(alloc, map, limit)?;
+    let Ok(()) = write_whole(sink, bytes.as_slice()) else {
+        return Err(Trouble::CannotWrite { file });
+    };
+    Ok(plan)
 }

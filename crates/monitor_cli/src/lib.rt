@@ -1,8 +1,9 @@
 //! The program's commands, done on the files and streams that are lent for them.
 //!
-//! For the layer above: [`certified`] answers the fewest entries of a map with a certificate that the checker accepts;
-//! [`read_whole`] the bytes of a file of bounded length; [`perform`] does a task and answers the program's status. The
-//! command line, the text of a map and the printed lines are crates of their own, whose names stand here too.
+//! For the layer above: [`planned`] answers the fewest entries of a map, and [`certified`] a certificate with them that the
+//! checker accepts; [`bank_of`] the bank of a list that fits it; [`read_whole`] the bytes of a file of bounded length;
+//! [`verdict`] what `check` prints and its status; a [`Trouble`] its text and its status. [`perform`] does a task by these,
+//! in their order, and answers the program's status. The command line, the text of a map and the printed lines are crates of their own, whose names stand here too.
 //!
 //! ```rust
 //! let task = command_of(rt.alloc(), &["pmpmon", "plan", "map.txt"])?;
@@ -12,20 +13,25 @@
 mod certifying;
 mod devices;
 mod program;
+mod running;
 mod trouble;
+mod verdicts;
 mod whole;
 
-pub use certifying::certified;
+pub use certifying::{bank_of, certified, planned, write_certified};
 pub use command_line::{Task, command_of};
 pub use devices::{FileToRead, FileToWrite, RetryInterrupted};
 pub use map_text::{MapFileFault, Setting, map_of, raw_says};
+pub use platform_file::{TextFault, platform_of};
 pub use printed_lines::{
-    accepted_line, accepted_of_line, count_line, entry_line, print_plan, refused_line, word_line,
+    accepted_line, accepted_of_line, count_line, digest_text, entry_line, measure_line, print_plan,
+    refused_line, word_line,
 };
 pub use program::perform;
 pub use text_lines::Line;
 pub use trace_judge::{answer_line, judge_trace};
 pub use trouble::Trouble;
+pub use verdicts::verdict;
 pub use whole::{WholeFault, read_whole};
 
 #[cfg(test)]

@@ -1,26 +1,38 @@
 //! A task, done on the files and streams that are lent for it.
 
-ghost use Rattle.std.specs.Prelude.{◌-◌, ◌^◌, ◌<◌, ◌≤◌, IfOk, length};
+ghost use Rattle.std.specs.Prelude.{◌≡◌, ◌-◌, ◌^◌, ◌<◌, ◌≤◌, ◌⊎◌, ℕ, List, IfErr, IfOk, length};
+ghost use Rattle.std.specs.Io.KnownBytes.{Appends};
+ghost use Rattle.pmp_encoding.specs.declared.region.Entry.{Entry};
+ghost use Rattle.pmp_encoding.specs.Banks.{HasList, IsBankOf};
+ghost use Rattle.pmp_encoding.specs.Limits.{limit_number};
+ghost use Rattle.permission_map.specs.Runs.{view_of_runs};
+ghost use Rattle.map_text.specs.MapFile.{Makes};
+ghost use Rattle.printed_lines.specs.Plans.{TakesPart};
+ghost use Rattle.map_text.specs.declared.map_file.MapFileFault.{MapFileFault};
+ghost use Rattle.monitor_cli.specs.declared.whole.WholeFault.{WholeFault};
+ghost use Rattle.monitor_cli.specs.Tasks.{IsFewest, IsWhole};
+ghost use Rattle.monitor_cli.specs.Troubles.{map_trouble, status_of, trouble_text, whole_trouble};
 
-use crate::certifying::certified;
+use crate::certifying::{bank_of, planned, write_certified};
+use crate::running::{booted, platform_in, print_measures};
 use crate::trouble::Trouble;
-use crate::whole::{WholeFault, read_whole};
-use byte_streams::{Sink, Source, write_whole};
-use certificate_check::{CheckRefusal, check};
+use crate::verdicts::verdict;
+use crate::whole::read_whole;
+use byte_streams::{DeviceFault, Sink, Source, write_whole};
 use command_line::Task;
-use entry_planner::{Plan, plan};
-use map_text::{MapFileFault, map_of};
+use hart_sim::run;
+use map_text::map_of;
 use permission_map::PermissionMap;
-use plan_certificate::{Reader, Version};
 use pmp_encoding::{Bank, Limit};
-use prefix_tree::build;
-use printed_lines::{accepted_line, accepted_of_line, print_plan, refused_line};
+use printed_lines::print_plan;
 use std::alloc::Global;
-use text_lines::{Line, RunFault};
 use trace_judge::judge_trace;
 
 /// How many bytes a map file may have.
 const MAP_BYTES: usize = 1 << 20;
+
+/// How many bytes a platform file may have.
+const PLATFORM_BYTES: usize = 1 << 20;
 
 /// How many bytes a certificate may have.
 const CERT_BYTES: usize = 64 << 20;
@@ -34,13 +46,12 @@ fn bytes_in<'a, R: Source>(
 ) -> Result<Vec<u8>, Trouble<'a>>
     requires failures { R.failures source.old < 2 ^ 64 - 1 }
     requires most { most < 2 ^ 32 }
-    ensures { IfOk result (λ bytes. length bytes.items ≤ most) }
+    ensures whole { IfOk result (λ bytes. IsWhole most (R.remaining source.old) (R.remaining source.new) bytes.items) }
+    ensures refused { IfErr result (λ trouble. (fault : WholeFault) × (trouble ≡ whole_trouble file.entry fault)) }
 {
     match read_whole(alloc, source, most) {
         Ok(bytes) => Ok(bytes),
-        Err(WholeFault::TooLarge) => Err(Trouble::TooLarge { file }),
-        Err(WholeFault::Read) => Err(Trouble::CannotRead { file }),
-        Err(WholeFault::Memory) => Err(Trouble::Memory),
+        Err(fault) => Err(Trouble::of_whole(file, fault)),
     }
 }
 
@@ -51,44 +62,59 @@ fn map_in<'a, R: Source>(
     source: &mut R,
 ) -> Result<PermissionMap, Trouble<'a>>
     requires { R.failures source.old < 2 ^ 64 - 1 }
+    ensures made { IfOk result (λ map. (bytes : List ℕ) × IsWhole (2 ^ 20) (R.remaining source.old) (R.remaining source.new) bytes × Makes bytes map) }
+    ensures refused { IfErr result (λ trouble. ((fault : WholeFault) × (trouble ≡ whole_trouble file.entry fault)) ⊎ ((fault : MapFileFault) × (trouble ≡ map_trouble file.entry fault))) }
 {
     let bytes = bytes_in(alloc, file, source, MAP_BYTES)?;
     match map_of(alloc, bytes.as_slice()) {
         Ok(map) => Ok(map),
-        Err(MapFileFault::Line(line)) => Err(Trouble::NotUnderstood { file, line }),
-        Err(MapFileFault::TooManyRanges) => Err(Trouble::TooManyRanges { file }),
-        Err(MapFileFault::Memory) => Err(Trouble::Memory),
+        Err(fault) => Err(Trouble::of_map(file, fault)),
     }
 }
 
-/// The plan of a map.
-fn plan_of<'a>(alloc: Global, map: &PermissionMap) -> Result<Plan, Trouble<'a>> {
-    let Ok(tree) = build(alloc, map) else {
-        return Err(Trouble::Memory);
-    };
-    let Ok(plan) = plan(alloc, &tree) else {
-        return Err(Trouble::Memory);
-    };
-    Ok(plan)
+/// The bank of the fewest entries that mean a map.
+fn bank_in<'a>(alloc: Global, map: &PermissionMap, limit: Limit) -> Result<Bank, Trouble<'a>>
+    ensures loaded { IfOk result (λ bank. (entries : List Entry) × IsFewest (view_of_runs map.now) entries × HasList bank entries × IsBankOf bank limit entries) }
+    ensures refused { IfErr result (λ trouble. (trouble ≡ Trouble.Memory) ⊎ ((entries : List Entry) × IsFewest (view_of_runs map.now) entries × (limit_number limit < length entries) × (trouble ≡ Trouble.NeedsEntries (length entries)))) }
+{
+    let plan = planned(alloc, map)?;
+    let entries = plan.entries();
+    match bank_of(entries, limit) {
+        Some(bank) => Ok(bank),
+        None => Err(Trouble::NeedsEntries {
+            needed: entries.len() as u64,
+        }),
+    }
 }
 
-/// The plan of a map, whose certificate is written.
-fn plan_with_certificate<'a, C: Sink>(
+/// Boots a platform, runs a trace on it, and prints the measurements where they are asked for.
+fn do_run<'a, R: Source, W: Sink>(
     alloc: Global,
-    map: &PermissionMap,
-    limit: Limit,
-    file: &'a str,
-    certificate: &mut C,
-) -> Result<Plan, Trouble<'a>>
-    requires { C.failures certificate.old < 2 ^ 64 - 1 }
+    platform: &'a str,
+    trace: &'a str,
+    measure: bool,
+    first: &mut R,
+    second: &mut R,
+    out: &mut W,
+) -> Result<u8, Trouble<'a>>
+    requires first { R.failures first.old < 2 ^ 64 - 1 }
+    requires second { R.failures second.old < 2 ^ 64 - 1 }
+    requires out { W.failures out.old < 2 ^ 64 - 1 }
 {
-    let Ok((plan, bytes)) = certified(alloc, map, limit) else {
-        return Err(Trouble::Memory);
-    };
-    let Ok(()) = write_whole(certificate, bytes.as_slice()) else {
-        return Err(Trouble::CannotWrite { file });
-    };
-    Ok(plan)
+    let bytes = bytes_in(alloc, platform, first, PLATFORM_BYTES)?;
+    let platform = platform_in(alloc, platform, bytes.as_slice())?;
+    let mut machine = booted(alloc, platform)?;
+    match run(&mut machine, second, out) {
+        Ok(()) => {}
+        Err(fault) => return Err(Trouble::of_run(trace, fault)),
+    }
+    if !measure {
+        return Ok(0);
+    }
+    match print_measures(machine.table(), out) {
+        Ok(()) => Ok(0),
+        Err(DeviceFault) => Err(Trouble::Output),
+    }
 }
 
 /// Plans a map, writes the certificate where one is asked for, and prints the plan.
@@ -107,13 +133,13 @@ fn do_plan<'a, R: Source, C: Sink, W: Sink>(
 {
     let map = map_in(alloc, map, first)?;
     let plan = match cert {
-        Some(file) => plan_with_certificate(alloc, &map, limit, file, certificate)?,
-        None => plan_of(alloc, &map)?,
+        Some(file) => write_certified(alloc, &map, limit, file, certificate)?,
+        None => planned(alloc, &map)?,
     };
-    let Ok(()) = print_plan(plan.entries(), limit, out) else {
-        return Err(Trouble::Output);
-    };
-    Ok(0)
+    match print_plan(plan.entries(), limit, out) {
+        Ok(()) => Ok(0),
+        Err(DeviceFault) => Err(Trouble::Output),
+    }
 }
 
 /// Loads the entries of a map and judges a trace by them.
@@ -131,57 +157,11 @@ fn do_judge<'a, R: Source, W: Sink>(
     requires out { W.failures out.old < 2 ^ 64 - 1 }
 {
     let map = map_in(alloc, map, first)?;
-    let plan = plan_of(alloc, &map)?;
-    let needed = plan.needed();
-    if needed > limit.number() {
-        return Err(Trouble::NeedsEntries {
-            needed: u64::from(needed),
-        });
-    }
-    let bank = Bank::of(plan.entries(), limit);
+    let bank = bank_in(alloc, &map, limit)?;
     match judge_trace(&bank, second, out) {
         Ok(()) => Ok(0),
-        Err(RunFault::Line(line)) => Err(Trouble::NotUnderstood { file: trace, line }),
-        Err(RunFault::TooLong) => Err(Trouble::TooLarge { file: trace }),
-        Err(RunFault::Read) => Err(Trouble::CannotRead { file: trace }),
-        Err(RunFault::Write) => Err(Trouble::Output),
-        Err(RunFault::Memory) => Err(Trouble::Memory),
+        Err(fault) => Err(Trouble::of_run(trace, fault)),
     }
-}
-
-/// What the checker calls a refusal.
-fn name_of(refusal: CheckRefusal) -> &'static str
-    ensures { length result.now ≤ 32 }
-{
-    match refusal {
-        CheckRefusal::BadMagic => "BadMagic",
-        CheckRefusal::BadVersion => "BadVersion",
-        CheckRefusal::Truncated => "Truncated",
-        CheckRefusal::BadTag => "BadTag",
-        CheckRefusal::BadPerm => "BadPerm",
-        CheckRefusal::BadEntry => "BadEntry",
-        CheckRefusal::SubPageEntry => "SubPageEntry",
-        CheckRefusal::TooDeep => "TooDeep",
-        CheckRefusal::LeafNotUniform => "LeafNotUniform",
-        CheckRefusal::WrongLeaf => "WrongLeaf",
-        CheckRefusal::CostTooHigh => "CostTooHigh",
-        CheckRefusal::CostOverflow => "CostOverflow",
-        CheckRefusal::EntriesTooMany => "EntriesTooMany",
-        CheckRefusal::WrongMeaning => "WrongMeaning",
-        CheckRefusal::Trailing => "Trailing",
-        CheckRefusal::BadLimit => "BadLimit",
-    }
-}
-
-/// The line for a certificate that is accepted: of version 2 it names the limit.
-fn accepted(n: u32, bytes: &[u8]) -> Line {
-    let mut reader = Reader::new(bytes);
-    if let Ok(header) = reader.header() {
-        if let Version::Two(limit) = header.version {
-            return accepted_of_line(u64::from(n), u64::from(limit.number()));
-        }
-    }
-    accepted_line(u64::from(n))
 }
 
 /// Checks a certificate against a map, and answers the status 0 for a yes and 1 for a no.
@@ -199,14 +179,27 @@ fn do_check<'a, R: Source, W: Sink>(
 {
     let map = map_in(alloc, map, first)?;
     let bytes = bytes_in(alloc, cert, second, CERT_BYTES)?;
-    let (line, status) = match check(&map, bytes.as_slice()) {
-        Ok(n) => (accepted(n, bytes.as_slice()), 0),
-        Err(refusal) => (refused_line(refusal as u64, name_of(refusal)), 1),
-    };
-    let Ok(()) = write_whole(out, line.as_slice()) else {
-        return Err(Trouble::Output);
-    };
-    Ok(status)
+    let (line, status) = verdict(&map, bytes.as_slice());
+    match write_whole(out, line.as_slice()) {
+        Ok(()) => Ok(status),
+        Err(DeviceFault) => Err(Trouble::Output),
+    }
+}
+
+/// The status of a task, whose trouble is told on standard error.
+fn ended<E: Sink>(done: Result<u8, Trouble<'_>>, err: &mut E) -> u8
+    requires { E.failures err.old < 2 ^ 64 - 1 }
+    ensures status { result ≡ status_of done.entry }
+    ensures quiet { IfOk done.entry (λ _. err.new ≡ err.old) }
+    ensures told { IfErr done.entry (λ trouble. Appends (E.contents err.old) (E.contents err.new) (trouble_text trouble) ⊎ TakesPart (trouble_text trouble) (E.contents err.old) (E.contents err.new)) }
+{
+    match done {
+        Ok(status) => status,
+        Err(trouble) => {
+            let _ = trouble.print(err);
+            trouble.status()
+        }
+    }
 }
 
 /// Does a task: reads its inputs, in their order, from `first` and `second`, writes a certificate to
@@ -229,6 +222,11 @@ pub fn perform<R: Source, C: Sink, W: Sink, E: Sink>(
     requires err { E.failures err.old < 2 ^ 64 - 1 }
 {
     let done = match task {
+        Task::Run {
+            platform,
+            trace,
+            measure,
+        } => do_run(alloc, *platform, *trace, *measure, first, second, out),
         Task::Plan {
             map,
             cert: file,
@@ -239,11 +237,5 @@ pub fn perform<R: Source, C: Sink, W: Sink, E: Sink>(
         }
         Task::Check { map, cert } => do_check(alloc, *map, *cert, first, second, out),
     };
-    match done {
-        Ok(status) => status,
-        Err(trouble) => {
-            let _ = trouble.print(err);
-            trouble.status()
-        }
-    }
+    ended(done, err)
 }

@@ -1,4 +1,6 @@
+mod certificates;
 mod failing;
 mod judged;
+mod machine;
 mod plans;
 mod runs;

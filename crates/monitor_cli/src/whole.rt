@@ -1,6 +1,6 @@
 //! A file that is read whole before anything is made of it.
 
-ghost use Rattle.std.specs.Prelude.{◌≡◌, ℕ, ◌+◌, ◌-◌, ◌^◌, ◌<◌, ◌≤◌, List, IfOk, Err, length};
+ghost use Rattle.std.specs.Prelude.{◌≡◌, ◌≢◌, ℕ, ◌+◌, ◌-◌, ◌^◌, ◌<◌, ◌≤◌, List, IfOk, Err, length};
 ghost use Rattle.std.specs.Io.KnownBytes.{Consumes, IsAtEnd};
 
 use byte_streams::Source;
@@ -20,7 +20,8 @@ pub enum WholeFault {
     Memory,
 }
 
-/// All the bytes of a source that has at most `most`.
+/// All the bytes of a source that has at most `most`. `Read` is answered only where the device failed in
+/// this call, and nothing else where it did.
 pub fn read_whole<R: Source>(
     alloc: Global,
     source: &mut R,
@@ -33,6 +34,7 @@ pub fn read_whole<R: Source>(
     ensures most { IfOk result (λ bytes. length bytes.items ≤ most) }
     ensures large { result ≡ Err WholeFault.TooLarge → (bytes : List ℕ) × Consumes (R.remaining source.old) (R.remaining source.new) bytes × (most < length bytes) }
     ensures failed { result ≡ Err WholeFault.Read → R.failures source.new ≡ R.failures source.old + 1 }
+    ensures well { result ≢ Err WholeFault.Read → R.failures source.new ≡ R.failures source.old }
 {
     let mut bytes = Vec::new(alloc);
     let mut piece = [0; PIECE];

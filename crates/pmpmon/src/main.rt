@@ -53,6 +53,11 @@ fn words_in(rt: &HostRuntime) -> io::Result<Vec<String>> {
 /// The names of a task's inputs and of the certificate that it writes, empty where it has none.
 fn files_of<'a>(task: &Task<'a>) -> (&'a str, &'a str, &'a str) {
     match task {
+        Task::Run {
+            platform,
+            trace,
+            ..
+        } => (*platform, *trace, ""),
         Task::Plan { map, cert, .. } => (*map, "", cert.unwrap_or("")),
         Task::Judge { map, trace, .. } => (*map, *trace, ""),
         Task::Check { map, cert } => (*map, *cert, ""),

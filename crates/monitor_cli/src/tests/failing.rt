@@ -86,3 +86,35 @@ fn a_failing_device_ends_a_command_with_its_text(rt: HostRuntime) -> Result<(), 
     }
     Ok(())
 }
+
+#[test]
+fn a_map_at_fault_is_told_before_the_second_file_is_opened(rt: HostRuntime) -> Result<(), Fail> {
+    let lines: [&[&str]; 2] = [
+        &["pmpmon", "check", "m", "s"],
+        &["pmpmon", "judge", "m", "s"],
+    ];
+    for words in lines {
+        let task = command_of(rt.alloc(), words)?;
+        let mut first = PieceSource::new(b"what\n", 9, None);
+        let mut second = PieceSource::new(b"", 9, Some(1));
+        let mut cert = PieceSink::new(400, None);
+        let mut out = PieceSink::new(3, None);
+        let mut err = PieceSink::new(3, None);
+        let status = perform(
+            rt.alloc(),
+            &task,
+            &mut first,
+            &mut second,
+            &mut cert,
+            &mut out,
+            &mut err,
+        );
+        assert_eq!(rt; status, 2);
+        assert_eq!(rt;
+            err.written(),
+            b"pmpmon: m: line 1 is not understood\n".as_slice()
+        );
+        assert_eq!(rt; second.reads(), 0);
+    }
+    Ok(())
+}

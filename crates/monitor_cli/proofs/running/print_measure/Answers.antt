@@ -1,0 +1,15 @@
+use Rattle.std.proofs.Common.{[], ◌∙◌, refl}
+use Rattle.std.proofs.KnownBytes.{Appends-nil}
+use Rattle.printed_lines.specs.Texts.{measure_text}
+use Rattle.monitor_cli.specs.Tasks.{absent, live}
+use Rattle.monitor_cli.proofs.running.print_measure.Goals as goal
+
+pub returns-in_default-clause-written : goal.returns-in_default-clause-written
+returns-in_default-clause-written g c = let n = c.in_default.ensures.none refl in ([], absent n.0 n.1 n.2, Appends-nil _)
+
+pub returns-clause-written : goal.returns-clause-written
+returns-clause-written g c = (
+  measure_text c.args.id c.in-Some.digest,
+  live c.in-Some.digest c.in-Some.ensures.some,
+  rw (c.as_slice.ensures.value ∙ c.measure_line-line.ensures) at c.in_ok-write_whole.ensures.whole,
+)

@@ -1,0 +1,51 @@
+-- What the parts of a task come to.
+use Rattle.std.specs.Prelude.{◌≡◌, ℕ, ◌+◌, ◌≤◌, List, [], ◌++◌, length, Option}
+use Rattle.std.specs.Io.KnownBytes.{Consumes, IsAtEnd}
+use Rattle.std.specs.Str.{IsUtf8}
+use Rattle.byteorder.specs.Endian.{little_bytes}
+use Rattle.enclave_table.specs.Enclaves.{EnclaveTable}
+use Rattle.enclave_table.specs.Digests.{AnswersWord, RefusesWord}
+use Rattle.enclave_table.specs.Platform.{Layout}
+use Rattle.enclave_table.specs.declared.refusal.Refusal.{Refusal}
+use Rattle.platform_file.specs.Document.{IsPlatformText}
+use Rattle.printed_lines.specs.Texts.{measure_text}
+use Rattle.pmp_encoding.specs.declared.region.Entry.{Entry}
+use Rattle.pmp_match.specs.Meaning.{View, Means}
+
+-- all the bytes of a source, at most so many
+pub record IsWhole (most : ℕ) (before after : Option (List ℕ)) (bytes : List ℕ) : Type 0 where
+  pub consumed : Consumes before after bytes
+  pub at_end : IsAtEnd after
+  pub few : length bytes ≤ most
+
+-- entries that mean a view, and no list of fewer does
+pub record IsFewest (view : View) (entries : List Entry) : Type 0 where
+  pub means : Means entries view
+  pub least : (others : List Entry) → Means others view → length entries ≤ length others
+
+-- the bytes of a file are the platform: they are a text of UTF-8 that is
+pub record IsPlatformFile (bytes : List ℕ) (platform : Layout) : Type 0 where
+  pub text : IsUtf8 bytes
+  pub platform_text : IsPlatformText bytes platform
+
+-- the digest of the enclave of an id, by its four words
+pub record IsDigest (table : EnclaveTable) (id : ℕ) (digest : List ℕ) : Type 0 where
+  pub first : ℕ
+  pub second : ℕ
+  pub third : ℕ
+  pub fourth : ℕ
+  pub first_is : AnswersWord table id 0 first
+  pub second_is : AnswersWord table id 1 second
+  pub third_is : AnswersWord table id 2 third
+  pub fourth_is : AnswersWord table id 3 fourth
+  pub bytes : digest ≡ little_bytes 8 first ++ (little_bytes 8 second ++ (little_bytes 8 third ++ little_bytes 8 fourth))
+
+-- what is printed of an id: the line of its digest, and nothing where no word of it is answered
+pub data IsMeasureText (table : EnclaveTable) (id : ℕ) : List ℕ → Type 0 where
+  live : (digest : List ℕ) → IsDigest table id digest → IsMeasureText table id (measure_text id digest)
+  absent : (k : ℕ) (refusal : Refusal) → RefusesWord table id k refusal → IsMeasureText table id []
+
+-- what is printed of the ids from 1 to n
+pub data AreMeasures (table : EnclaveTable) : ℕ → List ℕ → Type 0 where
+  none : AreMeasures table 0 []
+  more : (n : ℕ) (text last : List ℕ) → AreMeasures table n text → IsMeasureText table (n + 1) last → AreMeasures table (n + 1) (text ++ last)

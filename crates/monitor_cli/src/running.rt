@@ -1,0 +1,114 @@
+//! The parts of `run`: the platform, the machine that boots on it, and the measurements behind its report.
+
+ghost use Rattle.std.specs.Prelude.{◌≡◌, ◌*◌, ◌-◌, ◌^◌, ◌<◌, ◌++◌, ◌⊎◌, ℕ, List, Err, IfErr, IfOk, IfSome, None};
+ghost use Rattle.std.specs.Io.KnownBytes.{Appends};
+ghost use Rattle.std.specs.Str.{IsUtf8};
+ghost use Rattle.byteorder.specs.Endian.{little_bytes};
+ghost use Rattle.enclave_table.specs.Booting.{IsBootFault};
+ghost use Rattle.enclave_table.specs.declared.boot.BootFault.{BootFault};
+ghost use Rattle.enclave_table.specs.declared.refusal.Refusal.{Refusal};
+ghost use Rattle.enclave_table.specs.Digests.{AnswersWord, RefusesWord};
+ghost use Rattle.enclave_table.specs.Platform.{Layout};
+ghost use Rattle.hart_sim.specs.Machines.{KeepsBanksRight, state_of};
+ghost use Rattle.platform_file.specs.Document.{IsPlatformText};
+ghost use Rattle.monitor_cli.specs.Troubles.{boot_trouble};
+ghost use Rattle.monitor_cli.specs.Tasks.{AreMeasures, IsDigest, IsMeasureText, IsPlatformFile};
+
+use crate::trouble::Trouble;
+use byte_streams::{DeviceFault, Sink, write_whole};
+use byteorder::{ByteOrder, LittleEndian};
+use enclave_table::{Platform, Table};
+use hart_sim::Machine;
+use platform_file::platform_of;
+use printed_lines::measure_line;
+use std::alloc::Global;
+use std::str;
+
+/// The most enclaves that are live, and their largest id.
+const ENCLAVES: u64 = 64;
+
+/// The platform that the bytes of a file are.
+pub fn platform_in<'a>(alloc: Global, file: &'a str, bytes: &[u8]) -> Result<Platform, Trouble<'a>>
+    ensures ok { IfOk result (IsPlatformFile bytes.now) }
+    ensures refused { IfErr result (λ trouble. (trouble ≡ Trouble.Memory) ⊎ ((trouble ≡ Trouble.NotAPlatform file.entry) × ((platform : Layout) → IsPlatformFile bytes.now platform → ⊥))) }
+{
+    let Ok(text) = str::from_utf8(bytes) else {
+        return Err(Trouble::NotAPlatform { file });
+    };
+    match platform_of(alloc, text) {
+        Ok(platform) => Ok(platform),
+        Err(fault) => Err(Trouble::of_text(file, fault)),
+    }
+}
+
+/// The machine of a platform.
+pub fn booted<'a>(alloc: Global, platform: Platform) -> Result<Machine, Trouble<'a>>
+    ensures kept { IfOk result (λ machine. KeepsBanksRight machine) }
+    ensures refused { IfErr result (λ trouble. (fault : BootFault) × IsBootFault platform fault × (trouble ≡ boot_trouble fault)) }
+{
+    match Machine::boot(alloc, platform) {
+        Ok(machine) => Ok(machine),
+        Err(fault) => Err(Trouble::of_boot(fault)),
+    }
+}
+
+/// A word of the digest of an enclave, none where it is not live.
+fn word_of(table: &Table, id: u64, k: u64) -> Option<u64>
+    requires { k < 4 }
+    ensures some { IfSome result (AnswersWord table.now.table id k) }
+    ensures none { result ≡ None → (refusal : Refusal) × RefusesWord table.now.table id k refusal }
+{
+    match table.word(id, k) {
+        Ok(word) => Some(word),
+        Err(_) => None,
+    }
+}
+
+/// Four words as bytes, each with its lowest byte first.
+fn bytes_of(first: u64, second: u64, third: u64, fourth: u64) -> [u8; 32]
+    ensures { result ≡ little_bytes 8 first ++ (little_bytes 8 second ++ (little_bytes 8 third ++ little_bytes 8 fourth)) }
+{
+    let mut bytes = [0; 32];
+    LittleEndian::write_u64(&mut bytes[..8], first);
+    LittleEndian::write_u64(&mut bytes[8..16], second);
+    LittleEndian::write_u64(&mut bytes[16..24], third);
+    LittleEndian::write_u64(&mut bytes[24..], fourth);
+    bytes
+}
+
+/// The digest of an enclave, none where it is not live.
+fn digest_of(table: &Table, id: u64) -> Option<[u8; 32]>
+    ensures some { IfSome result (IsDigest table.now.table id) }
+    ensures none { result ≡ None → (k : ℕ) × (refusal : Refusal) × RefusesWord table.now.table id k refusal }
+{
+    let first = word_of(table, id, 0)?;
+    let second = word_of(table, id, 1)?;
+    let third = word_of(table, id, 2)?;
+    let fourth = word_of(table, id, 3)?;
+    Some(bytes_of(first, second, third, fourth))
+}
+
+/// Writes the line of an enclave, where it is live.
+fn print_measure<W: Sink>(table: &Table, id: u64, out: &mut W) -> Result<(), DeviceFault>
+    requires { W.failures out.old < 2 ^ 64 - 1 }
+    ensures written { IfOk result (λ _. (text : List ℕ) × IsMeasureText table.now.table id text × Appends (W.contents out.old) (W.contents out.new) text) }
+    ensures well { IfOk result (λ _. W.failures out.new ≡ W.failures out.old) }
+{
+    let Some(digest) = digest_of(table, id) else {
+        return Ok(());
+    };
+    let line = measure_line(id, &digest);
+    write_whole(out, line.as_slice())?;
+    Ok(())
+}
+
+/// Writes a line for each live enclave, by rising id.
+pub fn print_measures<W: Sink>(table: &Table, out: &mut W) -> Result<(), DeviceFault>
+    requires { W.failures out.old < 2 ^ 64 - 1 }
+    ensures written { IfOk result (λ _. (text : List ℕ) × AreMeasures table.now.table 64 text × Appends (W.contents out.old) (W.contents out.new) text) }
+{
+    for i in 0..ENCLAVES {
+        print_measure(table, i + 1, out)?;
+    }
+    Ok(())
+}
