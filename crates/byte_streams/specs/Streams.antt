@@ -1,5 +1,5 @@
 -- What devices tell of their failures.
-use Rattle.std.specs.Prelude.{◌≡◌, ◌⊎◌, ℕ, ◌+◌, ◌^◌, ◌%◌, ◌<◌, ◌==◌, ◌&&◌, nat_lt, if◌then◌else◌, List, length, Result, MatchResult}
+use Rattle.std.specs.Prelude.{◌≡◌, ◌⊎◌, ℕ, ◌+◌, ◌^◌, ◌%◌, ◌==◌, ◌&&◌, nat_lt, if◌then◌else◌, List, length, Result, MatchResult}
 use Rattle.byte_streams.specs.declared.streams.Counted.{Counted}
 use Rattle.byte_streams.specs.declared.streams.DeviceFault.{DeviceFault}
 

@@ -12,6 +12,7 @@
 #![tactic(auto)]
 
 mod event;
+mod plain;
 #[cfg(test)]
 mod tests;
 mod trace;

@@ -6,3 +6,4 @@ pub mod InputLines
 pub mod WordsOfText
 pub mod Looped
 pub mod Mapped
+mod FirstLf

@@ -1,5 +1,5 @@
 -- What is told of lines in one state is told in another that it is mapped to.
-use Rattle.std.proofs.Common.{ℕ, ◌⊎◌, inl, inr, List, ◌++◌, ◌∷◌, length, Option, None, Some}
+use Rattle.std.proofs.Common.{ℕ, inl, inr, List, ◌++◌, Option}
 use Rattle.text_lines.specs.LineLoop.{Meaning, Does, DoesAll, DoesLines, ComesTo, StopsAt, StopsReading, StopsTooLong, StopsWriting, StopsForMemory}
 use Rattle.text_lines.specs.LineLoop.{none, silent, answer}
 

@@ -6,7 +6,7 @@ ghost use Rattle.std.specs.Io.KnownBytes.{Consumes, Keeps, IsAtEnd};
 use byte_streams::{DeviceFault, Source};
 use std::marker::Model;
 
-pub(crate) const CAPACITY: usize = 4096;
+pub(crate) const CAPACITY: usize = 65536;
 
 #[derive(Drop)]
 pub(crate) struct Buffer {
@@ -22,7 +22,7 @@ impl Model for Buffer {
 
     ghost view = { λ b. drop b.start (take b.end b.bytes) };
 
-    ghost invariant = { λ b. (b.start ≤ b.end) × (b.end ≤ 4096) };
+    ghost invariant = { λ b. (b.start ≤ b.end) × (b.end ≤ 65536) };
 }
 
 impl Buffer {
@@ -38,7 +38,7 @@ impl Buffer {
 
     pub(crate) fn as_slice(&self) -> &[u8]
         ensures value { result.now ≡ self.now }
-        ensures most { length self.now ≤ 4096 }
+        ensures most { length self.now ≤ 65536 }
     {
         &self.bytes[self.start..self.end]
     }
@@ -58,7 +58,7 @@ impl Buffer {
         source: &mut R,
         most: usize,
     ) -> Result<usize, DeviceFault>
-        requires room { length self.old < 4096 }
+        requires room { length self.old < 65536 }
         requires some { 0 < most }
         requires failures { R.failures source.old < 2 ^ 64 - 1 }
         ensures read { MatchResult result

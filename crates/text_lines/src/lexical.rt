@@ -57,7 +57,7 @@ fn blanks_len(text: &[u8]) -> usize
 }
 
 /// How many bytes a text has before its first blank.
-fn word_len(text: &[u8]) -> usize
+pub fn word_len(text: &[u8]) -> usize
     ensures within { result ≤ length text.now }
     ensures len { result ≡ position_or_len is_blank text.now }
 {

@@ -1,10 +1,12 @@
-//! The lines of an input, and their words and numbers.
+//! The lines of an input: their words and numbers, and the one loop that interprets them and writes their answers.
 //!
 //! A [`LineReader`] hands out the lines of a source through one buffer; [`Words`] are those of a line without its comment,
-//! and [`number`] is what one of them spells. Nothing here takes memory.
+//! and [`number`] is what one of them spells. [`interpret_lines`] reads line by line, lets an [`Interpreter`] do what each
+//! says, and writes its answer before it reads the next. Nothing here takes memory.
 //!
 //! For the layer above: the lines of a reader are those of the input, line by line; the words of a line are the runs of
-//! bytes between its blanks; a number is read exactly where it is below 2^64.
+//! bytes between its blanks; a number is read exactly where it is below 2^64. However the loop ends, its clauses tie what was
+//! read to the lines that were interpreted, in their order, and to the answers that were written.
 //!
 //! ```text
 //! let mut lines = LineReader::new();
@@ -32,7 +34,7 @@ mod written;
 
 pub use fault::{ReadFault, RunFault};
 pub use laws::{lines_law, words_law};
-pub use lexical::{NotUnderstood, Words, number, numeral, permission};
+pub use lexical::{NotUnderstood, Words, number, numeral, permission, word_len};
 pub use line_loop::{Interpreter, Refusal, interpret_lines};
 pub use lines::LineReader;
 pub use written::{Line, push_decimal, push_hex, push_text};

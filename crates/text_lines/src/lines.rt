@@ -7,6 +7,7 @@ ghost use Rattle.text_lines.specs.Lines.{without_return, EndsInput};
 use crate::buffer::{Buffer, CAPACITY};
 use crate::fault::ReadFault;
 use byte_streams::Source;
+use memchr::memchr;
 
 /// How many bytes may come in all.
 const LIMIT: u64 = 1 << 40;
@@ -19,12 +20,7 @@ fn line_len(bytes: &[u8]) -> usize
     ensures within { result ≤ length bytes.now }
     ensures len { result ≡ position_or_len (λ b. b == 10) bytes.now }
 {
-    for (i, b) in bytes.iter().enumerate() {
-        if *b == b'\n' {
-            return i;
-        }
-    }
-    bytes.len()
+    memchr(b'\n', bytes).unwrap_or(bytes.len())
 }
 
 /// How many bytes a line has without the CR at its end.
@@ -145,7 +141,7 @@ impl LineReader {
     /// Reads some bytes behind those that have come, and says whether there were any.
     fn read_more<R: Source>(&mut self, source: &mut R) -> Result<bool, ReadFault>
         requires taken { self.old.taken ≡ 0 }
-        requires room { length self.old.buffer < 4096 }
+        requires room { length self.old.buffer < 65536 }
         requires failures { R.failures source.old < 2 ^ 64 - 1 }
         ensures read { (bytes : List ℕ) × ReadsMore result self.old self.new (R.remaining source.old) (R.remaining source.new) bytes }
         ensures failures { FailsOnRead result (R.failures source.old) (R.failures source.new) }

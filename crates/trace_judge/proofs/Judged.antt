@@ -1,5 +1,5 @@
 -- The bank judges every line alike, so that no state is left to tell of.
-use Rattle.std.proofs.Common.{◌≡◌, ◌∙◌, ℕ, List, Option, ap}
+use Rattle.std.proofs.Common.{◌≡◌, ◌∙◌, ap}
 use Rattle.std.specs.Prelude.{Result, Ok, Err, IfOk}
 use Rattle.pmp_encoding.specs.declared.bank.Bank.{Bank}
 use Rattle.text_lines.specs.declared.fault.RunFault.{RunFault}

@@ -1,4 +1,4 @@
-use Rattle.std.proofs.Common.{◌≡◌, ◌∙◌, ℕ, List, ◌∷◌, Option, Some, None, option_map, refl}
+use Rattle.std.proofs.Common.{◌≡◌, ◌∙◌, ℕ, List, ◌∷◌, Option, Some, None, option_map, refl, sym}
 use Rattle.hart_trace.specs.declared.event.Event.{Event}
 use Rattle.text_lines.specs.Words.{split_words, words_of}
 use Rattle.hart_trace.specs.Events.{event_of, hart_of, meaning_of}
@@ -14,4 +14,8 @@ named harts hart line text rest first answer words split which is =
     is ∙ on_that_hart hart (event_of (split_words rest)) ∙ rw (← words, split, ← which) refl
 
 pub returns-in-Some-hart_of : goal.returns-in-Some-hart_of
-returns-in-Some-hart_of c = named c.args.harts c.in-Some-hart_of.hart c.args.line.now c.in_ok-words.words.rest.now c.next_word.new.self.rest.now c.in-Some.first.now _ c.in_ok-words.ensures c.in-Some.ensures.word c.in-Some-hart_of.ensures c.on_hart.ensures
+returns-in-Some-hart_of c = named c.args.harts c.in-Some-hart_of.hart c.args.line.now c.in_ok-words.words.rest.now c.next_word.new.self.rest.now c.in-Some-next_word.first.now _ c.in_ok-words.ensures c.in-Some-next_word.ensures.word c.in-Some-hart_of.ensures c.on_hart.ensures
+
+-- a plain line is understood as any other
+pub returns-in-Some : goal.returns-in-Some
+returns-in-Some c = sym (c.in-Some.ensures c.args.harts)

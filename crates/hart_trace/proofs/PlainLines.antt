@@ -1,0 +1,151 @@
+-- Plain lines say what the grammar of traces says.
+use Rattle.std.proofs.Common.{◌≡◌, ◌⊎◌, inl, inr, ◌∙◌, ℕ, ◌+◌, ◌-◌, ◌^◌, Bool, true, false, not, ◌&&◌, List, [], ◌∷◌, ◌++◌, length, take, drop, Option, Some, None, cond, suc, refl, ap, sym, arith, append-nil}
+use Rattle.std.specs.Prelude.{◌==◌, nat_lt, IfSome}
+use Rattle.std.specs.List.{list_all, position_or_len}
+use Rattle.std.proofs.lemmas.Bool.{and_parts, and_from}
+use Rattle.std.proofs.lemmas.Bool.Decides.{nat_tests}
+use Rattle.std.proofs.lemmas.Grind.{common_steps}
+use Rattle.std.proofs.lemmas.List.{take-append-drop}
+use Rattle.pmp_match.specs.declared.access.Mode.{Mode}
+use Rattle.pmp_match.specs.declared.access.Kind.{Kind}
+use Rattle.pmp_match.specs.declared.access.Access.{Access}
+use Rattle.pmp_match.specs.Kinds.{has_size}
+use Rattle.text_lines.specs.Words.{is_allowed, is_blank, content_of, split_words, words_of}
+use Rattle.text_lines.specs.Numbers.{digit_of, is_numeral, numeral_of, number_of, value_of}
+use Rattle.text_lines.proofs.WordsOfText.{word_split}
+use Rattle.text_lines.proofs.Splitting.{rest_from}
+use Rattle.hart_trace.specs.declared.event.Event.{Event}
+use Rattle.hart_trace.specs.declared.event.Event.TheVariants as events
+use Rattle.hart_trace.specs.Events.{access_of, event_of, hart_of, meaning_of, mode_of, sized}
+use Rattle.hart_trace.specs.Plain.{Starts, is_letter, is_plain, keyword}
+
+-- a hexadecimal digit is a letter
+hex_letter : (b : ℕ) → nat_lt (digit_of b) 16 ≡ true → is_letter b ≡ true
+hex_letter b h = grind (arith, nat_tests, common_steps, h)
+
+hex_letters : (digits : List ℕ) → list_all (λ b. nat_lt (digit_of b) 16) digits ≡ true → list_all is_letter digits ≡ true
+hex_letters [] h = refl
+hex_letters (b ∷ digits) h =
+    let both = and_parts (nat_lt (digit_of b) 16) (list_all (λ b. nat_lt (digit_of b) 16) digits) h in
+    and_from _ _ (hex_letter b both.0) (hex_letters digits both.1)
+
+numeral_letters : (digits : List ℕ) (value : ℕ) → numeral_of 16 digits ≡ Some value → (list_all is_letter digits ≡ true)
+numeral_letters digits value h = hex_letters digits (by_test (is_numeral 16 digits) (nat_lt (value_of 16 digits) (2 ^ 64)) refl h)
+  where
+    by_test : (t u : Bool) → is_numeral 16 digits ≡ t → cond (t && u) (Some (value_of 16 digits)) None ≡ Some value → list_all (λ b. nat_lt (digit_of b) 16) digits ≡ true
+    by_test true u e k = (and_parts (nat_lt 0 (length digits)) (list_all (λ b. nat_lt (digit_of b) 16) digits) e).1
+    by_test false u e k = cc
+
+-- letters are no blanks, and plain
+letters_word : (word : List ℕ) → list_all is_letter word ≡ true → list_all (λ b. not (is_blank b)) word ≡ true
+letters_word [] h = refl
+letters_word (b ∷ word) h =
+    let both = and_parts (is_letter b) (list_all is_letter word) h in
+    and_from _ _ (and_parts (is_plain b) (not (is_blank b)) both.0).1 (letters_word word both.1)
+
+letters_plain : (word rest : List ℕ) → list_all is_letter word ≡ true → list_all is_plain rest ≡ true → list_all is_plain (word ++ rest) ≡ true
+letters_plain [] rest h k = k
+letters_plain (b ∷ word) rest h k =
+    let both = and_parts (is_letter b) (list_all is_letter word) h in
+    and_from _ _ (and_parts (is_plain b) (not (is_blank b)) both.0).0 (letters_plain word rest both.1 k)
+
+-- a word of letters, and the words behind the blank after it
+letters_split : (b : ℕ) (word rest : List ℕ) → list_all is_letter (b ∷ word) ≡ true → split_words ((b ∷ word) ++ 32 ∷ rest) ≡ (b ∷ word) ∷ split_words rest
+letters_split b word rest h = word_split is_blank (b ∷ word) (32 ∷ rest) (omega arith, letters_word (b ∷ word) h) refl
+
+letters_last : (b : ℕ) (word : List ℕ) → list_all is_letter (b ∷ word) ≡ true → split_words (b ∷ word) ≡ (b ∷ word) ∷ []
+letters_last b word h = ap split_words (sym (append-nil (b ∷ word))) ∙ word_split is_blank (b ∷ word) [] (omega arith, letters_word (b ∷ word) h) tt
+
+-- an address that may have words behind it
+address_word : (digits : List ℕ) → list_all is_letter digits ≡ true → list_all is_letter (48 ∷ 120 ∷ digits) ≡ true
+address_word digits h = h
+
+-- the words of an access, from its mode on
+start_words : (m s : ℕ) (behind : List ℕ) → is_letter m ≡ true → is_letter s ≡ true → split_words (m ∷ 32 ∷ s ∷ 32 ∷ 48 ∷ 120 ∷ behind) ≡ (m ∷ []) ∷ (s ∷ []) ∷ split_words (48 ∷ 120 ∷ behind)
+start_words m s behind hm hs = letters_split m [] (s ∷ 32 ∷ 48 ∷ 120 ∷ behind) (and_from _ _ hm refl) ∙ ap (λ ws. (m ∷ []) ∷ ws) (letters_split s [] (48 ∷ 120 ∷ behind) (and_from _ _ hs refl))
+
+-- the access that these words say
+access_said : (kind : Kind) (m s : List ℕ) (digits : List ℕ) (words : List (List ℕ)) (mode : Mode) (size address : ℕ) (access : Access) → mode_of m ≡ Some mode → number_of s ≡ Some size → numeral_of 16 digits ≡ Some address → Some access ≡ sized mode kind size address (has_size kind size) refl → access_of kind (m ∷ s ∷ (48 ∷ 120 ∷ digits) ∷ words) ≡ Some (access, words)
+access_said kind m s digits words mode size address access em es ea is = rw (em, es, ea, ← is) refl
+
+start_plain : (m s : ℕ) (behind : List ℕ) → is_letter m ≡ true → is_letter s ≡ true → list_all is_plain behind ≡ true → list_all is_plain (m ∷ 32 ∷ s ∷ 32 ∷ 48 ∷ 120 ∷ behind) ≡ true
+start_plain m s behind hm hs h = and_from _ _ (and_parts (is_plain m) (not (is_blank m)) hm).0 (and_from _ _ (and_parts (is_plain s) (not (is_blank s)) hs).0 h)
+
+-- a fetch or a load
+pub look_words : (kind : Kind) (text behind : List ℕ) (mode : Mode) (size address : ℕ) (access : Access) → Starts text mode size behind → Some address ≡ numeral_of 16 behind → Some access ≡ sized mode kind size address (has_size kind size) refl → access_of kind (split_words text) ≡ Some (access, [])
+look_words kind text behind mode size address access st ea is =
+    let letters = numeral_letters behind address (sym ea) in
+    ap (access_of kind) (ap split_words st.2 ∙ start_words st.0 st.1 behind st.5 st.6 ∙ ap (λ ws. (st.0 ∷ []) ∷ (st.1 ∷ []) ∷ ws) (letters_last 48 (120 ∷ behind) (address_word behind letters)))
+    ∙ access_said kind (st.0 ∷ []) (st.1 ∷ []) behind [] mode size address access st.3 st.4 (sym ea) is
+
+pub look_if : (kind : Kind) (text behind : List ℕ) (mode : Mode) (size address : ℕ) (r : Option Access) → Starts text mode size behind → Some address ≡ numeral_of 16 behind → r ≡ sized mode kind size address (has_size kind size) refl → IfSome r (λ access. access_of kind (split_words text) ≡ Some (access, []))
+look_if kind text behind mode size address None st ea is = tt
+look_if kind text behind mode size address (Some access) st ea is = look_words kind text behind mode size address access st ea is
+
+pub if_some : {A B : Type 0} (r : Option A) → B → IfSome r (λ _. B)
+if_some None b = tt
+if_some (Some a) b = b
+
+pub look_plain : (text behind : List ℕ) (mode : Mode) (size address : ℕ) → Starts text mode size behind → Some address ≡ numeral_of 16 behind → list_all is_plain text ≡ true
+look_plain text behind mode size address st ea =
+    let letters = numeral_letters behind address (sym ea) in
+    ap (list_all is_plain) st.2 ∙ start_plain st.0 st.1 behind st.5 st.6 (ap (list_all is_plain) (sym (append-nil behind)) ∙ letters_plain behind [] letters refl)
+
+-- a store, its address before the blank
+pub store_words : (text address digits : List ℕ) (mode : Mode) (size at : ℕ) (value : ℕ) (access : Access) → Starts text mode size (address ++ 32 ∷ 48 ∷ 120 ∷ digits) → Some at ≡ numeral_of 16 address → Some value ≡ numeral_of 16 digits → Some access ≡ sized mode Kind.Store size at (has_size Kind.Store size) refl → access_of Kind.Store (split_words text) ≡ Some (access, (48 ∷ 120 ∷ digits) ∷ [])
+store_words text address digits mode size at value access st ea ev is =
+    let letters = numeral_letters address at (sym ea) in
+    let also = numeral_letters digits value (sym ev) in
+    let words : split_words (48 ∷ 120 ∷ (address ++ 32 ∷ 48 ∷ 120 ∷ digits)) ≡ (48 ∷ 120 ∷ address) ∷ (48 ∷ 120 ∷ digits) ∷ [] =
+    letters_split 48 (120 ∷ address) (48 ∷ 120 ∷ digits) (address_word address letters) ∙ ap (λ ws. (48 ∷ 120 ∷ address) ∷ ws) (letters_last 48 (120 ∷ digits) (address_word digits also)) in
+    ap (access_of Kind.Store) (ap split_words st.2 ∙ start_words st.0 st.1 (address ++ 32 ∷ 48 ∷ 120 ∷ digits) st.5 st.6 ∙ ap (λ ws. (st.0 ∷ []) ∷ (st.1 ∷ []) ∷ ws) words)
+    ∙ access_said Kind.Store (st.0 ∷ []) (st.1 ∷ []) address ((48 ∷ 120 ∷ digits) ∷ []) mode size at access st.3 st.4 (sym ea) is
+
+pub store_plain : (text address digits : List ℕ) (mode : Mode) (size at : ℕ) (value : ℕ) → Starts text mode size (address ++ 32 ∷ 48 ∷ 120 ∷ digits) → Some at ≡ numeral_of 16 address → Some value ≡ numeral_of 16 digits → list_all is_plain text ≡ true
+store_plain text address digits mode size at value st ea ev =
+    let letters = numeral_letters address at (sym ea) in
+    let also = numeral_letters digits value (sym ev) in
+    let last : list_all is_plain digits ≡ true = ap (list_all is_plain) (sym (append-nil digits)) ∙ letters_plain digits [] also refl in
+    ap (list_all is_plain) st.2 ∙ start_plain st.0 st.1 (address ++ 32 ∷ 48 ∷ 120 ∷ digits) st.5 st.6 (letters_plain address (32 ∷ 48 ∷ 120 ∷ digits) letters last)
+
+one_more : (n : ℕ) → 1 + n ≡ suc n
+one_more n = omega arith
+
+-- plain bytes have no comment and may stand there
+plain_content : (line : List ℕ) → list_all is_plain line ≡ true → content_of line ≡ line
+plain_content [] h = refl
+plain_content (b ∷ line) h =
+    let both = and_parts (is_plain b) (list_all is_plain line) h in
+    let no : (b == 35) ≡ false = grind (arith, nat_tests, common_steps, (and_parts (is_allowed b) (not (b == 35)) both.0).1) in
+    rw (no, one_more (position_or_len (λ c. c == 35) line)) (ap (λ xs. b ∷ xs) (plain_content line both.1))
+
+plain_allowed : (line : List ℕ) → list_all is_plain line ≡ true → list_all is_allowed line ≡ true
+plain_allowed [] h = refl
+plain_allowed (b ∷ line) h =
+    let both = and_parts (is_plain b) (list_all is_plain line) h in
+    and_from _ _ (and_parts (is_allowed b) (not (b == 35)) both.0).0 (plain_allowed line both.1)
+
+-- a plain line that begins with a word of letters that names no hart
+pub line_says : (b : ℕ) (word rest : List ℕ) (event : Event) (harts : ℕ) → list_all is_letter (b ∷ word) ≡ true → list_all is_plain rest ≡ true → hart_of harts (b ∷ word) ≡ None → event_of ((b ∷ word) ∷ split_words rest) ≡ Some event → meaning_of harts ((b ∷ word) ++ 32 ∷ rest) ≡ Some (Some (0, event))
+line_says b word rest event harts letters plain none is =
+    let line = (b ∷ word) ++ 32 ∷ rest in
+    let all : list_all is_plain line ≡ true = letters_plain (b ∷ word) (32 ∷ rest) letters plain in
+    let content : content_of line ≡ line = plain_content line all in
+    let words : words_of line ≡ Some ((b ∷ word) ∷ split_words rest) = rw (content, plain_allowed line all) (ap (λ ws. Some ws) (letters_split b word rest letters)) in
+    rw (words, none, is) refl
+
+-- a plain line is that access
+pub look_says : (kind : Kind) (rest : List ℕ) (access : Access) (harts : ℕ) → (kind ≡ Kind.Fetch) ⊎ (kind ≡ Kind.Load) → list_all is_plain rest ≡ true → access_of kind (split_words rest) ≡ Some (access, []) → meaning_of harts (keyword kind ++ 32 ∷ rest) ≡ Some (Some (0, events.Access access 0))
+look_says Kind.Load rest access harts other plain e = line_says 108 (111 ∷ 97 ∷ 100 ∷ []) rest (events.Access access 0) harts refl plain refl (rw e refl)
+look_says Kind.Fetch rest access harts other plain e = line_says 102 (101 ∷ 116 ∷ 99 ∷ 104 ∷ []) rest (events.Access access 0) harts refl plain refl (rw e refl)
+look_says Kind.Store rest access harts (inl f) plain e = cc
+look_says Kind.Store rest access harts (inr f) plain e = cc
+
+pub store_says : (rest : List ℕ) (access : Access) (word : List ℕ) (value : ℕ) (harts : ℕ) → list_all is_plain rest ≡ true → access_of Kind.Store (split_words rest) ≡ Some (access, word ∷ []) → number_of word ≡ Some value → meaning_of harts (keyword Kind.Store ++ 32 ∷ rest) ≡ Some (Some (0, events.Access access value))
+store_says rest access word value harts plain e f = line_says 115 (116 ∷ 111 ∷ 114 ∷ 101 ∷ []) rest (events.Access access value) harts refl plain refl (rw (e, f) refl)
+
+-- the address of a store is cut before a blank
+pub cut : (text behind digits : List ℕ) (mode : Mode) (size end : ℕ) → Starts text mode size behind → take (length behind - end) (drop end behind) ≡ 32 ∷ 48 ∷ 120 ∷ digits → Starts text mode size (take end behind ++ 32 ∷ 48 ∷ 120 ∷ digits)
+cut text behind digits mode size end st e =
+    let whole : behind ≡ take end behind ++ 32 ∷ 48 ∷ 120 ∷ digits = sym (take-append-drop end behind) ∙ ap (λ xs. take end behind ++ xs) (sym (rest_from end behind) ∙ e) in
+    (st.0, st.1, st.2 ∙ ap (λ xs. st.0 ∷ 32 ∷ st.1 ∷ 32 ∷ 48 ∷ 120 ∷ xs) whole, st.3, st.4, st.5, st.6)

@@ -1,0 +1,114 @@
+//! The accesses of a trace in their plainest spelling, as `load s 8 0x80000ff8`: one space between two words, the size a
+//! digit, the numbers hexadecimal, nothing else. Most lines of a long trace are such, and they are read in one pass, where
+//! the parser of all lines goes over each line several times. What is not plain is left to it.
+
+ghost use Rattle.std.specs.Prelude.{◌≡◌, ℕ, List, ◌∷◌, ◌++◌, [], Some, None, IfSome, true};
+ghost use Rattle.std.specs.List.{list_all};
+ghost use Rattle.text_lines.specs.Words.{split_words};
+ghost use Rattle.text_lines.specs.Numbers.{number_of};
+ghost use Rattle.hart_trace.specs.Events.{access_of, meaning_of, mode_of};
+ghost use Rattle.hart_trace.specs.Plain.{Starts, is_letter, is_plain, keyword};
+
+use crate::event::Event;
+use crate::trace::sized;
+use pmp_match::{Access, Kind, Mode};
+use text_lines::{numeral, word_len};
+
+fn plain_mode(byte: u8) -> Option<Mode>
+    ensures mode { IfSome result (λ mode. mode_of (byte ∷ []) ≡ Some mode) }
+    ensures letter { IfSome result (λ _. is_letter byte ≡ true) }
+{
+    match byte {
+        b's' => Some(Mode::Supervisor),
+        b'u' => Some(Mode::User),
+        _ => None,
+    }
+}
+
+fn plain_size(byte: u8) -> Option<u64>
+    ensures size { IfSome result (λ size. number_of (byte ∷ []) ≡ Some size) }
+    ensures letter { IfSome result (λ _. is_letter byte ≡ true) }
+{
+    match byte {
+        b'1' => Some(1),
+        b'2' => Some(2),
+        b'4' => Some(4),
+        b'8' => Some(8),
+        _ => None,
+    }
+}
+
+/// The mode and size of an access, and what stands behind the `0x` of its address.
+fn plain_start(rest: &[u8]) -> Option<(Mode, u64, &[u8])>
+    ensures { IfSome result (λ start. Starts rest.now start.0 start.1 start.2.now) }
+{
+    let [mode, b' ', size, b' ', b'0', b'x', digits @ ..] = rest else {
+        return None;
+    };
+    let mode = plain_mode(*mode)?;
+    let size = plain_size(*size)?;
+    Some((mode, size, digits))
+}
+
+/// A fetch or a load.
+fn plain_look(kind: Kind, rest: &[u8]) -> Option<Access>
+    ensures access { IfSome result (λ access. access_of kind (split_words rest.now) ≡ Some (access, [])) }
+    ensures plain { IfSome result (λ _. list_all is_plain rest.now ≡ true) }
+{
+    let (mode, size, digits) = plain_start(rest)?;
+    let address = numeral(digits, 16)?;
+    sized(mode, kind, size, address)
+}
+
+/// What stands behind ` 0x`.
+fn behind_blank(text: &[u8]) -> Option<&[u8]>
+    ensures { IfSome result (λ digits. text.now ≡ 32 ∷ 48 ∷ 120 ∷ digits.now) }
+{
+    match text {
+        [b' ', b'0', b'x', digits @ ..] => Some(digits),
+        _ => None,
+    }
+}
+
+/// A store and its value.
+fn plain_store(rest: &[u8]) -> Option<(Access, u64)>
+    ensures access { IfSome result (λ store. (word : List ℕ) × (access_of Kind.Store (split_words rest.now) ≡ Some (store.0, word ∷ [])) × (number_of word ≡ Some store.1)) }
+    ensures plain { IfSome result (λ _. list_all is_plain rest.now ≡ true) }
+{
+    let (mode, size, behind) = plain_start(rest)?;
+    let end = word_len(behind);
+    let address = numeral(&behind[..end], 16)?;
+    let digits = behind_blank(&behind[end..])?;
+    let value = numeral(digits, 16)?;
+    let access = sized(mode, Kind::Store, size, address)?;
+    Some((access, value))
+}
+
+/// What stands behind the keyword of an access and its blank.
+fn behind_keyword(line: &[u8]) -> Option<(Kind, &[u8])>
+    ensures { IfSome result (λ said. line.now ≡ keyword said.0 ++ 32 ∷ said.1.now) }
+{
+    match line {
+        [b'l', b'o', b'a', b'd', b' ', rest @ ..] => Some((Kind::Load, rest)),
+        [b's', b't', b'o', b'r', b'e', b' ', rest @ ..] => Some((Kind::Store, rest)),
+        [b'f', b'e', b't', b'c', b'h', b' ', rest @ ..] => Some((Kind::Fetch, rest)),
+        _ => None,
+    }
+}
+
+/// The event of a plain line, which names no hart. None says nothing of the line.
+pub(crate) fn plain_event(line: &[u8]) -> Option<Event>
+    ensures { IfSome result (λ event. (harts : ℕ) → meaning_of harts line.now ≡ Some (Some (0, event))) }
+{
+    let (kind, rest) = behind_keyword(line)?;
+    match kind {
+        Kind::Store => {
+            let (access, value) = plain_store(rest)?;
+            Some(Event::Access(access, value))
+        }
+        Kind::Fetch | Kind::Load => {
+            let access = plain_look(kind, rest)?;
+            Some(Event::Access(access, 0))
+        }
+    }
+}
