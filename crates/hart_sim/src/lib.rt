@@ -22,19 +22,26 @@
 //! The streams, the lines and the events of traces are handed on from the crates below.
 #![tactic(auto)]
 
+mod access;
 mod acting;
+mod answers;
 mod booting;
+mod crossing;
+mod ecall;
 mod hardware;
 mod laws;
 mod machine;
 mod memory;
 mod moving;
 mod operating;
+mod ownership;
 mod parts;
 mod refusing;
+mod reload;
 mod reply;
 mod report;
 mod running;
+mod step;
 #[cfg(test)]
 mod tests;
 
