@@ -1,3 +1,5 @@
+mod ways;
+
 use crate::entries::Entries;
 use crate::sweep::means;
 use crate::{CheckRefusal, check};
@@ -40,133 +42,12 @@ fn lower_half_map(alloc: Global) -> Result<PermissionMap, MapFault> {
 fn seven_pages_map(alloc: Global) -> Result<PermissionMap, MapFault> {
     map_of(alloc, 0x80208, 7, Perm::ReadExecute)
 }
-
-/// A tree that is split down to one page: blocks of fewer pages than `2^near` beside the way have one permission,
-/// larger ones have none.
-#[derive(Clone, Copy)]
-struct Way {
-    page: u64,
-    perm: Perm,
-    near: u32,
-    near_perm: Perm,
-}
-
-impl Way {
-    fn beside(self, log2: u32) -> Perm {
-        if log2 < self.near {
-            self.near_perm
-        } else {
-            Perm::NoAccess
-        }
-    }
-
-    /// The costs of the block of 2^log2 pages that holds the page.
-    fn costs(self, log2: u32) -> [u32; 6] {
-        if log2 == 0 {
-            return leaf_costs(self.perm);
-        }
-        let half = log2 - 1;
-        joined(self.costs(half), leaf_costs(self.beside(half)))
-    }
-
-    /// Writes the node of that block.
-    fn write(self, out: &mut Vec<u8>, log2: u32) -> Result<(), AllocError> {
-        if log2 == 0 || log2 > 44 {
-            return write_leaf(out, self.perm);
-        }
-        out.push(1)?;
-        for cost in self.costs(log2) {
-            out.extend_from_slice(cost.to_le_bytes().as_slice())?;
-        }
-        let half = log2 - 1;
-        if (self.page >> half) % 2 == 0 {
-            self.write(out, half)?;
-            write_leaf(out, self.beside(half))
-        } else {
-            write_leaf(out, self.beside(half))?;
-            self.write(out, half)
-        }
-    }
-}
-
-fn write_leaf(out: &mut Vec<u8>, perm: Perm) -> Result<(), AllocError> {
-    out.push(0)?;
-    out.push(perm.bits())?;
-    Ok(())
-}
-
-fn leaf_costs(perm: Perm) -> [u32; 6] {
-    let mut costs = [1; 6];
-    costs[perm as usize] = 0;
-    costs
-}
-
-fn joined(lower: [u32; 6], upper: [u32; 6]) -> [u32; 6] {
-    let mut sums = [0u32; 6];
-    let mut least = u32::MAX;
-    for i in 0..6 {
-        sums[i] = lower[i].saturating_add(upper[i]);
-        least = least.min(sums[i]);
-    }
-    let mut costs = [0u32; 6];
-    for i in 0..6 {
-        costs[i] = sums[i].min(least.saturating_add(1));
-    }
-    costs
-}
-
-/// A certificate with these entries and the tree of a way.
-fn certificate(alloc: Global, pairs: &[(u8, u64)], way: Way) -> Result<Vec<u8>, AllocError> {
-    let mut out = Vec::new(alloc);
-    out.extend_from_slice(b"PMPC\x01".as_slice())?;
-    out.push((pairs.len() % 256) as u8)?;
-    out.extend_from_slice(b"\x00\x00\x00".as_slice())?;
-    for (cfg, address) in pairs {
-        out.push(*cfg)?;
-        out.extend_from_slice(address.to_le_bytes().as_slice())?;
-    }
-    way.write(&mut out, 44)?;
-    Ok(out)
-}
-
-fn seven_pages_way() -> Way {
-    Way {
-        page: 0x8020F,
-        perm: Perm::NoAccess,
-        near: 3,
-        near_perm: Perm::ReadExecute,
-    }
-}
-
-const HOLE: (u8, u64) = (0x18, 0x2008_3DFF);
-
-const EIGHT_PAGES: (u8, u64) = (0x1D, 0x2008_2FFF);
-
-fn seven_pages(alloc: Global) -> Result<Vec<u8>, AllocError> {
-    certificate(alloc, [HOLE, EIGHT_PAGES].as_slice(), seven_pages_way())
-}
-
 /// The number of the refusal, or 0 for a yes.
 fn code(map: &PermissionMap, bytes: &[u8]) -> u8 {
     match check(map, bytes) {
         Ok(_) => 0,
         Err(refusal) => refusal as u8,
     }
-}
-
-/// The number for the bytes with one of them changed.
-fn code_with(
-    alloc: Global,
-    map: &PermissionMap,
-    bytes: &[u8],
-    place: usize,
-    byte: u8,
-) -> Result<u8, AllocError> {
-    let mut changed = Vec::from_slice(alloc, bytes)?;
-    if let Some(there) = changed.get_mut(place) {
-        *there = byte;
-    }
-    Ok(code(map, changed.as_slice()))
 }
 
 #[test]
@@ -303,80 +184,6 @@ fn of_all_changes_of_one_byte_nine_are_right(rt: HostRuntime) -> Result<(), Fail
         check(&map, second_version.as_slice()),
         Err(CheckRefusal::BadLimit)
     );
-    Ok(())
-}
-
-#[test]
-fn one_page_needs_one_entry(rt: HostRuntime) -> Result<(), Fail> {
-    let map = map_of(rt.alloc(), 0x80000, 1, Perm::ReadWriteExecute)?;
-    let way = Way {
-        page: 0x80000,
-        perm: Perm::ReadWriteExecute,
-        near: 0,
-        near_perm: Perm::NoAccess,
-    };
-    let bytes = certificate(rt.alloc(), [(0x1F, 0x2000_01FF)].as_slice(), way)?;
-    assert_eq!(rt; bytes.len(), 1208);
-    assert_eq!(rt; check(&map, bytes.as_slice()), Ok(1));
-    Ok(())
-}
-
-#[test]
-fn seven_pages_need_two_entries_and_all_their_bytes(rt: HostRuntime) -> Result<(), Fail> {
-    let map = seven_pages_map(rt.alloc())?;
-    let bytes = seven_pages(rt.alloc())?;
-    assert_eq!(rt; bytes.len(), 1217);
-    assert_eq!(rt; check(&map, bytes.as_slice()), Ok(2));
-    for n in 0..1217 {
-        let Some(front) = bytes.get(..n) else {
-            continue;
-        };
-        assert_eq!(rt; code(&map, front), 3, "{n} bytes");
-    }
-    Ok(())
-}
-
-#[test]
-fn each_refusal_has_its_place_in_the_seven_pages(rt: HostRuntime) -> Result<(), Fail> {
-    let map = seven_pages_map(rt.alloc())?;
-    let bytes = seven_pages(rt.alloc())?;
-    assert_eq!(rt; bytes.get(28), Some(&2));
-    let cases = [
-        (1216, 7, 10),
-        (1216, 2, 5),
-        (1215, 2, 4),
-        (1215, 1, 3),
-        (9, 0x1A, 6),
-        (9, 0x10, 7),
-        (28, 1, 13),
-    ];
-    for (place, byte, refusal) in cases {
-        assert_eq!(rt;
-            code_with(rt.alloc(), &map, &bytes, place, byte)?,
-            refusal,
-            "{byte} at {place}"
-        );
-    }
-    let mut longer = seven_pages(rt.alloc())?;
-    longer.push(0)?;
-    assert_eq!(rt; check(&map, &longer), Err(CheckRefusal::Trailing));
-    Ok(())
-}
-
-#[test]
-fn other_entries_are_refused_for_seven_pages(rt: HostRuntime) -> Result<(), Fail> {
-    let alloc = rt.alloc();
-    let map = seven_pages_map(alloc)?;
-    let way = seven_pages_way();
-    let exchanged = certificate(alloc, [EIGHT_PAGES, HOLE].as_slice(), way)?;
-    assert_eq!(rt; check(&map, &exchanged), Err(CheckRefusal::WrongMeaning));
-    let mut repeated = certificate(alloc, [HOLE, EIGHT_PAGES, EIGHT_PAGES].as_slice(), way)?;
-    assert_eq!(rt; check(&map, &repeated), Err(CheckRefusal::EntriesTooMany));
-    if let Some(cost) = repeated.get_mut(37) {
-        assert_eq!(rt; *cost, 2);
-        *cost = 3;
-    }
-    assert_eq!(rt; check(&map, &repeated), Err(CheckRefusal::CostTooHigh));
     Ok(())
 }
 
