@@ -1,4 +1,4 @@
-use Rattle.std.proofs.Common.{ℕ, ◌∙◌, ◌+◌, ◌≤◌, ◌<◌, ◌^◌, ap, List, length, Err, arith}
+use Rattle.std.proofs.Common.{◌∙◌, ◌+◌, ◌≤◌, ◌<◌, ◌^◌, ap, List, length, Err, arith}
 use Rattle.permission_map.specs.declared.runs.Run.{Run}
 use Rattle.permission_map.specs.Overwriting.{AreOverwritten}
 use Rattle.permission_map.proofs.Counted.{two_more}

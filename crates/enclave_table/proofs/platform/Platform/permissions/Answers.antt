@@ -1,10 +1,8 @@
-use Rattle.std.proofs.Common.{ℕ, ◌≡◌, ◌≤◌, ◌∙◌, ap, subst, sym, List, length, map, cond}
+use Rattle.std.proofs.Common.{◌∙◌, ap, sym, List, map}
 use Rattle.std.specs.List.{All}
-use Rattle.pmp_encoding.specs.declared.perm.Perm.TheVariants.{NoAccess}
 use Rattle.permission_map.specs.Runs.{view_of_runs}
-use Rattle.permission_map.specs.Views.{SameView, overwritten}
 use Rattle.enclave_table.specs.Devices.{triple_of}
-use Rattle.enclave_table.specs.Platform.{Layout, IsLayout, is_monitor, platform_perm}
+use Rattle.enclave_table.specs.Platform.{Layout}
 use Rattle.enclave_table.specs.Ranges.{IsRange}
 use Rattle.enclave_table.specs.declared.device.Device.{Device}
 use Rattle.enclave_table.proofs.Mapped.{device_ranges, platform_view}
