@@ -1,15 +1,14 @@
 -- Points and the runs between them.
-use Rattle.std.proofs.Common.{◌≡◌, ◌≢◌, ℕ, zero, suc, ◌+◌, ◌-◌, ◌*◌, ◌%◌, ◌^◌, ◌<◌, ◌≤◌, ⊎_elim, List, [], ◌∷◌, ◌++◌, length, take, get_or, Bool, true, false, not, ◌==◌, nat_lt, cond, if◌then◌else◌, count_by, refl, sym, ap, subst, ◌∙◌, arith}
-use Rattle.std.specs.List.{AllByRecursion}
+use Rattle.std.proofs.Common.{◌≡◌, ◌≢◌, ℕ, zero, suc, ◌+◌, ◌-◌, ◌*◌, ◌%◌, ◌^◌, ◌<◌, ◌≤◌, ⊎_elim, List, [], ◌∷◌, ◌++◌, length, take, get_or, Bool, true, false, not, ◌==◌, nat_lt, cond, if◌then◌else◌, count_by, refl, sym, ap, ◌∙◌, arith}
 use Rattle.std.specs.List.Sorted.{IsNonDecreasingBy}
-use Rattle.std.proofs.lemmas.Bool.{cases_lt, cond-true, cond-false, lt-ltb, le-ltb, eqb-true, ne_eqb, both_ways}
+use Rattle.std.proofs.lemmas.Bool.{cases_lt, cond-true, cond-false, lt-ltb, le-ltb, eqb-true}
 use Rattle.std.proofs.lemmas.List.Recursion.{is_count_by}
 use Rattle.pmp_encoding.specs.declared.perm.Perm.{Perm}
 use Rattle.pmp_encoding.specs.declared.perm.Perm.TheVariants.{NoAccess, Read, ReadWrite, Execute, ReadExecute, ReadWriteExecute}
 use Rattle.permission_map.specs.declared.points.Point.{Point}
 use Rattle.permission_map.specs.declared.runs.Run.{Run}
-use Rattle.permission_map.specs.Runs.{end_of, AreRuns, AreRunsAfter, view_of_runs}
-use Rattle.permission_map.specs.Points.{ArePoints, ArePointsAfter, IsPointAfter, allows, next_page, page_of, perm_for, perm_of, run_to, runs_of, standing}
+use Rattle.permission_map.specs.Runs.{AreRuns, AreRunsAfter, view_of_runs}
+use Rattle.permission_map.specs.Points.{ArePoints, ArePointsAfter, allows, next_page, page_of, perm_for, perm_of, runs_of, standing}
 use Rattle.permission_map.proofs.Rising.{view_before, view_in, view_past}
 
 -- ---- a point by its number

@@ -1,5 +1,5 @@
 -- Points with one range overwritten.
-use Rattle.std.proofs.Common.{◌≡◌, ◌≢◌, ℕ, ◌+◌, ◌-◌, ◌^◌, ◌<◌, ◌≤◌, ◌⊎◌, inl, inr, ⊎_elim, List, [], ◌∷◌, ◌++◌, length, take, drop, get_or, count_by, All, Bool, true, false, nat_lt, cond, Option, None, Some, option_to_list, refl, sym, ap, subst, ◌∙◌, arith}
+use Rattle.std.proofs.Common.{◌≡◌, ℕ, ◌+◌, ◌-◌, ◌^◌, ◌<◌, ◌≤◌, ⊎_elim, List, [], ◌∷◌, ◌++◌, length, take, drop, get_or, count_by, All, nat_lt, cond, Option, None, Some, option_to_list, refl, sym, ap, subst, ◌∙◌, arith}
 use Rattle.std.specs.List.{AllByRecursion}
 use Rattle.std.proofs.lemmas.Bool.{cases_lt, cond-true, cond-false, lt-ltb, le-ltb}
 use Rattle.std.proofs.lemmas.List.{take-append-drop, get_or-drop, length-drop}
@@ -7,7 +7,7 @@ use Rattle.std.proofs.lemmas.List.Elements.{recursion_from_All, All-get_or}
 use Rattle.pmp_encoding.specs.declared.perm.Perm.{Perm}
 use Rattle.pmp_encoding.specs.declared.perm.Perm.TheVariants.{NoAccess}
 use Rattle.permission_map.specs.declared.points.Point.{Point}
-use Rattle.permission_map.specs.Runs.{in_range, view_of_runs}
+use Rattle.permission_map.specs.Runs.{in_range}
 use Rattle.permission_map.specs.Views.{overwritten}
 use Rattle.permission_map.specs.Overwriting.{AreOverwritten}
 use Rattle.permission_map.specs.Points.{ArePoints, ArePointsAfter, IsBuilt, IsStop, IsTurn, allows, page_of, perm_of, runs_of, standing}

@@ -1,8 +1,8 @@
-use Rattle.std.proofs.Common.{◌≡◌, ◌+◌, ◌*◌, ◌<◌, ◌≤◌, List, length, refl, sym, ap, ◌∙◌, arith}
+use Rattle.std.proofs.Common.{◌≡◌, ◌+◌, ◌<◌, ◌≤◌, length, refl, sym, ap, ◌∙◌, arith}
 use Rattle.permission_map.specs.Points.{runs_of}
 use Rattle.permission_map.proofs.Answered.{none_wanted}
 use Rattle.permission_map.proofs.PointRuns.{empty_is, points_few, runs_are}
-use Rattle.permission_map.proofs.PointSets.{AreCuts, cuts_built, cuts_in_order, cuts_overwritten, gone_few, replaced, replaced_count, row_cuts, row_parts}
+use Rattle.permission_map.proofs.PointSets.{cuts_built, cuts_in_order, cuts_overwritten, gone_few, replaced, replaced_count, row_cuts, row_parts}
 use Rattle.permission_map.proofs.builder.overwrite.Goals as goal
 
 pub returns-then-count-eq0-clause-wanted : goal.returns-then-count-eq0-clause-wanted

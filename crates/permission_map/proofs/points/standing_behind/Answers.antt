@@ -1,4 +1,4 @@
-use Rattle.std.proofs.Common.{◌∙◌, suc, take, ap, arith, ◌-◌, ◌≡◌, ◌<◌, length}
+use Rattle.std.proofs.Common.{◌∙◌, suc, take, ap, arith, ◌-◌, ◌≡◌}
 use Rattle.pmp_encoding.specs.declared.perm.Perm.TheVariants.{NoAccess}
 use Rattle.permission_map.specs.Points.{standing}
 use Rattle.permission_map.proofs.PointRuns.{standing_last}
