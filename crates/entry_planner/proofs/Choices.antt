@@ -1,6 +1,6 @@
 -- The permission that is handed on to the halves of a split block, and that it is the cheapest.
-use Rattle.std.proofs.Common.{◌≡◌, ℕ, zero, suc, ◌+◌, ◌^◌, ◌<◌, ◌≤◌, min, List, ◌++◌, length, Bool, true, false, ◌==◌, nat_le, ◌&&◌, ◌||◌, if◌then◌else◌, refl, sym, ap, ◌∙◌, arith}
-use Rattle.std.proofs.lemmas.Bool.{le-leb, lt-leb, leb-true, leb-false, eq-eqb, ne_eqb, eqb-true, eqb-false, and_parts, or_parts, both_ways}
+use Rattle.std.proofs.Common.{◌≡◌, ℕ, zero, suc, ◌+◌, ◌^◌, ◌<◌, ◌≤◌, min, List, Bool, true, false, ◌==◌, nat_le, ◌&&◌, ◌||◌, if◌then◌else◌, refl, sym, ap, ◌∙◌, arith}
+use Rattle.std.proofs.lemmas.Bool.{le-leb, lt-leb, leb-true, leb-false, eq-eqb, ne_eqb, eqb-true, eqb-false}
 use Rattle.pmp_encoding.specs.declared.perm.Perm.{Perm}
 use Rattle.pmp_encoding.specs.declared.perm.Perm.TheVariants.{NoAccess, Read, ReadWrite, Execute, ReadExecute, ReadWriteExecute}
 use Rattle.pmp_encoding.specs.Perms.{perm_eq}
@@ -13,7 +13,7 @@ use Rattle.entry_planner.specs.Costs.{least_of, cost}
 use Rattle.entry_planner.specs.PermSets.{has, place_of}
 use Rattle.entry_planner.specs.Placing.{IsCheap, IsPlacedAt}
 use Rattle.entry_planner.specs.Plans.{half_perms}
-use Rattle.entry_planner.proofs.BestCosts.{cost_is, sum_at, sum_apart, sum_one}
+use Rattle.entry_planner.proofs.BestCosts.{cost_is, sum_at, sum_apart}
 use Rattle.entry_planner.proofs.CostLemmas.{least_le, least_is}
 use Rattle.entry_planner.proofs.SamePerm.{perm_eq-same, perm_eq-false}
 use Rattle.entry_planner.proofs.Sets.{has-set_of}
