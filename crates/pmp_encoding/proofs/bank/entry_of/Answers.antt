@@ -1,5 +1,5 @@
 -- A byte of zero in a faultless pair is OFF.
-use Rattle.std.proofs.Common.{◌≡◌, ◌/◌, sym, ap, ◌∙◌}
+use Rattle.std.proofs.Common.{◌/◌, ap}
 use Rattle.pmp_encoding.proofs.Meant.{off_is}
 use Rattle.pmp_encoding.proofs.bank.entry_of.Goals as goal
 

@@ -1,5 +1,5 @@
 -- Place after place is decoded, and so the extents are those of the bank's list.
-use Rattle.std.proofs.Common.{refl, ◌≡◌, ◌+◌, ◌<◌, ◌≤◌, ℕ, sym, ap, subst, ◌∙◌, arith}
+use Rattle.std.proofs.Common.{refl, ◌≡◌, subst, arith}
 use Rattle.pmp_encoding.specs.Extents.{AreExtents}
 use Rattle.pmp_encoding.specs.Limits.{limit_number}
 use Rattle.pmp_encoding.proofs.Filled.{limit_most}
