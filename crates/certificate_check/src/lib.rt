@@ -6,9 +6,13 @@
 //!
 //! For the layer above: [`check`] answers `Ok(n)` exactly for right certificates, of n entries. The bytes then hold n
 //! entries that mean the map, and no list of fewer entries, of any regions and in any order, means it. On each
-//! [`CheckRefusal`] the fault of that name stands in the bytes. It takes no memory, and goes over the bytes once.
-//! The entries may stand in any order. Where they stand in few chains, as a planner's do by rising size and then by
-//! rising address, the entry that decides a page is found by halves in each chain.
+//! [`CheckRefusal`] the fault of that name stands in the bytes. It takes no memory. It
+//! stands on `certificate_format`, and on no crate that knows of trees or plans.
+//!
+//! The entries may stand in any order. Where they stand in at most 45 chains, as a planner's do by rising size and
+//! then by rising address, a place in each chain goes on with the pages, so that each entry is passed once. Where
+//! there are more chains, the entry that decides is looked for among all: that takes as many steps as there are
+//! entries, for each piece of the space on which one entry decides.
 //!
 //! ```rust
 //! let mut map = PermissionMap::new(alloc);
