@@ -1,5 +1,5 @@
 -- The list that an event meets.
-use Rattle.std.proofs.Common.{◌≡◌, ◌⊎◌, inl, inr, ℕ, true, false, List, sym, subst}
+use Rattle.std.proofs.Common.{◌≡◌, inl, inr, ℕ, true, false, List, sym, subst}
 use Rattle.pmp_encoding.specs.declared.bank.Bank.{Bank}
 use Rattle.pmp_encoding.specs.declared.region.Entry.{Entry}
 use Rattle.pmp_encoding.specs.Banks.{HasList}

@@ -1,10 +1,9 @@
 -- The lines that were done are a run of the events that they say, and what was written tells its replies.
-use Rattle.std.proofs.Common.{◌≡◌, ◌≢◌, ◌∙◌, ℕ, zero, suc, ◌+◌, List, [], ◌∷◌, ◌++◌, length, Option, Some, None, refl, ap, sym, subst, arith, length-append, append_assoc, append-nil}
+use Rattle.std.proofs.Common.{◌≡◌, ◌≢◌, ◌∙◌, ℕ, suc, ◌+◌, List, [], ◌∷◌, ◌++◌, length, Some, None, refl, ap, sym, subst, arith, length-append, append_assoc, append-nil}
 use Rattle.std.specs.List.{concat}
-use Rattle.pmp_encoding.specs.declared.bank.Bank.{Bank}
 use Rattle.hart_trace.specs.declared.event.Event.{Event}
 use Rattle.hart_trace.specs.Events.{meaning_of}
-use Rattle.text_lines.specs.Lines.{IsShortLine, without_return}
+use Rattle.text_lines.specs.Lines.{without_return}
 use Rattle.text_lines.specs.LineLoop.{Does}
 use Rattle.text_lines.specs.LineLoop as loop
 use Rattle.hart_sim.specs.declared.machine.Machine.{Machine}
@@ -13,7 +12,7 @@ use Rattle.hart_sim.specs.declared.reply.Reply.TheVariants.{NoMemory}
 use Rattle.hart_sim.specs.Machines.{state_of, HasBank}
 use Rattle.hart_sim.specs.Steps.{Run, still, step}
 use Rattle.hart_sim.specs.Texts.{reply_text, lines_from, report_text}
-use Rattle.hart_sim.specs.Reports.{Happens, harts_of, DoesLine, Spells, none, blank, one, AreAnswered, AreElsewhere, Report, IsReported}
+use Rattle.hart_sim.specs.Reports.{harts_of, DoesLine, none, blank, one, AreAnswered, AreElsewhere, Report, IsReported}
 use Rattle.hart_sim.proofs.Alike.{itself}
 use Rattle.hart_sim.proofs.Layouts.{layout_stays}
 

@@ -1,11 +1,10 @@
 -- When a creation or a destruction is refused for want of entries.
-use Rattle.std.proofs.Common.{◌≡◌, ◌≢◌, ◌⊎◌, ◌∙◌, inl, inr, ℕ, ◌<◌, ◌≤◌, List, [], ◌∷◌, ℤ, pos, negsuc, refl, ap, sym, subst, arith}
+use Rattle.std.proofs.Common.{◌≡◌, ◌∙◌, inl, inr, ℕ, List, [], ◌∷◌, ℤ, pos, negsuc, ap, sym, subst, arith}
 use Rattle.std.proofs.Common.{None, Some}
-use Rattle.pmp_encoding.specs.Limits.{limit_number}
 use Rattle.pmp_encoding.specs.declared.limit.Limit.{Limit}
-use Rattle.pmp_match.specs.Meaning.{View, Needs}
+use Rattle.pmp_match.specs.Meaning.{View}
 use Rattle.pmp_match.proofs.Meant.{needs_one}
-use Rattle.enclave_table.specs.Enclaves.{EnclaveTable, IsFree, with_enclave}
+use Rattle.enclave_table.specs.Enclaves.{EnclaveTable, with_enclave}
 use Rattle.enclave_table.specs.Requests.{parts_of}
 use Rattle.enclave_table.specs.Views.{host_view, enclave_view}
 use Rattle.enclave_table.specs.Refusals.{AllPass, FailsFirst, refusal_number}
@@ -19,7 +18,7 @@ use Rattle.enclave_table.specs.declared.refusal.Refusal.{Refusal}
 use Rattle.enclave_table.specs.declared.refusal.Refusal.TheVariants.{NotHost, NotEnclave, BadCount, BadAddress, BadEntry, NotRam, Overlap, TableFull, NoEntries, NoMemory, BadId, BadState, BadWord}
 use Rattle.hart_sim.specs.declared.reply.Reply.{Reply}
 use Rattle.hart_sim.specs.declared.reply.Reply.TheVariants as replies
-use Rattle.hart_sim.specs.Replies.{AnswersCall, below_zero}
+use Rattle.hart_sim.specs.Replies.{AnswersCall}
 use Rattle.hart_sim.specs.States.{State, page_bytes}
 use Rattle.hart_sim.specs.Steps.{Refuses}
 use Rattle.hart_sim.specs.Wants.{IsAnsweredBy, IsRefusedExactlyWhere, CreatesByNeed, DestroysByNeed}

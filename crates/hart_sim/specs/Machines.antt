@@ -1,15 +1,9 @@
 -- The machine as its caller sees it: its state, and the PMP registers that are loaded on each hart.
-use Rattle.std.specs.Prelude.{◌≡◌, ◌≢◌, ◌⊎◌, ℕ, ◌+◌, ◌/◌, ◌%◌, ◌^◌, ◌<◌, ◌≤◌, true, false, if◌then◌else◌, List, length, None}
+use Rattle.std.specs.Prelude.{◌≡◌, ◌≢◌, ◌⊎◌, ℕ, ◌<◌, true, false, List}
 use Rattle.pmp_encoding.specs.declared.bank.Bank.{Bank}
 use Rattle.pmp_encoding.specs.declared.region.Entry.{Entry}
 use Rattle.pmp_encoding.specs.Banks.{HasList}
-use Rattle.pmp_match.specs.declared.access.Access.{Access}
-use Rattle.pmp_match.specs.Meaning.{Means}
-use Rattle.enclave_table.specs.Enclaves.{Live, enclave_at}
-use Rattle.enclave_table.specs.Requests.{is_private}
 use Rattle.enclave_table.specs.Tables.{Kept}
-use Rattle.enclave_table.specs.declared.enclave.Enclave.{Enclave}
-use Rattle.worlds.specs.declared.world.World.TheVariants.{Enclave as InEnclave}
 use Rattle.hart_sim.specs.declared.machine.Machine.{Machine}
 use Rattle.hart_sim.specs.Hardware.{BankOn}
 use Rattle.hart_sim.specs.Parts.{machine_state, LoadsFewest}

@@ -1,15 +1,14 @@
 -- The state of the machine. There are no PMP entries in it.
-use Rattle.std.specs.Prelude.{◌≡◌, ◌⊎◌, ℕ, ◌*◌, ◌<◌, Bool, false, List, replicate, Option, None, Some}
+use Rattle.std.specs.Prelude.{◌≡◌, ◌⊎◌, ℕ, ◌*◌, ◌<◌, Bool, false, List}
 use Rattle.pmp_encoding.specs.declared.perm.Perm.{Perm}
-use Rattle.pmp_encoding.specs.declared.perm.Perm.TheVariants.{NoAccess}
 use Rattle.enclave_table.specs.Platform.{Layout}
-use Rattle.enclave_table.specs.Enclaves.{EnclaveTable, Live, enclave_at}
+use Rattle.enclave_table.specs.Enclaves.{EnclaveTable, Live}
 use Rattle.enclave_table.specs.Booting.{opening as opening_table}
 pub use Rattle.enclave_table.specs.Views.{view_in, current_view as view_of}
 use Rattle.enclave_table.specs.declared.enclave.Enclave.{Enclave}
 use Rattle.enclave_table.specs.declared.enclave.State.TheVariants.{Running, Stopped}
 use Rattle.worlds.specs.declared.world.World.{World}
-use Rattle.worlds.specs.declared.world.World.TheVariants.{Host, Enclave as InEnclave}
+use Rattle.worlds.specs.declared.world.World.TheVariants.{Host}
 use Rattle.sbi_decode.specs.Registers.{RegisterFile, zeros}
 use Rattle.worlds.specs.Runners.{Runner, HostOf, EnclaveOf, runner_of}
 use Rattle.hart_sim.specs.Memory.{bytes_at}

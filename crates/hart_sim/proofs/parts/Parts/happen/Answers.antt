@@ -1,4 +1,4 @@
-use Rattle.std.proofs.Common.{◌≡◌, ◌∙◌, ◌↔◌, ap, sym, subst, slice_get, Err}
+use Rattle.std.proofs.Common.{◌≡◌, ◌∙◌, ◌↔◌, ap, sym, subst, Err}
 use Rattle.std.proofs.lemmas.Option.{same_Some}
 use Rattle.pmp_match.specs.Judgement.{Judges}
 use Rattle.hart_sim.specs.declared.reply.Reply.TheVariants.{Fault}
