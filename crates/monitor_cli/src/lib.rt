@@ -3,7 +3,8 @@
 //! For the layer above: [`planned`] answers the fewest entries of a map, and [`certified`] a certificate with them that the
 //! checker accepts; [`bank_of`] the bank of a list that fits it; [`read_whole`] the bytes of a file of bounded length;
 //! [`verdict`] what `check` prints and its status; a [`Trouble`] its text and its status. [`perform`] does a task by these,
-//! in their order, and answers the program's status. The command line, the text of a map and the printed lines are crates of their own, whose names stand here too.
+//! in their order, and answers the program's status. The command line, the texts of maps and platforms and the printed
+//! lines are crates of their own, whose names stand here too.
 //!
 //! ```rust
 //! let task = command_of(rt.alloc(), &["pmpmon", "plan", "map.txt"])?;

@@ -1,6 +1,8 @@
 //! `run` on files in memory.
 
 use super::runs::run;
+use crate::{command_of, perform};
+use byte_streams::fakes::{PieceSink, PieceSource};
 use std::test::Fail;
 
 const PLATFORM: &[u8] =
@@ -206,5 +208,61 @@ fn a_platform_at_fault_is_told_before_the_trace_is_opened(rt: HostRuntime) -> Re
         b"pmpmon: needs 17 entries\n".as_slice()
     );
     assert_eq!(rt; ran.status, 2);
+    Ok(())
+}
+
+#[test]
+fn a_failing_device_ends_a_run_behind_what_it_took(rt: HostRuntime) -> Result<(), Fail> {
+    let none: Option<u64> = None;
+    let rows: [(&[u8], Option<u64>, Option<u64>, &[u8], &[u8]); 4] = [
+        (
+            b"irq\nirq\n",
+            none,
+            Some(6),
+            b"1 irq 0 3\n2 i",
+            b"pmpmon: standard output: cannot write\n",
+        ),
+        (
+            b"irq\nir",
+            Some(7),
+            none,
+            b"1 irq 0 3\n",
+            b"pmpmon: trace.txt: cannot read\n",
+        ),
+        (
+            b"irq",
+            Some(4),
+            none,
+            b"",
+            b"pmpmon: trace.txt: cannot read\n",
+        ),
+        (
+            b"irq\nirq\n",
+            none,
+            Some(1),
+            b"",
+            b"pmpmon: standard output: cannot write\n",
+        ),
+    ];
+    for (trace, read, write, report, said) in rows {
+        let task = command_of(rt.alloc(), &RUN)?;
+        let mut first = PieceSource::new(PLATFORM, 100, none);
+        let mut second = PieceSource::new(trace, 1, read);
+        let mut cert = PieceSink::new(400, none);
+        let mut out = PieceSink::new(3, write);
+        let mut err = PieceSink::new(400, none);
+        let status = perform(
+            rt.alloc(),
+            &task,
+            &mut first,
+            &mut second,
+            &mut cert,
+            &mut out,
+            &mut err,
+        );
+        assert_eq!(rt; status, 3);
+        assert_eq!(rt; out.written(), report);
+        assert_eq!(rt; err.written(), said);
+    }
     Ok(())
 }
