@@ -1,29 +1,23 @@
 -- Ranges with and without a page in common.
-use Rattle.std.proofs.Common.{◌≡◌, ℕ, zero, suc, ◌+◌, ◌-◌, ◌/◌, ◌<◌, ◌≤◌, List, [], ◌∷◌, ◌++◌, length, take, drop, map, get_or, true, inl, inr, arith, subst}
+use Rattle.std.proofs.Common.{◌≡◌, ℕ, zero, suc, ◌+◌, ◌-◌, ◌<◌, ◌≤◌, List, [], ◌∷◌, ◌++◌, length, take, drop, map, get_or, true, false, inl, inr, arith, subst}
 use native.Mathlib.Numerals.{unary_clauses}
 use Rattle.std.specs.List.{All, AllByRecursion}
 use Rattle.std.proofs.lemmas.Bool.Decides.{nat_tests}
-use Rattle.std.proofs.lemmas.Bool.{cases_lt}
+use Rattle.std.specs.Bool.{IsTrue}
+use Rattle.std.proofs.lemmas.Bool.{cases_lt, false≢true}
 use Rattle.std.proofs.lemmas.Grind.{common_steps}
 use Rattle.std.proofs.lemmas.List.Elements.{All-append, All-map, All-from_recursion, recursion_from_All}
 use Rattle.std.proofs.lemmas.List.{get_or_default, get_or-map, length-map}
 use Rattle.pmp_encoding.specs.declared.perm.Perm.{Perm}
 use Rattle.permission_map.specs.Runs.{in_range}
-use Rattle.enclave_table.specs.Ranges.{AreApart, EachApart, range_of}
+use Rattle.enclave_table.specs.Ranges.{AreRangesApart, EachApart, range_of}
 
 pub inside : (first count page : ℕ) → first ≤ page → page < first + count → in_range first count page ≡ true
 inside first count page low high = grind (arith, nat_tests)
 
--- two ranges that begin before the other's end have the later of their first pages in common
-met_at : (f n g m : ℕ) → f < f + n → g < f + n → f < g + m → f ≤ g → ((page : ℕ) → in_range f n page ≡ true → in_range g m page ≡ true → ⊥) → g < g + m → ⊥
-met_at f n g m some before after order apart some_other = apart g (inside f n g order before) (inside g m g (omega arith) some_other)
-
-pub met : (a b : ℕ × ℕ) → a.0 / 4096 < a.0 / 4096 + a.1 / 4096 → b.0 / 4096 < b.0 / 4096 + b.1 / 4096 → b.0 / 4096 < a.0 / 4096 + a.1 / 4096 → a.0 / 4096 < b.0 / 4096 + b.1 / 4096 → AreApart a b → ⊥
-met a b some some_other before after apart =
-    elim (cases_lt (b.0 / 4096) (a.0 / 4096)) [
-      | inl low ↦ apart (a.0 / 4096) (inside _ _ (a.0 / 4096) (omega arith) some) (inside _ _ (a.0 / 4096) (omega arith) after)
-      | inr high ↦ apart (b.0 / 4096) (inside _ _ (b.0 / 4096) high before) (inside _ _ (b.0 / 4096) (omega arith) some_other)
-    ]
+-- a test that answers what does not hold
+pub never : {P : Type 0} → (P → ⊥) → (IsTrue false → P) × (P → IsTrue false)
+never not = (λ e. absurd (false≢true e), λ p. absurd (not p))
 
 -- the rest of a list behind a place
 pub rest_is : {X : Type 0} (i : ℕ) (xs : List X) → take (length xs - (i + 1)) (drop (i + 1) xs) ≡ drop (i + 1) xs
@@ -42,12 +36,12 @@ one_more P xs i e low before here k d below =
           subst (λ j. P j (get_or xs j d)) same (subst (P i) (get_or_default xs i e d low) here)
     ]
 
-pub device_clear : (range : ℕ × ℕ) (xs : List (ℕ × ℕ × Perm)) (k : ℕ) (d : ℕ × ℕ × Perm) → k < length xs → All (AreApart range) (map range_of xs) → AreApart range (range_of (get_or xs k d))
-device_clear range xs k d low all =
-    rw (get_or-map range_of xs k d (range_of d) low) at (all k (range_of d) (omega (arith, length-map xs range_of)))
+-- what holds of each device's range
+pub of_ranges : (range : ℕ × ℕ) (xs : List (ℕ × ℕ × Perm)) → All (λ device. AreRangesApart range (range_of device)) xs → All (AreRangesApart range) (map range_of xs)
+of_ranges range xs all = All-map (AreRangesApart range) range_of xs all
 
-pub all_clear : (range : ℕ × ℕ) (xs : List (ℕ × ℕ × Perm)) → ((k : ℕ) (d : ℕ × ℕ × Perm) → k < length xs → AreApart range (range_of (get_or xs k d))) → All (AreApart range) (map range_of xs)
-all_clear range xs here = All-map (AreApart range) range_of xs here
+pub of_devices : (range : ℕ × ℕ) (xs : List (ℕ × ℕ × Perm)) → All (AreRangesApart range) (map range_of xs) → All (λ device. AreRangesApart range (range_of device)) xs
+of_devices range xs all = λ k d low. rw (get_or-map range_of xs k d (range_of d) low) at (all k (range_of d) (omega (arith, length-map xs range_of)))
 
 front_of : (P : ℕ × ℕ → Type 0) (xs ys : List (ℕ × ℕ)) → AllByRecursion P (xs ++ ys) → AllByRecursion P xs
 front_of P [] ys all = tt
@@ -65,16 +59,16 @@ back_all P xs ys all = All-from_recursion P ys (back_of P xs ys (recursion_from_
 
 -- what is checked of each range makes the whole list apart, and the other way round
 pub each_from :
-    (xs ys : List (ℕ × ℕ)) → EachApart ys → ((k : ℕ) (d : ℕ × ℕ) → k < length xs → All (AreApart (get_or xs k d)) (drop (k + 1) xs) × All (AreApart (get_or xs k d)) ys) → EachApart (xs ++ ys)
+    (xs ys : List (ℕ × ℕ)) → EachApart ys → ((k : ℕ) (d : ℕ × ℕ) → k < length xs → All (AreRangesApart (get_or xs k d)) (drop (k + 1) xs) × All (AreRangesApart (get_or xs k d)) ys) → EachApart (xs ++ ys)
 each_from [] ys rest here = rest
 each_from (x ∷ xs) ys rest here = (
-  All-append (AreApart x) xs ys (here 0 x (omega arith)).0 (here 0 x (omega arith)).1,
+  All-append (AreRangesApart x) xs ys (here 0 x (omega arith)).0 (here 0 x (omega arith)).1,
   each_from xs ys rest (λ k d low. rw (drop_behind k x xs) at (here (suc k) d (omega arith))),
 )
 
-pub apart_at : (xs ys : List (ℕ × ℕ)) (k : ℕ) (d : ℕ × ℕ) → k < length xs → EachApart (xs ++ ys) → All (AreApart (get_or xs k d)) (drop (k + 1) xs) × All (AreApart (get_or xs k d)) ys
+pub apart_at : (xs ys : List (ℕ × ℕ)) (k : ℕ) (d : ℕ × ℕ) → k < length xs → EachApart (xs ++ ys) → All (AreRangesApart (get_or xs k d)) (drop (k + 1) xs) × All (AreRangesApart (get_or xs k d)) ys
 apart_at [] ys k d low each = absurd (omega arith)
-apart_at (x ∷ xs) ys zero d low each = (front_all (AreApart x) xs ys each.0, back_all (AreApart x) xs ys each.0)
+apart_at (x ∷ xs) ys zero d low each = (front_all (AreRangesApart x) xs ys each.0, back_all (AreRangesApart x) xs ys each.0)
 apart_at (x ∷ xs) ys (suc k) d low each = rw (drop_behind k x xs) (apart_at xs ys k d (omega arith) each.1)
 
 pub rest_apart : (xs ys : List (ℕ × ℕ)) → EachApart (xs ++ ys) → EachApart ys
@@ -82,21 +76,12 @@ rest_apart [] ys each = each
 rest_apart (x ∷ xs) ys each = rest_apart xs ys each.1
 
 pub devices_from :
-    (xs : List (ℕ × ℕ × Perm)) → ((k : ℕ) (d : ℕ × ℕ × Perm) → k < length xs → All (AreApart (range_of (get_or xs k d))) (map range_of (drop (k + 1) xs))) → EachApart (map range_of xs)
+    (xs : List (ℕ × ℕ × Perm)) → ((k : ℕ) (d : ℕ × ℕ × Perm) → k < length xs → All (AreRangesApart (range_of (get_or xs k d))) (map range_of (drop (k + 1) xs))) → EachApart (map range_of xs)
 devices_from [] here = tt
 devices_from (x ∷ xs) here = (here 0 x (omega arith), devices_from xs (λ k d low. rw (drop_behind k x xs) at (here (suc k) d (omega arith))))
 
 pub device_at :
-    (xs : List (ℕ × ℕ × Perm)) (k : ℕ) (d : ℕ × ℕ × Perm) → k < length xs → EachApart (map range_of xs) → All (AreApart (range_of (get_or xs k d))) (map range_of (drop (k + 1) xs))
+    (xs : List (ℕ × ℕ × Perm)) (k : ℕ) (d : ℕ × ℕ × Perm) → k < length xs → EachApart (map range_of xs) → All (AreRangesApart (range_of (get_or xs k d))) (map range_of (drop (k + 1) xs))
 device_at [] k d low each = absurd (omega arith)
 device_at (x ∷ xs) zero d low each = each.0
 device_at (x ∷ xs) (suc k) d low each = rw (drop_behind k x xs) (device_at xs k d (omega arith) each.1)
-
--- the same of ranges that are given by their first pages and their numbers
-pub met_pages :
-    (f n g m : ℕ) → 0 < n → 0 < m → g < f + n → f < g + m → ((page : ℕ) → in_range f n page ≡ true → in_range g m page ≡ true → ⊥) → ⊥
-met_pages f n g m some some_other before after apart =
-    elim (cases_lt g f) [
-      | inl low ↦ apart f (inside f n f (omega arith) (omega arith)) (inside g m f (omega arith) after)
-      | inr high ↦ apart g (inside f n g high before) (inside g m g (omega arith) (omega arith))
-    ]

@@ -1,18 +1,15 @@
 -- Ranges set one before the other.
-use Rattle.std.proofs.Common.{ℕ, suc, ◌≡◌, ◌+◌, ◌/◌, ◌<◌, ◌∙◌, sym, ap, subst, refl, Bool, true, false, ◌||◌, cond, List, ◌∷◌, length, get_or, drop, map, Option, None, Some, drop-cons, add-one, arith}
-use Rattle.std.specs.List.{All}
-use Rattle.std.proofs.lemmas.List.{get_or_default, get_or-map, length-map}
+use Rattle.std.proofs.Common.{ℕ, suc, ◌≡◌, ◌+◌, ◌/◌, ◌<◌, ◌∙◌, sym, ap, refl, Bool, true, false, ◌||◌, cond, List, ◌∷◌, length, get_or, drop, Option, None, Some, drop-cons, add-one}
+use Rattle.std.proofs.lemmas.List.{get_or_default}
 use Rattle.pmp_encoding.specs.declared.perm.Perm.{Perm}
 use Rattle.pmp_encoding.specs.declared.perm.Perm.TheVariants.{NoAccess, ReadWriteExecute}
 use Rattle.pmp_match.specs.Meaning.{View}
 use Rattle.permission_map.specs.Runs.{in_range}
 use Rattle.permission_map.specs.Views.{SameView, overwritten}
-use Rattle.enclave_table.specs.Devices.{triple_of}
 use Rattle.enclave_table.specs.Platform.{Layout, device_perm, is_monitor, platform_perm}
-use Rattle.enclave_table.specs.Ranges.{IsRange, has_page, is_among, range_of}
+use Rattle.enclave_table.specs.Ranges.{has_page, is_among}
 use Rattle.enclave_table.specs.Requests.{is_private}
 use Rattle.enclave_table.specs.Views.{any_private}
-use Rattle.enclave_table.specs.declared.device.Device.{Device}
 use Rattle.enclave_table.specs.declared.enclave.Enclave.{Enclave}
 use Rattle.page_views.specs.declared.pages.PageRange.{PageRange}
 
@@ -21,12 +18,12 @@ pub from_place : {X : Type 0} (xs : List X) (i : ℕ) (x : X) → i < length xs 
 from_place xs i x inside is = drop-cons xs i x inside ∙ ap (λ y. y ∷ drop (suc i) xs) (sym is) ∙ ap (λ j. x ∷ drop j xs) (sym (add-one i))
 
 pub device_set :
-    (devices : List Device) (i : ℕ) (d : Device) (old new : View) → i < length devices → d ≡ get_or devices i d → SameView old (device_perm (map triple_of (drop (i + 1) devices)))
-    → SameView new (overwritten old (d.base / 4096) (d.size / 4096) d.perm) → SameView new (device_perm (map triple_of (drop i devices)))
+    (devices : List (ℕ × ℕ × Perm)) (i : ℕ) (d : ℕ × ℕ × Perm) (old new : View) → i < length devices → d ≡ get_or devices i d → SameView old (device_perm (drop (i + 1) devices))
+    → SameView new (overwritten old (d.0 / 4096) (d.1 / 4096) d.2) → SameView new (device_perm (drop i devices))
 device_set devices i d old new inside is before set page small =
     set page small
-    ∙ ap (λ p. cond (in_range (d.base / 4096) (d.size / 4096) page) d.perm p) (before page small)
-    ∙ sym (ap (λ ds. device_perm (map triple_of ds) page) (from_place devices i d inside is))
+    ∙ ap (λ p. cond (in_range (d.0 / 4096) (d.1 / 4096) page) d.2 p) (before page small)
+    ∙ sym (ap (λ ds. device_perm ds page) (from_place devices i d inside is))
 
 memory_perm : (a b : Bool) (q : Perm) → cond a ReadWriteExecute (cond b ReadWriteExecute q) ≡ cond (a || b) ReadWriteExecute q
 memory_perm true b q = refl
@@ -69,15 +66,10 @@ none_hidden es i monitor allowed old inside is before page small =
     before page small
     ∙ sym (ap (λ s. cond (monitor page || any_private s page) NoAccess (allowed page)) (from_place es i None inside (sym is)))
 
--- devices that are ranges as they are given are ranges as they are kept
-pub device_ranges : (devices : List Device) → All (λ device. IsRange (range_of device)) (map triple_of devices) → All (λ d. IsRange (d.base, d.size)) devices
-device_ranges devices all = λ k d below.
-    subst (λ triple. IsRange (range_of triple)) (get_or-map triple_of devices k d (triple_of d) below) (all k (triple_of d) (omega (arith, below, length-map devices triple_of)))
-
 -- the devices set first, then the memory, then nothing on the monitor's pages: that is what the platform allows
 pub platform_view :
-    (layout : Layout) (devices : List Device) (ram : List (ℕ × ℕ)) (pages : PageRange) (first second third : View) → layout.devices ≡ map triple_of devices → layout.ram ≡ ram
-    → pages ≡ record { first = layout.monitor.0 / 4096; count = layout.monitor.1 / 4096 } → SameView first (device_perm (map triple_of devices))
+    (layout : Layout) (devices : List (ℕ × ℕ × Perm)) (ram : List (ℕ × ℕ)) (pages : PageRange) (first second third : View) → layout.devices ≡ devices → layout.ram ≡ ram
+    → pages ≡ record { first = layout.monitor.0 / 4096; count = layout.monitor.1 / 4096 } → SameView first (device_perm devices)
     → SameView second (λ page. cond (is_among ram page) ReadWriteExecute (first page)) → SameView third (overwritten second pages.first pages.count NoAccess)
     → SameView third (λ page. cond (is_monitor layout page) NoAccess (platform_perm layout page))
 platform_view layout devices ram pages first second third devices_are ram_is pages_are on_devices on_ram on_monitor page small =

@@ -1,4 +1,4 @@
-ghost use Rattle.std.specs.Prelude.{◌≡◌, ℕ, ◌+◌, ◌^◌, ◌<◌, ◌≤◌, IsTrue, IfOk, IfErr, IfSome, IfNone, true, false};
+ghost use Rattle.std.specs.Prelude.{◌≡◌, ℕ, ◌+◌, ◌^◌, ◌<◌, ◌≤◌, ◌↔◌, IsTrue, IfOk, IfErr, IfSome, IfNone, true, false};
 ghost use Rattle.enclave_table.specs.Enclaves.{Live, IsFree, IsNextId};
 ghost use Rattle.enclave_table.specs.Requests.{ArePartsApart, is_part, HasCounts, HasPlaces, HasEntry};
 ghost use Rattle.enclave_table.specs.Owners.{IsOwner};
@@ -18,20 +18,16 @@ impl Table {
     /// Whether each page is memory.
     fn is_in_ram(&self, parts: &Create) -> bool
         requires { HasCounts parts.now }
-        ensures memory { IsTrue result → IsInRam self.now.table parts.now }
-        ensures other { result ≡ false → IsInRam self.now.table parts.now → ⊥ }
+        ensures { IsTrue result ↔ IsInRam self.now.table parts.now }
     {
-        if !self.platform().has_memory(parts.private_pages()) {
-            return false;
-        }
-        self.platform().has_memory(parts.shared_pages())
+        let platform = self.platform();
+        platform.has_memory(parts.private_pages()) && platform.has_memory(parts.shared_pages())
     }
 
     /// Whether no page is one of an enclave's.
     fn is_clear_of_enclaves(&self, parts: &Create) -> bool
         requires { HasCounts parts.now }
-        ensures clear { IsTrue result → (id : ℕ) (e : Enclave) → Live self.now.table id e → ArePartsApart parts.now e.parts }
-        ensures met { result ≡ false → ((id : ℕ) (e : Enclave) → Live self.now.table id e → ArePartsApart parts.now e.parts) → ⊥ }
+        ensures { IsTrue result ↔ ((id : ℕ) (e : Enclave) → Live self.now.table id e → ArePartsApart parts.now e.parts) }
     {
         self.rules();
         for id in 1..65 {
@@ -48,16 +44,11 @@ impl Table {
     /// Whether each page is the host's, and none both private and shared.
     fn is_clear(&self, parts: &Create) -> bool
         requires { HasCounts parts.now }
-        ensures clear { IsTrue result → IsClear self.now.table parts.now }
-        ensures met { result ≡ false → IsClear self.now.table parts.now → ⊥ }
+        ensures { IsTrue result ↔ IsClear self.now.table parts.now }
     {
-        if !parts.is_clear_of(self.platform().monitor_pages()) {
-            return false;
-        }
-        if !self.is_clear_of_enclaves(parts) {
-            return false;
-        }
-        parts.is_apart()
+        parts.is_clear_of(self.platform().monitor_pages())
+            && self.is_clear_of_enclaves(parts)
+            && parts.is_apart()
     }
 
     /// The id of a new enclave with these parts, or the first check that does not pass.

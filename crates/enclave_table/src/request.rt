@@ -1,4 +1,4 @@
-ghost use Rattle.std.specs.Prelude.{◌≡◌, ℕ, ◌+◌, ◌*◌, ◌/◌, ◌^◌, ◌<◌, ◌≤◌, IsTrue, true, false};
+ghost use Rattle.std.specs.Prelude.{◌≡◌, ℕ, ◌+◌, ◌*◌, ◌/◌, ◌^◌, ◌<◌, ◌≤◌, ◌↔◌, IsTrue, true, false};
 ghost use Rattle.permission_map.specs.Runs.{in_range};
 ghost use Rattle.enclave_table.specs.Requests.{parts_of, is_private, is_shared, is_part, ArePartsApart, HasCounts, IsPlaced, HasPlaces, HasEntry};
 
@@ -29,13 +29,9 @@ pub struct Create {
 /// Whether so many pages from an address on begin with a page and end in the space.
 fn is_placed(base: u64, count: u64) -> bool
     requires { count ≤ 1024 }
-    ensures placed { IsTrue result → IsPlaced base count }
-    ensures other { result ≡ false → IsPlaced base count → ⊥ }
+    ensures { IsTrue result ↔ IsPlaced base count }
 {
-    if base % PAGE_SIZE != 0 {
-        return false;
-    }
-    base <= SPACE_SIZE - count * PAGE_SIZE
+    base % PAGE_SIZE == 0 && base <= SPACE_SIZE - count * PAGE_SIZE
 }
 
 impl Create {
@@ -52,43 +48,29 @@ impl Create {
 
     /// Whether there is some text, and not too many pages.
     pub(crate) fn has_counts(&self) -> bool
-        ensures counts { IsTrue result → HasCounts self.now }
-        ensures other { result ≡ false → HasCounts self.now → ⊥ }
+        ensures { IsTrue result ↔ HasCounts self.now }
     {
-        if self.text_pages == 0 {
-            return false;
-        }
-        if self.text_pages > MOST_PRIVATE {
-            return false;
-        }
-        if self.data_pages > MOST_PRIVATE - self.text_pages {
-            return false;
-        }
-        self.shared_count <= MOST_SHARED
+        self.text_pages > 0
+            && self.text_pages <= MOST_PRIVATE
+            && self.data_pages <= MOST_PRIVATE - self.text_pages
+            && self.shared_count <= MOST_SHARED
     }
 
     /// Whether both ranges begin with a page and end in the space.
     pub(crate) fn has_places(&self) -> bool
         requires { HasCounts self.now }
-        ensures places { IsTrue result → HasPlaces self.now }
-        ensures other { result ≡ false → HasPlaces self.now → ⊥ }
+        ensures { IsTrue result ↔ HasPlaces self.now }
     {
-        if !is_placed(self.base, self.text_pages + self.data_pages) {
-            return false;
-        }
-        is_placed(self.shared_base, self.shared_count)
+        is_placed(self.base, self.text_pages + self.data_pages)
+            && is_placed(self.shared_base, self.shared_count)
     }
 
     /// Whether the entry is even, and in the text.
     pub(crate) fn has_entry(&self) -> bool
         requires { HasCounts self.now }
-        ensures entry { IsTrue result → HasEntry self.now }
-        ensures other { result ≡ false → HasEntry self.now → ⊥ }
+        ensures { IsTrue result ↔ HasEntry self.now }
     {
-        if self.entry_offset % 2 != 0 {
-            return false;
-        }
-        self.entry_offset < self.text_pages * PAGE_SIZE
+        self.entry_offset % 2 == 0 && self.entry_offset < self.text_pages * PAGE_SIZE
     }
 
     /// Its text and data.
@@ -119,8 +101,7 @@ impl Create {
     /// Whether no page is both private and shared.
     pub(crate) fn is_apart(&self) -> bool
         requires { HasCounts self.now }
-        ensures apart { IsTrue result → (page : ℕ) → is_private self.now page ≡ true → is_shared self.now page ≡ false }
-        ensures met { result ≡ false → ((page : ℕ) → is_private self.now page ≡ true → is_shared self.now page ≡ false) → ⊥ }
+        ensures { IsTrue result ↔ ((page : ℕ) → is_private self.now page ≡ true → is_shared self.now page ≡ false) }
     {
         self.private_pages().is_apart_from(self.shared_pages())
     }
@@ -129,25 +110,17 @@ impl Create {
     pub(crate) fn is_clear_of(&self, pages: PageRange) -> bool
         requires counts { HasCounts self.now }
         requires fits { pages.first + pages.count < 2 ^ 64 }
-        ensures clear { IsTrue result → (page : ℕ) → is_part self.now page ≡ true → in_range pages.first pages.count page ≡ true → ⊥ }
-        ensures met { result ≡ false → ((page : ℕ) → is_part self.now page ≡ true → in_range pages.first pages.count page ≡ true → ⊥) → ⊥ }
+        ensures { IsTrue result ↔ ((page : ℕ) → is_part self.now page ≡ true → in_range pages.first pages.count page ≡ true → ⊥) }
     {
-        if !self.private_pages().is_apart_from(pages) {
-            return false;
-        }
-        self.shared_pages().is_apart_from(pages)
+        self.private_pages().is_apart_from(pages) && self.shared_pages().is_apart_from(pages)
     }
 
     /// Whether it has no page in common with another enclave.
     pub(crate) fn is_apart_from(&self, other: &Create) -> bool
         requires counts { HasCounts self.now }
         requires other_counts { HasCounts other.now }
-        ensures apart { IsTrue result → ArePartsApart self.now other.now }
-        ensures met { result ≡ false → ArePartsApart self.now other.now → ⊥ }
+        ensures { IsTrue result ↔ ArePartsApart self.now other.now }
     {
-        if !self.is_clear_of(other.private_pages()) {
-            return false;
-        }
-        self.is_clear_of(other.shared_pages())
+        self.is_clear_of(other.private_pages()) && self.is_clear_of(other.shared_pages())
     }
 }

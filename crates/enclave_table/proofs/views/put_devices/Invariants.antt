@@ -1,7 +1,6 @@
-use Rattle.std.proofs.Common.{◌≤◌, ◌+◌, ◌*◌, length, drop, map}
+use Rattle.std.proofs.Common.{◌≤◌, ◌+◌, ◌*◌, length, drop}
 use Rattle.permission_map.specs.Runs.{view_of_runs}
 use Rattle.permission_map.specs.Views.{SameView}
-use Rattle.enclave_table.specs.Devices.{triple_of}
 use Rattle.enclave_table.specs.Platform.{device_perm}
 use Rattle.enclave_table.proofs.views.put_devices.Given as goal
 
@@ -9,7 +8,7 @@ abbrev pub invariant-loop-i : goal.invariant-loop-i
 invariant-loop-i l = record {
   inside : l.i ≤ length l.devices;
   few : length l.perms + 2 * l.i ≤ 2 * length l.devices;
-  view : SameView (view_of_runs l.perms) (device_perm (map triple_of (drop l.i l.devices)));
+  view : SameView (view_of_runs l.perms) (device_perm (drop l.i l.devices));
 }
 
 abbrev pub decreases-loop-i : goal.decreases-loop-i

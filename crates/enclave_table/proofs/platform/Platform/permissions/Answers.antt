@@ -1,21 +1,11 @@
-use Rattle.std.proofs.Common.{◌∙◌, ap, sym, List, map}
-use Rattle.std.specs.List.{All}
+use Rattle.std.proofs.Common.{◌∙◌, ap, sym}
 use Rattle.permission_map.specs.Runs.{view_of_runs}
-use Rattle.enclave_table.specs.Devices.{triple_of}
 use Rattle.enclave_table.specs.Platform.{Layout}
-use Rattle.enclave_table.specs.Ranges.{IsRange}
-use Rattle.enclave_table.specs.declared.device.Device.{Device}
-use Rattle.enclave_table.proofs.Mapped.{device_ranges, platform_view}
+use Rattle.enclave_table.proofs.Mapped.{platform_view}
 use Rattle.enclave_table.proofs.platform.Platform.permissions.Goals as goal
-
-pub put_devices-requires-clause-ranges : goal.put_devices-requires-clause-ranges
-put_devices-requires-clause-ranges c =
-    let devices : List Device = c.self.inside.devices.items in
-    let kept : All (λ d. IsRange (d.base, d.size)) devices = device_ranges devices c.self.invariant.ranges.ranges.device_ranges in
-    rw c.as_slice.ensures.value kept
 
 pub returns-clause-view : goal.returns-clause-view
 returns-clause-view c =
     platform_view c.args.self.now c.as_slice.result.now c.as_slice-2.result.now c.monitor_pages.result (view_of_runs c.put_devices.new.perms) (view_of_runs c.put_memory.new.perms)
-    (view_of_runs c.put.new.map) (sym (ap (λ (l : Layout). l.devices) c.self.view_is) ∙ ap (λ ds. map triple_of ds) (sym c.as_slice.ensures.value))
+    (view_of_runs c.put.new.map) (sym (ap (λ (l : Layout). l.devices) c.self.view_is) ∙ sym c.as_slice.ensures.value)
     (sym (ap (λ (l : Layout). l.ram) c.self.view_is) ∙ sym c.as_slice-2.ensures.value) c.monitor_pages.ensures.value c.in_ok-put_devices.ensures.view c.in_ok-put_memory.ensures.view c.in_ok-put.ensures.view
