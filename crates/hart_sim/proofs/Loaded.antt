@@ -1,5 +1,5 @@
 -- The registers that are loaded on harts.
-use Rattle.std.proofs.Common.{◌≡◌, ◌≢◌, ◌⊎◌, ◌∙◌, inl, inr, ℕ, zero, suc, ◌<◌, List, [], ◌∷◌, length, Bool, true, false, ◌==◌, if◌then◌else◌, Option, Some, None, slice_get, slice_set, refl, ap, sym, arith}
+use Rattle.std.proofs.Common.{◌≡◌, ◌≢◌, ◌⊎◌, ◌∙◌, inl, inr, ℕ, zero, suc, ◌<◌, List, [], ◌∷◌, length, Bool, true, false, ◌==◌, if◌then◌else◌, Option, Some, None, slice_get, slice_set, slice_index_or, refl, ap, sym, arith}
 use Rattle.std.proofs.lemmas.Bool.{eq-eqb, eqb-true, ne_eqb, both_ways}
 use Rattle.std.proofs.lemmas.Option.{same_Some}
 use Rattle.sbi_decode.specs.Registers.{RegisterFile}
@@ -138,3 +138,9 @@ pub hart_there : (harts : List Hart) (i : ℕ) → i < length harts → (hart : 
 hart_there [] i low = absurd (omega arith)
 hart_there (x ∷ harts) zero low = (x, refl)
 hart_there (x ∷ harts) (suc i) low = hart_there harts i (omega arith)
+
+-- what is read at a place is there
+pub read_at : (harts : List Hart) (i : ℕ) (hart : Hart) → i < length harts → slice_get harts i ≡ Some (slice_index_or harts i hart)
+read_at [] i hart low = absurd (omega arith)
+read_at (x ∷ harts) zero hart low = refl
+read_at (x ∷ harts) (suc i) hart low = read_at harts i hart (omega arith)

@@ -10,7 +10,7 @@ use Rattle.sbi_decode.specs.Registers.{RegisterFile}
 use Rattle.context_switch.specs.declared.hart.Hart.{Hart}
 use Rattle.context_switch.specs.declared.contexts.Contexts.{Contexts}
 use Rattle.context_switch.specs.Contexts.{saved_of}
-use Rattle.context_switch.specs.Harts.{number_of, world_of, registers_of, bank_of}
+use Rattle.context_switch.specs.Harts.{number_of, world_of, registers_of, bank_of, with_registers as with_file}
 use Rattle.worlds.specs.Runners.{Runner, runner_of}
 use Rattle.context_switch.specs.Switching.{Switches}
 use Rattle.hart_sim.specs.declared.memory.Memory.{Memory}
@@ -18,7 +18,7 @@ use Rattle.hart_sim.specs.States.{State, SameState, running_registers}
 use Rattle.hart_sim.specs.Changes.{is_same, in_world, with_running, with_registers}
 use Rattle.hart_sim.specs.Harts.{runner_on, AreHarts}
 use Rattle.hart_sim.specs.Hardware.{loaded_in, file_or, world_in, shown}
-use Rattle.hart_sim.proofs.Loaded.{same_is, is_itself, same_ways, loaded_other, loaded_here, loaded_at, loaded_none, get_here, get_other, set_at}
+use Rattle.hart_sim.proofs.Loaded.{fits_set, same_is, is_itself, same_ways, loaded_other, loaded_here, loaded_at, loaded_none, get_here, get_other, set_at}
 
 -- a test that is true or false
 pub both : {P : Type 0} (b : Bool) → (b ≡ true → P) → (b ≡ false → P) → P
@@ -186,3 +186,15 @@ pub worlds_stay : (harts : List Hart) (n : ℕ) (hart new : Hart) (i : ℕ) → 
 worlds_stay harts n hart new i found world = worlds_are harts n i hart new found ∙ both (i == n)
     (λ e. let is : i ≡ n = eqb-true i n e in ap (λ b. if b then world_of new else world_in (slice_get harts i)) e ∙ world ∙ sym (ap (λ k. world_in (slice_get harts k)) is ∙ ap world_in found))
     (λ e. ap (λ b. if b then world_of new else world_in (slice_get harts i)) e)
+
+-- a hart with other registers has its number, its world and its bank
+pub fits_registers : (harts : List Hart) (marked : List Bool) (limit : Limit) (n : ℕ) (hart : Hart) (file : RegisterFile) → AreHarts harts marked limit → slice_get harts n ≡ Some hart → AreHarts (slice_set harts n (with_file hart file)) marked limit
+fits_registers harts marked limit n hart file fit found =
+    fits_set harts marked limit n (with_file hart file) fit (fit.numbered n hart found) (fit.limited n hart found) (only_here harts marked limit n hart (with_file hart file) fit found refl)
+
+-- the registers on a hart changed in their place
+pub shows_change : (table : EnclaveTable) (harts : List Hart) (contexts : Contexts) (memory : Memory) (marked : List Bool) (limit : Limit) (n : ℕ) (hart : Hart) (file : RegisterFile) (change : RegisterFile → RegisterFile) → AreHarts harts marked limit → slice_get harts n ≡ Some hart → file ≡ change (registers_of hart)
+    → SameState (shown table (slice_set harts n (with_file hart file)) contexts memory marked) (with_running (shown table harts contexts memory marked) n (change (running_registers (shown table harts contexts memory marked) n)))
+shows_change table harts contexts memory marked limit n hart file change fit found is =
+    running_put (shown table harts contexts memory marked) (shown table (slice_set harts n (with_file hart file)) contexts memory marked) n file (registers_of hart) change
+    (shows_registers table harts contexts memory marked limit n hart (with_file hart file) fit found refl refl) is (running_is table harts contexts memory marked limit n hart fit found)

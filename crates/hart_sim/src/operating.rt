@@ -43,19 +43,6 @@ impl Hardware {
         &self.harts[number as usize]
     }
 
-    /// Puts a hart into its place.
-    fn put_hart(&mut self, number: u8, hart: Hart)
-        requires number { number < 4 }
-        requires fits { AreHarts (slice_set self.old.harts number hart) self.old.marked self.old.limit }
-        ensures harts { self.new.harts ≡ slice_set self.old.harts number hart }
-        ensures contexts { self.new.contexts ≡ self.old.contexts }
-        ensures memory { self.new.memory ≡ self.old.memory }
-        ensures marked { self.new.marked ≡ self.old.marked }
-        ensures limit { self.new.limit ≡ self.old.limit }
-    {
-        self.harts[number as usize] = hart;
-    }
-
     /// The byte at an address.
     pub(crate) fn byte(&self, address: u64) -> u8
         ensures { (table : EnclaveTable) → result ≡ (state_on table self.now).bytes address }
@@ -82,23 +69,8 @@ impl Hardware {
         ensures marks { self.new.marked ≡ self.old.marked }
         ensures limit { self.new.limit ≡ self.old.limit }
     {
-        let mut hart = *self.hart(number);
-        hart.put_bank(bank);
-        self.put_hart(number, hart);
-    }
-
-    /// Sets registers of the world that runs on a hart.
-    pub(crate) fn put_registers(&mut self, number: u8, registers: Registers)
-        requires { number < 4 }
-        ensures state { (table : EnclaveTable) → SameState (state_on table self.new) (with_running (state_on table self.old) number registers) }
-        ensures banks { (i : ℕ) (bank : Bank) → BankOn self.old i bank → BankOn self.new i bank }
-        ensures worlds { (i : ℕ) → world_in (slice_get self.new.harts i) ≡ world_in (slice_get self.old.harts i) }
-        ensures marks { self.new.marked ≡ self.old.marked }
-        ensures limit { self.new.limit ≡ self.old.limit }
-    {
-        let mut hart = *self.hart(number);
-        *hart.registers_mut() = registers;
-        self.put_hart(number, hart);
+        let harts = &mut self.harts;
+        harts[number as usize].put_bank(bank);
     }
 
     /// An access on a hart, judged by its bank.
@@ -129,9 +101,8 @@ impl Hardware {
         ensures marks { self.new.marked ≡ self.old.marked }
         ensures limit { self.new.limit ≡ self.old.limit }
     {
-        let mut hart = *self.hart(number);
-        switch(&mut hart, &mut self.contexts, to, entries);
-        self.put_hart(number, hart);
+        let harts = &mut self.harts;
+        switch(&mut harts[number as usize], &mut self.contexts, to, entries);
     }
 
     /// A register of the world that runs on a hart is set.
@@ -144,9 +115,9 @@ impl Hardware {
         ensures marks { self.new.marked ≡ self.old.marked }
         ensures limit { self.new.limit ≡ self.old.limit }
     {
-        let mut registers = *self.hart(number).registers();
+        let harts = &mut self.harts;
+        let registers = harts[number as usize].registers_mut();
         registers.set(n as usize, value);
-        self.put_registers(number, registers);
     }
 
     /// The words of a call are put into the registers on a hart, and the program goes past it.
@@ -158,10 +129,10 @@ impl Hardware {
         ensures marks { self.new.marked ≡ self.old.marked }
         ensures limit { self.new.limit ≡ self.old.limit }
     {
-        let mut registers = *self.hart(number).registers();
-        put_words(&mut registers, words);
-        go_past_call(&mut registers);
-        self.put_registers(number, registers);
+        let harts = &mut self.harts;
+        let registers = harts[number as usize].registers_mut();
+        put_words(registers, words);
+        go_past_call(registers);
     }
 
     /// Two words are put into a0 and a1 on a hart.
@@ -173,9 +144,9 @@ impl Hardware {
         ensures marks { self.new.marked ≡ self.old.marked }
         ensures limit { self.new.limit ≡ self.old.limit }
     {
-        let mut registers = *self.hart(number).registers();
-        put_answer(&mut registers, first, second);
-        self.put_registers(number, registers);
+        let harts = &mut self.harts;
+        let registers = harts[number as usize].registers_mut();
+        put_answer(registers, first, second);
     }
 
     /// The registers that an enclave is to go on with, which runs on no hart.
