@@ -6,6 +6,7 @@ mod Alike
 mod Loaded
 mod Accessed
 mod Shown
+mod Stayed
 mod Marks
 mod Layouts
 mod PrivateBytes

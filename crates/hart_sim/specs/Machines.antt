@@ -37,3 +37,9 @@ KeepsBanksRight machine =
 -- only that hart's bank may have changed
 abbrev pub KeepsOtherBanks : Machine → Machine → ℕ → Type 0
 KeepsOtherBanks old new hart = (other : ℕ) (bank : Bank) → other ≢ hart → HasBank old other bank → HasBank new other bank
+
+-- where neither mark, table nor world of the hart change, its own bank stays: a marked one loads the host's entries
+abbrev pub KeepsOwnBank : Machine → Machine → ℕ → Type 0
+KeepsOwnBank old new hart =
+    (state_of old).marked hart ≡ false → (state_of new).table ≡ (state_of old).table → (state_of new).worlds hart ≡ (state_of old).worlds hart
+    → (bank : Bank) → HasBank old hart bank → HasBank new hart bank

@@ -64,6 +64,11 @@ AreBanksRight kept h =
     (hart : ℕ) (bank : Bank) → hart < kept.table.layout.harts → (machine_state kept h).marked hart ≡ false → BankOn h hart bank
     → LoadsFewest bank (current_view (machine_state kept h) hart)
 
+-- where the table and the world of a hart stay, so does its bank
+abbrev pub StaysLoaded : Kept → Hardware → Kept → Hardware → ℕ → Type 0
+StaysLoaded kept old now new hart =
+    now.table ≡ kept.table → world_in (slice_get new.harts hart) ≡ world_in (slice_get old.harts hart) → (bank : Bank) → BankOn old hart bank → BankOn new hart bank
+
 -- the list that an event on a hart meets: the host's where it is marked, else what is loaded
 abbrev pub MeetsOn : Kept → Hardware → ℕ → List Entry → Type 0
 MeetsOn kept h hart list =

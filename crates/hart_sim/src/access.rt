@@ -12,7 +12,7 @@ ghost use Rattle.hart_sim.specs.Steps.{Accesses, verdict};
 ghost use Rattle.hart_sim.specs.declared.reply.Reply.{Reply};
 ghost use Rattle.pmp_match.specs.declared.access.Access.{Access};
 ghost use Rattle.hart_sim.specs.Hardware.{BankOn, KeepsBanks};
-ghost use Rattle.hart_sim.specs.Parts.{machine_state, IsWhole, AreBanksRight};
+ghost use Rattle.hart_sim.specs.Parts.{machine_state, IsWhole, AreBanksRight, StaysLoaded};
 
 use crate::parts::Parts;
 use crate::reply::Reply;
@@ -32,6 +32,7 @@ impl Parts {
         ensures whole { IsWhole self.new.table self.new.hardware }
         ensures banks { AreBanksRight self.old.table self.old.hardware → AreBanksRight self.new.table self.new.hardware }
         ensures others { KeepsBanks self.old.hardware self.new.hardware hart }
+        ensures stays { StaysLoaded self.old.table self.old.hardware self.new.table self.new.hardware hart }
         ensures table { self.new.table ≡ self.old.table }
         ensures harts { self.new.hardware.harts ≡ self.old.hardware.harts }
     {

@@ -9,7 +9,7 @@ ghost use Rattle.pmp_match.specs.Meaning.{Needs};
 ghost use Rattle.hart_sim.specs.Replies.{AnswersCall, AnswersIrq, below_zero, world_number};
 ghost use Rattle.enclave_table.specs.Enclaves.{EnclaveTable};
 ghost use Rattle.hart_sim.specs.Hardware.{state_on, KeepsBanks};
-ghost use Rattle.hart_sim.specs.Parts.{machine_state, IsWhole, AreBanksRight};
+ghost use Rattle.hart_sim.specs.Parts.{machine_state, IsWhole, AreBanksRight, StaysLoaded};
 
 use crate::parts::Parts;
 use crate::refusing::{below_zero, word_below_zero};
@@ -87,6 +87,7 @@ impl Parts {
         ensures state { (table : EnclaveTable) → SameState (state_on table self.new.hardware) (answering (state_on table self.old.hardware) hart first second) }
         ensures banks { AreBanksRight self.old.table self.old.hardware → AreBanksRight self.new.table self.new.hardware }
         ensures others { KeepsBanks self.old.hardware self.new.hardware hart }
+        ensures stays { StaysLoaded self.old.table self.old.hardware self.new.table self.new.hardware hart }
         ensures table { self.new.table ≡ self.old.table }
     {
         self.hardware.answer(hart, first, second);
@@ -102,6 +103,7 @@ impl Parts {
         ensures step { Refuses number (machine_state self.old.table self.old.hardware) hart result (machine_state self.new.table self.new.hardware) }
         ensures banks { AreBanksRight self.old.table self.old.hardware → AreBanksRight self.new.table self.new.hardware }
         ensures others { KeepsBanks self.old.hardware self.new.hardware hart }
+        ensures stays { StaysLoaded self.old.table self.old.hardware self.new.table self.new.hardware hart }
         ensures table { self.new.table ≡ self.old.table }
     {
         self.answer(hart, word_below_zero(number), 0);

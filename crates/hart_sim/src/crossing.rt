@@ -7,7 +7,7 @@ ghost use Rattle.hart_sim.specs.declared.reply.Reply.{Reply};
 ghost use Rattle.hart_sim.specs.Changes.{back_to_host};
 ghost use Rattle.enclave_table.specs.Living.{Leaves, RefusesLeave};
 ghost use Rattle.hart_sim.specs.Hardware.{state_on, KeepsBanks};
-ghost use Rattle.hart_sim.specs.Parts.{machine_state, IsWhole, AreBanksRight};
+ghost use Rattle.hart_sim.specs.Parts.{machine_state, IsWhole, AreBanksRight, StaysLoaded};
 
 use crate::parts::Parts;
 use crate::refusing::number_of;
@@ -24,6 +24,7 @@ impl Parts {
         ensures step { DoesEnter entering id (machine_state self.old.table self.old.hardware) hart result (machine_state self.new.table self.new.hardware) }
         ensures banks { AreBanksRight self.old.table self.old.hardware → AreBanksRight self.new.table self.new.hardware }
         ensures others { KeepsBanks self.old.hardware self.new.hardware hart }
+        ensures stays { StaysLoaded self.old.table self.old.hardware self.new.table self.new.hardware hart }
     {
         let world = self.hardware.hart(hart).world();
         match self.table.enter(world, id, entering) {
@@ -58,6 +59,7 @@ impl Parts {
         ensures kept { OnErr result (self.new ≡ self.old) }
         ensures banks { AreBanksRight self.old.table self.old.hardware → AreBanksRight self.new.table self.new.hardware }
         ensures others { KeepsBanks self.old.hardware self.new.hardware hart }
+        ensures stays { StaysLoaded self.old.table self.old.hardware self.new.table self.new.hardware hart }
     {
         let world = self.hardware.hart(hart).world();
         match self.table.leave(world, leaving) {
@@ -77,6 +79,7 @@ impl Parts {
         ensures step { DoesExit value (machine_state self.old.table self.old.hardware) hart result (machine_state self.new.table self.new.hardware) }
         ensures banks { AreBanksRight self.old.table self.old.hardware → AreBanksRight self.new.table self.new.hardware }
         ensures others { KeepsBanks self.old.hardware self.new.hardware hart }
+        ensures stays { StaysLoaded self.old.table self.old.hardware self.new.table self.new.hardware hart }
     {
         match self.leave(hart, Leaving::Exit, 0, value) {
             Ok(()) => self.told(hart, 0, value),
@@ -92,6 +95,7 @@ impl Parts {
         ensures step { DoesStop (machine_state self.old.table self.old.hardware) hart result (machine_state self.new.table self.new.hardware) }
         ensures banks { AreBanksRight self.old.table self.old.hardware → AreBanksRight self.new.table self.new.hardware }
         ensures others { KeepsBanks self.old.hardware self.new.hardware hart }
+        ensures stays { StaysLoaded self.old.table self.old.hardware self.new.table self.new.hardware hart }
     {
         match self.hardware.hart(hart).world() {
             World::Host => self.refuse(hart, 101),
@@ -113,6 +117,7 @@ impl Parts {
         ensures step { let s = machine_state self.old.table self.old.hardware in Interrupts (s.worlds hart) s hart result (machine_state self.new.table self.new.hardware) }
         ensures banks { AreBanksRight self.old.table self.old.hardware → AreBanksRight self.new.table self.new.hardware }
         ensures others { KeepsBanks self.old.hardware self.new.hardware hart }
+        ensures stays { StaysLoaded self.old.table self.old.hardware self.new.table self.new.hardware hart }
     {
         if self.hardware.hart(hart).world() == World::Host {
             return self.told_of_irq(hart);

@@ -8,7 +8,7 @@ ghost use Rattle.sbi_decode.specs.Calls.{call_of};
 ghost use Rattle.hart_sim.specs.Changes.{calling};
 ghost use Rattle.enclave_table.specs.Enclaves.{EnclaveTable};
 ghost use Rattle.hart_sim.specs.Hardware.{state_on, KeepsBanks};
-ghost use Rattle.hart_sim.specs.Parts.{machine_state, IsWhole, AreBanksRight};
+ghost use Rattle.hart_sim.specs.Parts.{machine_state, IsWhole, AreBanksRight, StaysLoaded};
 
 use crate::parts::Parts;
 use crate::reply::Reply;
@@ -32,6 +32,7 @@ impl Parts {
         ensures state { (table : EnclaveTable) → SameState (state_on table self.new.hardware) (calling (state_on table self.old.hardware) hart words.now) }
         ensures banks { AreBanksRight self.old.table self.old.hardware → AreBanksRight self.new.table self.new.hardware }
         ensures others { KeepsBanks self.old.hardware self.new.hardware hart }
+        ensures stays { StaysLoaded self.old.table self.old.hardware self.new.table self.new.hardware hart }
         ensures table { self.new.table ≡ self.old.table }
         ensures marks { self.new.hardware.marked ≡ self.old.hardware.marked }
     {
@@ -47,6 +48,7 @@ impl Parts {
         ensures step { let s = machine_state self.old.table self.old.hardware in DoesCall (call_of (running_registers s hart)) s hart result (machine_state self.new.table self.new.hardware) }
         ensures banks { AreBanksRight self.old.table self.old.hardware → AreBanksRight self.new.table self.new.hardware }
         ensures others { KeepsBanks self.old.hardware self.new.hardware hart }
+        ensures stays { StaysLoaded self.old.table self.old.hardware self.new.table self.new.hardware hart }
     {
         let Ok(call) = decode(self.registers(hart)) else {
             return self.refuse(hart, 2);
@@ -89,6 +91,7 @@ impl Parts {
         ensures step { let s = calling (machine_state self.old.table self.old.hardware) hart words.now in DoesCall (call_of (running_registers s hart)) s hart result (machine_state self.new.table self.new.hardware) }
         ensures banks { AreBanksRight self.old.table self.old.hardware → AreBanksRight self.new.table self.new.hardware }
         ensures others { KeepsBanks self.old.hardware self.new.hardware hart }
+        ensures stays { StaysLoaded self.old.table self.old.hardware self.new.table self.new.hardware hart }
     {
         self.call(hart, words);
         self.serve(hart)

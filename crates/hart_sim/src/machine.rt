@@ -34,7 +34,7 @@ impl Machine {
     ghost use Rattle.enclave_table.specs.Views.{host_view};
     ghost use Rattle.hart_trace.specs.declared.event.Event.{Event};
     ghost use Rattle.hart_sim.specs.declared.reply.Reply.{Reply};
-    ghost use Rattle.hart_sim.specs.Machines.{state_of, kept_of, HasBank, MeetsList, KeepsBanksRight, KeepsOtherBanks};
+    ghost use Rattle.hart_sim.specs.Machines.{state_of, kept_of, HasBank, MeetsList, KeepsBanksRight, KeepsOtherBanks, KeepsOwnBank};
     ghost use Rattle.hart_sim.specs.Privacy.{KeepsPrivate, DeniesOthers, ZeroesDestroyed};
     ghost use Rattle.hart_sim.specs.States.{SameState, opening, current_view, running_registers};
     ghost use Rattle.hart_sim.specs.Steps.{IsEvent, Step};
@@ -136,6 +136,7 @@ impl Machine {
         ensures kept { KeepsBanksRight self.old → KeepsBanksRight self.new }
         ensures banks { KeepsBanksRight self.old → (h : ℕ) (bank : Bank) → h < (state_of self.new).table.layout.harts → (state_of self.new).marked h ≡ false → HasBank self.new h bank → (list : List Entry) → HasList bank list → Means list (current_view (state_of self.new) h) × ((others : List Entry) → Means others (current_view (state_of self.new) h) → length list ≤ length others) }
         ensures others { KeepsOtherBanks self.old self.new hart }
+        ensures stays { KeepsOwnBank self.old self.new hart }
         ensures platform { (state_of self.new).table.layout ≡ (state_of self.old).table.layout }
         ensures allowed { KeepsBanksRight self.old → (access : Access) (value : ℕ) → event ≡ Event.Access access value → IsAligned access → access.address < 2 ^ 56 → ((cause : Cause) → result ≢ Reply.Fault cause) ↔ (holds (current_view (state_of self.old) hart (access.address / 4096)) access.kind ≡ true) }
         ensures denied { KeepsBanksRight self.old → DeniesOthers (state_of self.old) hart event result }

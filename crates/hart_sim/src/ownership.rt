@@ -4,7 +4,7 @@ ghost use Rattle.std.specs.Prelude.{◌<◌, Err};
 ghost use Rattle.hart_sim.specs.Steps.{DoesMeasure, DoesCreate, DoesDestroy};
 ghost use Rattle.hart_sim.specs.declared.reply.Reply.{Reply};
 ghost use Rattle.hart_sim.specs.Hardware.{KeepsBanks};
-ghost use Rattle.hart_sim.specs.Parts.{machine_state, IsWhole, AreBanksRight};
+ghost use Rattle.hart_sim.specs.Parts.{machine_state, IsWhole, AreBanksRight, StaysLoaded};
 
 use crate::parts::Parts;
 use crate::refusing::number_of;
@@ -20,7 +20,9 @@ impl Parts {
         ensures step { DoesCreate asked (machine_state self.old.table self.old.hardware) hart result (machine_state self.new.table self.new.hardware) }
         ensures banks { AreBanksRight self.old.table self.old.hardware → AreBanksRight self.new.table self.new.hardware }
         ensures others { KeepsBanks self.old.hardware self.new.hardware hart }
+        ensures stays { StaysLoaded self.old.table self.old.hardware self.new.table self.new.hardware hart }
     {
+        self.table.rules();
         let world = self.hardware.hart(hart).world();
         match self.table.create(world, &self.hardware.memory, asked) {
             Ok(id) => {
@@ -39,6 +41,7 @@ impl Parts {
         ensures step { DoesDestroy id (machine_state self.old.table self.old.hardware) hart result (machine_state self.new.table self.new.hardware) }
         ensures banks { AreBanksRight self.old.table self.old.hardware → AreBanksRight self.new.table self.new.hardware }
         ensures others { KeepsBanks self.old.hardware self.new.hardware hart }
+        ensures stays { StaysLoaded self.old.table self.old.hardware self.new.table self.new.hardware hart }
     {
         self.table.rules();
         let world = self.hardware.hart(hart).world();
@@ -60,6 +63,7 @@ impl Parts {
         ensures step { DoesMeasure id k (machine_state self.old.table self.old.hardware) hart result (machine_state self.new.table self.new.hardware) }
         ensures banks { AreBanksRight self.old.table self.old.hardware → AreBanksRight self.new.table self.new.hardware }
         ensures others { KeepsBanks self.old.hardware self.new.hardware hart }
+        ensures stays { StaysLoaded self.old.table self.old.hardware self.new.table self.new.hardware hart }
     {
         match self.table.word(id, k) {
             Ok(word) => {

@@ -16,6 +16,24 @@ use enclave_table::World;
 use pmp_encoding::Bank;
 
 impl Parts {
+    /// The host's entries are loaded on a marked hart, and it is not marked any more.
+    fn load_host(&mut self, hart: u8)
+        requires hart { hart < self.old.table.table.layout.harts }
+        requires whole { IsWhole self.old.table self.old.hardware }
+        requires marked { (machine_state self.old.table self.old.hardware).marked hart ≡ true }
+        ensures whole { IsWhole self.new.table self.new.hardware }
+        ensures state { (table : EnclaveTable) → SameState (state_on table self.new.hardware) (without_mark (state_on table self.old.hardware) hart) }
+        ensures banks { AreBanksRight self.old.table self.old.hardware → AreBanksRight self.new.table self.new.hardware }
+        ensures others { KeepsBanks self.old.hardware self.new.hardware hart }
+        ensures loaded { (bank : Bank) × BankOn self.new.hardware hart bank × HasList bank self.old.table.host_list }
+        ensures table { self.new.table ≡ self.old.table }
+    {
+        let limit = self.table.limit();
+        let bank = Bank::of(self.table.host_entries(), limit);
+        self.hardware.put_bank(hart, bank);
+        self.hardware.clear_mark(hart);
+    }
+
     /// A marked hart loads the host's entries, and is not marked any more.
     pub(crate) fn wake(&mut self, hart: u8)
         requires hart { hart < self.old.table.table.layout.harts }
@@ -31,10 +49,7 @@ impl Parts {
         if !self.hardware.is_marked(hart) {
             return;
         }
-        let limit = self.table.limit();
-        let bank = Bank::of(self.table.host_entries(), limit);
-        self.hardware.put_bank(hart, bank);
-        self.hardware.clear_mark(hart);
+        self.load_host(hart);
     }
 
     /// The host on a hart is answered and loads its entries anew, and every other hart in the host's world is marked.

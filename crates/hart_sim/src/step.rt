@@ -11,7 +11,7 @@ ghost use Rattle.hart_trace.specs.declared.event.Event.{Event};
 ghost use Rattle.hart_sim.specs.declared.reply.Reply.{Reply};
 ghost use Rattle.pmp_match.specs.declared.access.Access.{Access};
 ghost use Rattle.hart_sim.specs.Hardware.{BankOn, KeepsBanks};
-ghost use Rattle.hart_sim.specs.Parts.{machine_state, IsWhole, AreBanksRight, MeetsOn};
+ghost use Rattle.hart_sim.specs.Parts.{machine_state, IsWhole, AreBanksRight, MeetsOn, StaysLoaded};
 
 use crate::parts::Parts;
 use crate::reply::Reply;
@@ -29,6 +29,7 @@ impl Parts {
         ensures step { let s = machine_state self.old.table self.old.hardware in Does (Event.Reg n value) s hart result (machine_state self.new.table self.new.hardware) }
         ensures banks { AreBanksRight self.old.table self.old.hardware → AreBanksRight self.new.table self.new.hardware }
         ensures others { KeepsBanks self.old.hardware self.new.hardware hart }
+        ensures stays { StaysLoaded self.old.table self.old.hardware self.new.table self.new.hardware hart }
     {
         self.hardware.set_register(hart, n, value);
         Reply::Done
@@ -47,6 +48,7 @@ impl Parts {
         ensures step { AreBanksRight self.old.table self.old.hardware → Does event (machine_state self.old.table self.old.hardware) hart result (machine_state self.new.table self.new.hardware) }
         ensures banks { AreBanksRight self.old.table self.old.hardware → AreBanksRight self.new.table self.new.hardware }
         ensures others { KeepsBanks self.old.hardware self.new.hardware hart }
+        ensures stays { StaysLoaded self.old.table self.old.hardware self.new.table self.new.hardware hart }
     {
         match event {
             Event::Access(access, value) => self.access(hart, &access, value),
@@ -68,6 +70,7 @@ impl Parts {
         ensures step { AreBanksRight self.old.table self.old.hardware → Step (machine_state self.old.table self.old.hardware) hart event result (machine_state self.new.table self.new.hardware) }
         ensures banks { AreBanksRight self.old.table self.old.hardware → AreBanksRight self.new.table self.new.hardware }
         ensures others { KeepsBanks self.old.hardware self.new.hardware hart }
+        ensures stays { (machine_state self.old.table self.old.hardware).marked hart ≡ false → StaysLoaded self.old.table self.old.hardware self.new.table self.new.hardware hart }
     {
         self.wake(hart);
         self.happen(hart, event)

@@ -23,3 +23,6 @@ returns-clause-banks c = λ right.
 
 pub returns-clause-others : goal.returns-clause-others
 returns-clause-others c = λ i bank other has. (has.0, ap (λ hs. slice_get hs i) c.access.ensures.banks ∙ has.1, has.2)
+
+pub returns-clause-stays : goal.returns-clause-stays
+returns-clause-stays c = λ table world bank has. (has.0, ap (λ hs. slice_get hs c.args.hart) c.access.ensures.banks ∙ has.1, has.2)

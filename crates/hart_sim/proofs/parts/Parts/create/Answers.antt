@@ -1,3 +1,4 @@
+use Rattle.hart_sim.proofs.Stayed.{not_added}
 use Rattle.std.proofs.Common.{◌≡◌, ◌∙◌, inr, ap, sym, subst, slice_get, Some}
 use Rattle.permission_map.specs.Views.{SameView}
 use Rattle.enclave_table.specs.Requests.{parts_of}
@@ -33,3 +34,11 @@ returns-in-Err-clause-step c =
 
 pub returns-in-Err-clause-banks : goal.returns-in-Err-clause-banks
 returns-in-Err-clause-banks c = λ right. c.refuse.ensures.banks (subst (λ k. AreBanksRight k c.args.self.now.hardware) (sym c.in-Err.ensures.kept) right)
+
+pub returns-in-Err-clause-stays : goal.returns-in-Err-clause-stays
+returns-in-Err-clause-stays c = λ table world bank has. c.refuse.ensures.stays (table ∙ sym (ap (λ k. k.table) c.in-Err.ensures.kept)) world bank has
+
+pub returns-in-Ok-clause-stays : goal.returns-in-Ok-clause-stays
+returns-in-Ok-clause-stays c = λ table world bank has.
+    let old = c.args.self.now in
+    absurd (not_added old.table.table c.create.new.self.table c.in-Ok.id _ c.rules.ensures.table c.in-Ok.ensures.done.next c.in-Ok.ensures.done.added (ap (λ k. k.table) (sym c.reload.ensures.table) ∙ table))

@@ -1,3 +1,4 @@
+use Rattle.hart_sim.proofs.Stayed.{not_removed}
 use Rattle.std.proofs.Common.{◌≡◌, ◌∙◌, ◌+◌, ◌^◌, ◌<◌, inl, inr, ap, sym, subst, slice_get, None}
 use Rattle.permission_map.specs.Views.{SameView}
 use Rattle.enclave_table.specs.Destroying.{Destroys, RefusesDestroy}
@@ -65,3 +66,12 @@ returns-in-Err-clause-banks c = λ right. c.refuse.ensures.banks (subst (λ k. A
 
 pub returns-in-Ok-clause-others : goal.returns-in-Ok-clause-others
 returns-in-Ok-clause-others c = λ i bank other has. let k = c.reload.ensures.others i bank other has in (k.0, ap (λ hs. slice_get hs i) c.forget.ensures.harts ∙ k.1, k.2)
+
+pub returns-in-Err-clause-stays : goal.returns-in-Err-clause-stays
+returns-in-Err-clause-stays c = λ table world bank has. c.refuse.ensures.stays (table ∙ sym (ap (λ k. k.table) c.in-Err.ensures.kept)) world bank has
+
+pub returns-in-Ok-clause-stays : goal.returns-in-Ok-clause-stays
+returns-in-Ok-clause-stays c = λ table world bank has.
+    let old = c.args.self.now in
+    let done = c.in-Ok.ensures.done in
+    absurd (not_removed old.table.table c.destroy.new.self.table c.args.id done.passes.1.0.0 done.passes.1.0.1 done.removed (ap (λ k. k.table) (sym c.reload.ensures.table) ∙ table))

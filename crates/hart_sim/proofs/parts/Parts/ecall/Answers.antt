@@ -1,4 +1,4 @@
-use Rattle.std.proofs.Common.{ap, subst, slice_get}
+use Rattle.std.proofs.Common.{◌∙◌, ap, sym, subst, slice_get}
 use Rattle.sbi_decode.specs.Calls.{call_of}
 use Rattle.hart_sim.specs.Changes.{calling}
 use Rattle.hart_sim.specs.Hardware.{world_in}
@@ -31,3 +31,10 @@ returns-clause-layout c =
 
 pub returns-clause-others : goal.returns-clause-others
 returns-clause-others c = λ i bank other has. c.serve.ensures.others i bank other (c.call.ensures.others i bank other has)
+
+pub returns-clause-stays : goal.returns-clause-stays
+returns-clause-stays c = λ table world bank has.
+    let old = c.args.self.now in
+    let same = ap (λ k. k.table) c.call.ensures.table in
+    let still = (c.call.ensures.state old.table.table).worlds c.args.hart c.requires.hart in
+    c.serve.ensures.stays (table ∙ sym same) (world ∙ sym still) bank (c.call.ensures.stays same still bank has)

@@ -1,3 +1,4 @@
+use Rattle.hart_sim.proofs.Moved.{not_there, went_there}
 use Rattle.std.proofs.Common.{◌≡◌, ◌∙◌, inl, ap, sym, subst, slice_get}
 use Rattle.enclave_table.specs.Living.{Enters}
 use Rattle.worlds.specs.declared.world.World.TheVariants.{Enclave as InEnclave}
@@ -49,3 +50,12 @@ returns-clause-banks c = λ right.
     c.into_enclave.ensures.limit c.into_enclave.ensures.worlds c.into_enclave.ensures.marks) c.requires.whole
     (here.0, here.1, loads_enclave c.enter.new.self.table c.args.id l.0 c.enter.new.self.table.layout.limit here.0 c.in-Some-enclave_entries.entries.now l.1 here.2 l.2)
     c.into_enclave.ensures.others right
+
+pub returns-in-Err-clause-stays : goal.returns-in-Err-clause-stays
+returns-in-Err-clause-stays c = λ table world bank has. c.refuse.ensures.stays (table ∙ sym (ap (λ k. k.table) c.in-Err.ensures.kept)) world bank has
+
+pub returns-clause-stays : goal.returns-clause-stays
+returns-clause-stays c = λ table world bank has.
+    let old = c.args.self.now in
+    absurd (not_there old.table old.hardware c.world-world.result c.args.id c.args.entering c.enter.new.self.table c.requires.whole c.in-Ok.ensures.done c.args.hart
+    (sym world ∙ went_there old.hardware c.into_enclave.new.self c.args.hart (InEnclave c.args.id) c.into_enclave.ensures.worlds))

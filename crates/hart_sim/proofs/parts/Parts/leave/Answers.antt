@@ -1,3 +1,5 @@
+use Rattle.worlds.specs.declared.world.World.TheVariants.{Enclave as InEnclave}
+use Rattle.hart_sim.proofs.Moved.{went_there}
 use Rattle.std.proofs.Common.{◌≡◌, ◌∙◌, ◌<◌, ap, sym, subst, slice_get}
 use Rattle.enclave_table.specs.Living.{Leaves}
 use Rattle.enclave_table.specs.Views.{host_view}
@@ -31,3 +33,10 @@ returns-clause-banks c = λ right.
     (leaving_turns old.table c.leave.new.self old.hardware c.back_to_host.new.self c.args.hart c.in-Ok.field-0 c.args.leaving c.requires.whole done c.requires.hart c.back_to_host.ensures.limit c.back_to_host.ensures.worlds c.back_to_host.ensures.marks) c.requires.whole
     (here.0, here.1, fewest_of here.0 c.leave.new.self.table.layout.limit (host_view c.leave.new.self.table) c.host_entries.result.now here.2 c.host_entries.ensures.list)
     c.back_to_host.ensures.others right
+
+pub returns-clause-stays : goal.returns-clause-stays
+returns-clause-stays c = λ table world bank has.
+    let old = c.args.self.now in
+    let at : c.world-world.result ≡ world_in (slice_get old.hardware.harts c.args.hart) = c.world-world.ensures.value ∙ sym (ap world_in c.hart.ensures.value) in
+    let host = went_there old.hardware c.back_to_host.new.self c.args.hart Host c.back_to_host.ensures.worlds in
+    let z : Host ≡ InEnclave c.in-Ok.field-0 = sym host ∙ world ∙ sym at ∙ c.in-Ok.ensures.done.left in absurd cc

@@ -14,3 +14,9 @@ returns-in-Ok-clause-step c =
       subst (λ k. SameState (machine_state k c.answer.new.self.hardware) (answering s c.args.hart 0 c.in-Ok.word)) (sym c.answer.ensures.table) (c.answer.ensures.state old.table.table),
       c.told.ensures,
     )
+
+pub returns-in-Ok-clause-stays : goal.returns-in-Ok-clause-stays
+returns-in-Ok-clause-stays c = c.answer.ensures.stays
+
+pub returns-in-Err-clause-stays : goal.returns-in-Err-clause-stays
+returns-in-Err-clause-stays c = c.refuse.ensures.stays

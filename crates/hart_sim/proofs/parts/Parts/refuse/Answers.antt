@@ -15,3 +15,6 @@ returns-clause-step c =
       subst (λ k. SameState (machine_state k new.hardware) (answering s c.args.hart (word_below_zero c.args.number) 0)) (sym c.answer.ensures.table) put,
       c.told_refused.ensures,
     )
+
+pub returns-clause-stays : goal.returns-clause-stays
+returns-clause-stays c = c.answer.ensures.stays

@@ -46,3 +46,8 @@ returns-clause-loaded c = λ access value list bank is meets now.
     let has = met old.table old.hardware mid c.args.hart list meets c.wake.ensures.woken c.wake.ensures.asleep in
     let there : BankOn mid c.args.hart bank = (now.0, ap (λ hs. slice_get hs c.args.hart) (sym (c.happen.ensures.loaded access value is)) ∙ now.1, now.2) in
     subst (λ b. HasList b list) (one_bank mid c.args.hart has.0 bank has.1 there) has.2
+
+pub returns-clause-stays : goal.returns-clause-stays
+returns-clause-stays c = λ off table world bank has.
+    let still = c.wake.ensures.asleep off in
+    c.happen.ensures.stays (table ∙ sym (ap (λ k. k.table) c.wake.ensures.table)) (world ∙ ap (λ h. world_in (slice_get h.harts c.args.hart)) (sym still)) bank (subst (λ h. BankOn h c.args.hart bank) (sym still) has)

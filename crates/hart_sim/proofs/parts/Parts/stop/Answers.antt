@@ -45,3 +45,13 @@ returns-in-Ok-clause-banks c = λ right. c.in-Ok.ensures.banks (c.answer.ensures
 
 pub returns-in-Ok-clause-others : goal.returns-in-Ok-clause-others
 returns-in-Ok-clause-others c = λ i bank other has. c.in-Ok.ensures.others i bank other (c.answer.ensures.others i bank other has)
+
+pub returns-in-Host-clause-stays : goal.returns-in-Host-clause-stays
+returns-in-Host-clause-stays c = c.refuse.ensures.stays
+
+pub returns-in-Ok-clause-stays : goal.returns-in-Ok-clause-stays
+returns-in-Ok-clause-stays c = λ table world bank has.
+    let old = c.args.self.now in
+    let same = ap (λ k. k.table) c.answer.ensures.table in
+    let still = (c.answer.ensures.state old.table.table).worlds c.args.hart c.requires.hart in
+    c.in-Ok.ensures.stays (table ∙ sym same) (world ∙ sym still) bank (c.answer.ensures.stays same still bank has)
