@@ -9,6 +9,7 @@ mod Shown
 mod Stayed
 mod Marks
 mod Layouts
+mod Awake
 mod PrivateBytes
 mod Composed
 mod Woken

@@ -1,5 +1,5 @@
 -- The lines that were done are a run of the events that they say, and what was written tells its replies.
-use Rattle.std.proofs.Common.{◌≡◌, ◌≢◌, ◌∙◌, ℕ, suc, ◌+◌, List, [], ◌∷◌, ◌++◌, length, Some, None, refl, ap, sym, subst, arith, length-append, append_assoc, append-nil}
+use Rattle.std.proofs.Common.{◌≡◌, ◌≢◌, ◌⊎◌, ◌∙◌, inl, inr, ℕ, suc, ◌+◌, ◌<◌, ◌==◌, List, [], ◌∷◌, ◌++◌, length, Some, None, refl, ap, sym, subst, arith, length-append, append_assoc, append-nil}
 use Rattle.std.specs.List.{concat}
 use Rattle.hart_trace.specs.declared.event.Event.{Event}
 use Rattle.hart_trace.specs.Events.{meaning_of}
@@ -12,9 +12,12 @@ use Rattle.hart_sim.specs.declared.reply.Reply.TheVariants.{NoMemory}
 use Rattle.hart_sim.specs.Machines.{state_of, HasBank}
 use Rattle.hart_sim.specs.Steps.{Run, still, step}
 use Rattle.hart_sim.specs.Texts.{reply_text, lines_from, report_text}
-use Rattle.hart_sim.specs.Reports.{harts_of, DoesLine, none, blank, one, AreAnswered, AreElsewhere, Report, IsReported}
+use Rattle.hart_sim.specs.Reports.{harts_of, DoesLine, none, blank, one, Happens, AreAnswered, AreElsewhere, LastOwn, Report, IsReported}
 use Rattle.hart_sim.proofs.Alike.{itself}
 use Rattle.hart_sim.proofs.Layouts.{layout_stays}
+use Rattle.hart_sim.proofs.Awake.{awake_then}
+use Rattle.hart_sim.proofs.Shown.{both}
+use Rattle.std.proofs.lemmas.Bool.{eq-eqb, eqb-true, both_ways}
 
 -- one reply more
 lines_from-snoc : (n : ℕ) (replies : List Reply) (reply : Reply) → lines_from n (replies ++ reply ∷ []) ≡ lines_from n replies ++ reply_text (n + length replies) reply
@@ -37,6 +40,65 @@ concat-snoc : (answers : List (List ℕ)) (text : List ℕ) → concat (answers 
 concat-snoc [] text = append-nil text
 concat-snoc (first ∷ answers) text = ap (λ xs. first ++ xs) (concat-snoc answers text) ∙ sym (append_assoc first (concat answers) text)
 
+elsewhere-snoc : (hart : ℕ) (events : List (ℕ × Event)) (there : ℕ) (event : Event) → AreElsewhere hart events → hart ≢ there → AreElsewhere hart (events ++ (there, event) ∷ [])
+elsewhere-snoc hart [] there event e other = (other, tt)
+elsewhere-snoc hart (first ∷ events) there event e other = (e.0, elsewhere-snoc hart events there event e.1 other)
+
+-- one event more, on another hart
+last_further : (old mid new : Machine) (hart : ℕ) (events : List (ℕ × Event)) (replies : List Reply) (there : ℕ) (event : Event) (reply : Reply) → hart ≢ there → Happens mid there event reply new
+    → LastOwn old hart events replies mid → LastOwn old hart (events ++ (there, event) ∷ []) (replies ++ reply ∷ []) new
+last_further old mid new hart events replies there event reply other x l = record {
+  before = l.before;
+  event = l.event;
+  after = l.after ++ (there, event) ∷ [];
+  answered = l.answered;
+  reply = l.reply;
+  rest = l.rest ++ reply ∷ [];
+  mid = l.mid;
+  events_part = ap (λ xs. xs ++ (there, event) ∷ []) l.events_part ∙ append_assoc l.before ((hart, l.event) ∷ l.after) ((there, event) ∷ []);
+  replies_part = ap (λ xs. xs ++ reply ∷ []) l.replies_part ∙ append_assoc l.answered (l.reply ∷ l.rest) (reply ∷ []);
+  until = l.until;
+  since = step l.since there event reply x.known x.possible x.happened;
+  elsewhere = elsewhere-snoc hart l.after there event l.elsewhere other;
+  meant = l.meant;
+  stays = λ bank has. x.others hart bank other (l.stays bank has);
+}
+
+-- one event more, on that hart
+last_here : (old mid new : Machine) (hart : ℕ) (events : List (ℕ × Event)) (replies : List Reply) (event : Event) (reply : Reply) → Run (state_of old) events replies (state_of mid) → Happens mid hart event reply new
+    → LastOwn old hart (events ++ (hart, event) ∷ []) (replies ++ reply ∷ []) new
+last_here old mid new hart events replies event reply run x = record {
+  before = events;
+  event = event;
+  after = [];
+  answered = replies;
+  reply = reply;
+  rest = [];
+  mid = new;
+  events_part = refl;
+  replies_part = refl;
+  until = step run hart event reply x.known x.possible x.happened;
+  since = still (itself (state_of new));
+  elsewhere = tt;
+  meant = λ bank has. x.kept hart bank (subst (λ l. hart < l.harts) (sym (layout_stays (state_of mid) hart event reply (state_of new) x.happened)) x.known) (awake_then (state_of mid) hart event reply (state_of new) x.known x.happened) has;
+  stays = λ bank has. has;
+}
+
+-- the last event of each hart, with one event more
+last_then : (old mid new : Machine) (events : List (ℕ × Event)) (replies : List Reply) (there : ℕ) (event : Event) (reply : Reply) → Run (state_of old) events replies (state_of mid) → Happens mid there event reply new
+    → (hart : ℕ) → AreElsewhere hart events ⊎ LastOwn old hart events replies mid → AreElsewhere hart (events ++ (there, event) ∷ []) ⊎ LastOwn old hart (events ++ (there, event) ∷ []) (replies ++ reply ∷ []) new
+last_then old mid new events replies there event reply run x hart was = both (hart == there)
+    (λ yes.
+    let is : there ≡ hart = sym (eqb-true hart there yes) in
+    subst (λ h. AreElsewhere hart (events ++ (h, event) ∷ []) ⊎ LastOwn old hart (events ++ (h, event) ∷ []) (replies ++ reply ∷ []) new) (sym is)
+    (inr (last_here old mid new hart events replies event reply run (subst (λ h. Happens mid h event reply new) is x))))
+    (λ no.
+    let other : hart ≢ there = λ is. both_ways (hart == there) no (eq-eqb hart there is) in
+    elim was [
+      | inl e ↦ inl (elsewhere-snoc hart events there event e other)
+      | inr l ↦ inr (last_further old mid new hart events replies there event reply other x l)
+    ])
+
 -- what is known on the way: the harts are as many as at first, and there is an answer for each reply
 record Way (old : Machine) (lines answers : List (List ℕ)) (new : Machine) : Type 0 where
   report : Report old lines (concat answers) new
@@ -45,7 +107,7 @@ record Way (old : Machine) (lines answers : List (List ℕ)) (new : Machine) : T
 
 way : (old new : Machine) (lines answers : List (List ℕ)) → Does DoesLine old lines answers new → Way old lines answers new
 way old new _ _ loop.none = record {
-  report = record { events = []; replies = []; spelled = none; run = still (itself (state_of old)); told = refl; each = tt; idle = λ hart bank other has. has };
+  report = record { events = []; replies = []; spelled = none; run = still (itself (state_of old)); told = refl; each = tt; idle = λ hart bank other has. has; last = λ hart. inl tt };
   counted = refl;
   harts = refl;
 }
@@ -61,6 +123,7 @@ way old new _ _ (loop.silent {lines} {answers} {mid} done line short _ x) =
         told = w.report.told;
         each = w.report.each;
         idle = λ hart bank other has. subst (λ m. HasBank m hart bank) (sym x.1) (w.report.idle hart bank other has);
+        last = λ hart. subst (λ m. AreElsewhere hart w.report.events ⊎ LastOwn old hart w.report.events w.report.replies m) (sym x.1) (w.report.last hart);
       };
       counted = w.counted;
       harts = ap harts_of x.1 ∙ w.harts;
@@ -78,6 +141,7 @@ way old new _ _ (loop.answer {lines} {answers} {mid} done line short _ text x) =
         told = concat-snoc answers text ∙ ap (λ xs. xs ++ text) w.report.told ∙ ap (λ xs. report_text w.report.replies ++ xs) (x.6 ∙ ap (λ k. reply_text k x.2) order) ∙ sym (lines_from-snoc 1 w.report.replies x.2);
         each = answered-snoc w.report.replies x.2 w.report.each x.5;
         idle = λ hart bank other has. let p = elsewhere_parts hart w.report.events x.0 x.1 other in x.4.others hart bank p.1 (w.report.idle hart bank p.0 has);
+        last = λ hart. last_then old mid new w.report.events w.report.replies x.0 x.1 x.2 w.report.run x.4 hart (w.report.last hart);
       };
       counted = length-append answers (text ∷ []) ∙ ap (λ n. n + 1) w.counted ∙ sym (length-append w.report.replies (x.2 ∷ []));
       harts = ap (λ l. l.harts) (layout_stays (state_of mid) x.0 x.1 x.2 (state_of new) x.4.happened) ∙ w.harts;

@@ -1,5 +1,5 @@
 -- What a run over a trace does and writes.
-use Rattle.std.specs.Prelude.{◌≡◌, ◌≢◌, ℕ, ◌+◌, ◌<◌, List, [], ◌∷◌, ◌++◌, Option, Some, None}
+use Rattle.std.specs.Prelude.{◌≡◌, ◌≢◌, ◌⊎◌, ℕ, ◌+◌, ◌<◌, List, [], ◌∷◌, ◌++◌, Option, Some, None}
 use Rattle.std.specs.List.{concat}
 use Rattle.pmp_encoding.specs.declared.bank.Bank.{Bank}
 use Rattle.hart_trace.specs.declared.event.Event.{Event}
@@ -10,6 +10,8 @@ use Rattle.hart_sim.specs.declared.machine.Machine.{Machine}
 use Rattle.hart_sim.specs.declared.reply.Reply.{Reply}
 use Rattle.hart_sim.specs.declared.reply.Reply.TheVariants.{NoMemory}
 use Rattle.hart_sim.specs.Machines.{state_of, HasBank, KeepsBanksRight, KeepsOtherBanks}
+use Rattle.hart_sim.specs.Parts.{LoadsFewest}
+use Rattle.hart_sim.specs.States.{current_view}
 use Rattle.hart_sim.specs.Steps.{IsEvent, Step, Run}
 use Rattle.hart_sim.specs.Texts.{reply_text, report_text}
 
@@ -57,8 +59,26 @@ abbrev pub AreElsewhere : ℕ → List (ℕ × Event) → Type 0
 AreElsewhere hart [] = Unit {0}
 AreElsewhere hart (event ∷ events) = (hart ≢ event.0) × AreElsewhere hart events
 
+-- a hart's own last event parts a run: right after it the bank of that hart meant the view of its world by the fewest entries, and
+-- none of the events that followed was its own, so that bank is there still, whether or not the hart was marked since
+pub record LastOwn (old : Machine) (hart : ℕ) (events : List (ℕ × Event)) (replies : List Reply) (new : Machine) : Type 0 where
+  pub before : List (ℕ × Event)
+  pub event : Event
+  pub after : List (ℕ × Event)
+  pub answered : List Reply
+  pub reply : Reply
+  pub rest : List Reply
+  pub mid : Machine
+  pub events_part : events ≡ before ++ (hart, event) ∷ after
+  pub replies_part : replies ≡ answered ++ reply ∷ rest
+  pub until : Run (state_of old) (before ++ (hart, event) ∷ []) (answered ++ reply ∷ []) (state_of mid)
+  pub since : Run (state_of mid) after rest (state_of new)
+  pub elsewhere : AreElsewhere hart after
+  pub meant : (bank : Bank) → HasBank mid hart bank → LoadsFewest bank (current_view (state_of mid) hart)
+  pub stays : (bank : Bank) → HasBank mid hart bank → HasBank new hart bank
+
 -- the events that lines say are a run from one state to the other, the text tells the replies, none of which wanted memory,
--- and a hart on which none of them was has the bank that it had
+-- and a hart on which none of them was has the bank that it had, and each other one that which its own last event left it
 pub record Report (old : Machine) (lines : List (List ℕ)) (text : List ℕ) (new : Machine) : Type 0 where
   pub events : List (ℕ × Event)
   pub replies : List Reply
@@ -67,6 +87,7 @@ pub record Report (old : Machine) (lines : List (List ℕ)) (text : List ℕ) (n
   pub told : text ≡ report_text replies
   pub each : AreAnswered replies
   pub idle : (hart : ℕ) (bank : Bank) → AreElsewhere hart events → HasBank old hart bank → HasBank new hart bank
+  pub last : (hart : ℕ) → AreElsewhere hart events ⊎ LastOwn old hart events replies new
 
 -- so it is wherever lines were done in turn
 abbrev pub IsReported : Type 0

@@ -22,6 +22,5 @@ pub returns-then-not-is_marked-clause-woken : goal.returns-then-not-is_marked-cl
 returns-then-not-is_marked-clause-woken c = λ on.
     absurd (both_ways c.is_marked.result c.if-not-is_marked.true (c.is_marked.ensures c.args.self.now.table.table ∙ on))
 
-
 pub returns-clause-woken : goal.returns-clause-woken
 returns-clause-woken c = λ on. c.load_host.ensures.loaded
