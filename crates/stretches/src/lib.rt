@@ -1,0 +1,19 @@
+//! The space of bytes as a map and a list of entries cut it: stretches of one permission and one deciding entry.
+//!
+//! A [`Stretch`] is a maximal piece of the space on which the map has one permission and one entry, or none, is the first
+//! that has each byte. [`stretches`] answers all of them in order; they leave no byte out and have none twice.
+//!
+//! ```rust
+//! for stretch in &stretches(alloc, &map, plan.entries())? {
+//!     // stretch.wanted is the map's permission, stretch.given that of the entry stretch.entry
+//! }
+//! ```
+#![tactic(auto)]
+
+mod covering;
+mod standing;
+mod stretch;
+#[cfg(test)]
+mod tests;
+
+pub use stretch::{Stretch, stretches};

@@ -1,0 +1,65 @@
+//! Stretches of one permission and one deciding entry.
+
+ghost use Rattle.std.specs.Prelude.{◌≡◌, ◌^◌, ◌<◌, IfOk};
+ghost use Rattle.permission_map.specs.Runs.{view_of_runs};
+ghost use Rattle.stretches.specs.Stretches.{AreStretches, IsStretch};
+
+use crate::covering::covering_from;
+use crate::standing::standing_from;
+use page_views::PAGE_SIZE;
+use permission_map::{Memory, PermissionMap};
+use pmp_encoding::{Entry, Perm, SPACE_SIZE};
+use std::alloc::Global;
+
+/// The bytes from `first` to before `end`, on which a map has one permission and one entry of a list, or none, is the
+/// first that has each byte.
+#[derive(Clone, Copy, PartialEq, Eq, Debug)]
+pub struct Stretch {
+    /// Its lowest byte.
+    pub first: u64,
+    /// The first byte behind it, at most 2^56.
+    pub end: u64,
+    /// What the map says of it.
+    pub wanted: Perm,
+    /// What the deciding entry says of it: no access where there is none.
+    pub given: Perm,
+    /// The number of the deciding entry in the list.
+    pub entry: Option<usize>,
+}
+
+/// The stretch from a byte on.
+fn stretch_from(map: &PermissionMap, entries: &[Entry], at: u64) -> Stretch
+    requires { at < 2 ^ 56 }
+    ensures first { result.first ≡ at }
+    ensures stretch { IsStretch (view_of_runs map.now) entries.now result }
+{
+    let standing = standing_from(map, at / PAGE_SIZE);
+    let covering = covering_from(entries, at);
+    let end = covering.end.min(standing.end * PAGE_SIZE);
+    Stretch {
+        first: at,
+        end,
+        wanted: standing.wanted,
+        given: covering.given,
+        entry: covering.entry,
+    }
+}
+
+/// The maximal stretches of one permission of the map and one deciding entry, in order, from byte 0 to the end of the
+/// space. The only error is want of memory.
+pub fn stretches(
+    alloc: Global,
+    map: &PermissionMap,
+    entries: &[Entry],
+) -> Result<Vec<Stretch>, Memory>
+    ensures { IfOk result (λ all. AreStretches (view_of_runs map.now) entries.now 0 all.items (2 ^ 56)) }
+{
+    let mut all = Vec::new(alloc);
+    let mut at = 0;
+    while at < SPACE_SIZE {
+        let stretch = stretch_from(map, entries, at);
+        all.push(stretch)?;
+        at = stretch.end;
+    }
+    Ok(all)
+}

@@ -1,0 +1,94 @@
+//! A map and its fewest entries, cut by hand; and a list that begins and ends inside a page.
+
+use crate::{Stretch, stretches};
+use permission_map::PermissionMap;
+use pmp_encoding::{Entry, Perm, Region, SPACE_SIZE};
+use std::alloc::Global;
+use std::process::Abort;
+use std::test::Fail;
+
+/// The entry of that block.
+fn entry(rt: &impl Abort, base: u64, log2: u32, perm: Perm) -> Entry {
+    let region = Region::new(base, log2).expect(rt, "a block");
+    Entry { region, perm }
+}
+
+fn stretch(first: u64, end: u64, wanted: Perm, given: Perm, entry: Option<usize>) -> Stretch {
+    Stretch {
+        first,
+        end,
+        wanted,
+        given,
+        entry,
+    }
+}
+
+/// Bytes that no entry has, and on which the map has no permission.
+fn nothing(first: u64, end: u64) -> Stretch {
+    stretch(first, end, Perm::NoAccess, Perm::NoAccess, None)
+}
+
+/// That the entries cut the map so.
+fn expect_stretches(
+    rt: &impl Abort,
+    alloc: Global,
+    map: &PermissionMap,
+    entries: &[Entry],
+    wanted: &[Stretch],
+) {
+    let all = stretches(alloc, map, entries).expect(rt, "memory");
+    assert_eq!(rt; all.as_slice(), wanted);
+}
+
+#[test]
+fn host_map_and_its_three_entries(rt: HostRuntime) -> Result<(), Fail> {
+    let alloc = rt.alloc();
+    let mut map = PermissionMap::new(alloc);
+    map.set_range(0x80000, 0x8000, Perm::ReadWriteExecute)
+        .expect(&rt, "inside");
+    map.set_range(0x80000, 0x200, Perm::NoAccess)
+        .expect(&rt, "inside");
+    map.set_range(0x10000, 1, Perm::ReadWrite)
+        .expect(&rt, "inside");
+    let entries = [
+        entry(&rt, 0x1000_0000, 12, Perm::ReadWrite),
+        entry(&rt, 0x8000_0000, 21, Perm::NoAccess),
+        entry(&rt, 0x8000_0000, 27, Perm::ReadWriteExecute),
+    ];
+    let rw = Perm::ReadWrite;
+    let none = Perm::NoAccess;
+    let all = Perm::ReadWriteExecute;
+    let wanted = [
+        nothing(0, 0x1000_0000),
+        stretch(0x1000_0000, 0x1000_1000, rw, rw, Some(0)),
+        nothing(0x1000_1000, 0x8000_0000),
+        stretch(0x8000_0000, 0x8020_0000, none, none, Some(1)),
+        stretch(0x8020_0000, 0x8800_0000, all, all, Some(2)),
+        nothing(0x8800_0000, SPACE_SIZE),
+    ];
+    expect_stretches(&rt, alloc, &map, entries.as_slice(), wanted.as_slice());
+    Ok(())
+}
+
+#[test]
+fn four_bytes_of_a_page_and_a_run_without_entry(rt: HostRuntime) -> Result<(), Fail> {
+    let alloc = rt.alloc();
+    let mut map = PermissionMap::new(alloc);
+    map.set_range(1, 2, Perm::Read).expect(&rt, "inside");
+    let entries = [
+        entry(&rt, 0x1004, 2, Perm::Execute),
+        entry(&rt, 0x1000, 12, Perm::Read),
+    ];
+    let read = Perm::Read;
+    let none = Perm::NoAccess;
+    let wanted = [
+        nothing(0, 0x1000),
+        stretch(0x1000, 0x1004, read, read, Some(1)),
+        stretch(0x1004, 0x1008, read, Perm::Execute, Some(0)),
+        stretch(0x1008, 0x2000, read, read, Some(1)),
+        stretch(0x2000, 0x3000, read, none, None),
+        nothing(0x3000, SPACE_SIZE),
+    ];
+    expect_stretches(&rt, alloc, &map, entries.as_slice(), wanted.as_slice());
+    Ok(())
+}
