@@ -1,0 +1,73 @@
+-- The rows of a table.
+use Rattle.std.specs.Prelude.{ℕ, ◌+◌, ◌-◌, ◌^◌, ◌<◌, ◌==◌, ◌&&◌, nat_le, nat_lt, Bool, true, false, if◌then◌else◌, List, [], ◌∷◌, ◌++◌, codes, decimal, drop, length, Option, None, Some, IfSome}
+use Rattle.pmp_encoding.specs.declared.limit.Limit.{Limit}
+use Rattle.pmp_encoding.specs.declared.region.Entry.{Entry}
+use Rattle.pmp_encoding.specs.Limits.{limit_number}
+use Rattle.text_lines.specs.Written.{hex}
+use Rattle.stretches.specs.declared.stretch.Stretch.{Stretch}
+use Rattle.map_table.specs.Fields.{column, letters_of, size_text}
+
+-- a stretch with a byte, and with the number of an entry of the list or of none
+pub record IsRow (entries : List Entry) (s : Stretch) : Type 0 where
+  pub some : s.first < s.end
+  pub number : IfSome s.entry (λ i. i < length entries)
+
+-- `0xFIRST 0xLAST SIZE  PERM  `
+abbrev pub range_text : Stretch → List ℕ
+range_text s =
+    codes "0x" ++ hex 16 s.first ++ codes " 0x" ++ hex 16 (s.end - 1) ++ codes " " ++ column (size_text (s.end - s.first)) ++ codes "  " ++ letters_of s.wanted ++ codes "  "
+
+-- whether the entry has some byte of the stretch
+abbrev pub meets : Entry → Stretch → Bool
+meets e s = nat_lt e.region.base s.end && nat_lt s.first (e.region.base + 2 ^ e.region.log2)
+
+-- the numbers of the entries that have some byte of the stretch, where the first of the list has the number n
+abbrev pub overridden_from : ℕ → List Entry → Stretch → List ℕ
+overridden_from n [] s = []
+overridden_from n (e ∷ entries) s = if meets e s then n ∷ overridden_from (n + 1) entries s else overridden_from (n + 1) entries s
+
+-- the first two of the entries that are overridden, and two points for the others
+abbrev pub before_text : List ℕ → List ℕ
+before_text [] = []
+before_text (a ∷ []) = codes " (before " ++ decimal a ++ codes ")"
+before_text (a ∷ b ∷ []) = codes " (before " ++ decimal a ++ codes ", " ++ decimal b ++ codes ")"
+before_text (a ∷ b ∷ c ∷ others) = codes " (before " ++ decimal a ++ codes ", " ++ decimal b ++ codes ", ..)"
+
+-- `NUMBER (before NUMBERS)`, the deciding entry and those that it overrides
+abbrev pub number_text : ℕ → List ℕ → List ℕ
+number_text i overridden = decimal i ++ before_text overridden ++ codes "\n"
+
+-- the row of a stretch that an entry decides; another has none
+abbrev pub row_by : List Entry → Stretch → Option ℕ → List ℕ
+row_by entries s None = []
+row_by entries s (Some i) = range_text s ++ number_text i (overridden_from (i + 1) (drop (i + 1) entries) s)
+
+abbrev pub rows_text : List Entry → List Stretch → List ℕ
+rows_text entries [] = []
+rows_text entries (s ∷ stretches) = row_by entries s s.entry ++ rows_text entries stretches
+
+-- whether no entry decides some stretch
+abbrev pub is_rest : Option ℕ → Bool
+is_rest None = true
+is_rest (Some i) = false
+
+abbrev pub has_rest : List Stretch → Bool
+has_rest [] = false
+has_rest (s ∷ stretches) = if is_rest s.entry then true else has_rest stretches
+
+abbrev pub rest_text : List ℕ
+rest_text = codes "all else                                       ---  no entry\n"
+
+-- the row of all that no entry decides, where there is such
+abbrev pub rest_of : List Stretch → List ℕ
+rest_of stretches = if has_rest stretches then rest_text else []
+
+abbrev pub named_text : ℕ → List ℕ
+named_text n = if n == 1 then codes " entry: fewest possible; " else codes " entries: fewest possible; "
+
+abbrev pub fitting_text : ℕ → Limit → List ℕ
+fitting_text n limit = if nat_le n (limit_number limit) then codes "fits " else codes "does not fit "
+
+-- `N entries: fewest possible; fits LIMIT`
+abbrev pub count_text : ℕ → Limit → List ℕ
+count_text n limit = decimal n ++ named_text n ++ fitting_text n limit ++ decimal (limit_number limit) ++ codes "\n"

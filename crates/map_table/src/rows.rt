@@ -1,0 +1,164 @@
+//! The rows of a table, and the lines around them.
+
+ghost use Rattle.std.specs.Prelude.{◌≡◌, ◌+◌, ◌++◌, ◌<◌, ◌≤◌, All, OnOk, drop, length};
+ghost use Rattle.arrayvec.specs.ArrayVec.{array_vec_len};
+ghost use Rattle.map_table.specs.Rows.{IsRow, before_text, count_text, fitting_text, has_rest, named_text, number_text, overridden_from, range_text, rest_of, row_by, rows_text};
+
+use crate::fields::{letters, push_column};
+use crate::overridden::overridden;
+use arrayvec::ArrayVec;
+use permission_map::Memory;
+use pmp_encoding::{Entry, Limit};
+use stretches::Stretch;
+use text_lines::{Line, push_decimal, push_hex, push_text};
+
+const REST: &[u8] = b"all else                                       ---  no entry\n";
+
+/// What a row says of its bytes.
+fn range_line(stretch: &Stretch) -> Line
+    requires { stretch.now.first < stretch.now.end }
+    ensures { result.items ≡ range_text stretch.now }
+{
+    let mut line = ArrayVec::new();
+    push_text(&mut line, b"0x");
+    push_hex(&mut line, stretch.first, 16);
+    push_text(&mut line, b" 0x");
+    push_hex(&mut line, stretch.end - 1, 16);
+    line.push(b' ');
+    push_column(&mut line, stretch.end - stretch.first);
+    push_text(&mut line, b"  ");
+    push_text(&mut line, letters(stretch.wanted).as_bytes());
+    push_text(&mut line, b"  ");
+    line
+}
+
+/// Appends which entries a deciding one comes before.
+fn push_before(line: &mut Line, behind: &[usize])
+    requires { array_vec_len line.old ≤ 64 }
+    ensures items { line.new.items ≡ line.old.items ++ before_text behind.now }
+    ensures len { array_vec_len line.new ≤ 127 }
+{
+    match behind {
+        [] => {}
+        [a] => {
+            push_text(line, b" (before ");
+            push_decimal(line, *a as u64);
+            push_text(line, b")");
+        }
+        [a, b] => {
+            push_text(line, b" (before ");
+            push_decimal(line, *a as u64);
+            push_text(line, b", ");
+            push_decimal(line, *b as u64);
+            push_text(line, b")");
+        }
+        [a, b, ..] => {
+            push_text(line, b" (before ");
+            push_decimal(line, *a as u64);
+            push_text(line, b", ");
+            push_decimal(line, *b as u64);
+            push_text(line, b", ..)");
+        }
+    }
+}
+
+/// Which entry decides, and which it comes before.
+fn number_line(entries: &[Entry], i: usize, stretch: &Stretch) -> Line
+    requires { i < length entries.now }
+    ensures { result.items ≡ number_text i (overridden_from (i + 1) (drop (i + 1) entries.now) stretch.now) }
+{
+    let behind = overridden(entries, i, stretch);
+    let mut line = ArrayVec::new();
+    push_decimal(&mut line, i as u64);
+    push_before(&mut line, behind.as_slice());
+    line.push(b'\n');
+    line
+}
+
+/// Appends the row of a stretch that an entry decides.
+fn push_row(text: &mut Vec<u8>, entries: &[Entry], stretch: &Stretch) -> Result<(), Memory>
+    requires { IsRow entries.now stretch.now }
+    ensures { OnOk result (text.new.items ≡ text.old.items ++ row_by entries.now stretch.now stretch.now.entry) }
+{
+    let Some(i) = stretch.entry else {
+        return Ok(());
+    };
+    let range = range_line(stretch);
+    text.extend_from_slice(range.as_slice())?;
+    let number = number_line(entries, i, stretch);
+    text.extend_from_slice(number.as_slice())?;
+    Ok(())
+}
+
+/// Appends a row for each stretch that an entry decides.
+pub(crate) fn push_rows(
+    text: &mut Vec<u8>,
+    entries: &[Entry],
+    all: &[Stretch],
+) -> Result<(), Memory>
+    requires { All (IsRow entries.now) all.now }
+    ensures { OnOk result (text.new.items ≡ text.old.items ++ rows_text entries.now all.now) }
+{
+    for stretch in all {
+        push_row(text, entries, stretch)?;
+    }
+    Ok(())
+}
+
+/// Whether no entry decides some stretch.
+fn has_rest(all: &[Stretch]) -> bool
+    ensures { result ≡ has_rest all.now }
+{
+    for stretch in all {
+        if stretch.entry.is_none() {
+            return true;
+        }
+    }
+    false
+}
+
+/// Appends the row of all stretches that no entry decides, where there are such.
+pub(crate) fn push_rest(text: &mut Vec<u8>, all: &[Stretch]) -> Result<(), Memory>
+    ensures { OnOk result (text.new.items ≡ text.old.items ++ rest_of all.now) }
+{
+    if has_rest(all) {
+        text.extend_from_slice(REST)?;
+        return Ok(());
+    }
+    Ok(())
+}
+
+fn named(count: usize) -> &'static str
+    ensures value { result.now ≡ named_text count }
+    ensures length { length result.now ≤ 32 }
+{
+    if count == 1 {
+        " entry: fewest possible; "
+    } else {
+        " entries: fewest possible; "
+    }
+}
+
+fn fitting(count: usize, limit: Limit) -> &'static str
+    ensures value { result.now ≡ fitting_text count limit }
+    ensures length { length result.now ≤ 32 }
+{
+    if limit.number() as usize >= count {
+        "fits "
+    } else {
+        "does not fit "
+    }
+}
+
+/// How many entries there are, and whether a hart has as many.
+pub(crate) fn count_line(count: usize, limit: Limit) -> Line
+    ensures { result.items ≡ count_text count limit }
+{
+    let mut line = ArrayVec::new();
+    push_decimal(&mut line, count as u64);
+    push_text(&mut line, named(count).as_bytes());
+    push_text(&mut line, fitting(count, limit).as_bytes());
+    push_decimal(&mut line, u64::from(limit.number()));
+    line.push(b'\n');
+    line
+}

@@ -1,0 +1,83 @@
+//! The whole table.
+
+ghost use Rattle.std.specs.Prelude.{◌≡◌, ◌-◌, ◌^◌, ◌<◌, ◌≤◌, ℕ, Err, IfOk, List, OnOk, length};
+ghost use Rattle.std.specs.Io.KnownBytes.{Appends};
+ghost use Rattle.byte_streams.specs.Streams.{WriteFails};
+ghost use Rattle.pmp_encoding.specs.declared.region.Entry.{Entry};
+ghost use Rattle.pmp_match.specs.Meaning.{Means};
+ghost use Rattle.permission_map.specs.Runs.{view_of_runs};
+ghost use Rattle.map_table.specs.Tables.{IsTable, TakesPart};
+
+use crate::rows::{count_line, push_rest, push_rows};
+use byte_streams::{Sink, write_whole};
+use permission_map::{Memory, PermissionMap};
+use pmp_encoding::{Entry, Limit};
+use std::alloc::{AllocError, Global};
+use stretches::stretches;
+
+/// Why a table was not written.
+#[derive(Clone, Copy, PartialEq, Eq, Debug)]
+pub enum TableFault {
+    /// Memory was refused.
+    Memory,
+    /// The device failed, or took none of some bytes.
+    Device,
+}
+
+impl From<AllocError> for TableFault {
+    ghost use Rattle.std.specs.Prelude.{◌≡◌};
+    ghost use Rattle.map_table.specs.declared.table.TableFault.TheVariants.{Memory};
+
+    ghost from_gives = { λ error fault. fault ≡ Memory };
+
+    fn from(_: AllocError) -> TableFault {
+        TableFault::Memory
+    }
+}
+
+const HEAD: &[u8] = b"from               to                 size    perm by\n";
+
+/// The table of a map and a list of entries, for a hart of that limit. The only error is want of memory.
+pub(crate) fn table_of(
+    alloc: Global,
+    map: &PermissionMap,
+    entries: &[Entry],
+    limit: Limit,
+) -> Result<Vec<u8>, Memory>
+    ensures { IfOk result (λ text. IsTable (view_of_runs map.now) entries.now limit text.items) }
+{
+    let all = stretches(alloc, map, entries)?;
+    let mut text = Vec::new(alloc);
+    text.extend_from_slice(HEAD)?;
+    push_rows(&mut text, entries, all.as_slice())?;
+    push_rest(&mut text, all.as_slice())?;
+    let count = count_line(entries.len(), limit);
+    text.extend_from_slice(count.as_slice())?;
+    Ok(text)
+}
+
+/// Writes the table of a map and its fewest entries. Where memory is refused nothing was written; where the device
+/// failed, or took none of some bytes, a beginning of the table was written, not all of it.
+pub fn print_map<W: Sink>(
+    alloc: Global,
+    map: &PermissionMap,
+    entries: &[Entry],
+    limit: Limit,
+    out: &mut W,
+) -> Result<(), TableFault>
+    requires failures { W.failures out.old < 2 ^ 64 - 1 }
+    requires means { Means entries.now (view_of_runs map.now) }
+    requires least { (others : List Entry) → Means others (view_of_runs map.now) → length entries.now ≤ length others }
+    ensures written { OnOk result ((text : List ℕ) × IsTable (view_of_runs map.now) entries.now limit text × Appends (W.contents out.old) (W.contents out.new) text) }
+    ensures well { OnOk result (W.failures out.new ≡ W.failures out.old) }
+    ensures unstalled { OnOk result (W.stalls out.new ≡ W.stalls out.old) }
+    ensures untouched { result ≡ Err TableFault.Memory → out.new ≡ out.old }
+    ensures part { result ≡ Err TableFault.Device → (text : List ℕ) × IsTable (view_of_runs map.now) entries.now limit text × TakesPart text (W.contents out.old) (W.contents out.new) }
+    ensures failed { result ≡ Err TableFault.Device → WriteFails (W.failures out.old) (W.failures out.new) (W.stalls out.old) (W.stalls out.new) }
+{
+    let text = table_of(alloc, map, entries, limit)?;
+    let Ok(()) = write_whole(out, text.as_slice()) else {
+        return Err(TableFault::Device);
+    };
+    Ok(())
+}
