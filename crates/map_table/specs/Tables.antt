@@ -1,6 +1,5 @@
 -- The table of a map.
-use Rattle.std.specs.Prelude.{◌≡◌, ℕ, ◌^◌, ◌<◌, List, ◌++◌, codes, length, take, Option}
-use Rattle.std.specs.Io.KnownBytes.{Appends}
+use Rattle.std.specs.Prelude.{◌≡◌, ℕ, ◌^◌, List, ◌++◌, codes, length}
 use Rattle.pmp_encoding.specs.declared.limit.Limit.{Limit}
 use Rattle.pmp_encoding.specs.declared.region.Entry.{Entry}
 use Rattle.page_views.specs.Views.{View}
@@ -8,6 +7,7 @@ use Rattle.stretches.specs.declared.stretch.Stretch.{Stretch}
 use Rattle.stretches.specs.Stretches.{AreStretches}
 use Rattle.map_table.specs.Rows.{count_text, rest_of, rows_text}
 
+-- the names of the columns
 abbrev pub head_text : List ℕ
 head_text = codes "from               to                 size    perm by\n"
 
@@ -16,7 +16,3 @@ pub record IsTable (view : View) (entries : List Entry) (limit : Limit) (text : 
   pub stretches : List Stretch
   pub are_stretches : AreStretches view entries 0 stretches (2 ^ 56)
   pub lines : text ≡ head_text ++ rows_text entries stretches ++ rest_of stretches ++ count_text (length entries) limit
-
--- a beginning of a text was taken, and not all of it
-abbrev pub TakesPart : List ℕ → Option (List ℕ) → Option (List ℕ) → Type 0
-TakesPart text old new = (n : ℕ) × (n < length text) × Appends old new (take n text)

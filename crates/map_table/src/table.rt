@@ -6,7 +6,8 @@ ghost use Rattle.byte_streams.specs.Streams.{WriteFails};
 ghost use Rattle.pmp_encoding.specs.declared.region.Entry.{Entry};
 ghost use Rattle.pmp_match.specs.Meaning.{Means};
 ghost use Rattle.permission_map.specs.Runs.{view_of_runs};
-ghost use Rattle.map_table.specs.Tables.{IsTable, TakesPart};
+ghost use Rattle.printed_lines.specs.Plans.{TakesPart};
+ghost use Rattle.map_table.specs.Tables.{IsTable};
 
 use crate::rows::{count_line, push_rest, push_rows};
 use byte_streams::{Sink, write_whole};
