@@ -1,0 +1,2 @@
+mod Rowed
+mod Four

@@ -1,0 +1,70 @@
+use Rattle.std.proofs.Common.{ℕ, ◌≡◌, ◌<◌, ◌≤◌, arith, refl, subst}
+use Rattle.std.proofs.lemmas.Result.{err_from_is_err_and}
+use Rattle.std.specs.Io.KnownBytes.{Appends}
+use Rattle.printed_lines.specs.Plans.{TakesPart}
+use Rattle.register_formats.specs.JsonTexts.{json_text}
+use Rattle.register_formats.proofs.printing.print_json.Goals as goal
+
+full : (n m k : ℕ) → m < n → m ≡ k → n ≤ k → ⊥
+full n m k h e l = omega arith
+
+room : (n m k : ℕ) → n ≤ m → m ≡ k → k < n → ⊥
+room n m k h e l = omega arith
+
+pub returns-then-entries-number-clause-written : goal.returns-then-entries-number-clause-written
+returns-then-entries-number-clause-written g c = (
+  json_text c.args.map.now c.args.entries.now c.of-none.result 0,
+  record {
+    bank = c.of-none.result;
+    words = 0;
+    limit_is = c.of-none.ensures.registers.limit_is;
+    fits = λ h. absurd (full _ _ _ c.if-entries-number.true c.number.ensures.value h);
+    too_many = λ h. refl;
+    lines = refl;
+  },
+  subst (λ name. Appends (g.W.Sink.contents c.args.out.now) (g.W.Sink.contents c.print_object.new.out) (json_text name c.args.entries.now c.of-none.result 0)) c.as_bytes.ensures.value c.in_ok-print_object.ensures.written,
+)
+
+pub returns-in_err-print_object-clause-part : goal.returns-in_err-print_object-clause-part
+returns-in_err-print_object-clause-part g c =
+    rw (err_from_is_err_and c.from_residual.result c.from_residual.ensures.1).1 (
+      json_text c.args.map.now c.args.entries.now c.of-none.result 0,
+      record {
+        bank = c.of-none.result;
+        words = 0;
+        limit_is = c.of-none.ensures.registers.limit_is;
+        fits = λ h. absurd (full _ _ _ c.if-entries-number.true c.number.ensures.value h);
+        too_many = λ h. refl;
+        lines = refl;
+      },
+      subst (λ name. TakesPart (json_text name c.args.entries.now c.of-none.result 0) (g.W.Sink.contents c.args.out.now) (g.W.Sink.contents c.print_object.new.out)) c.as_bytes.ensures.value c.in_err-print_object.ensures.part,
+    )
+
+pub returns-clause-written : goal.returns-clause-written
+returns-clause-written g c = (
+  json_text c.args.map.now c.args.entries.now c.of-bank.result c.words_of.result,
+  record {
+    bank = c.of-bank.result;
+    words = c.words_of.result;
+    limit_is = c.of-bank.ensures.registers.limit_is;
+    fits = λ h. (c.of-bank.ensures.registers, c.words_of.ensures.value);
+    too_many = λ h. absurd (room _ _ _ c.if-entries-number.false c.number.ensures.value h);
+    lines = refl;
+  },
+  subst (λ name. Appends (g.W.Sink.contents c.args.out.now) (g.W.Sink.contents c.print_object-2.new.out) (json_text name c.args.entries.now c.of-bank.result c.words_of.result)) c.as_bytes-2.ensures.value c.in_ok-print_object-2.ensures.written,
+)
+
+pub returns-in_err-print_object-2-clause-part : goal.returns-in_err-print_object-2-clause-part
+returns-in_err-print_object-2-clause-part g c =
+    rw (err_from_is_err_and c.from_residual-in_err-print_object-2.result c.from_residual-in_err-print_object-2.ensures.1).1 (
+      json_text c.args.map.now c.args.entries.now c.of-bank.result c.words_of.result,
+      record {
+        bank = c.of-bank.result;
+        words = c.words_of.result;
+        limit_is = c.of-bank.ensures.registers.limit_is;
+        fits = λ h. (c.of-bank.ensures.registers, c.words_of.ensures.value);
+        too_many = λ h. absurd (room _ _ _ c.if-entries-number.false c.number.ensures.value h);
+        lines = refl;
+      },
+      subst (λ name. TakesPart (json_text name c.args.entries.now c.of-bank.result c.words_of.result) (g.W.Sink.contents c.args.out.now) (g.W.Sink.contents c.print_object-2.new.out)) c.as_bytes-2.ensures.value c.in_err-print_object-2.ensures.part,
+    )

@@ -1,0 +1,41 @@
+-- The registers as assembly.
+use Rattle.std.specs.Prelude.{◌≡◌, ℕ, ◌*◌, ◌/◌, List, [], ◌++◌, codes, decimal, length, slice_get}
+use Rattle.pmp_encoding.specs.declared.bank.Bank.{Bank}
+use Rattle.pmp_encoding.specs.declared.limit.Limit.{Limit}
+use Rattle.pmp_encoding.specs.declared.region.Entry.{Entry}
+use Rattle.pmp_encoding.specs.Banks.{IsBankOf, word_at}
+use Rattle.pmp_encoding.specs.Limits.{limit_number}
+use Rattle.text_lines.specs.Written.{hex}
+use Rattle.register_formats.specs.Names.{address_or_zero, note_text}
+use Rattle.register_formats.specs.Heads.{head_text}
+use Rattle.register_formats.specs.Rows.{rows_text}
+
+-- what stands before the instructions
+abbrev pub asm_begin : List ℕ
+asm_begin = codes "/* Only t0 is changed. */\n"
+
+-- the instructions that write an address register, with its entry
+abbrev pub asm_address_row : List Entry → ℕ → List ℕ
+asm_address_row entries i =
+    (codes "    li      t0, 0x" ++ hex 16 (address_or_zero (slice_get entries i)) ++ codes " /* " ++ note_text i (slice_get entries i) ++ codes " */\n")
+    ++ (codes "    csrw    pmpaddr" ++ decimal i ++ codes ", t0\n")
+
+-- the instructions that write a configuration word
+abbrev pub asm_word_row : Bank → ℕ → List ℕ
+asm_word_row bank i =
+    (codes "    li      t0, 0x" ++ hex 16 (word_at bank (2 * i)) ++ codes "\n")
+    ++ (codes "    csrw    pmpcfg" ++ decimal (2 * i) ++ codes ", t0\n")
+
+-- the address registers of the entries, then all configuration words, in which the entries behind them are off
+abbrev pub asm_text : Limit → List Entry → Bank → List ℕ
+asm_text limit entries bank =
+    head_text
+    ++ ((asm_begin ++ rows_text (asm_address_row entries) 0 (length entries))
+    ++ (([] ++ rows_text (asm_word_row bank) 0 (limit_number limit / 8))
+    ++ codes "    sfence.vma\n"))
+
+-- the text of the bank that the entries make
+pub record IsAsmText (limit : Limit) (entries : List Entry) (text : List ℕ) : Type 0 where
+  pub bank : Bank
+  pub is_bank : IsBankOf bank limit entries
+  pub lines : text ≡ asm_text limit entries bank

@@ -1,0 +1,14 @@
+-- What must hold where the registers are written.
+use Rattle.std.specs.Prelude.{ℕ, List, ◌++◌, codes}
+
+-- the comment at the head of C and of assembly
+abbrev pub head_text : List ℕ
+head_text =
+    codes "/*\n * PMP registers, planned by pmpmon. With them a hart lets supervisor and user mode\n"
+    ++ codes " * do exactly what the map says, where all of this holds:\n"
+    ++ codes " *  - machine mode writes them, on each hart;\n"
+    ++ codes " *  - no entry is locked (L = 0), and mseccfg is 0 where the hart has it;\n"
+    ++ codes " *  - the hart protects whole pages of 4096 bytes: its grain is no larger;\n"
+    ++ codes " *  - the address registers are written first, then the configuration words, 0 to\n"
+    ++ codes " *    each word behind these too, and then comes sfence.vma.\n"
+    ++ codes " */\n"

@@ -1,0 +1,6 @@
+pub mod Names
+pub mod Rows
+pub mod Heads
+pub mod CTexts
+pub mod AsmTexts
+pub mod JsonTexts

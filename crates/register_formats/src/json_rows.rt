@@ -1,0 +1,158 @@
+//! The rows of JSON.
+
+ghost use Rattle.std.specs.Prelude.{◌≡◌, ◌≤◌, ◌<◌, ◌^◌, length};
+ghost use Rattle.register_formats.specs.JsonTexts.{json_before, json_byte, json_entries_begin, json_region, json_registers};
+
+use crate::names::{entry_at, perm_name, power_of_two};
+use crate::rows::{Row, Rows};
+use arrayvec::ArrayVec;
+use pmp_encoding::{Bank, Entry, Limit};
+use text_lines::{Line, push_decimal, push_hex, push_text};
+
+/// The limit, and what stands before the entries.
+pub(crate) fn entries_begin(limit: Limit) -> &'static [u8]
+    ensures { result.now ≡ json_entries_begin limit }
+{
+    match limit {
+        Limit::Sixteen => b"\",\n  \"limit\": 16,\n  \"entries\": [",
+        Limit::SixtyFour => b"\",\n  \"limit\": 64,\n  \"entries\": [",
+    }
+}
+
+/// A byte of a name in a string.
+fn json_byte(byte: u8) -> Line
+    ensures { result.items ≡ json_byte byte }
+{
+    let mut line = ArrayVec::new();
+    if byte == b'"' {
+        push_text(&mut line, b"\\\"");
+        return line;
+    }
+    if byte == b'\\' {
+        push_text(&mut line, b"\\\\");
+        return line;
+    }
+    if byte < 32 {
+        push_text(&mut line, b"\\u");
+        push_hex(&mut line, u64::from(byte), 4);
+        return line;
+    }
+    line.push(byte);
+    line
+}
+
+/// What stands before an item of a list.
+fn json_before(i: usize) -> &'static [u8]
+    ensures text { result.now ≡ json_before i }
+    ensures most { length result.now ≤ 2 }
+{
+    if i == 0 { b"\n" } else { b",\n" }
+}
+
+/// A row for each byte of a name.
+#[derive(Drop)]
+pub(crate) struct Name<'a> {
+    pub(crate) bytes: &'a [u8],
+}
+
+impl Rows for Name<'_> {
+    ghost use Rattle.std.specs.Prelude.{◌≡◌, length};
+    ghost use Rattle.register_formats.specs.JsonTexts.{json_name_row};
+
+    ghost row_text = { λ rows. json_name_row rows.bytes.now };
+
+    ghost most = { λ rows. length rows.bytes.now };
+
+    fn row(&self, i: usize) -> Row {
+        Row {
+            front: json_byte(self.bytes[i]),
+            back: ArrayVec::new(),
+        }
+    }
+}
+
+/// A row for each entry.
+#[derive(Drop)]
+pub(crate) struct Entries<'a> {
+    pub(crate) entries: &'a [Entry],
+}
+
+/// What is said of the registers of entry i.
+fn registers_of(i: usize, entry: &Entry) -> Line
+    ensures { result.items ≡ json_registers i entry.now }
+{
+    let (cfg, address) = entry.encode();
+    let mut line = ArrayVec::new();
+    push_text(&mut line, json_before(i));
+    push_text(&mut line, b"    {\"index\": ");
+    push_decimal(&mut line, i as u64);
+    push_text(&mut line, b", \"cfg\": ");
+    push_decimal(&mut line, u64::from(cfg));
+    push_text(&mut line, b", \"addr\": \"0x");
+    push_hex(&mut line, address, 16);
+    line
+}
+
+/// What is said of the region of an entry, and of its permission.
+fn region_of(entry: &Entry) -> Line
+    ensures { result.items ≡ json_region entry.now }
+{
+    let mut line = ArrayVec::new();
+    push_text(&mut line, b"\", \"base\": \"0x");
+    push_hex(&mut line, entry.region.base(), 16);
+    push_text(&mut line, b"\", \"size\": ");
+    push_decimal(&mut line, power_of_two(entry.region.log2()));
+    push_text(&mut line, b", \"perm\": \"");
+    push_text(&mut line, perm_name(entry.perm));
+    push_text(&mut line, b"\"}");
+    line
+}
+
+impl Rows for Entries<'_> {
+    ghost use Rattle.std.specs.Prelude.{◌≡◌, ◌^◌};
+    ghost use Rattle.register_formats.specs.JsonTexts.{json_entry_row};
+
+    ghost row_text = { λ rows. json_entry_row rows.entries.now };
+
+    ghost most = { λ rows. 2 ^ 64 };
+
+    fn row(&self, i: usize) -> Row {
+        match entry_at(self.entries, i) {
+            Some(entry) => Row {
+                front: registers_of(i, &entry),
+                back: region_of(&entry),
+            },
+            None => Row {
+                front: ArrayVec::new(),
+                back: ArrayVec::new(),
+            },
+        }
+    }
+}
+
+/// A row for each configuration word.
+#[derive(Drop)]
+pub(crate) struct Words<'a> {
+    pub(crate) bank: &'a Bank,
+}
+
+impl Rows for Words<'_> {
+    ghost use Rattle.std.specs.Prelude.{◌≡◌};
+    ghost use Rattle.register_formats.specs.JsonTexts.{json_word_row};
+
+    ghost row_text = { λ rows. json_word_row rows.bank.now };
+
+    ghost most = { λ rows. 8 };
+
+    fn row(&self, i: usize) -> Row {
+        let mut front = ArrayVec::new();
+        push_text(&mut front, json_before(i));
+        push_text(&mut front, b"    \"0x");
+        push_hex(&mut front, self.bank.cfg(2 * i), 16);
+        push_text(&mut front, b"\"");
+        Row {
+            front,
+            back: ArrayVec::new(),
+        }
+    }
+}

@@ -1,0 +1,20 @@
+//! A list of entries as C, as assembly and as JSON, to be pasted into firmware or read by other programs.
+//!
+//! For the layer above: [`print_c`], [`print_asm`] and [`print_json`] write the registers of a list, each with the region
+//! and the permission that it is for, to a sink. The first two want a list that fits the limit. Nothing here takes memory.
+//!
+//! ```rust
+//! print_c(plan.entries(), Limit::Sixteen, &mut out)?;
+//! ```
+#![tactic(auto)]
+
+mod asm_rows;
+mod c_rows;
+mod json_rows;
+mod names;
+mod printing;
+mod rows;
+#[cfg(test)]
+mod tests;
+
+pub use printing::{print_asm, print_c, print_json};

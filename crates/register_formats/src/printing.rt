@@ -1,0 +1,160 @@
+//! The registers of a list, written to a sink.
+
+ghost use Rattle.std.specs.Prelude.{◌≡◌, ◌-◌, ◌/◌, ◌^◌, ◌<◌, ◌≤◌, List, ℕ, IfErr, IfOk, length};
+ghost use Rattle.std.specs.Io.KnownBytes.{Appends};
+ghost use Rattle.byte_streams.specs.Streams.{WriteFails};
+ghost use Rattle.pmp_encoding.specs.Limits.{limit_number};
+ghost use Rattle.printed_lines.specs.Plans.{TakesPart};
+ghost use Rattle.register_formats.specs.AsmTexts.{IsAsmText};
+ghost use Rattle.register_formats.specs.CTexts.{IsCText};
+ghost use Rattle.register_formats.specs.Heads.{head_text};
+ghost use Rattle.register_formats.specs.JsonTexts.{IsJsonText, json_text};
+
+use crate::rows::print_section;
+use crate::{asm_rows, c_rows, json_rows};
+use byte_streams::{DeviceFault, Sink, write_whole};
+use pmp_encoding::{Bank, Entry, Limit};
+
+/// What must hold where the registers are written.
+fn head() -> &'static [u8]
+    ensures { result.now ≡ head_text }
+{
+    b"/*
+ * PMP registers, planned by pmpmon. With them a hart lets supervisor and user mode
+ * do exactly what the map says, where all of this holds:
+ *  - machine mode writes them, on each hart;
+ *  - no entry is locked (L = 0), and mseccfg is 0 where the hart has it;
+ *  - the hart protects whole pages of 4096 bytes: its grain is no larger;
+ *  - the address registers are written first, then the configuration words, 0 to
+ *    each word behind these too, and then comes sfence.vma.
+ */
+"
+}
+
+/// How many configuration words a bank has.
+fn words_of(limit: Limit) -> usize
+    ensures value { result ≡ limit_number limit / 8 }
+    ensures most { result ≤ 8 }
+{
+    match limit {
+        Limit::Sixteen => 2,
+        Limit::SixtyFour => 8,
+    }
+}
+
+/// Writes the registers of a list as C: two arrays of all address registers and configuration words, each entry's region,
+/// size and permission beside it, below a comment that says what must hold where they are written.
+///
+/// On an `Err` a beginning of this text was written, not all of it, and the device failed, or took none of some bytes, in
+/// this call.
+pub fn print_c<W: Sink>(entries: &[Entry], limit: Limit, out: &mut W) -> Result<(), DeviceFault>
+    requires failures { W.failures out.old < 2 ^ 64 - 1 }
+    requires fits { length entries.now ≤ limit_number limit }
+    ensures written { IfOk result (λ _. (text : List ℕ) × IsCText limit entries.now text × Appends (W.contents out.old) (W.contents out.new) text) }
+    ensures well { IfOk result (λ _. W.failures out.new ≡ W.failures out.old) }
+    ensures unstalled { IfOk result (λ _. W.stalls out.new ≡ W.stalls out.old) }
+    ensures part { IfErr result (λ _. (text : List ℕ) × IsCText limit entries.now text × TakesPart text (W.contents out.old) (W.contents out.new)) }
+    ensures failed { IfErr result (λ _. WriteFails (W.failures out.old) (W.failures out.new) (W.stalls out.old) (W.stalls out.new)) }
+{
+    let bank = Bank::of(entries, limit);
+    let addresses = c_rows::Addresses { entries };
+    let words = c_rows::Words { bank: &bank };
+    write_whole(out, head())?;
+    print_section(
+        c_rows::addresses_begin(limit),
+        &addresses,
+        limit.number() as usize,
+        out,
+    )?;
+    print_section(c_rows::words_begin(limit), &words, words_of(limit), out)?;
+    write_whole(out, b"};\n")?;
+    Ok(())
+}
+
+/// Writes the registers of a list as assembly: the instructions that write the address registers of its entries, then those
+/// that write all configuration words, in which the entries behind it are off, then `sfence.vma`, below the same comment.
+///
+/// On an `Err` a beginning of this text was written, not all of it, and the device failed, or took none of some bytes, in
+/// this call.
+pub fn print_asm<W: Sink>(entries: &[Entry], limit: Limit, out: &mut W) -> Result<(), DeviceFault>
+    requires failures { W.failures out.old < 2 ^ 64 - 1 }
+    requires fits { length entries.now ≤ limit_number limit }
+    ensures written { IfOk result (λ _. (text : List ℕ) × IsAsmText limit entries.now text × Appends (W.contents out.old) (W.contents out.new) text) }
+    ensures well { IfOk result (λ _. W.failures out.new ≡ W.failures out.old) }
+    ensures unstalled { IfOk result (λ _. W.stalls out.new ≡ W.stalls out.old) }
+    ensures part { IfErr result (λ _. (text : List ℕ) × IsAsmText limit entries.now text × TakesPart text (W.contents out.old) (W.contents out.new)) }
+    ensures failed { IfErr result (λ _. WriteFails (W.failures out.old) (W.failures out.new) (W.stalls out.old) (W.stalls out.new)) }
+{
+    let bank = Bank::of(entries, limit);
+    let addresses = asm_rows::Addresses { entries };
+    let words = asm_rows::Words { bank: &bank };
+    write_whole(out, head())?;
+    print_section(
+        b"/* Only t0 is changed. */\n",
+        &addresses,
+        entries.len(),
+        out,
+    )?;
+    print_section(b"", &words, words_of(limit), out)?;
+    write_whole(out, b"    sfence.vma\n")?;
+    Ok(())
+}
+
+/// Writes the object, with the first words of a bank.
+fn print_object<W: Sink>(
+    name: &[u8],
+    entries: &[Entry],
+    bank: &Bank,
+    count: usize,
+    out: &mut W,
+) -> Result<(), DeviceFault>
+    requires failures { W.failures out.old < 2 ^ 64 - 1 }
+    requires count { count ≤ 8 }
+    ensures written { IfOk result (λ _. Appends (W.contents out.old) (W.contents out.new) (json_text name.now entries.now bank.now count)) }
+    ensures well { IfOk result (λ _. W.failures out.new ≡ W.failures out.old) }
+    ensures unstalled { IfOk result (λ _. W.stalls out.new ≡ W.stalls out.old) }
+    ensures part { IfErr result (λ _. TakesPart (json_text name.now entries.now bank.now count) (W.contents out.old) (W.contents out.new)) }
+    ensures failed { IfErr result (λ _. WriteFails (W.failures out.old) (W.failures out.new) (W.stalls out.old) (W.stalls out.new)) }
+{
+    let letters = json_rows::Name { bytes: name };
+    let listed = json_rows::Entries { entries };
+    let words = json_rows::Words { bank };
+    print_section(b"{\n  \"map\": \"", &letters, name.len(), out)?;
+    print_section(
+        json_rows::entries_begin(bank.limit()),
+        &listed,
+        entries.len(),
+        out,
+    )?;
+    print_section(b"\n  ],\n  \"pmpcfg\": [", &words, count, out)?;
+    write_whole(out, b"\n  ]\n}\n")?;
+    Ok(())
+}
+
+/// Writes a list as one JSON object: the map's name, the limit, each entry with its pair, its region and its permission, and
+/// the configuration words, none where the list does not fit the limit.
+///
+/// On an `Err` a beginning of this text was written, not all of it, and the device failed, or took none of some bytes, in
+/// this call.
+pub fn print_json<W: Sink>(
+    map: &str,
+    entries: &[Entry],
+    limit: Limit,
+    out: &mut W,
+) -> Result<(), DeviceFault>
+    requires { W.failures out.old < 2 ^ 64 - 1 }
+    ensures written { IfOk result (λ _. (text : List ℕ) × IsJsonText map.now limit entries.now text × Appends (W.contents out.old) (W.contents out.new) text) }
+    ensures well { IfOk result (λ _. W.failures out.new ≡ W.failures out.old) }
+    ensures unstalled { IfOk result (λ _. W.stalls out.new ≡ W.stalls out.old) }
+    ensures part { IfErr result (λ _. (text : List ℕ) × IsJsonText map.now limit entries.now text × TakesPart text (W.contents out.old) (W.contents out.new)) }
+    ensures failed { IfErr result (λ _. WriteFails (W.failures out.old) (W.failures out.new) (W.stalls out.old) (W.stalls out.new)) }
+{
+    if entries.len() > limit.number() as usize {
+        let none = Bank::of(&[], limit);
+        print_object(map.as_bytes(), entries, &none, 0, out)?;
+        return Ok(());
+    }
+    let bank = Bank::of(entries, limit);
+    print_object(map.as_bytes(), entries, &bank, words_of(limit), out)?;
+    Ok(())
+}

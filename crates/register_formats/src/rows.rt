@@ -1,0 +1,82 @@
+//! Rows of a text, written one after another.
+
+ghost use Rattle.std.specs.Prelude.{◌≡◌, ◌+◌, ◌-◌, ◌*◌, ◌^◌, ◌<◌, ◌≤◌, ◌++◌, List, ℕ, IfErr, IfOk, length};
+ghost use Rattle.std.specs.Io.KnownBytes.{Appends};
+ghost use Rattle.byte_streams.specs.Streams.{WriteFails};
+ghost use Rattle.printed_lines.specs.Plans.{TakesPart};
+ghost use Rattle.register_formats.specs.Rows.{rows_text};
+
+use byte_streams::{DeviceFault, Sink, write_whole};
+use text_lines::Line;
+
+/// A row, in two pieces.
+#[derive(Drop)]
+pub(crate) struct Row {
+    pub(crate) front: Line,
+    pub(crate) back: Line,
+}
+
+/// What makes rows.
+pub(crate) trait Rows {
+    /// The text of row i.
+    ghost row_text: { Self → ℕ → List ℕ };
+
+    /// How many rows there are at most.
+    ghost most: { Self → ℕ };
+
+    /// Row i.
+    fn row(&self, i: usize) -> Row
+        requires { i < most self.now }
+        ensures { result.front.items ++ result.back.items ≡ row_text self.now i };
+}
+
+/// Writes a row.
+fn print_row<W: Sink>(row: &Row, out: &mut W) -> Result<(), DeviceFault>
+    requires { W.failures out.old < 2 ^ 64 - 1 }
+    ensures well { IfOk result (λ _. W.failures out.new ≡ W.failures out.old) }
+    ensures unstalled { IfOk result (λ _. W.stalls out.new ≡ W.stalls out.old) }
+    ensures written { IfOk result (λ _. Appends (W.contents out.old) (W.contents out.new) (row.now.front.items ++ row.now.back.items)) }
+    ensures part { IfErr result (λ _. TakesPart (row.now.front.items ++ row.now.back.items) (W.contents out.old) (W.contents out.new)) }
+    ensures failed { IfErr result (λ _. WriteFails (W.failures out.old) (W.failures out.new) (W.stalls out.old) (W.stalls out.new)) }
+{
+    write_whole(out, row.front.as_slice())?;
+    write_whole(out, row.back.as_slice())?;
+    Ok(())
+}
+
+/// Writes rows from the first on.
+fn print_rows<R: Rows, W: Sink>(rows: &R, count: usize, out: &mut W) -> Result<(), DeviceFault>
+    requires failures { W.failures out.old < 2 ^ 64 - 1 }
+    requires most { count ≤ R.most rows.now }
+    ensures well { IfOk result (λ _. W.failures out.new ≡ W.failures out.old) }
+    ensures unstalled { IfOk result (λ _. W.stalls out.new ≡ W.stalls out.old) }
+    ensures written { IfOk result (λ _. Appends (W.contents out.old) (W.contents out.new) (rows_text (R.row_text rows.now) 0 count)) }
+    ensures part { IfErr result (λ _. TakesPart (rows_text (R.row_text rows.now) 0 count) (W.contents out.old) (W.contents out.new)) }
+    ensures failed { IfErr result (λ _. WriteFails (W.failures out.old) (W.failures out.new) (W.stalls out.old) (W.stalls out.new)) }
+{
+    for i in 0..count {
+        let row = rows.row(i);
+        print_row(&row, out)?;
+    }
+    Ok(())
+}
+
+/// Writes a text, and rows behind it.
+pub(crate) fn print_section<R: Rows, W: Sink>(
+    text: &[u8],
+    rows: &R,
+    count: usize,
+    out: &mut W,
+) -> Result<(), DeviceFault>
+    requires failures { W.failures out.old < 2 ^ 64 - 1 }
+    requires most { count ≤ R.most rows.now }
+    ensures well { IfOk result (λ _. W.failures out.new ≡ W.failures out.old) }
+    ensures unstalled { IfOk result (λ _. W.stalls out.new ≡ W.stalls out.old) }
+    ensures written { IfOk result (λ _. Appends (W.contents out.old) (W.contents out.new) (text.now ++ rows_text (R.row_text rows.now) 0 count)) }
+    ensures part { IfErr result (λ _. TakesPart (text.now ++ rows_text (R.row_text rows.now) 0 count) (W.contents out.old) (W.contents out.new)) }
+    ensures failed { IfErr result (λ _. WriteFails (W.failures out.old) (W.failures out.new) (W.stalls out.old) (W.stalls out.new)) }
+{
+    write_whole(out, text)?;
+    print_rows(rows, count, out)?;
+    Ok(())
+}

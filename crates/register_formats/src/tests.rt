@@ -1,0 +1,210 @@
+//! The whole text of each format, by hand from the formats' descriptions and the privileged architecture.
+
+use crate::{print_asm, print_c, print_json};
+use byte_streams::fakes::PieceSink;
+use pmp_encoding::{Entry, Limit, Perm, Region};
+use std::process::Abort;
+
+/// What is said at the head of C and of assembly.
+const HEAD: &[u8] = b"/*
+ * PMP registers, planned by pmpmon. With them a hart lets supervisor and user mode
+ * do exactly what the map says, where all of this holds:
+ *  - machine mode writes them, on each hart;
+ *  - no entry is locked (L = 0), and mseccfg is 0 where the hart has it;
+ *  - the hart protects whole pages of 4096 bytes: its grain is no larger;
+ *  - the address registers are written first, then the configuration words, 0 to
+ *    each word behind these too, and then comes sfence.vma.
+ */
+";
+
+/// The entry of a block.
+fn entry(rt: &impl Abort, base: u64, log2: u32, perm: Perm) -> Entry {
+    Entry {
+        region: Region::new(base, log2).expect(rt, "a block"),
+        perm,
+    }
+}
+
+/// A device page, the firmware's 2 MiB in front of 128 MiB of memory.
+fn board(rt: &impl Abort) -> [Entry; 3] {
+    [
+        entry(rt, 0x1000_0000, 12, Perm::ReadWrite),
+        entry(rt, 0x8000_0000, 21, Perm::NoAccess),
+        entry(rt, 0x8000_0000, 27, Perm::ReadWriteExecute),
+    ]
+}
+
+/// Whether a sink took a text, behind the head where there is one.
+fn took(sink: &PieceSink, head: &[u8], text: &[u8]) -> bool {
+    let written = sink.written();
+    written.len() == head.len() + text.len() && written.starts_with(head) && written.ends_with(text)
+}
+
+/// What a sink took behind the head.
+fn behind_head(sink: &PieceSink) -> &[u8] {
+    sink.written().get(HEAD.len()..).unwrap_or_default()
+}
+
+#[test]
+fn c_of_a_board(rt: HostRuntime) {
+    let mut sink = PieceSink::new(7, None);
+    assert!(rt; print_c(board(&rt).as_slice(), Limit::Sixteen, &mut sink).is_ok());
+    let text = b"#include <stdint.h>
+
+static const uint64_t pmpaddr[16] = {
+    0x00000000040001ff, /* 0: 0x0000000010000000, 4 KiB, rw */
+    0x000000002003ffff, /* 1: 0x0000000080000000, 2 MiB, none */
+    0x0000000020ffffff, /* 2: 0x0000000080000000, 128 MiB, rwx */
+    0x0000000000000000, /* 3: off */
+    0x0000000000000000, /* 4: off */
+    0x0000000000000000, /* 5: off */
+    0x0000000000000000, /* 6: off */
+    0x0000000000000000, /* 7: off */
+    0x0000000000000000, /* 8: off */
+    0x0000000000000000, /* 9: off */
+    0x0000000000000000, /* 10: off */
+    0x0000000000000000, /* 11: off */
+    0x0000000000000000, /* 12: off */
+    0x0000000000000000, /* 13: off */
+    0x0000000000000000, /* 14: off */
+    0x0000000000000000, /* 15: off */
+};
+
+static const uint64_t pmpcfg[2] = {
+    0x00000000001f181b, /* pmpcfg0 */
+    0x0000000000000000, /* pmpcfg2 */
+};
+";
+    assert!(rt; took(&sink, HEAD, text.as_slice()));
+}
+
+#[test]
+fn assembly_of_a_board(rt: HostRuntime) {
+    let mut sink = PieceSink::new(4096, None);
+    assert!(rt; print_asm(board(&rt).as_slice(), Limit::Sixteen, &mut sink).is_ok());
+    let text = b"/* Only t0 is changed. */
+    li      t0, 0x00000000040001ff /* 0: 0x0000000010000000, 4 KiB, rw */
+    csrw    pmpaddr0, t0
+    li      t0, 0x000000002003ffff /* 1: 0x0000000080000000, 2 MiB, none */
+    csrw    pmpaddr1, t0
+    li      t0, 0x0000000020ffffff /* 2: 0x0000000080000000, 128 MiB, rwx */
+    csrw    pmpaddr2, t0
+    li      t0, 0x00000000001f181b
+    csrw    pmpcfg0, t0
+    li      t0, 0x0000000000000000
+    csrw    pmpcfg2, t0
+    sfence.vma
+";
+    assert!(rt; took(&sink, HEAD, text.as_slice()));
+}
+
+#[test]
+fn json_of_a_board(rt: HostRuntime) {
+    let mut sink = PieceSink::new(3, None);
+    let printed = print_json(
+        "boards/\"a\"\\b\t.map",
+        board(&rt).as_slice(),
+        Limit::Sixteen,
+        &mut sink,
+    );
+    assert!(rt; printed.is_ok());
+    let text = b"{
+  \"map\": \"boards/\\\"a\\\"\\\\b\\u0009.map\",
+  \"limit\": 16,
+  \"entries\": [
+    {\"index\": 0, \"cfg\": 27, \"addr\": \"0x00000000040001ff\", \"base\": \"0x0000000010000000\", \"size\": 4096, \"perm\": \"rw\"},
+    {\"index\": 1, \"cfg\": 24, \"addr\": \"0x000000002003ffff\", \"base\": \"0x0000000080000000\", \"size\": 2097152, \"perm\": \"none\"},
+    {\"index\": 2, \"cfg\": 31, \"addr\": \"0x0000000020ffffff\", \"base\": \"0x0000000080000000\", \"size\": 134217728, \"perm\": \"rwx\"}
+  ],
+  \"pmpcfg\": [
+    \"0x00000000001f181b\",
+    \"0x0000000000000000\"
+  ]
+}
+";
+    assert!(rt; took(&sink, b"", text.as_slice()));
+}
+
+#[test]
+fn a_list_that_fits_no_bank_has_no_words(rt: HostRuntime) {
+    let page = entry(&rt, 0x1000, 12, Perm::Execute);
+    let mut sink = PieceSink::new(4096, None);
+    assert!(rt; print_json("-", [page; 17].as_slice(), Limit::Sixteen, &mut sink).is_ok());
+    let front =
+        b"{\n  \"map\": \"-\",\n  \"limit\": 16,\n  \"entries\": [\n    {\"index\": 0, \"cfg\": 28, ";
+    let back =
+        b"\n    {\"index\": 16, \"cfg\": 28, \"addr\": \"0x00000000000005ff\", \"base\": \"0x0000000000001000\", \"size\": 4096, \"perm\": \"x\"}\n  ],\n  \"pmpcfg\": [\n  ]\n}\n";
+    assert!(rt; sink.written().starts_with(front.as_slice()));
+    assert!(rt; sink.written().ends_with(back.as_slice()));
+}
+
+#[test]
+fn no_entries_are_a_list_too(rt: HostRuntime) {
+    let mut sink = PieceSink::new(4096, None);
+    assert!(rt; print_asm(&[], Limit::Sixteen, &mut sink).is_ok());
+    let text = b"/* Only t0 is changed. */
+    li      t0, 0x0000000000000000
+    csrw    pmpcfg0, t0
+    li      t0, 0x0000000000000000
+    csrw    pmpcfg2, t0
+    sfence.vma
+";
+    assert!(rt; took(&sink, HEAD, text.as_slice()));
+    let mut sink = PieceSink::new(4096, None);
+    assert!(rt; print_json("m", &[], Limit::SixtyFour, &mut sink).is_ok());
+    let begin =
+        b"{\n  \"map\": \"m\",\n  \"limit\": 64,\n  \"entries\": [\n  ],\n  \"pmpcfg\": [\n    \"0x0";
+    assert!(rt; sink.written().starts_with(begin.as_slice()));
+}
+
+#[test]
+fn sizes_are_told_in_their_largest_unit(rt: HostRuntime) {
+    let entries = [
+        entry(&rt, 0x2000, 2, Perm::Read),
+        entry(&rt, 0x2000, 9, Perm::ReadExecute),
+        entry(&rt, 0x4000_0000, 30, Perm::Read),
+        entry(&rt, 0, 49, Perm::Read),
+        entry(&rt, 0, 56, Perm::Read),
+    ];
+    let mut sink = PieceSink::new(4096, None);
+    assert!(rt; print_asm(entries.as_slice(), Limit::SixtyFour, &mut sink).is_ok());
+    let front = b"/* Only t0 is changed. */
+    li      t0, 0x0000000000000800 /* 0: 0x0000000000002000, 4 B, r */
+    csrw    pmpaddr0, t0
+    li      t0, 0x000000000000083f /* 1: 0x0000000000002000, 512 B, rx */
+    csrw    pmpaddr1, t0
+    li      t0, 0x0000000017ffffff /* 2: 0x0000000040000000, 1 GiB, r */
+    csrw    pmpaddr2, t0
+    li      t0, 0x00003fffffffffff /* 3: 0x0000000000000000, 512 TiB, r */
+    csrw    pmpaddr3, t0
+    li      t0, 0x001fffffffffffff /* 4: 0x0000000000000000, 64 PiB, r */
+    csrw    pmpaddr4, t0
+    li      t0, 0x0000001919191d11
+    csrw    pmpcfg0, t0
+";
+    let back = b"
+    li      t0, 0x0000000000000000
+    csrw    pmpcfg14, t0
+    sfence.vma
+";
+    assert!(rt; behind_head(&sink).starts_with(front.as_slice()));
+    assert!(rt; sink.written().ends_with(back.as_slice()));
+}
+
+#[test]
+fn each_write_that_fails_ends_it(rt: HostRuntime) {
+    let entries = board(&rt);
+    for k in 1..8u64 {
+        let mut sink = PieceSink::new(4096, Some(k));
+        assert!(rt; print_c(entries.as_slice(), Limit::Sixteen, &mut sink).is_err());
+        let mut sink = PieceSink::new(4096, Some(k));
+        assert!(rt; print_asm(entries.as_slice(), Limit::Sixteen, &mut sink).is_err());
+        let mut sink = PieceSink::new(4096, Some(k));
+        assert!(rt; print_json("a.map", entries.as_slice(), Limit::Sixteen, &mut sink).is_err());
+        assert_eq!(rt; sink.failures, 1);
+        assert_eq!(rt; sink.writes(), k);
+    }
+    let mut sink = PieceSink::new(0, None);
+    assert!(rt; print_json("a.map", entries.as_slice(), Limit::Sixteen, &mut sink).is_err());
+    assert!(rt; sink.written().is_empty());
+}
