@@ -3,6 +3,10 @@ use Rattle.std.specs.Prelude.{◌≡◌, ◌⊎◌, ℕ, ◌+◌, ◌^◌, ◌%�
 use Rattle.byte_streams.specs.declared.streams.Counted.{Counted}
 use Rattle.byte_streams.specs.declared.streams.DeviceFault.{DeviceFault}
 
+-- a call that failed is counted, and no other
+abbrev pub CountsFailure : Result ℕ DeviceFault → ℕ → ℕ → Type 0
+CountsFailure result before after = MatchResult result (λ _. after ≡ before) (λ _. after ≡ before + 1)
+
 -- a count of 64 bits goes on
 abbrev pub one_more : ℕ → ℕ
 one_more n = (n + 1) % 2 ^ 64

@@ -2,14 +2,16 @@
 //! its failures, so that a contract can say what was read and written, and that a fault comes only
 //! where a device failed.
 
-ghost use Rattle.std.specs.Prelude.{◌≡◌, ℕ, ◌+◌, ◌-◌, ◌^◌, ◌<◌, ◌≤◌, ◌⊎◌, ◌↔◌, List, Bool, IsTrue, Option, IfOk, IfErr, MatchResult, length, take};
+ghost use Rattle.std.specs.Prelude.{◌≡◌, ℕ, ◌+◌, ◌-◌, ◌^◌, ◌<◌, ◌≤◌, ◌⊎◌, ◌↔◌, List, Bool, IsTrue, Option, Some, Ok, IfOk, IfErr, min, MatchResult, length, take};
 ghost use Rattle.std.specs.Io.KnownBytes.{ReadConsumes, WriteAppends, Appends};
-ghost use Rattle.byte_streams.specs.Streams.{CountsStall, WriteFails, inner_of, failures_of, stalls_of};
+ghost use Rattle.byte_streams.specs.Streams.{CountsFailure, CountsStall, WriteFails, inner_of, failures_of, stalls_of};
 
 use std::io::{Read, Write};
+use thiserror::Error;
 
 /// A device did not read or write.
-#[derive(Clone, Copy, Debug, PartialEq, Eq)]
+#[derive(Clone, Copy, Debug, PartialEq, Eq, Error)]
+#[error("a device failed")]
 pub struct DeviceFault;
 
 /// A device that bytes come from.
@@ -47,6 +49,25 @@ pub trait Sink {
         ensures bytes { WriteAppends (contents self.old) (contents self.new) result buf.now }
         ensures failures { MatchResult result (λ _. failures self.new ≡ failures self.old) (λ _. failures self.new ≡ failures self.old + 1) }
         ensures stalls { CountsStall result buf.now (stalls self.old) (stalls self.new) };
+}
+
+/// Bytes that are all there. No read of them fails.
+impl Source for &[u8] {
+    ghost remaining = { λ bytes. Some bytes.now };
+
+    ghost failures = { λ _. 0 };
+
+    fn read(&mut self, buf: &mut [u8]) -> Result<usize, DeviceFault>
+        ensures bound { IfOk result (λ n. n ≤ length buf.new) }
+        ensures bytes { ReadConsumes (Some self.old.now) (Some self.new.now) result buf.new }
+        ensures failures { CountsFailure result 0 0 }
+        ensures count { result ≡ Ok (min (length buf.old) (length self.old.now)) }
+    {
+        let n = buf.len().min(self.len());
+        buf[..n].copy_from_slice(&self[..n]);
+        *self = &self[n..];
+        Ok(n)
+    }
 }
 
 /// A reader or writer of std, with the number of its failures, and of its writes that took none of some bytes.

@@ -26,6 +26,17 @@ fn each_write_that_fails_is_told(rt: HostRuntime) {
 }
 
 #[test]
+fn bytes_are_a_source_to_their_end(rt: HostRuntime) {
+    let mut source = b"abc".as_slice();
+    let mut buf = [0; 2];
+    assert_eq!(rt; source.read(&mut buf), Ok(2));
+    assert_eq!(rt; buf, *b"ab");
+    assert_eq!(rt; source.read(&mut buf), Ok(1));
+    assert_eq!(rt; buf, *b"cb");
+    assert_eq!(rt; source.read(&mut buf), Ok(0));
+}
+
+#[test]
 fn readers_of_std_are_sources(rt: HostRuntime) {
     let mut source = Counted::new(b"abc".as_slice());
     let mut buf = [0; 2];

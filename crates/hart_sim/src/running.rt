@@ -35,18 +35,19 @@ impl Interpreter for Machine {
 
     ghost keeps = { KeepsBanksRight };
 
-    fn interpret(&mut self, line: &[u8], count: u64) -> Result<Option<Line>, Refusal> {
+    fn interpret(&mut self, line: &[u8], count: u64, answer: &mut Line) -> Result<bool, Refusal> {
         let Ok(said) = parse_line(line, self.harts()) else {
             return Err(Refusal::NotUnderstood);
         };
         let Some((hart, event)) = said else {
-            return Ok(None);
+            return Ok(false);
         };
         let reply = self.step(hart, event);
         if wants_memory(&reply) {
             return Err(Refusal::Memory);
         }
-        Ok(Some(reply_line(count + 1, &reply)))
+        *answer = reply_line(count + 1, &reply);
+        Ok(true)
     }
 }
 

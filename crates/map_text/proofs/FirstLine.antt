@@ -1,10 +1,14 @@
 -- The first line of a text, and the lines behind it.
-use Rattle.std.proofs.Common.{ℕ, inl, inr, ◌≡◌, ◌∙◌, ◌+◌, ◌<◌, length, Bool, true, false, List, [], ◌∷◌, take, drop, ap, refl, arith}
-use Rattle.std.specs.List.{position_or_len}
-use Rattle.std.proofs.lemmas.Bool.{eqb-true}
-use Rattle.std.proofs.lemmas.Grind.{common_steps}
+use Rattle.std.proofs.Common.{ℕ, zero, suc, inl, inr, ◌≡◌, ◌∙◌, ◌+◌, ◌<◌, ◌≤◌, length, Bool, true, false, not, List, [], ◌∷◌, ◌++◌, Option, take, ap, sym, refl, arith, append_assoc, append-nil, length-append}
+use Rattle.std.specs.Prelude.{◌==◌, Ok, Err, Some, None}
+use Rattle.std.specs.Io.KnownBytes.{Consumes}
+use Rattle.std.proofs.lemmas.Bool.{and_parts, eqb-true, not-true}
+use Rattle.std.proofs.lemmas.List.{take-append-le}
 use Rattle.text_lines.specs.Lines.{has_no_end, AreLines, EndsLine}
-use Rattle.map_text.specs.Lines.{is_lf, begun, raw_lines}
+use Rattle.text_lines.specs.declared.lines.LineReader.{LineReader}
+use Rattle.text_lines.specs.declared.fault.ReadFault.TheVariants.{LongLine}
+use Rattle.text_lines.specs.LineReaders.{came_of, pending_of, Hands, NextLine}
+use Rattle.map_text.specs.Lines.{is_lf, begun, left_of, raw_lines, HandsFirst, NextOf}
 
 alone_is : (b : ℕ) → is_lf b ≡ false → has_no_end (b ∷ []) ≡ true
 alone_is b h = rw h refl
@@ -30,36 +34,94 @@ pub raw_lines-are : (bytes : List ℕ) → AreLines bytes (raw_lines bytes)
 raw_lines-are [] = refl
 raw_lines-are (b ∷ bytes) = are_by b bytes (is_lf b) refl (raw_lines-are bytes)
 
-abbrev Parts : ℕ → List ℕ → Type 0
-Parts b bytes = raw_lines (b ∷ bytes) ≡ take (position_or_len is_lf (b ∷ bytes)) (b ∷ bytes) ∷ raw_lines (drop (position_or_len is_lf (b ∷ bytes) + 1) (b ∷ bytes))
-
-first_lf : (b : ℕ) (bytes : List ℕ) → is_lf b ≡ true → Parts b bytes
-first_lf b bytes h = rw h refl
-
-alone : (b : ℕ) (t : Bool) → is_lf b ≡ t → Parts b []
-alone b true h = first_lf b [] h
-alone b false h = rw h refl
-
-one_more : (b n : ℕ) (bytes : List ℕ) → begun b (take n bytes ∷ raw_lines (drop (n + 1) bytes)) ≡ take (1 + n) (b ∷ bytes) ∷ raw_lines (drop (1 + n + 1) (b ∷ bytes))
-one_more b n bytes = grind (arith, common_steps)
-
-later : (b c : ℕ) (bytes : List ℕ) (t : Bool) → is_lf b ≡ t → Parts c bytes → Parts b (c ∷ bytes)
-later b c bytes true h rest = first_lf b (c ∷ bytes) h
-later b c bytes false h rest = rw h (ap (begun b) rest ∙ one_more b (position_or_len is_lf (c ∷ bytes)) (c ∷ bytes))
-
--- a text that is not empty has a first line, and behind its LF the others
-pub raw_lines-first : (b : ℕ) (bytes : List ℕ) → Parts b bytes
-raw_lines-first b [] = alone b (is_lf b) refl
-raw_lines-first b (c ∷ bytes) = later b c bytes (is_lf b) refl (raw_lines-first c bytes)
-
-pub raw_lines-split : (bytes : List ℕ) → 0 < length bytes → raw_lines bytes ≡ take (position_or_len is_lf bytes) bytes ∷ raw_lines (drop (position_or_len is_lf bytes + 1) bytes)
-raw_lines-split [] h = absurd (omega arith)
-raw_lines-split (b ∷ bytes) h = raw_lines-first b bytes
+-- a line before its LF is the first, and behind it stand the others
+ended_first : (line rest : List ℕ) → has_no_end line ≡ true → raw_lines (line ++ 10 ∷ rest) ≡ line ∷ raw_lines rest
+ended_first [] rest h = refl
+ended_first (b ∷ line) rest h =
+    let both = and_parts (not (b == 10)) (has_no_end line) h in
+    let other : is_lf b ≡ false = not-true (b == 10) both.0 in
+    rw other (ap (begun b) (ended_first line rest both.1))
 
 -- a text with no LF is one line
-pub raw_lines-one : (bytes : List ℕ) → 0 < length bytes → position_or_len is_lf bytes ≡ length bytes → raw_lines bytes ≡ bytes ∷ []
-raw_lines-one bytes h e =
-    let none : drop (length bytes + 1) bytes ≡ [] = grind (arith, common_steps) in
-    let all : take (length bytes) bytes ≡ bytes = grind (arith, common_steps) in
-    let split = rw e at (raw_lines-split bytes h) in
-    split ∙ rw (none, all) refl
+last_first : (line : List ℕ) → 0 < length line → has_no_end line ≡ true → raw_lines line ≡ line ∷ []
+last_first [] some h = absurd (omega (arith, some))
+last_first (b ∷ []) some h =
+    let other : is_lf b ≡ false = not-true (b == 10) (and_parts (not (b == 10)) true h).0 in
+    rw other refl
+last_first (b ∷ c ∷ line) some h =
+    let both = and_parts (not (b == 10)) (has_no_end (c ∷ line)) h in
+    let other : is_lf b ≡ false = not-true (b == 10) both.0 in
+    rw other (ap (begun b) (last_first (c ∷ line) (omega arith) both.1))
+
+-- the first line has at least so many bytes
+abbrev IsLong : ℕ → List (List ℕ) → Type 0
+IsLong n [] = n ≡ 0
+IsLong n (line ∷ lines) = n ≤ length line
+
+longer : (b n : ℕ) (lines : List (List ℕ)) → IsLong n lines → IsLong (suc n) (begun b lines)
+longer b n [] h = omega (arith, h)
+longer b n (line ∷ lines) h = omega (arith, h)
+
+long_first : (n : ℕ) (bytes : List ℕ) → n ≤ length bytes → has_no_end (take n bytes) ≡ true → IsLong n (raw_lines bytes)
+long_first zero [] few h = refl
+long_first zero (b ∷ bytes) few h = least (raw_lines (b ∷ bytes))
+  where
+    least : (lines : List (List ℕ)) → IsLong 0 lines
+    least [] = refl
+    least (line ∷ lines) = omega arith
+long_first (suc n) [] few h = absurd (omega (arith, few))
+long_first (suc n) (b ∷ bytes) few h =
+    let both = and_parts (not (b == 10)) (has_no_end (take n bytes)) h in
+    let other : is_lf b ≡ false = not-true (b == 10) both.0 in
+    rw other (longer b n (raw_lines bytes) (long_first n bytes (omega (arith, few)) both.1))
+
+first_of : (lines : List (List ℕ)) → IsLong 1024 lines → (raw : List ℕ) × (rest : List (List ℕ)) × (lines ≡ raw ∷ rest) × (1024 ≤ length raw)
+first_of [] h = absurd (omega (arith, h))
+first_of (line ∷ lines) h = (line, lines, refl, h)
+
+-- what was left, by what came and what is behind it
+left_as : (old : LineReader) (before bytes middle : List ℕ) → before ≡ bytes ++ middle → left_of old before ≡ (pending_of old ++ bytes) ++ middle
+left_as old before bytes middle e = ap (λ xs. pending_of old ++ xs) e ∙ sym (append_assoc (pending_of old) bytes middle)
+
+handed : (old new : LineReader) (before after bytes line : List ℕ) → before ≡ bytes ++ after → Hands old new (pending_of old ++ bytes) (Some after) line → HandsFirst old new before after line
+handed old new before after bytes line e h = elim h.ends [
+  | inl p ↦ let left : left_of old before ≡ line ++ 10 ∷ left_of new after = left_as old before bytes after e ∙ ap (λ xs. xs ++ after) p.0 ∙ append_assoc line (10 ∷ pending_of new) after in record {
+    lines = ap raw_lines left ∙ ended_first line (left_of new after) h.short.0;
+    shorter = omega (arith, ap length left, length-append line (10 ∷ left_of new after));
+    short = h.short;
+    text = h.text;
+    number = h.number;
+  }
+  | inr p ↦ let left : left_of old before ≡ line = left_as old before bytes after e ∙ ap (λ xs. xs ++ after) p.1 ∙ ap (λ xs. line ++ xs) p.3 ∙ append-nil line in
+      let none : left_of new after ≡ [] = ap (λ xs. xs ++ after) p.2 ∙ p.3 in record {
+        lines = ap raw_lines left ∙ last_first line p.0 h.short.0 ∙ ap (λ xs. line ∷ raw_lines xs) (sym none);
+        shorter = omega (arith, ap length left, ap length none, p.0);
+        short = h.short;
+        text = h.text;
+        number = h.number;
+      }
+]
+
+-- what came left the text, and nothing more did
+came_from : (before after : List ℕ) (bytes beyond : List ℕ) (middle : Option (List ℕ)) → Consumes (Some before) middle bytes → Consumes middle (Some after) beyond → beyond ≡ [] → before ≡ bytes ++ after
+came_from before after bytes beyond None a b e = absurd a
+came_from before after bytes beyond (Some rest) a b e = a ∙ ap (λ xs. bytes ++ xs) (b ∙ ap (λ xs. xs ++ after) e)
+
+pub handed_next : (old new : LineReader) (before after : List ℕ) → NextLine (Ok true) old new (Some before) (Some after) → NextOf (Ok true) old new before after
+handed_next old new before after n = (n.6.0, handed old new before after n.0 n.6.0 (came_from before after n.0 n.1 n.2 n.3.consumed n.4 n.5) n.6.1)
+
+pub none_next : (old new : LineReader) (before after : List ℕ) → NextLine (Ok false) old new (Some before) (Some after) → NextOf (Ok false) old new before after
+none_next old new before after n =
+    left_as old before n.0 after (came_from before after n.0 n.1 n.2 n.3.consumed n.4 n.5) ∙ ap (λ xs. xs ++ after) n.6.0 ∙ n.6.1
+
+pub long_next : (n : ℕ) (old new : LineReader) (before after : List ℕ) → NextLine (Err (LongLine n)) old new (Some before) (Some after) → NextOf (Err n) old new before after
+long_next m old new before after n =
+    let bytes = pending_of old ++ n.0 in
+    let left = left_as old before n.0 after (came_from before after n.0 n.1 n.2 n.3.consumed n.4 n.5) in
+    let enough : 1024 ≤ length (bytes ++ after) = omega (arith, n.6.1.0, length-append bytes after) in
+    let first = first_of (raw_lines (bytes ++ after)) (long_first 1024 (bytes ++ after) enough (ap has_no_end (take-append-le 1024 bytes after n.6.1.0) ∙ n.6.1.1)) in
+    (first.0, first.1, record { lines = ap raw_lines left ∙ first.2; long = first.3; number = n.6.0 })
+
+-- how many came and how many are left
+pub counted : (old new : LineReader) (before after : List ℕ) (bytes beyond : List ℕ) (middle : Option (List ℕ)) → Consumes (Some before) middle bytes → Consumes middle (Some after) beyond → beyond ≡ [] → came_of new ≡ came_of old + length bytes → came_of new + length after ≡ came_of old + length before
+counted old new before after bytes beyond middle a b e n = omega (arith, n, ap length (came_from before after bytes beyond middle a b e), length-append bytes after)

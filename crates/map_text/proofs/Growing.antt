@@ -1,5 +1,5 @@
 -- The first line that gives a map its first range is one after which there are more.
-use Rattle.std.proofs.Common.{◌≡◌, ℕ, ◌<◌, ◌≤◌, List, [], length, Option, None, Some, refl, ap, arith}
+use Rattle.std.proofs.Common.{◌<◌, ◌≤◌, List, length, Option, None, Some, refl, ap, arith}
 use Rattle.permission_map.specs.declared.runs.Run.{Run}
 use Rattle.map_text.specs.declared.map_lines.Setting.{Setting}
 use Rattle.map_text.specs.MapFile.{Leads, MakesMore}

@@ -1,2 +1,3 @@
 mod FirstLine
+mod Followed
 mod Growing

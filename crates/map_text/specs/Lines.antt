@@ -1,5 +1,8 @@
--- The lines of a text, computed.
-use Rattle.std.specs.Prelude.{ℕ, Bool, ◌==◌, if◌then◌else◌, List, [], ◌∷◌}
+-- The lines of a text, computed, and what a reader over it hands out.
+use Rattle.std.specs.Prelude.{◌≡◌, ℕ, ◌+◌, ◌<◌, ◌≤◌, Bool, true, false, ◌==◌, if◌then◌else◌, List, [], ◌∷◌, ◌++◌, length, Result, Ok, Err}
+use Rattle.text_lines.specs.declared.lines.LineReader.{LineReader}
+use Rattle.text_lines.specs.LineReaders.{line_of, number_of, pending_of}
+use Rattle.text_lines.specs.Lines.{IsShortLine, without_return}
 
 abbrev pub is_lf : ℕ → Bool
 is_lf b = b == 10
@@ -13,3 +16,27 @@ begun b (line ∷ lines) = (b ∷ line) ∷ lines
 abbrev pub raw_lines : List ℕ → List (List ℕ)
 raw_lines [] = []
 raw_lines (b ∷ bytes) = if is_lf b then [] ∷ raw_lines bytes else begun b (raw_lines bytes)
+
+-- the bytes of which no line was handed out: those that came to the reader, and those that stand behind them
+abbrev pub left_of : LineReader → List ℕ → List ℕ
+left_of reader rest = pending_of reader ++ rest
+
+-- the first of the lines that were left was handed out, and the others are left
+pub record HandsFirst (old new : LineReader) (before after raw : List ℕ) : Type 0 where
+  pub lines : raw_lines (left_of old before) ≡ raw ∷ raw_lines (left_of new after)
+  pub shorter : length (left_of new after) < length (left_of old before)
+  pub short : IsShortLine raw
+  pub text : line_of new ≡ without_return raw
+  pub number : number_of new ≡ number_of old + 1
+
+-- the first of the lines that are left has more than 1023 bytes
+pub record BeginsTooLong (n : ℕ) (old : LineReader) (before raw : List ℕ) (rest : List (List ℕ)) : Type 0 where
+  pub lines : raw_lines (left_of old before) ≡ raw ∷ rest
+  pub long : 1024 ≤ length raw
+  pub number : n ≡ number_of old + 1
+
+-- what a reader answers over a text
+abbrev pub NextOf : Result Bool ℕ → LineReader → LineReader → List ℕ → List ℕ → Type 0
+NextOf (Ok true) old new before after = (raw : List ℕ) × HandsFirst old new before after raw
+NextOf (Ok false) old new before after = left_of old before ≡ []
+NextOf (Err n) old new before after = (raw : List ℕ) × (rest : List (List ℕ)) × BeginsTooLong n old before raw rest

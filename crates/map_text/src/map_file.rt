@@ -1,22 +1,27 @@
 //! A map file: each line sets a permission on pages, and a later line overrides an earlier one.
 
-ghost use Rattle.std.specs.Prelude.{◌≡◌, ℕ, ◌∷◌, [], ◌-◌, ◌^◌, ◌<◌, ◌≤◌, Err, IfErr, IfOk, None, OnOk, length};
-ghost use Rattle.std.specs.List.{position_or_len};
-ghost use Rattle.map_text.specs.Lines.{is_lf, raw_lines};
-ghost use Rattle.map_text.specs.MapFile.{FaultAt, IsUnknown, Leads, Makes, MakesMore, MakesTooMany, raw_says};
+ghost use Rattle.std.specs.Prelude.{◌≡◌, ℕ, ◌+◌, ◌-◌, ◌^◌, ◌<◌, Err, IfErr, IfOk, None, OnOk, length};
+ghost use Rattle.text_lines.specs.LineReaders.{came_of, limit_of};
+ghost use Rattle.map_text.specs.Lines.{NextOf};
+ghost use Rattle.map_text.specs.MapFile.{FaultAt, IsUnknown, Leads, Makes, MakesMore, MakesTooMany, line_says};
 
-use crate::map_lines::raw_says;
+use crate::map_lines::line_says;
 use permission_map::{MapBuilder, MapFault, PermissionMap};
 use std::alloc::Global;
+use text_lines::{LineReader, ReadFault};
+use thiserror::Error;
 
 /// Why a file gives no map.
-#[derive(Clone, Copy, Debug, PartialEq, Eq)]
+#[derive(Clone, Copy, Debug, PartialEq, Eq, Error)]
 pub enum MapFileFault {
     /// The line of this number, from 1, is not understood.
+    #[error("line {0} is not understood")]
     Line(u64),
     /// After some line there would be more than 4096 ranges.
+    #[error("too many ranges")]
     TooManyRanges,
     /// Memory was refused, for a line after which there would be more ranges than before.
+    #[error("out of memory")]
     Memory,
 }
 
@@ -28,40 +33,30 @@ enum LineFault {
     Memory,
 }
 
-/// How many bytes stand before the first LF.
-fn line_len(bytes: &[u8]) -> usize
-    ensures len { result ≡ position_or_len is_lf bytes.now }
-    ensures within { result ≤ length bytes.now }
+/// Hands out the next line of bytes that are all there, or says that there is none; or which line is too long.
+fn next_line(lines: &mut LineReader, rest: &mut &[u8]) -> Result<bool, u64>
+    requires limit { limit_of lines.old ≡ 2 ^ 64 - 1 }
+    requires few { came_of lines.old + length rest.old.now < 2 ^ 64 - 1 }
+    ensures next { NextOf result lines.old lines.new rest.old.now rest.new.now }
+    ensures limit { limit_of lines.new ≡ limit_of lines.old }
+    ensures came { came_of lines.new + length rest.new.now ≡ came_of lines.old + length rest.old.now }
 {
-    for (i, b) in bytes.iter().enumerate() {
-        if *b == b'\n' {
-            return i;
-        }
+    match lines.next_line(rest) {
+        Ok(more) => Ok(more),
+        Err(ReadFault::LongLine(number)) => Err(number),
+        Err(ReadFault::TooManyBytes) => unreachable!(),
+        Err(ReadFault::Device) => unreachable!(),
     }
-    bytes.len()
-}
-
-/// The first line, and what stands behind its LF.
-fn split_line(bytes: &[u8]) -> (&[u8], &[u8])
-    requires { 0 < length bytes.now }
-    ensures lines { raw_lines bytes.now ≡ result.0.now ∷ raw_lines result.1.now }
-    ensures shorter { length result.1.now < length bytes.now }
-{
-    let len = line_len(bytes);
-    if len == bytes.len() {
-        return (bytes, &[]);
-    }
-    (&bytes[..len], &bytes[len + 1..])
 }
 
 /// Does to the map what a line says.
-fn follow(map: &mut MapBuilder, raw: &[u8]) -> Result<(), LineFault>
-    ensures said { OnOk result (Leads (raw_says raw.now) map.old map.new) }
-    ensures unknown { result ≡ Err LineFault.NotUnderstood → raw_says raw.now ≡ None }
-    ensures many { result ≡ Err LineFault.TooManyRanges → MakesTooMany map.old (raw_says raw.now) }
-    ensures memory { result ≡ Err LineFault.Memory → MakesMore map.old (raw_says raw.now) }
+fn follow(map: &mut MapBuilder, line: &[u8]) -> Result<(), LineFault>
+    ensures said { OnOk result (Leads (line_says line.now) map.old map.new) }
+    ensures unknown { result ≡ Err LineFault.NotUnderstood → line_says line.now ≡ None }
+    ensures many { result ≡ Err LineFault.TooManyRanges → MakesTooMany map.old (line_says line.now) }
+    ensures memory { result ≡ Err LineFault.Memory → MakesMore map.old (line_says line.now) }
 {
-    let Ok(said) = raw_says(raw) else {
+    let Ok(said) = line_says(line) else {
         return Err(LineFault::NotUnderstood);
     };
     let Some(setting) = said else {
@@ -87,18 +82,20 @@ pub fn map_of(alloc: Global, bytes: &[u8]) -> Result<PermissionMap, MapFileFault
     ensures memory { result ≡ Err MapFileFault.Memory → (n : ℕ) × FaultAt bytes.now n MakesMore }
 {
     let mut map = MapBuilder::new(alloc);
+    let mut lines = LineReader::with_limit(u64::MAX);
     let mut rest = bytes;
-    let mut number: u64 = 0;
-    while !rest.is_empty() {
-        let (raw, behind) = split_line(rest);
-        number += 1;
-        match follow(&mut map, raw) {
+    'lines: loop {
+        match next_line(&mut lines, &mut rest) {
+            Ok(true) => {}
+            Ok(false) => break 'lines,
+            Err(number) => return Err(MapFileFault::Line(number)),
+        }
+        match follow(&mut map, lines.line()) {
             Ok(()) => {}
-            Err(LineFault::NotUnderstood) => return Err(MapFileFault::Line(number)),
+            Err(LineFault::NotUnderstood) => return Err(MapFileFault::Line(lines.number())),
             Err(LineFault::TooManyRanges) => return Err(MapFileFault::TooManyRanges),
             Err(LineFault::Memory) => return Err(MapFileFault::Memory),
         }
-        rest = behind;
     }
     let Ok(map) = map.finish() else {
         return Err(MapFileFault::Memory);

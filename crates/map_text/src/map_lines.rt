@@ -2,11 +2,10 @@
 
 ghost use Rattle.std.specs.Prelude.{◌≡◌, ◌+◌, ◌^◌, ◌≤◌, [], ◌∷◌, IfOk, IfSome};
 ghost use Rattle.std.specs.Result.{result_ok};
-ghost use Rattle.text_lines.specs.Lines.{without_return};
 ghost use Rattle.map_text.specs.MapFile.{line_says, pages_in, pages_of, raw_says, setting_of, setting_on};
 
 use pmp_encoding::Perm;
-use text_lines::{NotUnderstood, Words, number, permission};
+use text_lines::{LONGEST, NotUnderstood, Words, number, permission, without_return};
 
 /// What one line of a map sets: a permission on pages.
 #[derive(Clone, Copy, Debug, PartialEq, Eq)]
@@ -62,8 +61,8 @@ fn setting_of(base: &[u8], size: &[u8], perm: &[u8]) -> Option<Setting>
     setting_on(first, count, perm)
 }
 
-/// What a line says: nothing where it has no words.
-fn line_says(line: &[u8]) -> Result<Option<Setting>, NotUnderstood>
+/// What a line says that comes without its LF and its CR: nothing where it has no words.
+pub(crate) fn line_says(line: &[u8]) -> Result<Option<Setting>, NotUnderstood>
     ensures value { result_ok result ≡ line_says line.now }
     ensures inside { IfOk result (λ said. IfSome said (λ setting. setting.first + setting.count ≤ 2 ^ 44)) }
 {
@@ -86,22 +85,12 @@ fn line_says(line: &[u8]) -> Result<Option<Setting>, NotUnderstood>
     }
 }
 
-/// A line without the CR at its end.
-fn without_return(line: &[u8]) -> &[u8]
-    ensures { result.now ≡ without_return line.now }
-{
-    if !line.is_empty() && line[line.len() - 1] == b'\r' {
-        return &line[..line.len() - 1];
-    }
-    line
-}
-
 /// What a line says that has at most 1023 bytes, its CR counted.
 pub fn raw_says(raw: &[u8]) -> Result<Option<Setting>, NotUnderstood>
     ensures value { result_ok result ≡ raw_says raw.now }
     ensures inside { IfOk result (λ said. IfSome said (λ setting. setting.first + setting.count ≤ 2 ^ 44)) }
 {
-    if raw.len() > 1023 {
+    if raw.len() > LONGEST {
         return Err(NotUnderstood);
     }
     line_says(without_return(raw))

@@ -7,3 +7,4 @@ pub mod WordsOfText
 pub mod Looped
 pub mod Mapped
 mod FirstLf
+mod HexDigits

@@ -118,18 +118,18 @@ hands_last old now next new before middle after bytes more slice len g number sa
     (bytes ++ more, [], after, gathered old next new before after (bytes ++ more) grown came, Consumes-nil after, refl, (slice, hands))
 
 -- the source failed, or a byte past the limit came
-pub refuses_read : (old now next : LineReader) (before middle after : Option (List ℕ)) (bytes more slice : List ℕ) (len : ℕ) (fault : ReadFault) → Gathers old now before middle bytes → next.taken ≡ 0 → next.number ≡ old.number → slice ≡ now.buffer → len ≡ position_or_len (λ b. b == 10) slice → length slice ≤ len → len ≤ 1023 → ReadsMore (Err fault) now next middle after more → NextLine (Err fault) old next before after
-refuses_read old now next before middle after bytes more slice len (LongLine n) g taken number same is all few read = absurd read
-refuses_read old now next before middle after bytes more slice len TooManyBytes g taken number same is all few read = (
+pub refuses_read : (old now next : LineReader) (before middle after : Option (List ℕ)) (bytes more slice : List ℕ) (len : ℕ) (fault : ReadFault) → Gathers old now before middle bytes → now.limit ≡ old.limit → next.taken ≡ 0 → next.number ≡ old.number → slice ≡ now.buffer → len ≡ position_or_len (λ b. b == 10) slice → length slice ≤ len → len ≤ 1023 → ReadsMore (Err fault) now next middle after more → NextLine (Err fault) old next before after
+refuses_read old now next before middle after bytes more slice len (LongLine n) g limit taken number same is all few read = absurd read
+refuses_read old now next before middle after bytes more slice len TooManyBytes g limit taken number same is all few read = (
   bytes,
   more,
   middle,
   gathered old now next before middle bytes g read.4,
   read.0,
   read.1,
-  (read.4 ∙ read.3, short_line old now before middle bytes slice len g same is all few, holding old now next before middle bytes g read.2 taken number),
+  (read.4 ∙ read.3 ∙ limit, short_line old now before middle bytes slice len g same is all few, holding old now next before middle bytes g read.2 taken number),
 )
-refuses_read old now next before middle after bytes more slice len Device g taken number same is all few read = (
+refuses_read old now next before middle after bytes more slice len Device g limit taken number same is all few read = (
   bytes,
   more,
   middle,

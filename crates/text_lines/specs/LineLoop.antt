@@ -1,5 +1,5 @@
 -- What comes of an input whose lines are interpreted one after another.
-use Rattle.std.specs.Prelude.{◌≡◌, ◌⊎◌, ℕ, ◌+◌, ◌^◌, ◌<◌, ◌≤◌, List, [], ◌∷◌, ◌++◌, length, take, Option, Some, None, Result, Err, option_map}
+use Rattle.std.specs.Prelude.{◌≡◌, ◌⊎◌, ℕ, ◌+◌, ◌^◌, ◌<◌, ◌≤◌, Bool, if◌then◌else◌, List, [], ◌∷◌, ◌++◌, length, take, Option, Some, None, Result, Err}
 use Rattle.std.specs.List.{concat}
 use Rattle.std.specs.Io.KnownBytes.{Appends, Consumes, IsAtEnd}
 use Rattle.arrayvec.specs.declared.array_vec.ArrayVec.{ArrayVec}
@@ -19,8 +19,8 @@ pub data Does {S : Type 0} (does : Meaning S) (old : S) : List (List ℕ) → Li
   answer : {lines answers : List (List ℕ)} {mid : S} → Does does old lines answers mid → (line : List ℕ) → IsShortLine line → (new : S) → (text : List ℕ) → does mid (length answers) (without_return line) (Some text) new → Does does old (lines ++ line ∷ []) (answers ++ text ∷ []) new
 
 -- the text of an answer, where there is one
-abbrev pub text_of : Option (ArrayVec ℕ 128 (Unit {0})) → Option (List ℕ)
-text_of line = option_map (λ l. l.items) line
+abbrev pub text_of : Bool → ArrayVec ℕ 128 (Unit {0}) → Option (List ℕ)
+text_of answered line = if answered then Some line.items else None
 
 -- how many answers there are with that one
 abbrev pub counted : ℕ → Option (List ℕ) → ℕ

@@ -1,5 +1,5 @@
 -- What a reader of lines has of its input, and what it answers.
-use Rattle.std.specs.Prelude.{◌≡◌, ◌⊎◌, ℕ, ◌+◌, ◌^◌, ◌<◌, Bool, true, false, List, [], ◌∷◌, ◌++◌, length, take, drop, nat_lt, Option, Result, Ok, Err}
+use Rattle.std.specs.Prelude.{◌≡◌, ◌⊎◌, ℕ, ◌+◌, ◌<◌, Bool, true, false, List, [], ◌∷◌, ◌++◌, length, take, drop, nat_lt, Option, Result, Ok, Err}
 use Rattle.std.specs.Io.KnownBytes.{Consumes, IsAtEnd}
 use Rattle.text_lines.specs.declared.fault.ReadFault.{ReadFault}
 use Rattle.text_lines.specs.declared.fault.ReadFault.TheVariants.{LongLine, TooManyBytes, Device}
@@ -14,12 +14,15 @@ line_of reader = take reader.text_len reader.buffer
 abbrev pub pending_of : LineReader → List ℕ
 pending_of reader = drop reader.taken reader.buffer
 
--- how many lines were handed out, and how many bytes came
+-- how many lines were handed out, how many bytes came, and how many may
 abbrev pub number_of : LineReader → ℕ
 number_of reader = reader.number
 
 abbrev pub came_of : LineReader → ℕ
 came_of reader = reader.came
+
+abbrev pub limit_of : LineReader → ℕ
+limit_of reader = reader.limit
 
 -- whether that line was the last, which lacks its LF
 abbrev pub ended_of : LineReader → Bool
@@ -48,7 +51,7 @@ abbrev pub Answers : Result Bool ReadFault → LineReader → LineReader → Lis
 Answers (Ok true) old new bytes after = (line : List ℕ) × Hands old new bytes after line
 Answers (Ok false) old new bytes after = (bytes ≡ []) × IsAtEnd after × Holds old new bytes
 Answers (Err (LongLine n)) old new bytes after = (n ≡ number_of old + 1) × BeginsLongLine bytes × Holds old new bytes
-Answers (Err TooManyBytes) old new bytes after = (came_of new ≡ 2 ^ 40) × IsShortLine bytes × Holds old new bytes
+Answers (Err TooManyBytes) old new bytes after = (came_of new ≡ limit_of old) × IsShortLine bytes × Holds old new bytes
 Answers (Err Device) old new bytes after = IsShortLine bytes × Holds old new bytes
 
 -- a byte past the limit left the source too, where that is the answer
@@ -68,6 +71,6 @@ NextLine result old new before after = (bytes beyond : List ℕ) × (middle : Op
 -- the same of one read: new bytes stand behind the others, and none came at the end alone
 abbrev pub ReadsMore : Result Bool ReadFault → LineReader → LineReader → Option (List ℕ) → Option (List ℕ) → List ℕ → Type 0
 ReadsMore (Ok more) old new before after bytes = Consumes before after bytes × (new.buffer ≡ old.buffer ++ bytes) × (new.came ≡ old.came + length bytes) × (more ≡ nat_lt 0 (length bytes)) × (more ≡ false → IsAtEnd after)
-ReadsMore (Err TooManyBytes) old new before after bytes = Consumes before after bytes × (length bytes ≡ 1) × (new.buffer ≡ old.buffer) × (old.came ≡ 2 ^ 40) × (new.came ≡ old.came)
+ReadsMore (Err TooManyBytes) old new before after bytes = Consumes before after bytes × (length bytes ≡ 1) × (new.buffer ≡ old.buffer) × (old.came ≡ old.limit) × (new.came ≡ old.came)
 ReadsMore (Err Device) old new before after bytes = Consumes before after bytes × (bytes ≡ []) × (new.buffer ≡ old.buffer) × (new.came ≡ old.came)
 ReadsMore (Err (LongLine n)) old new before after bytes = ⊥

@@ -7,9 +7,11 @@ ghost use Rattle.text_lines.specs.Words.{is_blank, is_allowed, content_of, split
 ghost use Rattle.text_lines.specs.Numbers.{digit_of, value_of, numeral_of, number_of, permission_of};
 
 use pmp_encoding::Perm;
+use thiserror::Error;
 
 /// A line, or a word of it, fits no form.
-#[derive(Clone, Copy, Debug, PartialEq, Eq)]
+#[derive(Clone, Copy, Debug, PartialEq, Eq, Error)]
+#[error("not understood")]
 pub struct NotUnderstood;
 
 fn is_blank(byte: u8) -> bool

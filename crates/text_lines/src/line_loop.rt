@@ -1,7 +1,7 @@
 //! The one loop over the lines of an input: a line is read, understood and done, and its answer is written before the
 //! next line is read.
 
-ghost use Rattle.std.specs.Prelude.{◌≡◌, ℕ, ◌+◌, ◌-◌, ◌^◌, ◌<◌, List, Option, Some, Err, IfErr, IfOk, length, take};
+ghost use Rattle.std.specs.Prelude.{◌≡◌, ℕ, ◌+◌, ◌-◌, ◌^◌, ◌<◌, List, [], Option, Some, Err, IfErr, IfOk, length, take};
 ghost use Rattle.std.specs.Io.KnownBytes.{Appends};
 ghost use Rattle.byte_streams.specs.Streams.{WriteFails};
 ghost use Rattle.text_lines.specs.LineLoop.{counted, told, text_of, CountsReads, CountsWrites, DoesAll, StopsAt, StopsForMemory, StopsReading, StopsTooLong, StopsWriting};
@@ -9,14 +9,18 @@ ghost use Rattle.text_lines.specs.LineLoop.{counted, told, text_of, CountsReads,
 use crate::fault::RunFault;
 use crate::lines::LineReader;
 use crate::written::Line;
+use arrayvec::ArrayVec;
 use byte_streams::{DeviceFault, Sink, Source, write_whole};
+use thiserror::Error;
 
 /// Why a line has no answer that should have one.
-#[derive(Clone, Copy, Debug, PartialEq, Eq)]
+#[derive(Clone, Copy, Debug, PartialEq, Eq, Error)]
 pub enum Refusal {
     /// It fits no form.
+    #[error("not understood")]
     NotUnderstood,
     /// Memory was refused for what it does.
+    #[error("out of memory")]
     Memory,
 }
 
@@ -34,10 +38,12 @@ pub trait Interpreter {
     /// What is kept from line to line.
     ghost keeps: { Self → Type 0 };
 
-    /// Does what a line says, which comes without its LF and its CR, and tells its answer, the one behind `count` others.
-    fn interpret(&mut self, line: &[u8], count: u64) -> Result<Option<Line>, Refusal>
-        requires { count < 2 ^ 64 - 1 }
-        ensures done { keeps self.old → IfOk result (λ answer. does self.old count line.now (text_of answer) self.new) }
+    /// Does what a line says, which comes without its LF and its CR, and writes its answer, the one behind `count` others, to
+    /// an empty line. Says whether it has one.
+    fn interpret(&mut self, line: &[u8], count: u64, answer: &mut Line) -> Result<bool, Refusal>
+        requires count { count < 2 ^ 64 - 1 }
+        requires empty { answer.old.items ≡ [] }
+        ensures done { keeps self.old → IfOk result (λ answered. does self.old count line.now (text_of answered answer.new) self.new) }
         ensures unknown { result ≡ Err Refusal.NotUnderstood → refuses self.old line.now }
         ensures untouched { result ≡ Err Refusal.NotUnderstood → self.new ≡ self.old }
         ensures starved { result ≡ Err Refusal.Memory → keeps self.old → starves self.old line.now self.new }
@@ -46,23 +52,24 @@ pub trait Interpreter {
 
 /// Writes an answer, where there is one, and says how many there are with it.
 fn write_answer<W: Sink>(
-    answer: &Option<Line>,
+    answered: bool,
+    answer: &Line,
     count: u64,
     sink: &mut W,
 ) -> Result<u64, DeviceFault>
     requires count { count < 2 ^ 64 - 1 }
     requires failures { W.failures sink.old < 2 ^ 64 - 1 }
-    ensures counted { IfOk result (λ n. n ≡ counted count (text_of answer.now)) }
-    ensures whole { IfOk result (λ _. Appends (W.contents sink.old) (W.contents sink.new) (told (text_of answer.now))) }
+    ensures counted { IfOk result (λ n. n ≡ counted count (text_of answered answer.now)) }
+    ensures whole { IfOk result (λ _. Appends (W.contents sink.old) (W.contents sink.new) (told (text_of answered answer.now))) }
     ensures well { IfOk result (λ _. W.failures sink.new ≡ W.failures sink.old) }
     ensures unstalled { IfOk result (λ _. W.stalls sink.new ≡ W.stalls sink.old) }
-    ensures part { IfErr result (λ _. (text : List ℕ) × (part : ℕ) × (text_of answer.now ≡ Some text) × (part < length text) × Appends (W.contents sink.old) (W.contents sink.new) (take part text)) }
+    ensures part { IfErr result (λ _. (text : List ℕ) × (part : ℕ) × (text_of answered answer.now ≡ Some text) × (part < length text) × Appends (W.contents sink.old) (W.contents sink.new) (take part text)) }
     ensures failed { IfErr result (λ _. WriteFails (W.failures sink.old) (W.failures sink.new) (W.stalls sink.old) (W.stalls sink.new)) }
 {
-    let Some(text) = answer else {
+    if !answered {
         return Ok(count);
-    };
-    write_whole(sink, text.as_slice())?;
+    }
+    write_whole(sink, answer.as_slice())?;
     Ok(count + 1)
 }
 
@@ -86,14 +93,16 @@ pub fn interpret_lines<I: Interpreter, R: Source, W: Sink>(
     ensures writes { CountsWrites result (W.failures sink.old) (W.failures sink.new) (W.stalls sink.old) (W.stalls sink.new) }
 {
     let mut reader = LineReader::new();
+    let mut answer: Line = ArrayVec::new();
     let mut count: u64 = 0;
     'lines: while reader.next_line(source)? {
-        let answer = match interpreter.interpret(reader.line(), count) {
-            Ok(answer) => answer,
+        answer.clear();
+        let answered = match interpreter.interpret(reader.line(), count, &mut answer) {
+            Ok(answered) => answered,
             Err(Refusal::NotUnderstood) => return Err(RunFault::Line(reader.number())),
             Err(Refusal::Memory) => return Err(RunFault::Memory),
         };
-        let Ok(told) = write_answer(&answer, count, sink) else {
+        let Ok(told) = write_answer(answered, &answer, count, sink) else {
             return Err(RunFault::Write);
         };
         count = told;

@@ -9,11 +9,11 @@ use crate::fault::ReadFault;
 use byte_streams::Source;
 use memchr::memchr;
 
-/// How many bytes may come in all.
+/// How many bytes may come in all to a reader for which nothing else is said.
 const LIMIT: u64 = 1 << 40;
 
-/// How many bytes a line may have before its LF.
-const LONGEST: usize = 1023;
+/// How many bytes a line may have before its LF, its CR counted.
+pub const LONGEST: usize = 1023;
 
 /// How many bytes come before the first LF.
 fn line_len(bytes: &[u8]) -> usize
@@ -32,6 +32,13 @@ fn text_len(line: &[u8]) -> usize
         [.., b'\r'] => line.len() - 1,
         _ => line.len(),
     }
+}
+
+/// A line without the CR at its end.
+pub fn without_return(line: &[u8]) -> &[u8]
+    ensures { result.now ≡ without_return line.now }
+{
+    &line[..text_len(line)]
 }
 
 /// Reads where no further byte may come.
@@ -54,24 +61,38 @@ pub struct LineReader {
     text_len: usize,
     taken: usize,
     came: u64,
+    limit: u64,
     number: u64,
     ended: bool,
     ghost text_inside: { text_len ≤ taken },
     ghost taken_inside: { taken ≤ length buffer },
-    ghost few: { came ≤ 2 ^ 40 },
+    ghost few: { came ≤ limit },
     ghost numbered: { number + (length buffer - taken) ≤ came },
 }
 
 impl LineReader {
     ghost use Rattle.text_lines.specs.Lines.{without_return, IsShortLine};
-    ghost use Rattle.text_lines.specs.LineReaders.{line_of, pending_of, number_of, came_of, ended_of, NextLine, FailsOnRead, ReadsMore};
+    ghost use Rattle.text_lines.specs.LineReaders.{line_of, pending_of, number_of, came_of, limit_of, ended_of, NextLine, FailsOnRead, ReadsMore};
 
-    /// A reader to which no byte has come.
+    /// A reader to which no byte has come, and to which at most 2^40 may.
     pub fn new() -> LineReader
         ensures line { line_of result ≡ [] }
         ensures pending { pending_of result ≡ [] }
         ensures number { number_of result ≡ 0 }
         ensures came { came_of result ≡ 0 }
+        ensures limit { limit_of result ≡ 2 ^ 40 }
+        ensures ended { ended_of result ≡ false }
+    {
+        LineReader::with_limit(LIMIT)
+    }
+
+    /// A reader to which no byte has come, and to which at most `limit` may.
+    pub fn with_limit(limit: u64) -> LineReader
+        ensures line { line_of result ≡ [] }
+        ensures pending { pending_of result ≡ [] }
+        ensures number { number_of result ≡ 0 }
+        ensures came { came_of result ≡ 0 }
+        ensures limit { limit_of result ≡ limit }
         ensures ended { ended_of result ≡ false }
     {
         LineReader {
@@ -79,6 +100,7 @@ impl LineReader {
             text_len: 0,
             taken: 0,
             came: 0,
+            limit,
             number: 0,
             ended: false,
         }
@@ -112,6 +134,7 @@ impl LineReader {
         ensures pending { self.new.buffer ≡ pending_of self.old }
         ensures number { self.new.number ≡ self.old.number }
         ensures came { self.new.came ≡ self.old.came }
+        ensures limit { self.new.limit ≡ self.old.limit }
         ensures ended { self.new.ended ≡ false }
     {
         self.buffer.consume(self.taken);
@@ -130,6 +153,7 @@ impl LineReader {
         ensures pending { pending_of self.new ≡ drop end self.old.buffer }
         ensures number { number_of self.new ≡ number_of self.old + 1 }
         ensures came { came_of self.new ≡ came_of self.old }
+        ensures limit { limit_of self.new ≡ limit_of self.old }
         ensures ended { ended_of self.new ≡ ended_of self.old }
     {
         let text_len = text_len(&self.buffer.as_slice()[..len]);
@@ -146,14 +170,15 @@ impl LineReader {
         ensures read { (bytes : List ℕ) × ReadsMore result self.old self.new (R.remaining source.old) (R.remaining source.new) bytes }
         ensures failures { FailsOnRead result (R.failures source.old) (R.failures source.new) }
         ensures taken { self.new.taken ≡ 0 }
+        ensures limit { self.new.limit ≡ self.old.limit }
         ensures number { self.new.number ≡ self.old.number }
         ensures ended { self.new.ended ≡ self.old.ended }
     {
-        if self.came == LIMIT {
+        if self.came == self.limit {
             read_end(source)?;
             return Ok(false);
         }
-        let room = (LIMIT - self.came).min(CAPACITY as u64) as usize;
+        let room = (self.limit - self.came).min(CAPACITY as u64) as usize;
         let Ok(n) = self.buffer.fill(source, room) else {
             return Err(ReadFault::Device);
         };
@@ -162,13 +187,14 @@ impl LineReader {
     }
 
     /// Hands out the next line: true where there was one, false at the end of the input. Nothing is
-    /// read while a whole line is there. A line of more than 1023 bytes before its LF is not
-    /// understood, and more than 2^40 bytes are too long.
+    /// read while a whole line is there. A line of more than 1023 bytes before its LF is too long, and more bytes than the
+    /// limit are too many.
     pub fn next_line<R: Source>(&mut self, source: &mut R) -> Result<bool, ReadFault>
         requires { R.failures source.old < 2 ^ 64 - 1 }
         ensures line { NextLine result self.old self.new (R.remaining source.old) (R.remaining source.new) }
         ensures failures { FailsOnRead result (R.failures source.old) (R.failures source.new) }
-        ensures few { came_of self.new ≤ 2 ^ 40 }
+        ensures few { came_of self.new ≤ limit_of self.new }
+        ensures limit { limit_of self.new ≡ limit_of self.old }
     {
         self.let_go();
         'reads: loop {

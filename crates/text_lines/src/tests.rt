@@ -147,6 +147,25 @@ fn the_1024th_byte_is_answered_before_a_further_read(rt: HostRuntime) {
 }
 
 #[test]
+fn a_byte_past_the_limit_is_too_much(rt: HostRuntime) {
+    for piece in [1, 4096] {
+        let mut source = PieceSource::new(b"a\nbc\nd", piece, None);
+        let mut reader = LineReader::with_limit(5);
+        assert_eq!(rt; reader.next_line(&mut source), Ok(true));
+        assert_eq!(rt; reader.next_line(&mut source), Ok(true));
+        assert!(rt; reader.line() == b"bc".as_slice());
+        let too_many = ReadFault::TooManyBytes;
+        assert_eq!(rt; reader.next_line(&mut source), Err(too_many));
+        assert_eq!(rt; source.rest().len(), 0);
+    }
+    let mut source = b"a\nbc\n".as_slice();
+    let mut reader = LineReader::with_limit(5);
+    assert_eq!(rt; reader.next_line(&mut source), Ok(true));
+    assert_eq!(rt; reader.next_line(&mut source), Ok(true));
+    assert_eq!(rt; reader.next_line(&mut source), Ok(false));
+}
+
+#[test]
 fn lines_that_have_come_are_handed_out_before_a_further_read(rt: HostRuntime) {
     let mut source = PieceSource::new(b"a\nb\nc", 4, Some(2));
     assert_eq!(rt; ends(&mut source), (2, Err(ReadFault::Device)));

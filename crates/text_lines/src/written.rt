@@ -28,11 +28,15 @@ pub fn push_hex(line: &mut Line, value: u64, digits: u8)
     ensures items { line.new.items ≡ line.old.items ++ hex digits value }
     ensures len { array_vec_len line.new ≡ array_vec_len line.old + digits }
 {
-    if digits == 0 {
-        return;
+    let mut text = [0; 128];
+    let mut at = usize::from(digits);
+    let mut left = value;
+    while at > 0 {
+        at -= 1;
+        text[at] = hex_digit((left % 16) as u8);
+        left /= 16;
     }
-    push_hex(line, value / 16, digits - 1);
-    line.push(hex_digit((value % 16) as u8));
+    push_text(line, &text[..usize::from(digits)]);
 }
 
 /// Appends a text.

@@ -5,7 +5,7 @@ ghost use Rattle.std.specs.Result.{result_ok};
 ghost use Rattle.text_lines.specs.LineLoop.{CountsReads, CountsWrites, DoesAll, StopsAt, StopsReading, StopsTooLong, StopsWriting};
 ghost use Rattle.trace_judge.specs.Judging.{access_on, is_no_access, judged_by};
 
-use crate::answers::answer_line;
+use crate::answers::push_answer;
 use byte_streams::{Sink, Source};
 use hart_trace::{Event, parse_line};
 use pmp_encoding::Bank;
@@ -41,14 +41,15 @@ impl Interpreter for Judge<'_> {
 
     ghost keeps = { λ now. Unit {0} };
 
-    fn interpret(&mut self, line: &[u8], count: u64) -> Result<Option<Line>, Refusal> {
+    fn interpret(&mut self, line: &[u8], count: u64, answer: &mut Line) -> Result<bool, Refusal> {
         let Ok(found) = access_in(line) else {
             return Err(Refusal::NotUnderstood);
         };
-        match found {
-            Some(access) => Ok(Some(answer_line(count + 1, judge(self.bank, &access)))),
-            None => Ok(None),
-        }
+        let Some(access) = found else {
+            return Ok(false);
+        };
+        push_answer(answer, count + 1, judge(self.bank, &access));
+        Ok(true)
     }
 }
 

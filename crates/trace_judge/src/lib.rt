@@ -15,5 +15,5 @@ mod judging;
 #[cfg(test)]
 mod tests;
 
-pub use answers::answer_line;
+pub use answers::{answer_line, push_answer};
 pub use judging::judge_trace;

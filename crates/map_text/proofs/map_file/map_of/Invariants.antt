@@ -1,14 +1,16 @@
-use Rattle.std.proofs.Common.{◌≡◌, ◌+◌, ◌<◌, ◌≤◌, ℕ, List, [], ◌++◌, length}
-use Rattle.map_text.specs.Lines.{raw_lines}
+use Rattle.std.proofs.Common.{◌≡◌, ◌+◌, ◌-◌, ◌^◌, ◌<◌, ℕ, List, [], ◌++◌, length}
+use Rattle.text_lines.specs.LineReaders.{came_of, limit_of, number_of}
+use Rattle.map_text.specs.Lines.{left_of, raw_lines}
 use Rattle.map_text.specs.MapFile.{FaultAt, LeadTo, MakesMore}
 use Rattle.map_text.proofs.map_file.map_of.Given as goal
 
-abbrev pub invariant-loop-rest : goal.invariant-loop-rest
-invariant-loop-rest l = record {
-  followed : (before : List (List ℕ)) × (raw_lines l.bytes ≡ before ++ raw_lines l.rest) × (length before ≡ l.number) × LeadTo [] before l.map;
+abbrev pub invariant-lines : goal.invariant-lines
+invariant-lines l = record {
+  followed : (before : List (List ℕ)) × (raw_lines l.bytes ≡ before ++ raw_lines (left_of l.lines l.rest)) × (length before ≡ number_of l.lines) × LeadTo [] before l.map;
   grown : 0 < length l.map → (n : ℕ) × FaultAt l.bytes n MakesMore;
-  room : l.number + length l.rest ≤ length l.bytes;
+  came : came_of l.lines + length l.rest ≡ length l.bytes;
+  limit : limit_of l.lines ≡ 2 ^ 64 - 1;
 }
 
-abbrev pub decreases-loop-rest : goal.decreases-loop-rest
-decreases-loop-rest l = length l.rest
+abbrev pub decreases-lines : goal.decreases-lines
+decreases-lines l = length (left_of l.lines l.rest)

@@ -3,7 +3,7 @@ use Rattle.std.proofs.lemmas.Result.{err_from_is_err_and}
 use Rattle.text_lines.specs.declared.fault.RunFault.TheVariants.{Line, TooLong, Read}
 use Rattle.text_lines.specs.Faults.{run_fault}
 use Rattle.text_lines.specs.LineLoop.{text_of}
-use Rattle.text_lines.proofs.Looped.{begins, ends, fault_is_long, fault_is_many, fault_is_device, few_more, finishes, goes_on, hands, stops_at, stops_long, stops_past, stops_reading, stops_writing, stops_for_memory}
+use Rattle.text_lines.proofs.Looped.{begins, ends, fault_is_long, fault_is_many, fault_is_device, few_by, few_more, finishes, goes_on, hands, stops_at, stops_long, stops_past, stops_reading, stops_writing, stops_for_memory}
 use Rattle.text_lines.proofs.line_loop.interpret_lines.Goals as goal
 
 pub lines-init : goal.lines-init
@@ -13,6 +13,7 @@ lines-init g c = record {
   stalls = refl;
   progress = λ k. begins g.I.Interpreter.does c.args.interpreter.now c.new-reader.result _ _ c.new-reader.ensures.pending c.new-reader.ensures.number c.new-reader.ensures.came;
   few = omega arith;
+  limit = c.new-reader.ensures.limit;
   keeps = λ k. k;
 }
 
@@ -20,24 +21,24 @@ pub returns-in_err-next_line-clause-line : goal.returns-in_err-next_line-clause-
 returns-in_err-next_line-clause-line g c = λ k n e.
     let p = err_from_is_err_and c.from_residual.result c.from_residual.ensures.1 in
     let named : run_fault c.in_err-next_line.field-0.0 ≡ Line n = cc in
-    stops_long g.I.Interpreter.does g.I.Interpreter.refuses _ _ c.lines.reader c.next_line.new.self c.lines.count n _ _ (g.R.Source.remaining c.next_line.new.source) _ _ (c.lines.invariant.progress k) (rw (fault_is_long _ n named) at c.in_err-next_line.ensures.line) c.next_line.ensures.few
+    stops_long g.I.Interpreter.does g.I.Interpreter.refuses _ _ c.lines.reader c.next_line.new.self c.lines.count n _ _ (g.R.Source.remaining c.next_line.new.source) _ _ (c.lines.invariant.progress k) (rw (fault_is_long _ n named) at c.in_err-next_line.ensures.line) (few_by c.lines.reader c.next_line.new.self c.next_line.ensures.few c.next_line.ensures.limit c.lines.invariant.limit)
 
 pub returns-in_err-next_line-clause-too_long : goal.returns-in_err-next_line-clause-too_long
 returns-in_err-next_line-clause-too_long g c = λ k e.
     let p = err_from_is_err_and c.from_residual.result c.from_residual.ensures.1 in
     let named : run_fault c.in_err-next_line.field-0.0 ≡ TooLong = cc in
-    stops_past g.I.Interpreter.does _ _ c.lines.reader c.next_line.new.self c.lines.count _ _ (g.R.Source.remaining c.next_line.new.source) _ _ (c.lines.invariant.progress k) (rw (fault_is_many _ named) at c.in_err-next_line.ensures.line)
+    stops_past g.I.Interpreter.does _ _ c.lines.reader c.next_line.new.self c.lines.count _ _ (g.R.Source.remaining c.next_line.new.source) _ _ (c.lines.invariant.progress k) (rw (fault_is_many _ named) at c.in_err-next_line.ensures.line) c.lines.invariant.limit
 
 pub returns-in_err-next_line-clause-read : goal.returns-in_err-next_line-clause-read
 returns-in_err-next_line-clause-read g c = λ k e.
     let p = err_from_is_err_and c.from_residual.result c.from_residual.ensures.1 in
     let named : run_fault c.in_err-next_line.field-0.0 ≡ Read = cc in
-    stops_reading g.I.Interpreter.does _ _ c.lines.reader c.next_line.new.self c.lines.count _ _ (g.R.Source.remaining c.next_line.new.source) _ _ (c.lines.invariant.progress k) (rw (fault_is_device _ named) at c.in_err-next_line.ensures.line) c.next_line.ensures.few
+    stops_reading g.I.Interpreter.does _ _ c.lines.reader c.next_line.new.self c.lines.count _ _ (g.R.Source.remaining c.next_line.new.source) _ _ (c.lines.invariant.progress k) (rw (fault_is_device _ named) at c.in_err-next_line.ensures.line) (few_by c.lines.reader c.next_line.new.self c.next_line.ensures.few c.next_line.ensures.limit c.lines.invariant.limit)
 
 pub returns-in-Err-NotUnderstood-clause-line : goal.returns-in-Err-NotUnderstood-clause-line
 returns-in-Err-NotUnderstood-clause-line g c = λ k n e.
     let next = rw c.if-branch.true at c.in_ok-next_line.ensures.line in
-    let h = hands g.I.Interpreter.does _ _ c.lines.reader c.next_line.new.self c.lines.count _ _ (g.R.Source.remaining c.next_line.new.source) _ _ (c.lines.invariant.progress k) next c.next_line.ensures.few in
+    let h = hands g.I.Interpreter.does _ _ c.lines.reader c.next_line.new.self c.lines.count _ _ (g.R.Source.remaining c.next_line.new.source) _ _ (c.lines.invariant.progress k) next (few_by c.lines.reader c.next_line.new.self c.next_line.ensures.few c.next_line.ensures.limit c.lines.invariant.limit) in
     let is = ap (λ f. Err f) c.in-Err-NotUnderstood.field-0-is in
     let unknown = rw c.line.ensures at c.in-Err-NotUnderstood.ensures.unknown is in
     let same = c.in-Err-NotUnderstood.ensures.untouched is in
@@ -48,7 +49,7 @@ returns-in-Err-NotUnderstood-clause-line g c = λ k n e.
 pub returns-in-Err-Memory-clause-memory : goal.returns-in-Err-Memory-clause-memory
 returns-in-Err-Memory-clause-memory g c = λ k e.
     let next = rw c.if-branch.true at c.in_ok-next_line.ensures.line in
-    let h = hands g.I.Interpreter.does _ _ c.lines.reader c.next_line.new.self c.lines.count _ _ (g.R.Source.remaining c.next_line.new.source) _ _ (c.lines.invariant.progress k) next c.next_line.ensures.few in
+    let h = hands g.I.Interpreter.does _ _ c.lines.reader c.next_line.new.self c.lines.count _ _ (g.R.Source.remaining c.next_line.new.source) _ _ (c.lines.invariant.progress k) next (few_by c.lines.reader c.next_line.new.self c.next_line.ensures.few c.next_line.ensures.limit c.lines.invariant.limit) in
     let is = ap (λ f. Err f) c.in-Err-Memory.field-0-is in
     let starved = rw c.line.ensures at c.in-Err-Memory.ensures.starved is (c.lines.invariant.keeps k) in
     stops_for_memory g.I.Interpreter.does g.I.Interpreter.starves _ _ _ c.next_line.new.self c.lines.count _ _ _ _ h starved
@@ -56,17 +57,17 @@ returns-in-Err-Memory-clause-memory g c = λ k e.
 pub returns-in_default-clause-write : goal.returns-in_default-clause-write
 returns-in_default-clause-write g c = λ k e.
     let next = rw c.if-branch.true at c.in_ok-next_line.ensures.line in
-    let h = hands g.I.Interpreter.does _ _ c.lines.reader c.next_line.new.self c.lines.count _ _ (g.R.Source.remaining c.next_line.new.source) _ _ (c.lines.invariant.progress k) next c.next_line.ensures.few in
+    let h = hands g.I.Interpreter.does _ _ c.lines.reader c.next_line.new.self c.lines.count _ _ (g.R.Source.remaining c.next_line.new.source) _ _ (c.lines.invariant.progress k) next (few_by c.lines.reader c.next_line.new.self c.next_line.ensures.few c.next_line.ensures.limit c.lines.invariant.limit) in
     let done = rw c.line.ensures at c.in-Ok.ensures.done (c.lines.invariant.keeps k) in
     let p = c.in_default.ensures.part in
-    stops_writing g.I.Interpreter.does _ _ _ c.next_line.new.self c.lines.count _ _ _ _ _ h (text_of c.in-Ok.answer) p.0 p.1 done p.2 p.3 p.4
+    stops_writing g.I.Interpreter.does _ _ _ c.next_line.new.self c.lines.count _ _ _ _ _ h (text_of c.in-Ok.answered c.interpret.new.answer) p.0 p.1 done p.2 p.3 p.4
 
 pub returns-then-has_ended-clause-all : goal.returns-then-has_ended-clause-all
 returns-then-has_ended-clause-all g c = λ k.
     let next = rw c.if-branch.true at c.in_ok-next_line.ensures.line in
-    let h = hands g.I.Interpreter.does _ _ c.lines.reader c.next_line.new.self c.lines.count _ _ (g.R.Source.remaining c.next_line.new.source) _ _ (c.lines.invariant.progress k) next c.next_line.ensures.few in
+    let h = hands g.I.Interpreter.does _ _ c.lines.reader c.next_line.new.self c.lines.count _ _ (g.R.Source.remaining c.next_line.new.source) _ _ (c.lines.invariant.progress k) next (few_by c.lines.reader c.next_line.new.self c.next_line.ensures.few c.next_line.ensures.limit c.lines.invariant.limit) in
     let done = rw c.line.ensures at c.in-Ok.ensures.done (c.lines.invariant.keeps k) in
-    ends g.I.Interpreter.does _ _ _ c.next_line.new.self c.lines.count _ _ _ _ _ h (text_of c.in-Ok.answer) done c.in-Ok-write_answer.ensures.whole (sym c.has_ended.ensures ∙ c.if-has_ended.true)
+    ends g.I.Interpreter.does _ _ _ c.next_line.new.self c.lines.count _ _ _ _ _ h (text_of c.in-Ok.answered c.interpret.new.answer) done c.in-Ok-write_answer.ensures.whole (sym c.has_ended.ensures ∙ c.if-has_ended.true)
 
 pub lines-preserved : goal.lines-preserved
 lines-preserved g c =
@@ -76,14 +77,15 @@ lines-preserved g c =
       writes = c.in-Ok-write_answer.ensures.well ∙ c.lines.invariant.writes;
       stalls = c.in-Ok-write_answer.ensures.unstalled ∙ c.lines.invariant.stalls;
       progress = λ k.
-          let h = hands g.I.Interpreter.does _ _ c.lines.reader c.next_line.new.self c.lines.count _ _ (g.R.Source.remaining c.next_line.new.source) _ _ (c.lines.invariant.progress k) next c.next_line.ensures.few in
+          let h = hands g.I.Interpreter.does _ _ c.lines.reader c.next_line.new.self c.lines.count _ _ (g.R.Source.remaining c.next_line.new.source) _ _ (c.lines.invariant.progress k) next (few_by c.lines.reader c.next_line.new.self c.next_line.ensures.few c.next_line.ensures.limit c.lines.invariant.limit) in
           let done = rw c.line.ensures at c.in-Ok.ensures.done (c.lines.invariant.keeps k) in
-          let goes = goes_on g.I.Interpreter.does _ _ _ c.next_line.new.self c.lines.count _ _ _ _ _ h (text_of c.in-Ok.answer) done c.in-Ok-write_answer.ensures.whole (sym c.has_ended.ensures ∙ c.if-has_ended.false) in
+          let goes = goes_on g.I.Interpreter.does _ _ _ c.next_line.new.self c.lines.count _ _ _ _ _ h (text_of c.in-Ok.answered c.interpret.new.answer) done c.in-Ok-write_answer.ensures.whole (sym c.has_ended.ensures ∙ c.if-has_ended.false) in
           rw c.in-Ok-write_answer.ensures.counted goes;
-      few = few_more _ _ _ _ (text_of c.in-Ok.answer) c.in-Ok-write_answer.ensures.counted c.lines.invariant.few next.6.1.number;
+      few = few_more _ _ _ _ (text_of c.in-Ok.answered c.interpret.new.answer) c.in-Ok-write_answer.ensures.counted c.lines.invariant.few next.6.1.number;
+      limit = c.next_line.ensures.limit ∙ c.lines.invariant.limit;
       keeps = λ k. c.in-Ok.ensures.keeps (c.lines.invariant.keeps k);
     }
 
 pub returns-clause-all : goal.returns-clause-all
 returns-clause-all g c = λ k.
-    finishes g.I.Interpreter.does _ _ c.lines.reader c.next_line.new.self c.lines.count _ _ (g.R.Source.remaining c.next_line.new.source) _ _ (c.lines.invariant.progress k) (rw c.if-branch.false at c.in_ok-next_line.ensures.line) c.next_line.ensures.few
+    finishes g.I.Interpreter.does _ _ c.lines.reader c.next_line.new.self c.lines.count _ _ (g.R.Source.remaining c.next_line.new.source) _ _ (c.lines.invariant.progress k) (rw c.if-branch.false at c.in_ok-next_line.ensures.line) (few_by c.lines.reader c.next_line.new.self c.next_line.ensures.few c.next_line.ensures.limit c.lines.invariant.limit)

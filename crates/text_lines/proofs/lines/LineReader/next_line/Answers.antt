@@ -19,7 +19,7 @@ returns-in_err-more-clause-line g c =
     let p = err_from_is_err_and c.from_residual.result c.from_residual.ensures.1 in
     let read = c.in_err-more.ensures.read in
     let number = c.read_more.ensures.number ∙ c.reads.invariant.number in
-    rw (p.1, p.2) (refuses_read _ c.reads.self c.read_more.new.self _ _ _ c.reads.invariant.gathered.0 read.0 c.as_slice-bytes.result.now c.line_len-len.result c.in_err-more.field-0.0 c.reads.invariant.gathered.1
+    rw (p.1, p.2) (refuses_read _ c.reads.self c.read_more.new.self _ _ _ c.reads.invariant.gathered.0 read.0 c.as_slice-bytes.result.now c.line_len-len.result c.in_err-more.field-0.0 c.reads.invariant.gathered.1 c.reads.invariant.limit
     c.read_more.ensures.taken number c.as_slice-bytes.ensures.value c.line_len-len.ensures.len c.if-len-held.false c.if-len-gt-LONGEST.false read.1)
 
 pub returns-then-not-more-clause-line : goal.returns-then-not-more-clause-line
@@ -37,6 +37,7 @@ reads-preserved g c =
     record {
       taken = c.read_more.ensures.taken;
       number = c.read_more.ensures.number ∙ c.reads.invariant.number;
+      limit = c.read_more.ensures.limit ∙ c.reads.invariant.limit;
       ended = c.read_more.ensures.ended ∙ c.reads.invariant.ended;
       failures = c.in_ok-more.ensures.failures ∙ c.reads.invariant.failures;
       gathered = (_, gathers_more _ c.reads.self c.read_more.new.self _ _ _ c.reads.invariant.gathered.0 read.0 c.reads.invariant.gathered.1 unended read.1.0 read.1.1 read.1.2);
