@@ -41,21 +41,17 @@ fn overlap_of(run: &Run, first: u64, height: u32) -> Overlap
     Overlap::Partly
 }
 
-/// The two halves of a block, shared with it.
-fn halves_of(block: &Block) -> Result<(Block, Block), AllocError>
+/// The two halves of a block. Those of a block of one permission are as it is itself.
+fn halves_of(block: &Block) -> (&Block, &Block)
     requires { IsSummed block.now }
-    ensures lower { IfOk result (λ halves. shape_of halves.0 ≡ lower_half (shape_of block.now)) }
-    ensures upper { IfOk result (λ halves. shape_of halves.1 ≡ upper_half (shape_of block.now)) }
-    ensures lower_summed { IfOk result (λ halves. IsSummed halves.0) }
-    ensures upper_summed { IfOk result (λ halves. IsSummed halves.1) }
+    ensures lower { shape_of result.0.now ≡ lower_half (shape_of block.now) }
+    ensures upper { shape_of result.1.now ≡ upper_half (shape_of block.now) }
+    ensures lower_summed { IsSummed result.0.now }
+    ensures upper_summed { IsSummed result.1.now }
 {
     match block {
-        Block::Leaf(perm) => Ok((Block::Leaf(*perm), Block::Leaf(*perm))),
-        Block::Branch(halves, _) => {
-            let lower = halves.0.share()?;
-            let upper = halves.1.share()?;
-            Ok((lower, upper))
-        }
+        Block::Leaf(_) => (block, block),
+        Block::Branch(halves, _) => (&halves.0, &halves.1),
     }
 }
 
@@ -84,8 +80,8 @@ pub fn overwritten_block(
         Overlap::Partly => {}
     }
     let middle = first + pages_of(height - 1);
-    let (low, high) = halves_of(block)?;
-    let lower = overwritten_block(alloc, &low, first, height - 1, run)?;
-    let upper = overwritten_block(alloc, &high, middle, height - 1, run)?;
+    let (low, high) = halves_of(block);
+    let lower = overwritten_block(alloc, low, first, height - 1, run)?;
+    let upper = overwritten_block(alloc, high, middle, height - 1, run)?;
     join(alloc, lower, upper)
 }

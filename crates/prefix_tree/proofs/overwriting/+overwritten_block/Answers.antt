@@ -28,8 +28,8 @@ overwritten_block-requires t c =
           (
             c.requires.run,
             (
-              rw c.in_ok-low.ensures.lower (lower_fits c.args.height (c.args.height - 1) (shape_of c.args.block.now) e c.requires.fits),
-              (rw c.in_ok-low.ensures.lower (lower_canonical (shape_of c.args.block.now) c.requires.canonical), c.in_ok-low.ensures.lower_summed),
+              rw c.halves_of.ensures.lower (lower_fits c.args.height (c.args.height - 1) (shape_of c.args.block.now) e c.requires.fits),
+              (rw c.halves_of.ensures.lower (lower_canonical (shape_of c.args.block.now) c.requires.canonical), c.halves_of.ensures.lower_summed),
             ),
           ),
         ),
@@ -49,8 +49,8 @@ overwritten_block-requires-2 t c =
           (
             c.requires.run,
             (
-              rw c.in_ok-low.ensures.upper (upper_fits c.args.height (c.args.height - 1) (shape_of c.args.block.now) e c.requires.fits),
-              (rw c.in_ok-low.ensures.upper (upper_canonical (shape_of c.args.block.now) c.requires.canonical), c.in_ok-low.ensures.upper_summed),
+              rw c.halves_of.ensures.upper (upper_fits c.args.height (c.args.height - 1) (shape_of c.args.block.now) e c.requires.fits),
+              (rw c.halves_of.ensures.upper (upper_canonical (shape_of c.args.block.now) c.requires.canonical), c.halves_of.ensures.upper_summed),
             ),
           ),
         ),
@@ -67,8 +67,8 @@ pub returns-clause-means : goal.returns-clause-means
 returns-clause-means t c =
     let some : 0 < c.args.height = c.in-Partly.ensures in
     let e : c.args.height ≡ suc (c.args.height - 1) = omega arith in
-    let low = rw c.in_ok-low.ensures.lower at c.in_ok-lower.ensures.means in
-    let high = rw (c.in_ok-low.ensures.upper, c.pages_of.ensures) at c.in_ok-upper.ensures.means in
+    let low = rw c.halves_of.ensures.lower at c.in_ok-lower.ensures.means in
+    let high = rw (c.halves_of.ensures.upper, c.pages_of.ensures) at c.in_ok-upper.ensures.means in
     IfOk-weaker c.join.result _ _
     (λ b shape view means.
     rw shape
