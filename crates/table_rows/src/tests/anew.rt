@@ -38,17 +38,22 @@ fn destroys_every_second(
     Ok(())
 }
 
+/// The first word of an enclave's digest.
+fn first_word(table: &Table, id: u64) -> Option<u64> {
+    table.word(id, 0).ok()
+}
+
 #[test]
 fn destroying_every_second_page_is_refused_at_seventeen(rt: HostRuntime) -> Result<(), Fail> {
     let mut table = table_of(rt.alloc(), 16, 32, 0x1000)?;
     uses(&rt, &table, 4);
     destroys_every_second(&rt, rt.alloc(), &mut table, 1, 12)?;
     uses(&rt, &table, 16);
-    let first = table.word(25, 0)?;
+    let first = first_word(&table, 25);
     destroys(&rt, &mut table, 25, Err(Refusal::NoEntries));
     uses(&rt, &table, 16);
     owns(&rt, &table, 0x80218, Owner::Private(25));
-    assert_eq!(rt; table.word(25, 0), Ok(first));
+    assert_eq!(rt; first_word(&table, 25), first);
     Ok(())
 }
 

@@ -49,21 +49,61 @@ fn lists_and_owners_of_text_data_and_shared_pages(rt: HostRuntime) -> Result<(),
     Ok(())
 }
 
-#[test]
-fn views_of_text_data_and_shared_pages(rt: HostRuntime) -> Result<(), Fail> {
-    let table = with_three_pages(&rt, rt.alloc())?;
-    let Some(view) = table.enclave_view(1)? else {
-        panic!(rt; "no enclave");
+/// How many maximal runs the view of an enclave has.
+fn run_count(table: &Table, id: u64) -> Result<Option<usize>, Fail> {
+    let view = table.enclave_view(id)?;
+    Ok(view.map(|view| view.ranges().len()))
+}
+
+/// Pages of the view of an enclave have these permissions.
+fn enclave_sees(
+    rt: &impl Abort,
+    table: &Table,
+    id: u64,
+    pages: &[(u32, Perm)],
+) -> Result<(), Fail> {
+    let Some(view) = table.enclave_view(id)? else {
+        panic!(rt; "no enclave {id}");
     };
-    assert_eq!(rt; view.ranges().len(), 3);
-    assert_eq!(rt; view.get(0x80200), Perm::ReadExecute);
-    assert_eq!(rt; view.get(0x80201), Perm::ReadWrite);
-    assert_eq!(rt; view.get(0x80400), Perm::ReadWrite);
-    assert!(rt; table.enclave_view(2)?.is_none());
-    let host = table.host_view()?;
-    assert_eq!(rt; host.get(0x80200), Perm::NoAccess);
-    assert_eq!(rt; host.get(0x80400), Perm::ReadWriteExecute);
+    for (page, perm) in pages {
+        assert_eq!(rt; view.get(u64::from(*page)), *perm, "page {page:#x}");
+    }
     Ok(())
+}
+
+/// Pages of the host's view have these permissions.
+fn host_sees(rt: &impl Abort, table: &Table, pages: &[(u32, Perm)]) -> Result<(), Fail> {
+    let view = table.host_view()?;
+    for (page, perm) in pages {
+        assert_eq!(rt; view.get(u64::from(*page)), *perm, "page {page:#x}");
+    }
+    Ok(())
+}
+
+#[test]
+fn view_of_an_enclave_with_text_data_and_shared_pages(rt: HostRuntime) -> Result<(), Fail> {
+    let table = with_three_pages(&rt, rt.alloc())?;
+    assert_eq!(rt; run_count(&table, 1)?, Some(3));
+    assert_eq!(rt; run_count(&table, 2)?, None);
+    let pages = [
+        (0x80200, Perm::ReadExecute),
+        (0x80201, Perm::ReadWrite),
+        (0x80400, Perm::ReadWrite),
+    ];
+    enclave_sees(&rt, &table, 1, pages.as_slice())
+}
+
+#[test]
+fn view_of_the_host_beside_an_enclave(rt: HostRuntime) -> Result<(), Fail> {
+    let table = with_three_pages(&rt, rt.alloc())?;
+    let pages = [
+        (0x801FF, Perm::NoAccess),
+        (0x80200, Perm::NoAccess),
+        (0x80201, Perm::NoAccess),
+        (0x80202, Perm::ReadWriteExecute),
+        (0x80400, Perm::ReadWriteExecute),
+    ];
+    host_sees(&rt, &table, pages.as_slice())
 }
 
 #[test]
