@@ -1,3 +1,5 @@
 pub mod Names
+mod Ends
+pub mod Refusals
 mod Parts
 pub mod SameViews

@@ -1,4 +1,5 @@
 pub use Rattle.trace_judge.specs.Judging
+pub mod Commands
 pub mod Tasks
 pub mod Troubles
 pub mod Verdicts

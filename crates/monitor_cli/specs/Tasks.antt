@@ -7,6 +7,15 @@ use Rattle.enclave_table.specs.Enclaves.{EnclaveTable}
 use Rattle.enclave_table.specs.Digests.{AnswersWord, RefusesWord}
 use Rattle.enclave_table.specs.Platform.{Layout}
 use Rattle.enclave_table.specs.declared.refusal.Refusal.{Refusal}
+use Rattle.hart_sim.specs.declared.machine.Machine.{Machine}
+use Rattle.hart_sim.specs.Machines.{KeepsBanksRight, state_of}
+use Rattle.hart_sim.specs.States.{SameState, opening}
+use Rattle.map_text.specs.declared.map_file.MapFileFault.{MapFileFault}
+use Rattle.map_text.specs.declared.map_file.MapFileFault.TheVariants as maps
+use Rattle.map_text.specs.MapFile.{FaultAt, IsUnknown, MakesMore, MakesTooMany}
+use Rattle.text_lines.specs.declared.fault.RunFault.{RunFault}
+use Rattle.text_lines.specs.declared.fault.RunFault.TheVariants as runs
+use Rattle.text_lines.specs.LineLoop.{Meaning, StopsAt, StopsForMemory, StopsReading, StopsTooLong, StopsWriting}
 use Rattle.platform_file.specs.Document.{IsPlatformText}
 use Rattle.printed_lines.specs.Texts.{measure_text}
 use Rattle.pmp_encoding.specs.declared.region.Entry.{Entry}
@@ -22,6 +31,26 @@ pub record IsWhole (most : ℕ) (before after : Option (List ℕ)) (bytes : List
 pub record IsFewest (view : View) (entries : List Entry) : Type 0 where
   pub means : Means entries view
   pub least : (others : List Entry) → Means others view → length entries ≤ length others
+
+-- why bytes make no map: the first line at fault
+abbrev pub IsMapFault : List ℕ → MapFileFault → Type 0
+IsMapFault bytes (maps.Line n) = FaultAt bytes n IsUnknown
+IsMapFault bytes maps.TooManyRanges = (n : ℕ) × FaultAt bytes n MakesTooMany
+IsMapFault bytes maps.Memory = (n : ℕ) × FaultAt bytes n MakesMore
+
+-- how the lines of an input stop being interpreted, by the fault
+abbrev pub Stops :
+    {S : Type 0} → Meaning S → (S → List ℕ → Type 0) → (S → List ℕ → S → Type 0) → S → S → Option (List ℕ) → Option (List ℕ) → Option (List ℕ) → Option (List ℕ) → RunFault → Type 0
+Stops does refuses starves old new before after held holds (runs.Line n) = StopsAt n does refuses old new before after held holds
+Stops does refuses starves old new before after held holds runs.TooLong = StopsTooLong does old new before after held holds
+Stops does refuses starves old new before after held holds runs.Read = StopsReading does old new before after held holds
+Stops does refuses starves old new before after held holds runs.Write = StopsWriting does old new before after held holds
+Stops does refuses starves old new before after held holds runs.Memory = StopsForMemory does starves old new before after held holds
+
+-- the machine stands as the platform's boot leaves it, and each hart has the fewest entries of its world's view
+pub record IsBooted (platform : Layout) (machine : Machine) : Type 0 where
+  pub state : SameState (state_of machine) (opening platform)
+  pub banks : KeepsBanksRight machine
 
 -- the bytes of a file are the platform: they are a text of UTF-8 that is
 pub record IsPlatformFile (bytes : List ℕ) (platform : Layout) : Type 0 where

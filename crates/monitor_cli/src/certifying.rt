@@ -11,6 +11,8 @@ ghost use Rattle.certificate_check.specs.Certificates.{IsRight};
 ghost use Rattle.certificate_format.specs.Spelling.{Spells};
 ghost use Rattle.plan_certificate.specs.Written.{version_for};
 ghost use Rattle.pmp_match.specs.Bounds.{BoundTree};
+ghost use Rattle.monitor_cli.specs.Commands.{writing, Breaks, BreaksCertificate, IsCertificateOf, IsCertified, IsLoaded};
+ghost use Rattle.monitor_cli.specs.Tasks.{IsFewest};
 
 use crate::trouble::Trouble;
 use byte_streams::{Sink, write_whole};
@@ -78,10 +80,46 @@ pub fn write_certified<'a, C: Sink>(
     ensures accepted { IfOk result (λ plan. (bytes : List ℕ) × IsRight (view_of_runs map.now) bytes (length plan.entries) × Appends (C.contents sink.old) (C.contents sink.new) bytes) }
     ensures refused { IfErr result (λ trouble. (trouble ≡ Trouble.Memory) ⊎ (trouble ≡ Trouble.CannotWrite file.entry)) }
     ensures untouched { result ≡ Err Trouble.Memory → sink.new ≡ sink.old }
+    ensures certificate { IfOk result (λ plan. (bytes : List ℕ) × IsCertificateOf (view_of_runs map.now) limit plan.entries bytes × Appends (C.contents sink.old) (C.contents sink.new) bytes) }
+    ensures broken { result ≡ Err (Trouble.CannotWrite file.entry) → (entries : List Entry) × (bytes : List ℕ) × IsFewest (view_of_runs map.now) entries × IsCertificateOf (view_of_runs map.now) limit entries bytes × Breaks bytes (writing C.contents C.failures C.stalls sink.old sink.new) }
 {
     let (plan, bytes) = certified(alloc, map, limit)?;
     let Ok(()) = write_whole(sink, bytes.as_slice()) else {
         return Err(Trouble::CannotWrite { file });
     };
     Ok(plan)
+}
+
+/// The fewest entries of a map, whose certificate is written where a file for it is named.
+pub fn plan_and_certify<'a, C: Sink>(
+    alloc: Global,
+    map: &PermissionMap,
+    limit: Limit,
+    cert: Option<&'a str>,
+    sink: &mut C,
+) -> Result<Plan, Trouble<'a>>
+    requires { C.failures sink.old < 2 ^ 64 - 1 }
+    ensures fewest { IfOk result (λ plan. IsFewest (view_of_runs map.now) plan.entries) }
+    ensures certified { IfOk result (λ plan. IsCertified (view_of_runs map.now) limit plan.entries cert.entry (writing C.contents C.failures C.stalls sink.old sink.new)) }
+    ensures refused { IfErr result (λ trouble. ((trouble ≡ Trouble.Memory) × (sink.new ≡ sink.old)) ⊎ BreaksCertificate (view_of_runs map.now) limit cert.entry (writing C.contents C.failures C.stalls sink.old sink.new) trouble) }
+{
+    match cert {
+        Some(file) => write_certified(alloc, map, limit, file, sink),
+        None => Ok(planned(alloc, map)?),
+    }
+}
+
+/// The bank of the fewest entries that mean a map.
+pub fn bank_in<'a>(alloc: Global, map: &PermissionMap, limit: Limit) -> Result<Bank, Trouble<'a>>
+    ensures loaded { IfOk result (IsLoaded (view_of_runs map.now) limit) }
+    ensures refused { IfErr result (λ trouble. (trouble ≡ Trouble.Memory) ⊎ ((entries : List Entry) × IsFewest (view_of_runs map.now) entries × (limit_number limit < length entries) × (trouble ≡ Trouble.NeedsEntries (length entries)))) }
+{
+    let plan = planned(alloc, map)?;
+    let entries = plan.entries();
+    match bank_of(entries, limit) {
+        Some(bank) => Ok(bank),
+        None => Err(Trouble::NeedsEntries {
+            needed: entries.len() as u64,
+        }),
+    }
 }

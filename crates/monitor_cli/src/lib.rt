@@ -2,8 +2,9 @@
 //!
 //! For the layer above: [`planned`] answers the fewest entries of a map, and [`certified`] a certificate with them that the
 //! checker accepts; [`bank_of`] the bank of a list that fits it; [`read_whole`] the bytes of a file of bounded length;
-//! [`verdict`] what `check` prints and its status; a [`Trouble`] its text and its status. [`perform`] does a task by these,
-//! in their order, and answers the program's status. The command line, the texts of maps and platforms and the printed
+//! [`verdict`] what `check` prints and its status; a [`Trouble`] its text and its status. [`perform`] does a task by these
+//! and answers the program's status: its clause has a rule for each way in which a command ends, with what was read and
+//! written in which order. The command line, the texts of maps and platforms and the printed
 //! lines are crates of their own, whose names stand here too.
 //!
 //! ```rust
@@ -12,7 +13,9 @@
 #![tactic(auto)]
 
 mod certifying;
+mod commands;
 mod devices;
+mod inputs;
 mod program;
 mod running;
 mod trouble;

@@ -1,9 +1,11 @@
 //! The parts of `run`: the platform, the machine that boots on it, and the measurements behind its report.
 
-ghost use Rattle.std.specs.Prelude.{◌≡◌, ◌*◌, ◌-◌, ◌^◌, ◌<◌, ◌++◌, ◌⊎◌, ℕ, List, Err, IfErr, IfOk, IfSome, None};
+ghost use Rattle.std.specs.Prelude.{◌≡◌, ◌*◌, ◌-◌, ◌^◌, ◌<◌, ◌≤◌, ◌++◌, ◌⊎◌, ℕ, List, Err, IfErr, IfOk, IfSome, None};
 ghost use Rattle.std.specs.Io.KnownBytes.{Appends};
 ghost use Rattle.std.specs.Str.{IsUtf8};
 ghost use Rattle.byteorder.specs.Endian.{little_bytes};
+ghost use Rattle.byte_streams.specs.Streams.{WriteFails};
+ghost use Rattle.printed_lines.specs.Plans.{TakesPart};
 ghost use Rattle.enclave_table.specs.Booting.{IsBootFault};
 ghost use Rattle.enclave_table.specs.declared.boot.BootFault.{BootFault};
 ghost use Rattle.enclave_table.specs.declared.refusal.Refusal.{Refusal};
@@ -12,7 +14,7 @@ ghost use Rattle.enclave_table.specs.Platform.{Layout};
 ghost use Rattle.hart_sim.specs.Machines.{KeepsBanksRight, state_of};
 ghost use Rattle.platform_file.specs.Document.{IsPlatformText};
 ghost use Rattle.monitor_cli.specs.Troubles.{boot_trouble};
-ghost use Rattle.monitor_cli.specs.Tasks.{AreMeasures, IsDigest, IsMeasureText, IsPlatformFile};
+ghost use Rattle.monitor_cli.specs.Tasks.{AreMeasures, IsBooted, IsDigest, IsMeasureText, IsPlatformFile};
 
 use crate::trouble::Trouble;
 use byte_streams::{DeviceFault, Sink, write_whole};
@@ -44,6 +46,7 @@ pub fn platform_in<'a>(alloc: Global, file: &'a str, bytes: &[u8]) -> Result<Pla
 /// The machine of a platform.
 pub fn booted<'a>(alloc: Global, platform: Platform) -> Result<Machine, Trouble<'a>>
     ensures kept { IfOk result (λ machine. KeepsBanksRight machine) }
+    ensures booted { IfOk result (IsBooted platform) }
     ensures refused { IfErr result (λ trouble. (fault : BootFault) × IsBootFault platform fault × (trouble ≡ boot_trouble fault)) }
 {
     match Machine::boot(alloc, platform) {
@@ -93,6 +96,9 @@ fn print_measure<W: Sink>(table: &Table, id: u64, out: &mut W) -> Result<(), Dev
     requires { W.failures out.old < 2 ^ 64 - 1 }
     ensures written { IfOk result (λ _. (text : List ℕ) × IsMeasureText table.now.table id text × Appends (W.contents out.old) (W.contents out.new) text) }
     ensures well { IfOk result (λ _. W.failures out.new ≡ W.failures out.old) }
+    ensures unstalled { IfOk result (λ _. W.stalls out.new ≡ W.stalls out.old) }
+    ensures part { IfErr result (λ _. (text : List ℕ) × IsMeasureText table.now.table id text × TakesPart text (W.contents out.old) (W.contents out.new)) }
+    ensures failed { IfErr result (λ _. WriteFails (W.failures out.old) (W.failures out.new) (W.stalls out.old) (W.stalls out.new)) }
 {
     let Some(digest) = digest_of(table, id) else {
         return Ok(());
@@ -106,6 +112,8 @@ fn print_measure<W: Sink>(table: &Table, id: u64, out: &mut W) -> Result<(), Dev
 pub fn print_measures<W: Sink>(table: &Table, out: &mut W) -> Result<(), DeviceFault>
     requires { W.failures out.old < 2 ^ 64 - 1 }
     ensures written { IfOk result (λ _. (text : List ℕ) × AreMeasures table.now.table 64 text × Appends (W.contents out.old) (W.contents out.new) text) }
+    ensures part { IfErr result (λ _. (n : ℕ) × (n ≤ 64) × (text : List ℕ) × AreMeasures table.now.table n text × TakesPart text (W.contents out.old) (W.contents out.new)) }
+    ensures failed { IfErr result (λ _. WriteFails (W.failures out.old) (W.failures out.new) (W.stalls out.old) (W.stalls out.new)) }
 {
     for i in 0..ENCLAVES {
         print_measure(table, i + 1, out)?;

@@ -2,6 +2,7 @@
 
 ghost use Rattle.std.specs.Prelude.{◌≡◌, ◌-◌, ◌^◌, ◌<◌, IfErr, IfOk, map};
 ghost use Rattle.std.specs.Io.KnownBytes.{Appends};
+ghost use Rattle.byte_streams.specs.Streams.{WriteFails};
 ghost use Rattle.printed_lines.specs.Plans.{TakesPart};
 ghost use Rattle.monitor_cli.specs.Troubles.{boot_trouble, file_text, joined, map_trouble, run_trouble, text_trouble, trouble_status, trouble_text, whole_trouble};
 
@@ -148,6 +149,7 @@ impl<'a> Trouble<'a> {
         requires { E.failures err.old < 2 ^ 64 - 1 }
         ensures written { IfOk result (λ _. Appends (E.contents err.old) (E.contents err.new) (trouble_text self.now)) }
         ensures part { IfErr result (λ _. TakesPart (trouble_text self.now) (E.contents err.old) (E.contents err.new)) }
+        ensures failed { IfErr result (λ _. WriteFails (E.failures err.old) (E.failures err.new) (E.stalls err.old) (E.stalls err.new)) }
     {
         let mut buffer = Buffer::new();
         match self {
@@ -176,6 +178,7 @@ fn about<E: Sink>(file: &str, said: &str, err: &mut E) -> Result<(), DeviceFault
     requires { E.failures err.old < 2 ^ 64 - 1 }
     ensures written { IfOk result (λ _. Appends (E.contents err.old) (E.contents err.new) (file_text file.now said.now)) }
     ensures part { IfErr result (λ _. TakesPart (file_text file.now said.now) (E.contents err.old) (E.contents err.new)) }
+    ensures failed { IfErr result (λ _. WriteFails (E.failures err.old) (E.failures err.new) (E.stalls err.old) (E.stalls err.new)) }
 {
     write_parts(err, &["pmpmon: ", file, said])
 }
@@ -185,6 +188,7 @@ fn write_parts<E: Sink>(err: &mut E, parts: &[&str]) -> Result<(), DeviceFault>
     requires { E.failures err.old < 2 ^ 64 - 1 }
     ensures written { IfOk result (λ _. Appends (E.contents err.old) (E.contents err.new) (joined (map (λ part. part.now) parts.now))) }
     ensures part { IfErr result (λ _. TakesPart (joined (map (λ part. part.now) parts.now)) (E.contents err.old) (E.contents err.new)) }
+    ensures failed { IfErr result (λ _. WriteFails (E.failures err.old) (E.failures err.new) (E.stalls err.old) (E.stalls err.new)) }
 {
     for part in parts {
         write_whole(err, part.as_bytes())?;

@@ -7,7 +7,7 @@ ghost use Rattle.certificate_check.specs.Refusals.{refusal_name, refusal_number}
 ghost use Rattle.certificate_format.specs.declared.header.Header.{Header};
 ghost use Rattle.certificate_format.specs.Spelling.{header_bytes};
 ghost use Rattle.printed_lines.specs.Texts.{refused_text};
-ghost use Rattle.monitor_cli.specs.Verdicts.{accepted_by};
+ghost use Rattle.monitor_cli.specs.Verdicts.{accepted_by, IsVerdict};
 
 use certificate_check::{CheckRefusal, check};
 use certificate_format::{Reader, Version};
@@ -41,6 +41,7 @@ fn refused(refusal: CheckRefusal) -> Line
 pub fn verdict(map: &PermissionMap, bytes: &[u8]) -> (Line, u8)
     ensures yes { (n : ℕ) (right : IsRight (view_of_runs map.now) bytes.now n) → (result.0.items ≡ accepted_by right.version n) × (result.1 ≡ 0) }
     ensures no { ((n : ℕ) → IsRight (view_of_runs map.now) bytes.now n → ⊥) → (refusal : CheckRefusal) × RefusalStands (view_of_runs map.now) bytes.now refusal × (result.0.items ≡ refused_text (refusal_number refusal) (refusal_name refusal)) × (result.1 ≡ 1) }
+    ensures verdict { IsVerdict (view_of_runs map.now) bytes.now result.0.items result.1 }
 {
     match check(map, bytes) {
         Ok(n) => (accepted(n, bytes), 0),

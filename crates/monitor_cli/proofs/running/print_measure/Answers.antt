@@ -1,5 +1,6 @@
 use Rattle.std.proofs.Common.{[], ◌∙◌, refl}
 use Rattle.std.proofs.KnownBytes.{Appends-nil}
+use Rattle.std.proofs.lemmas.Result.{err_from_is_err_and}
 use Rattle.printed_lines.specs.Texts.{measure_text}
 use Rattle.monitor_cli.specs.Tasks.{absent, live}
 use Rattle.monitor_cli.proofs.running.print_measure.Goals as goal
@@ -13,3 +14,11 @@ returns-clause-written g c = (
   live c.in-Some.digest c.in-Some.ensures.some,
   rw (c.as_slice.ensures.value ∙ c.measure_line-line.ensures) at c.in_ok-write_whole.ensures.whole,
 )
+
+pub returns-in_err-write_whole-clause-part : goal.returns-in_err-write_whole-clause-part
+returns-in_err-write_whole-clause-part g c =
+    rw (err_from_is_err_and c.from_residual.result c.from_residual.ensures.1).1 (
+      measure_text c.args.id c.in-Some.digest,
+      live c.in-Some.digest c.in-Some.ensures.some,
+      rw (c.as_slice.ensures.value ∙ c.measure_line-line.ensures) at c.in_err-write_whole.ensures.part,
+    )

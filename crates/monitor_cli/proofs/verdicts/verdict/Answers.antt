@@ -1,4 +1,5 @@
 use Rattle.std.proofs.Common.{◌≡◌, length, refl}
+use Rattle.monitor_cli.specs.Verdicts.{yes, no}
 use Rattle.monitor_cli.proofs.verdicts.verdict.Goals as goal
 
 pub returns-in-Ok-clause-yes : goal.returns-in-Ok-clause-yes
@@ -14,3 +15,13 @@ returns-in-Ok-clause-no c = λ none. absurd (none c.in-Ok.n ((c.in-Ok.ensures.ri
 
 pub returns-in-Err-clause-yes : goal.returns-in-Err-clause-yes
 returns-in-Err-clause-yes c = λ n right. let e = (c.in-Err.ensures.right n).1 right in cc
+
+pub returns-in-Ok-clause-verdict : goal.returns-in-Ok-clause-verdict
+returns-in-Ok-clause-verdict c =
+    let right = (c.in-Ok.ensures.right c.in-Ok.n).0 refl in
+    let spells = right.certificate.spells in
+    rw (c.accepted.ensures (record { version = right.version; count = length right.entries }) _ spells.counted spells.spelled) (yes c.in-Ok.n right)
+
+pub returns-in-Err-clause-verdict : goal.returns-in-Err-clause-verdict
+returns-in-Err-clause-verdict c =
+    rw c.refused.ensures (no c.in-Err.refusal (λ n right. let e = (c.in-Err.ensures.right n).1 right in cc) c.in-Err.ensures.fault)

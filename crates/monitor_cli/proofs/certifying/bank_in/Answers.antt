@@ -1,16 +1,17 @@
-use Rattle.std.proofs.Common.{◌≡◌, inr, refl, sym}
+use Rattle.std.proofs.Common.{inr, refl, sym}
 use Rattle.permission_map.specs.Runs.{view_of_runs}
 use Rattle.monitor_cli.specs.Tasks.{IsFewest}
-use Rattle.monitor_cli.proofs.program.bank_in.Goals as goal
+use Rattle.monitor_cli.proofs.certifying.bank_in.Goals as goal
 
 pub returns-in-Some-clause-loaded : goal.returns-in-Some-clause-loaded
 returns-in-Some-clause-loaded c =
-    let fewest : IsFewest (view_of_runs c.args.map.now) c.in_ok-plan.plan.entries = record { means = c.in_ok-plan.ensures.means; least = c.in_ok-plan.ensures.least } in (
-      c.entries-entries.result.now,
-      rw (sym c.entries-entries.ensures) at fewest,
-      c.in-Some.ensures.list,
-      c.in-Some.ensures.registers,
-    )
+    let fewest : IsFewest (view_of_runs c.args.map.now) c.in_ok-plan.plan.entries = record { means = c.in_ok-plan.ensures.means; least = c.in_ok-plan.ensures.least } in
+    record {
+      entries = c.entries-entries.result.now;
+      fewest = rw (sym c.entries-entries.ensures) at fewest;
+      list = c.in-Some.ensures.list;
+      registers = c.in-Some.ensures.registers;
+    }
 
 pub returns-clause-refused : goal.returns-clause-refused
 returns-clause-refused c =

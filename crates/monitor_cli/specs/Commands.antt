@@ -1,0 +1,240 @@
+-- What each command comes to, on the files and streams that are lent for it: a rule for each way in which it ends.
+use Rattle.std.specs.Prelude.{◌≡◌, ℕ, ◌+◌, ◌^◌, ◌<◌, ◌≤◌, Bool, true, false, List, Option, Some, None, Result, Ok, Err, length}
+use Rattle.std.specs.Borrow.{Bor}
+use Rattle.std.specs.Io.KnownBytes.{Appends, Consumes}
+use Rattle.byte_streams.specs.Streams.{WriteFails}
+use Rattle.pmp_encoding.specs.declared.bank.Bank.{Bank}
+use Rattle.pmp_encoding.specs.declared.limit.Limit.{Limit}
+use Rattle.pmp_encoding.specs.declared.region.Entry.{Entry}
+use Rattle.pmp_encoding.specs.Banks.{HasList, IsBankOf}
+use Rattle.pmp_encoding.specs.Limits.{limit_number}
+use Rattle.pmp_match.specs.Meaning.{View}
+use Rattle.pmp_match.specs.Bounds.{BoundTree}
+use Rattle.permission_map.specs.declared.runs.Run.{Run}
+use Rattle.permission_map.specs.Runs.{view_of_runs}
+use Rattle.text_lines.specs.declared.fault.RunFault.{RunFault}
+use Rattle.text_lines.specs.LineLoop.{CountsReads, CountsWrites, DoesAll}
+use Rattle.map_text.specs.declared.map_file.MapFileFault.{MapFileFault}
+use Rattle.map_text.specs.MapFile.{Makes}
+use Rattle.certificate_check.specs.Certificates.{IsRight}
+use Rattle.certificate_format.specs.Spelling.{Spells}
+use Rattle.plan_certificate.specs.Written.{version_for}
+use Rattle.enclave_table.specs.Booting.{IsBootFault}
+use Rattle.enclave_table.specs.Platform.{Layout}
+use Rattle.enclave_table.specs.declared.boot.BootFault.{BootFault}
+use Rattle.hart_sim.specs.declared.machine.Machine.{Machine}
+use Rattle.hart_sim.specs.Machines.{kept_of}
+use Rattle.hart_sim.specs.Reports.{DoesLine, RefusesLine, StarvesLine}
+use Rattle.trace_judge.specs.Judging.{is_no_access, judged_by}
+use Rattle.printed_lines.specs.Plans.{IsPlanText, TakesPart}
+use Rattle.command_line.specs.declared.task.Task.{Task}
+use Rattle.command_line.specs.declared.task.Task.TheVariants as tasks
+use Rattle.monitor_cli.specs.declared.trouble.Trouble.{Trouble}
+use Rattle.monitor_cli.specs.declared.trouble.Trouble.TheVariants.{TooLarge, NotAPlatform, NeedsEntries, CannotRead, CannotWrite, Output, Memory}
+use Rattle.monitor_cli.specs.Tasks.{AreMeasures, IsBooted, IsFewest, IsMapFault, IsPlatformFile, IsWhole, Stops}
+use Rattle.monitor_cli.specs.Troubles.{boot_trouble, map_trouble, run_trouble, status_of, trouble_text}
+use Rattle.monitor_cli.specs.Verdicts.{IsVerdict}
+
+-- a source over a call: itself, the bytes that are still to come, and how often it has failed
+pub record Reading (R : Type 0) : Type 0 where
+  pub old : R
+  pub new : R
+  pub before : Option (List ℕ)
+  pub after : Option (List ℕ)
+  pub failures : ℕ
+  pub failed : ℕ
+
+abbrev pub reading : {R : Type 0} → (R → Option (List ℕ)) → (R → ℕ) → R → R → Reading R
+reading remaining failures old new = record {
+  old = old;
+  new = new;
+  before = remaining old;
+  after = remaining new;
+  failures = failures old;
+  failed = failures new;
+}
+
+-- a sink over a call: itself, the bytes that it has taken, how often it has failed, and how often it took none of some bytes
+pub record Writing (W : Type 0) : Type 0 where
+  pub old : W
+  pub new : W
+  pub before : Option (List ℕ)
+  pub after : Option (List ℕ)
+  pub failures : ℕ
+  pub failed : ℕ
+  pub stalls : ℕ
+  pub stalled : ℕ
+
+abbrev pub writing : {W : Type 0} → (W → Option (List ℕ)) → (W → ℕ) → (W → ℕ) → W → W → Writing W
+writing contents failures stalls old new = record {
+  old = old;
+  new = new;
+  before = contents old;
+  after = contents new;
+  failures = failures old;
+  failed = failures new;
+  stalls = stalls old;
+  stalled = stalls new;
+}
+
+-- nothing was read from it
+abbrev pub IsUnread : {R : Type 0} → Reading R → Type 0
+IsUnread source = source.new ≡ source.old
+
+-- nothing was written to it
+abbrev pub IsUnwritten : {W : Type 0} → Writing W → Type 0
+IsUnwritten sink = sink.new ≡ sink.old
+
+-- a beginning of a text was written, not all of it, for the device failed or took none of some bytes
+pub record Breaks {W : Type 0} (text : List ℕ) (sink : Writing W) : Type 0 where
+  pub part : TakesPart text sink.before sink.after
+  pub fails : WriteFails sink.failures sink.failed sink.stalls sink.stalled
+
+-- a file was read to its end, without a failure: at most so many bytes
+pub record HasBytes {R : Type 0} (most : ℕ) (source : Reading R) (bytes : List ℕ) : Type 0 where
+  pub whole : IsWhole most source.before source.after bytes
+  pub well : source.failed ≡ source.failures
+
+-- why a file could not be had
+pub data HasNoBytes {R : Type 0} (most : ℕ) (file : Bor (List ℕ)) (source : Reading R) : Trouble → Type 0 where
+  too_large : (bytes : List ℕ) → Consumes source.before source.after bytes → most < length bytes → HasNoBytes most file source (TooLarge file)
+  cannot_read : source.failed ≡ source.failures + 1 → HasNoBytes most file source (CannotRead file)
+  memory : source.failed ≡ source.failures → HasNoBytes most file source Memory
+
+-- the bytes of a file make the map
+pub record HasMap {R : Type 0} (source : Reading R) (map : List Run) : Type 0 where
+  pub bytes : List ℕ
+  pub read : HasBytes (2 ^ 20) source bytes
+  pub makes : Makes bytes map
+
+-- why the map of a file could not be had
+pub data HasNoMap {R : Type 0} (file : Bor (List ℕ)) (source : Reading R) : Trouble → Type 0 where
+  no_bytes : (trouble : Trouble) → HasNoBytes (2 ^ 20) file source trouble → HasNoMap file source trouble
+  no_map : (bytes : List ℕ) → HasBytes (2 ^ 20) source bytes → (fault : MapFileFault) → IsMapFault bytes fault → HasNoMap file source (map_trouble file fault)
+
+-- the bank has the fewest entries that mean a view
+pub record IsLoaded (view : View) (limit : Limit) (bank : Bank) : Type 0 where
+  pub entries : List Entry
+  pub fewest : IsFewest view entries
+  pub list : HasList bank entries
+  pub registers : IsBankOf bank limit entries
+
+-- the bytes are a right certificate of the entries, for a hart of that limit
+pub record IsCertificateOf (view : View) (limit : Limit) (entries : List Entry) (bytes : List ℕ) : Type 0 where
+  pub tree : BoundTree
+  pub spells : Spells bytes (version_for limit) entries tree
+  pub right : IsRight view bytes (length entries)
+
+-- a certificate was written where a file for it is named, and else nothing
+abbrev pub IsCertified : {C : Type 0} → View → Limit → List Entry → Option (Bor (List ℕ)) → Writing C → Type 0
+IsCertified view limit entries None cert = IsUnwritten cert
+IsCertified view limit entries (Some file) cert = (bytes : List ℕ) × IsCertificateOf view limit entries bytes × Appends cert.before cert.after bytes
+
+-- the certificate was not written whole
+pub record BreaksCertificate {C : Type 0} (view : View) (limit : Limit) (file : Option (Bor (List ℕ))) (cert : Writing C) (trouble : Trouble) : Type 0 where
+  pub name : Bor (List ℕ)
+  pub named : file ≡ Some name
+  pub told : trouble ≡ CannotWrite name
+  pub entries : List Entry
+  pub fewest : IsFewest view entries
+  pub bytes : List ℕ
+  pub certificate : IsCertificateOf view limit entries bytes
+  pub broken : Breaks bytes cert
+
+-- `plan`: the map is read, the certificate is written where one is asked for, and the plan behind it
+pub data Plans {R C W : Type 0} (map : Bor (List ℕ)) (file : Option (Bor (List ℕ))) (limit : Limit) (first : Reading R) (cert : Writing C) (out : Writing W) : Result ℕ Trouble → Type 0 where
+  planned :
+      (runs : List Run) (entries : List Entry) (text : List ℕ) → HasMap first runs → IsFewest (view_of_runs runs) entries → IsCertified (view_of_runs runs) limit entries file cert
+      → IsPlanText limit entries text → Appends out.before out.after text → Plans map file limit first cert out (Ok 0)
+  no_map : (trouble : Trouble) → HasNoMap map first trouble → IsUnwritten cert → IsUnwritten out → Plans map file limit first cert out (Err trouble)
+  no_memory : (runs : List Run) → HasMap first runs → IsUnwritten cert → IsUnwritten out → Plans map file limit first cert out (Err Memory)
+  no_certificate :
+      (runs : List Run) (trouble : Trouble) → HasMap first runs → BreaksCertificate (view_of_runs runs) limit file cert trouble → IsUnwritten out
+      → Plans map file limit first cert out (Err trouble)
+  no_output :
+      (runs : List Run) (entries : List Entry) (text : List ℕ) → HasMap first runs → IsFewest (view_of_runs runs) entries → IsCertified (view_of_runs runs) limit entries file cert
+      → IsPlanText limit entries text → Breaks text out → Plans map file limit first cert out (Err Output)
+
+-- `judge`: the map is read and its entries are loaded, and then the trace is judged line by line
+pub data Judges {R W : Type 0} (map trace : Bor (List ℕ)) (limit : Limit) (first second : Reading R) (out : Writing W) : Result ℕ Trouble → Type 0 where
+  judged :
+      (runs : List Run) (bank : Bank) → HasMap first runs → IsLoaded (view_of_runs runs) limit bank
+      → DoesAll (judged_by bank) tt tt second.before second.after out.before out.after → Judges map trace limit first second out (Ok 0)
+  no_map : (trouble : Trouble) → HasNoMap map first trouble → IsUnread second → IsUnwritten out → Judges map trace limit first second out (Err trouble)
+  no_memory : (runs : List Run) → HasMap first runs → IsUnread second → IsUnwritten out → Judges map trace limit first second out (Err Memory)
+  no_bank :
+      (runs : List Run) (entries : List Entry) → HasMap first runs → IsFewest (view_of_runs runs) entries → limit_number limit < length entries → IsUnread second → IsUnwritten out
+      → Judges map trace limit first second out (Err (NeedsEntries (length entries)))
+  stopped :
+      (runs : List Run) (bank : Bank) (fault : RunFault) → HasMap first runs → IsLoaded (view_of_runs runs) limit bank
+      → Stops (judged_by bank) is_no_access (λ old line new. ⊥) tt tt second.before second.after out.before out.after fault
+      → CountsReads (Err fault) second.failures second.failed → CountsWrites (Err fault) out.failures out.failed out.stalls out.stalled
+      → Judges map trace limit first second out (Err (run_trouble trace fault))
+
+-- `check`: the map is read, then the certificate, and the line of the verdict is written
+pub data Checks {R W : Type 0} (map cert : Bor (List ℕ)) (first second : Reading R) (out : Writing W) : Result ℕ Trouble → Type 0 where
+  checked :
+      (runs : List Run) (bytes line : List ℕ) (status : ℕ) → HasMap first runs → HasBytes (2 ^ 26) second bytes → IsVerdict (view_of_runs runs) bytes line status
+      → Appends out.before out.after line → Checks map cert first second out (Ok status)
+  no_map : (trouble : Trouble) → HasNoMap map first trouble → IsUnread second → IsUnwritten out → Checks map cert first second out (Err trouble)
+  no_certificate : (runs : List Run) (trouble : Trouble) → HasMap first runs → HasNoBytes (2 ^ 26) cert second trouble → IsUnwritten out → Checks map cert first second out (Err trouble)
+  no_output :
+      (runs : List Run) (bytes line : List ℕ) (status : ℕ) → HasMap first runs → HasBytes (2 ^ 26) second bytes → IsVerdict (view_of_runs runs) bytes line status
+      → Breaks line out → Checks map cert first second out (Err Output)
+
+-- the bytes of a file are the platform
+pub record HasPlatform {R : Type 0} (source : Reading R) (platform : Layout) : Type 0 where
+  pub bytes : List ℕ
+  pub read : HasBytes (2 ^ 20) source bytes
+  pub is_platform : IsPlatformFile bytes platform
+
+-- why the platform of a file could not be had
+pub data HasNoPlatform {R : Type 0} (file : Bor (List ℕ)) (source : Reading R) : Trouble → Type 0 where
+  no_bytes : (trouble : Trouble) → HasNoBytes (2 ^ 20) file source trouble → HasNoPlatform file source trouble
+  no_platform : (bytes : List ℕ) → HasBytes (2 ^ 20) source bytes → ((platform : Layout) → IsPlatformFile bytes platform → ⊥) → HasNoPlatform file source (NotAPlatform file)
+  memory : (bytes : List ℕ) → HasBytes (2 ^ 20) source bytes → HasNoPlatform file source Memory
+
+-- the measurements of a machine's live enclaves were written where they are asked for, and else nothing more
+abbrev pub IsMeasured : Bool → Machine → Option (List ℕ) → Option (List ℕ) → Type 0
+IsMeasured false machine before after = after ≡ before
+IsMeasured true machine before after = (text : List ℕ) × AreMeasures (kept_of machine).table 64 text × Appends before after text
+
+-- `run`: the platform is read and booted, the trace happens to its machine line by line, and the measurements come last
+pub data Runs {R W : Type 0} (file trace : Bor (List ℕ)) (measure : Bool) (first second : Reading R) (out : Writing W) : Result ℕ Trouble → Type 0 where
+  ran :
+      (platform : Layout) (booted ended : Machine) (report : Option (List ℕ)) → HasPlatform first platform → IsBooted platform booted
+      → DoesAll DoesLine booted ended second.before second.after out.before report → IsMeasured measure ended report out.after → Runs file trace measure first second out (Ok 0)
+  no_platform : (trouble : Trouble) → HasNoPlatform file first trouble → IsUnread second → IsUnwritten out → Runs file trace measure first second out (Err trouble)
+  not_booted :
+      (platform : Layout) (fault : BootFault) → HasPlatform first platform → IsBootFault platform fault → IsUnread second → IsUnwritten out
+      → Runs file trace measure first second out (Err (boot_trouble fault))
+  stopped :
+      (platform : Layout) (booted ended : Machine) (fault : RunFault) → HasPlatform first platform → IsBooted platform booted
+      → Stops DoesLine RefusesLine StarvesLine booted ended second.before second.after out.before out.after fault
+      → CountsReads (Err fault) second.failures second.failed → CountsWrites (Err fault) out.failures out.failed out.stalls out.stalled
+      → Runs file trace measure first second out (Err (run_trouble trace fault))
+  not_measured :
+      (platform : Layout) (booted ended : Machine) (report : Option (List ℕ)) (n : ℕ) (text : List ℕ) → measure ≡ true → HasPlatform first platform → IsBooted platform booted
+      → DoesAll DoesLine booted ended second.before second.after out.before report → n ≤ 64 → AreMeasures (kept_of ended).table n text → TakesPart text report out.after
+      → WriteFails out.failures out.failed out.stalls out.stalled → Runs file trace measure first second out (Err Output)
+
+-- what a task comes to: what its command does not use stays as it was
+abbrev pub Performs : {R C W : Type 0} → Task → Reading R → Reading R → Writing C → Writing W → Result ℕ Trouble → Type 0
+Performs (tasks.Run platform trace measure) first second cert out done = Runs platform trace measure first second out done × IsUnwritten cert
+Performs (tasks.Plan map file limit) first second cert out done = Plans map file limit first cert out done × IsUnread second
+Performs (tasks.Judge map trace limit) first second cert out done = Judges map trace limit first second out done × IsUnwritten cert
+Performs (tasks.Check map file) first second cert out done = Checks map file first second out done × IsUnwritten cert
+
+-- what standard error is told: nothing where there is no trouble, else its line, which breaks off only where the device does
+pub data Tells {E : Type 0} (err : Writing E) : Result ℕ Trouble → Type 0 where
+  quiet : (status : ℕ) → IsUnwritten err → Tells err (Ok status)
+  told : (trouble : Trouble) → Appends err.before err.after (trouble_text trouble) → Tells err (Err trouble)
+  cut : (trouble : Trouble) → Breaks (trouble_text trouble) err → Tells err (Err trouble)
+
+-- a task was done or came to trouble, which standard error is told of. The status is 0 where it was done, 1 where the checker
+-- refused, 2 for bad input, 3 for a device, 4 for memory, and it does not depend on standard error
+pub record Ends {R C W E : Type 0} (task : Task) (first second : Reading R) (cert : Writing C) (out : Writing W) (err : Writing E) (status : ℕ) : Type 0 where
+  pub done : Result ℕ Trouble
+  pub performed : Performs task first second cert out done
+  pub told : Tells err done
+  pub status_is : status ≡ status_of done

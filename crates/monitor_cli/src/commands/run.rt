@@ -1,0 +1,41 @@
+//! `run`: a trace on a machine that boots on a platform.
+
+ghost use Rattle.std.specs.Prelude.{◌-◌, ◌^◌, ◌<◌};
+ghost use Rattle.monitor_cli.specs.Commands.{reading, writing, Runs};
+
+use crate::inputs::read_platform;
+use crate::running::{booted, print_measures};
+use crate::trouble::Trouble;
+use byte_streams::{DeviceFault, Sink, Source};
+use hart_sim::run;
+use std::alloc::Global;
+
+/// Boots a platform, runs a trace on it, and prints the measurements where they are asked for.
+pub fn do_run<'a, R: Source, W: Sink>(
+    alloc: Global,
+    platform: &'a str,
+    trace: &'a str,
+    measure: bool,
+    first: &mut R,
+    second: &mut R,
+    out: &mut W,
+) -> Result<u8, Trouble<'a>>
+    requires first { R.failures first.old < 2 ^ 64 - 1 }
+    requires second { R.failures second.old < 2 ^ 64 - 1 }
+    requires out { W.failures out.old < 2 ^ 64 - 1 }
+    ensures { let source = reading R.remaining R.failures in Runs platform.entry trace.entry measure (source first.old first.new) (source second.old second.new) (writing W.contents W.failures W.stalls out.old out.new) result }
+{
+    let platform = read_platform(alloc, platform, first)?;
+    let mut machine = booted(alloc, platform)?;
+    match run(&mut machine, second, out) {
+        Ok(()) => {}
+        Err(fault) => return Err(Trouble::of_run(trace, fault)),
+    }
+    if !measure {
+        return Ok(0);
+    }
+    match print_measures(machine.table(), out) {
+        Ok(()) => Ok(0),
+        Err(DeviceFault) => Err(Trouble::Output),
+    }
+}
