@@ -7,7 +7,7 @@ ghost use Rattle.context_switch.specs.Switching.{Switches};
 
 use crate::contexts::Contexts;
 use crate::hart::Hart;
-use pmp_encoding::{Bank, Entry};
+use pmp_encoding::Entry;
 use worlds::World;
 
 /// Leaves the hart's world and goes to `to`, the host or an enclave with an id from 1 to 64: the hart's registers are
@@ -23,5 +23,5 @@ pub fn switch(hart: &mut Hart, contexts: &mut Contexts, to: World, entries: &[En
     contexts.set(hart.number(), hart.world, hart.registers);
     hart.registers = contexts.get(hart.number(), to);
     hart.world = to;
-    hart.bank = Bank::of(entries, hart.bank.limit());
+    hart.bank.load(entries);
 }

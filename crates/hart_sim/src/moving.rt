@@ -3,7 +3,7 @@
 ghost use Rattle.std.specs.Prelude.{◌≡◌, ◌≢◌, ℕ, ◌+◌, ◌<◌, ◌≤◌, ◌==◌, if◌then◌else◌, false, length, slice_get};
 ghost use Rattle.pmp_encoding.specs.declared.bank.Bank.{Bank};
 ghost use Rattle.pmp_encoding.specs.Limits.{limit_number};
-ghost use Rattle.pmp_encoding.specs.Banks.{HasList, limit_of};
+ghost use Rattle.pmp_encoding.specs.Banks.{HasList};
 ghost use Rattle.enclave_table.specs.Enclaves.{EnclaveTable};
 ghost use Rattle.enclave_table.specs.declared.enclave.Enclave.{Enclave};
 ghost use Rattle.worlds.specs.declared.world.World.TheVariants.{Host as InHost, Enclave as InEnclave};
@@ -15,7 +15,7 @@ ghost use Rattle.hart_sim.specs.Hardware.{state_on, world_in, BankOn, KeepsBanks
 use crate::acting::first_registers;
 use crate::hardware::Hardware;
 use enclave_table::{Entering, World};
-use pmp_encoding::{Bank, Entry};
+use pmp_encoding::Entry;
 
 impl Hardware {
     /// The host goes on on a hart that an enclave leaves, with two words in its a0 and a1.
@@ -75,18 +75,18 @@ impl Hardware {
         self.go_to(number, World::Enclave(id), entries);
     }
 
-    /// The host is answered on a hart, which has a new bank then, and every other hart in the host's world is marked.
-    pub(crate) fn answer_anew(&mut self, number: u8, bank: Bank, first: u64, second: u64)
+    /// The host is answered on a hart, which loads entries then, and every other hart in the host's world is marked.
+    pub(crate) fn answer_anew(&mut self, number: u8, entries: &[Entry], first: u64, second: u64)
         requires number { number < 4 }
-        requires limit { limit_number (limit_of bank) ≡ limit_number self.old.limit }
+        requires entries { length entries.now ≤ limit_number self.old.limit }
         ensures state { (table : EnclaveTable) → table.layout.harts ≤ 4 → SameState (state_on table self.new) (marking_others (answering (state_on table self.old) number first second) number) }
-        ensures bank { BankOn self.new number bank }
+        ensures list { (bank : Bank) × BankOn self.new number bank × HasList bank entries.now }
         ensures others { KeepsBanks self.old self.new number }
         ensures worlds { (i : ℕ) → world_in (slice_get self.new.harts i) ≡ world_in (slice_get self.old.harts i) }
         ensures limit { self.new.limit ≡ self.old.limit }
     {
         self.answer(number, first, second);
-        self.put_bank(number, bank);
+        self.load(number, entries);
         self.mark_others(number);
     }
 }

@@ -73,6 +73,21 @@ impl Hardware {
         harts[number as usize].put_bank(bank);
     }
 
+    /// Loads entries on a hart, and leaves all else.
+    pub(crate) fn load(&mut self, number: u8, entries: &[Entry])
+        requires number { number < 4 }
+        requires entries { length entries.now ≤ limit_number self.old.limit }
+        ensures state { (table : EnclaveTable) → SameState (state_on table self.new) (state_on table self.old) }
+        ensures list { (bank : Bank) × BankOn self.new number bank × HasList bank entries.now }
+        ensures others { KeepsBanks self.old self.new number }
+        ensures worlds { (i : ℕ) → world_in (slice_get self.new.harts i) ≡ world_in (slice_get self.old.harts i) }
+        ensures marks { self.new.marked ≡ self.old.marked }
+        ensures limit { self.new.limit ≡ self.old.limit }
+    {
+        let harts = &mut self.harts;
+        harts[number as usize].load(entries);
+    }
+
     /// An access on a hart, judged by its bank.
     pub(crate) fn access(&mut self, alloc: Global, number: u8, a: &Access, value: u64) -> Reply
         requires { number < 4 }

@@ -13,7 +13,6 @@ ghost use Rattle.hart_sim.specs.Parts.{machine_state, IsWhole, AreBanksRight};
 
 use crate::parts::Parts;
 use enclave_table::World;
-use pmp_encoding::Bank;
 
 impl Parts {
     /// The host's entries are loaded on a marked hart, and it is not marked any more.
@@ -28,9 +27,7 @@ impl Parts {
         ensures loaded { (bank : Bank) × BankOn self.new.hardware hart bank × HasList bank self.old.table.host_list }
         ensures table { self.new.table ≡ self.old.table }
     {
-        let limit = self.table.limit();
-        let bank = Bank::of(self.table.host_entries(), limit);
-        self.hardware.put_bank(hart, bank);
+        self.hardware.load(hart, self.table.host_entries());
         self.hardware.clear_mark(hart);
     }
 
@@ -63,8 +60,7 @@ impl Parts {
         ensures others { KeepsBanks self.old.hardware self.new.hardware hart }
         ensures table { self.new.table ≡ self.old.table }
     {
-        let limit = self.table.limit();
-        let bank = Bank::of(self.table.host_entries(), limit);
-        self.hardware.answer_anew(hart, bank, first, second);
+        self.hardware
+            .answer_anew(hart, self.table.host_entries(), first, second);
     }
 }

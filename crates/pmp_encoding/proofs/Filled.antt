@@ -13,6 +13,7 @@ use Rattle.pmp_encoding.specs.Encoding.{IsOff, cfg_of, address_of}
 use Rattle.pmp_encoding.specs.Faults.{IsFaultless}
 use Rattle.pmp_encoding.specs.Limits.{limit_number}
 use Rattle.pmp_encoding.specs.Registers.{byte_of, cfg_byte, pairs_from, AreRegisters}
+pub use Rattle.pmp_encoding.specs.Filled.{IsFilled}
 use Rattle.pmp_encoding.specs.Banks.{MeansList, done, skip, keep}
 use Rattle.pmp_encoding.proofs.Bytes.{pow_rises, byte_past}
 use Rattle.pmp_encoding.proofs.Faulty.{entry_faultless, off_faultless}
@@ -21,14 +22,6 @@ use Rattle.pmp_encoding.proofs.Pairs.{pair_is}
 pub limit_most : (limit : Limit) → limit_number limit ≤ 64
 limit_most Sixteen = lit≤ tt
 limit_most SixtyFour = lit≤ tt
-
--- the first n places hold the canonical pairs of the first n entries, and nothing stands above them
-pub record IsFilled (entries : List Entry) (words addresses : List ℕ) (n : ℕ) : Type 0 where
-  pub eight : length words ≡ 8
-  pub many : length addresses ≡ 64
-  pub canonical : (i : ℕ) (e : Entry) → i < n → slice_get entries i ≡ Some e → (cfg_byte words i ≡ cfg_of e) × (slice_index addresses i ≡ address_of e)
-  pub words_above : (w : ℕ) → slice_index words w < 2 ^ (8 * (n - 8 * w))
-  pub addresses_above : (i : ℕ) → n ≤ i → slice_index addresses i ≡ 0
 
 zeros : (n i : ℕ) → slice_index (replicate n 0) i ≡ 0
 zeros n i = ⊎_elim (λ h. get_or-replicate n i 0 0 h) (λ h. get_or_past (replicate n 0) i 0 (omega (arith, length-replicate {A = ℕ} n 0, h))) (cases_lt i n)

@@ -46,14 +46,37 @@ impl Bank {
         ensures list { HasList result entries.now }
         ensures registers { IsBankOf result limit entries.now }
     {
-        let mut words = [0; 8];
-        let mut addresses = [0; 64];
-        for (i, entry) in entries.iter().enumerate() {
-            let (cfg, address) = entry.encode();
-            words[i / 8] = with_byte(words[i / 8], i % 8, cfg);
-            addresses[i] = address;
+        let mut bank = Bank::empty(limit);
+        bank.load(entries);
+        bank
+    }
+
+    /// The bank that has no entry.
+    fn empty(limit: Limit) -> Bank
+        ensures { limit_of result ≡ limit }
+    {
+        Bank {
+            limit,
+            words: [0; 8],
+            addresses: [0; 64],
+            extents: [NOWHERE; 64],
+            used: 0,
         }
-        Bank::holding(limit, words, addresses)
+    }
+
+    /// Makes its entries 0, 1, .. these, each in its canonical pair, and its others OFF with address 0. Its limit stays.
+    pub fn load(&mut self, entries: &[Entry])
+        requires { length entries.now ≤ limit_number (limit_of self.old) }
+        ensures list { HasList self.new entries.now }
+        ensures registers { IsBankOf self.new (limit_of self.old) entries.now }
+    {
+        fill(
+            &mut self.words,
+            &mut self.addresses,
+            &mut self.extents,
+            entries,
+        );
+        self.used = entries.len();
     }
 
     /// The bank with these registers.
@@ -195,8 +218,10 @@ impl Bank {
     }
 }
 
-ghost use Rattle.std.specs.Prelude.{◌≡◌, ◌≢◌, ◌+◌, ◌*◌, ◌^◌, ◌<◌, ℕ, MatchOption};
+ghost use Rattle.std.specs.Prelude.{◌≡◌, ◌≢◌, ◌+◌, ◌*◌, ◌^◌, ◌<◌, ◌≤◌, ℕ, length, map, take, MatchOption};
 ghost use Rattle.pmp_encoding.specs.Encoding.{IsOff, MeansEntry};
+ghost use Rattle.pmp_encoding.specs.Extents.{extent_of};
+ghost use Rattle.pmp_encoding.specs.Filled.{IsFilled};
 ghost use Rattle.pmp_encoding.specs.Faults.{IsFaultless};
 ghost use Rattle.pmp_encoding.specs.Registers.{byte_of};
 
@@ -220,6 +245,28 @@ fn entry_of(cfg: u8, address: u64) -> Option<Entry>
     match decode(cfg, address) {
         Ok(entry) => entry,
         Err(_) => unreachable!(),
+    }
+}
+
+/// Fills registers with entries, each in its canonical pair, and zero behind them; and decodes each one beside it.
+fn fill(
+    words: &mut [u64; 8],
+    addresses: &mut [u64; 64],
+    extents: &mut [Extent; 64],
+    entries: &[Entry],
+)
+    requires { length entries.now ≤ 64 }
+    ensures registers { IsFilled entries.now words.new addresses.new (length entries.now) }
+    ensures room { length extents.new ≡ 64 }
+    ensures in_order { take (length entries.now) extents.new ≡ map extent_of entries.now }
+{
+    *words = [0; 8];
+    *addresses = [0; 64];
+    for (i, entry) in entries.iter().enumerate() {
+        let (cfg, address) = entry.encode();
+        words[i / 8] = with_byte(words[i / 8], i % 8, cfg);
+        addresses[i] = address;
+        extents[i] = Extent::of(entry);
     }
 }
 

@@ -9,25 +9,25 @@ use Rattle.hart_sim.proofs.parts.Parts.load_host.Goals as goal
 pub returns-clause-state : goal.returns-clause-state
 returns-clause-state c = λ table.
     let old = state_on table c.args.self.now.hardware in
-    let mid = state_on table c.put_bank.new.self in
-    one_state (state_on table c.clear_mark.new.self) (without_mark mid c.args.hart) (without_mark old c.args.hart) (c.clear_mark.ensures.state table) (both_unmarked mid old c.args.hart (c.put_bank.ensures.state table))
+    let mid = state_on table c.load.new.self in
+    one_state (state_on table c.clear_mark.new.self) (without_mark mid c.args.hart) (without_mark old c.args.hart) (c.clear_mark.ensures.state table) (both_unmarked mid old c.args.hart (c.load.ensures.state table))
 
 pub returns-clause-banks : goal.returns-clause-banks
 returns-clause-banks c =
     let kept = c.args.self.now.table in
     let old = c.args.self.now.hardware in
     let new = c.clear_mark.new.self in
-    let put = c.put_bank.ensures.bank in
-    let has : BankOn new c.args.hart c.of-bank.result = (put.0, ap (λ hs. slice_get hs c.args.hart) c.clear_mark.ensures.harts ∙ put.1, put.2) in
-    let others : KeepsBanks old new c.args.hart = λ i bank other there. let k = c.put_bank.ensures.others i bank other there in (k.0, ap (λ hs. slice_get hs i) c.clear_mark.ensures.harts ∙ k.1, k.2) in
-    banks_woken kept old new c.args.hart c.of-bank.result c.host_entries.result.now c.requires.whole c.requires.marked
-    (λ i. ap (λ hs. world_in (slice_get hs i)) c.clear_mark.ensures.harts ∙ c.put_bank.ensures.worlds i) (c.clear_mark.ensures.marks ∙ ap (λ ms. slice_set ms c.args.hart false) c.put_bank.ensures.marks)
-    has others c.of-bank.ensures.list c.host_entries.ensures.list
+    let put = c.load.ensures.list.1 in
+    let has : BankOn new c.args.hart c.load.ensures.list.0 = (put.0, ap (λ hs. slice_get hs c.args.hart) c.clear_mark.ensures.harts ∙ put.1, put.2) in
+    let others : KeepsBanks old new c.args.hart = λ i bank other there. let k = c.load.ensures.others i bank other there in (k.0, ap (λ hs. slice_get hs i) c.clear_mark.ensures.harts ∙ k.1, k.2) in
+    banks_woken kept old new c.args.hart c.load.ensures.list.0 c.host_entries.result.now c.requires.whole c.requires.marked
+    (λ i. ap (λ hs. world_in (slice_get hs i)) c.clear_mark.ensures.harts ∙ c.load.ensures.worlds i) (c.clear_mark.ensures.marks ∙ ap (λ ms. slice_set ms c.args.hart false) c.load.ensures.marks)
+    has others c.load.ensures.list.2 c.host_entries.ensures.list
 
 pub returns-clause-others : goal.returns-clause-others
-returns-clause-others c = λ i bank other has. let k = c.put_bank.ensures.others i bank other has in (k.0, ap (λ hs. slice_get hs i) c.clear_mark.ensures.harts ∙ k.1, k.2)
+returns-clause-others c = λ i bank other has. let k = c.load.ensures.others i bank other has in (k.0, ap (λ hs. slice_get hs i) c.clear_mark.ensures.harts ∙ k.1, k.2)
 
 pub returns-clause-loaded : goal.returns-clause-loaded
 returns-clause-loaded c =
-    let put = c.put_bank.ensures.bank in
-    (c.of-bank.result, (put.0, ap (λ hs. slice_get hs c.args.hart) c.clear_mark.ensures.harts ∙ put.1, put.2), subst (HasList c.of-bank.result) c.host_entries.ensures.value c.of-bank.ensures.list)
+    let put = c.load.ensures.list.1 in
+    (c.load.ensures.list.0, (put.0, ap (λ hs. slice_get hs c.args.hart) c.clear_mark.ensures.harts ∙ put.1, put.2), subst (HasList c.load.ensures.list.0) c.host_entries.ensures.value c.load.ensures.list.2)

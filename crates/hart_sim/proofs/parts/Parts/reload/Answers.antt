@@ -41,10 +41,11 @@ returns-clause-banks c = λ before harts same right.
     let kept = c.args.self.now.table in
     let old = c.args.self.now.hardware in
     let new = c.answer_anew.new.self in
-    let bank = c.of-bank.result in
+    let loaded = c.answer_anew.ensures.list in
+    let bank = loaded.0 in
     let world : world_in (slice_get new.harts c.args.hart) ≡ Host = c.answer_anew.ensures.worlds c.args.hart ∙ c.requires.host in
     banks_after before kept old new c.args.hart (omega (arith, harts, c.requires.whole.few)) (sym harts)
-    (bank, c.answer_anew.ensures.bank, subst (λ w. LoadsFewest bank (view_of kept.table w)) (sym world) (fewest_of bank kept.table.layout.limit (host_view kept.table) c.host_entries.result.now c.of-bank.ensures.list c.host_entries.ensures.list))
+    (bank, loaded.1, subst (λ w. LoadsFewest bank (view_of kept.table w)) (sym world) (fewest_of bank kept.table.layout.limit (host_view kept.table) c.host_entries.result.now loaded.2 c.host_entries.ensures.list))
     c.answer_anew.ensures.others
     (λ i other low off.
     let m = (c.answer_anew.ensures.state kept.table c.requires.whole.few).marked i (omega (arith, harts, low)) in
