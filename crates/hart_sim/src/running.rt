@@ -13,7 +13,7 @@ ghost use Rattle.hart_sim.specs.Reports.{DoesLine, RefusesLine, StarvesLine, IsR
 
 use crate::machine::Machine;
 use crate::reply::Reply;
-use crate::report::reply_line;
+use crate::report::push_reply;
 use byte_streams::{Sink, Source};
 use hart_trace::parse_line;
 use text_lines::{Interpreter, Line, Refusal, RunFault, interpret_lines};
@@ -46,7 +46,7 @@ impl Interpreter for Machine {
         if wants_memory(&reply) {
             return Err(Refusal::Memory);
         }
-        *answer = reply_line(count + 1, &reply);
+        push_reply(answer, count + 1, &reply);
         Ok(true)
     }
 }

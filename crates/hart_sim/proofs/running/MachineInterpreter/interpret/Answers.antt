@@ -50,5 +50,5 @@ returns-clause-done c = λ k.
         kept = c.step-reply.ensures.kept k;
       },
       answered,
-      c.reply_line.ensures,
+      c.push_reply.ensures,
     )
