@@ -1,0 +1,134 @@
+/* Does the accesses of accesses.h, and tells each outcome on the serial line: `N ok`, `N fault CAUSE`, `N skip` where there
+   is nothing to access, or `N wrong` where an access did what its outcome denies. */
+#include <stdint.h>
+
+enum kind { LOAD, STORE, FETCH };
+
+struct access {
+    uint64_t address;
+    uint8_t kind;
+    uint8_t supervisor;
+    uint8_t log2_size;
+};
+
+#include "accesses.h"
+
+struct outcome {
+    int64_t cause;
+    uint64_t value;
+};
+
+struct outcome attempt(int64_t kind, uint64_t address, uint64_t value, uint64_t mode_bits);
+
+#define NONE (-1)
+#define MACHINE (3ul << 11)
+#define AS_IF (1ul << 17)
+#define RAM_BASE 0x80000000ul
+#define CALL 0x00000073ul
+#define SHORT_BREAK 0x9002ul
+
+static volatile uint8_t *const serial = (volatile uint8_t *)0x10000000;
+static volatile uint32_t *const finisher = (volatile uint32_t *)0x100000;
+
+static void put(const char *text)
+{
+    for (; *text; text++) {
+        while (!(serial[5] & 0x20))
+            ;
+        serial[0] = *text;
+    }
+}
+
+static void put_number(uint64_t n)
+{
+    char text[21];
+    char *at = text + 20;
+    *at = 0;
+    do {
+        *--at = '0' + n % 10;
+        n /= 10;
+    } while (n);
+    put(at);
+}
+
+static int in_ram(uint64_t address)
+{
+    return address >= RAM_BASE && address - RAM_BASE < RAM_SIZE;
+}
+
+static uint64_t mode_of(const struct access *a)
+{
+    return (uint64_t)a->supervisor << 11;
+}
+
+/* The outcome: a cause, NONE where it is allowed, SKIP where there is nothing, WRONG where it did what it should not. */
+enum { SKIP = -2, WRONG = -3 };
+
+static int64_t load(const struct access *a, uint64_t there)
+{
+    struct outcome got = attempt(a->log2_size, a->address, 0, AS_IF | mode_of(a));
+    if (got.cause == NONE && in_ram(a->address) && got.value != there)
+        return WRONG;
+    return got.cause;
+}
+
+static int64_t store(const struct access *a, uint64_t there)
+{
+    uint64_t mask = a->log2_size == 3 ? ~0ul : (1ul << (8 << a->log2_size)) - 1;
+    uint64_t other = ~there & mask;
+    int64_t cause = attempt(4 + a->log2_size, a->address, other, AS_IF | mode_of(a)).cause;
+    if (!in_ram(a->address))
+        return cause;
+    uint64_t now = attempt(a->log2_size, a->address, 0, MACHINE).value;
+    attempt(4 + a->log2_size, a->address, there, MACHINE);
+    if (now != (cause == NONE ? other : there))
+        return WRONG;
+    return cause;
+}
+
+/* An instruction that traps at once is put there; that it was reached shows that it was fetched. */
+static int64_t fetch(const struct access *a, uint64_t there)
+{
+    if (!in_ram(a->address))
+        return SKIP;
+    attempt(4 + a->log2_size, a->address, a->log2_size == 2 ? CALL : SHORT_BREAK, MACHINE);
+    int64_t cause = attempt(8, a->address, 0, mode_of(a)).cause;
+    attempt(4 + a->log2_size, a->address, there, MACHINE);
+    int64_t reached = a->log2_size != 2 ? 3 : a->supervisor ? 9 : 8;
+    return cause == reached ? NONE : cause;
+}
+
+static int64_t outcome_of(const struct access *a)
+{
+    struct outcome there = attempt(a->log2_size, a->address, 0, MACHINE);
+    if (there.cause != NONE)
+        return SKIP;
+    switch (a->kind) {
+    case LOAD:
+        return load(a, there.value);
+    case STORE:
+        return store(a, there.value);
+    default:
+        return fetch(a, there.value);
+    }
+}
+
+void run(void)
+{
+    for (uint64_t i = 0; i < sizeof accesses / sizeof *accesses; i++) {
+        int64_t outcome = outcome_of(&accesses[i]);
+        put_number(i + 1);
+        if (outcome == NONE) {
+            put(" ok\n");
+        } else if (outcome == SKIP) {
+            put(" skip\n");
+        } else if (outcome == WRONG) {
+            put(" wrong\n");
+        } else {
+            put(" fault ");
+            put_number(outcome);
+            put("\n");
+        }
+    }
+    *finisher = 0x5555;
+}
