@@ -1,5 +1,6 @@
-/* Does the accesses of accesses.h, and tells each outcome on the serial line: `N ok`, `N fault CAUSE`, `N skip` where there
-   is nothing to access, or `N wrong` where an access did what its outcome denies. */
+/* Tells the registers that were loaded, then does the accesses of accesses.h and tells each outcome, on the serial line:
+   `pmpaddr0 0xVALUE`, then `N ok`, `N fault CAUSE`, `N skip` where there is nothing to access, or `N wrong` where an access
+   did what its outcome denies. */
 #include <stdint.h>
 
 enum kind { LOAD, STORE, FETCH };
@@ -49,6 +50,46 @@ static void put_number(uint64_t n)
         n /= 10;
     } while (n);
     put(at);
+}
+
+static void put_register(const char *name, uint64_t value)
+{
+    put(name);
+    put(" 0x");
+    for (int shift = 60; shift >= 0; shift -= 4) {
+        char digit[2] = {"0123456789abcdef"[value >> shift & 15], 0};
+        put(digit);
+    }
+    put("\n");
+}
+
+#define REGISTER(name)                                           \
+    do {                                                         \
+        uint64_t value;                                          \
+        __asm__ volatile("csrr %0, " #name : "=r"(value));       \
+        put_register(#name, value);                              \
+    } while (0)
+
+static void put_registers(void)
+{
+    REGISTER(pmpaddr0);
+    REGISTER(pmpaddr1);
+    REGISTER(pmpaddr2);
+    REGISTER(pmpaddr3);
+    REGISTER(pmpaddr4);
+    REGISTER(pmpaddr5);
+    REGISTER(pmpaddr6);
+    REGISTER(pmpaddr7);
+    REGISTER(pmpaddr8);
+    REGISTER(pmpaddr9);
+    REGISTER(pmpaddr10);
+    REGISTER(pmpaddr11);
+    REGISTER(pmpaddr12);
+    REGISTER(pmpaddr13);
+    REGISTER(pmpaddr14);
+    REGISTER(pmpaddr15);
+    REGISTER(pmpcfg0);
+    REGISTER(pmpcfg2);
 }
 
 static int in_ram(uint64_t address)
@@ -115,6 +156,7 @@ static int64_t outcome_of(const struct access *a)
 
 void run(void)
 {
+    put_registers();
     for (uint64_t i = 0; i < sizeof accesses / sizeof *accesses; i++) {
         int64_t outcome = outcome_of(&accesses[i]);
         put_number(i + 1);
