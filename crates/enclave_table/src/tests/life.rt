@@ -1,8 +1,9 @@
 ghost use Rattle.std.specs.Prelude.{replicate};
 
-use crate::{Create, Entering, Leaving, PageRange, Pages, Platform, Refusal, State, Table, World};
+use crate::{Create, Entering, Leaving, Pages, Platform, Refusal, State, Table, World};
 use pmp_encoding::Perm;
 use std::alloc::Global;
+use std::process::Abort;
 use std::test::Fail;
 
 /// Pages whose bytes are all the same.
@@ -31,66 +32,105 @@ fn example_table(alloc: Global) -> Result<Table, Fail> {
     Ok(table)
 }
 
-/// Creates an enclave of one page of text.
-fn created(table: &mut Table) -> Result<u64, Refusal> {
-    let asked = Create {
+/// An enclave of one page of text.
+fn one_page() -> Create {
+    Create {
         base: 0x8020_0000,
         text_pages: 1,
         data_pages: 0,
         shared_base: 0,
         shared_count: 0,
         entry_offset: 0,
-    };
-    table.create(World::Host, &ZEROS, asked)
+    }
 }
 
-fn destroyed(table: &mut Table, id: u64) -> Result<PageRange, Refusal> {
-    table.destroy(World::Host, id)
+/// The table of the example platform with one enclave.
+fn with_one_page(rt: &impl Abort, alloc: Global) -> Result<Table, Fail> {
+    let mut table = example_table(alloc)?;
+    assert_eq!(rt; table.create(World::Host, &ZEROS, one_page()), Ok(1));
+    Ok(table)
 }
 
-fn entered(table: &mut Table, id: u64, entering: Entering) -> Result<(), Refusal> {
-    table.enter(World::Host, id, entering)
+/// The host enters an enclave, and is answered so.
+fn enters(
+    rt: &impl Abort,
+    table: &mut Table,
+    id: u64,
+    entering: Entering,
+    wanted: Result<(), Refusal>,
+) {
+    assert_eq!(rt; table.enter(World::Host, id, entering), wanted);
 }
 
-/// Leaves an enclave that runs.
-fn left(table: &mut Table, id: u64, leaving: Leaving) -> Result<u64, Refusal> {
+/// The host destroys an enclave, or is refused so.
+fn destroys(rt: &impl Abort, table: &mut Table, id: u64, wanted: Option<Refusal>) {
+    assert_eq!(rt; table.destroy(World::Host, id).err(), wanted);
+}
+
+/// The word of a digest is refused so.
+fn refuses_word(rt: &impl Abort, table: &Table, id: u64, k: u64, wanted: Refusal) {
+    assert_eq!(rt; table.word(id, k), Err(wanted));
+}
+
+/// Whether an enclave runs, and is then left.
+fn leaves(table: &mut Table, id: u64, leaving: Leaving) -> bool {
     let Some(enclave) = table.find(id) else {
-        return Err(Refusal::BadId);
+        return false;
     };
     if enclave.state != State::Running {
-        return Err(Refusal::BadState);
+        return false;
     }
-    table.leave(World::Enclave(id), leaving)
+    table.leave(World::Enclave(id), leaving) == Ok(id)
 }
 
-fn word(table: &Table, id: u64, k: u64) -> Result<u64, Refusal> {
-    table.word(id, k)
+/// The calls that the host alone may make.
+#[derive(Clone, Copy)]
+enum HostCall {
+    Create,
+    Destroy,
+    Enter,
+}
+
+/// How an enclave that runs is refused such a call.
+fn refused_inside(table: &mut Table, id: u64, call: HostCall) -> Option<Refusal> {
+    let enclave = table.find(id)?;
+    if enclave.state != State::Running {
+        return None;
+    }
+    let world = World::Enclave(id);
+    match call {
+        HostCall::Create => table.create(world, &ZEROS, one_page()).err(),
+        HostCall::Destroy => table.destroy(world, id).err(),
+        HostCall::Enter => table.enter(world, id, Entering::Run).err(),
+    }
 }
 
 #[test]
 fn an_enclave_is_entered_stopped_resumed_and_exits(rt: HostRuntime) -> Result<(), Fail> {
-    let mut table = example_table(rt.alloc())?;
-    assert_eq!(rt; created(&mut table), Ok(1));
-    assert_eq!(rt;
-        entered(&mut table, 1, Entering::Resume),
-        Err(Refusal::BadState)
-    );
-    assert_eq!(rt; entered(&mut table, 2, Entering::Run), Err(Refusal::BadId));
-    assert_eq!(rt;
-        table.leave(World::Host, Leaving::Stop),
-        Err(Refusal::NotEnclave)
-    );
-    assert_eq!(rt; entered(&mut table, 1, Entering::Run), Ok(()));
-    assert!(rt; matches!(destroyed(&mut table, 1), Err(Refusal::BadState)));
-    assert_eq!(rt; left(&mut table, 1, Leaving::Stop), Ok(1));
-    assert_eq!(rt; entered(&mut table, 1, Entering::Resume), Ok(()));
-    assert_eq!(rt; left(&mut table, 1, Leaving::Exit), Ok(1));
-    assert_eq!(rt;
-        entered(&mut table, 1, Entering::Resume),
-        Err(Refusal::BadState)
-    );
-    assert_eq!(rt; word(&table, 1, 4), Err(Refusal::BadWord));
-    let _ = destroyed(&mut table, 1)?;
-    assert_eq!(rt; word(&table, 1, 0), Err(Refusal::BadId));
+    let mut table = with_one_page(&rt, rt.alloc())?;
+    enters(&rt, &mut table, 1, Entering::Resume, Err(Refusal::BadState));
+    enters(&rt, &mut table, 2, Entering::Run, Err(Refusal::BadId));
+    enters(&rt, &mut table, 1, Entering::Run, Ok(()));
+    destroys(&rt, &mut table, 1, Some(Refusal::BadState));
+    assert!(rt; leaves(&mut table, 1, Leaving::Stop));
+    enters(&rt, &mut table, 1, Entering::Resume, Ok(()));
+    assert!(rt; leaves(&mut table, 1, Leaving::Exit));
+    enters(&rt, &mut table, 1, Entering::Resume, Err(Refusal::BadState));
+    refuses_word(&rt, &table, 1, 4, Refusal::BadWord);
+    destroys(&rt, &mut table, 1, None);
+    refuses_word(&rt, &table, 1, 0, Refusal::BadId);
+    Ok(())
+}
+
+#[test]
+fn calls_are_for_the_host_or_for_an_enclave(rt: HostRuntime) -> Result<(), Fail> {
+    let mut table = with_one_page(&rt, rt.alloc())?;
+    let left = table.leave(World::Host, Leaving::Stop);
+    assert_eq!(rt; left, Err(Refusal::NotEnclave));
+    enters(&rt, &mut table, 1, Entering::Run, Ok(()));
+    for call in [HostCall::Create, HostCall::Destroy, HostCall::Enter] {
+        let refused = refused_inside(&mut table, 1, call);
+        assert_eq!(rt; refused, Some(Refusal::NotHost));
+    }
     Ok(())
 }
