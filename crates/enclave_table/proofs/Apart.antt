@@ -10,7 +10,7 @@ use Rattle.std.proofs.lemmas.List.Elements.{All-append, All-map, All-from_recurs
 use Rattle.std.proofs.lemmas.List.{get_or_default, get_or-map, length-map}
 use Rattle.pmp_encoding.specs.declared.perm.Perm.{Perm}
 use Rattle.permission_map.specs.Runs.{in_range}
-use Rattle.enclave_table.specs.Ranges.{AreRangesApart, EachApart, range_of}
+use Rattle.enclave_table.specs.Ranges.{AreRangesApart, EachApart, device_range}
 
 pub inside : (first count page : ℕ) → first ≤ page → page < first + count → in_range first count page ≡ true
 inside first count page low high = grind (arith, nat_tests)
@@ -37,11 +37,11 @@ one_more P xs i e low before here k d below =
     ]
 
 -- what holds of each device's range
-pub of_ranges : (range : ℕ × ℕ) (xs : List (ℕ × ℕ × Perm)) → All (λ device. AreRangesApart range (range_of device)) xs → All (AreRangesApart range) (map range_of xs)
-of_ranges range xs all = All-map (AreRangesApart range) range_of xs all
+pub of_ranges : (range : ℕ × ℕ) (xs : List (ℕ × ℕ × Perm)) → All (λ device. AreRangesApart range (device_range device)) xs → All (AreRangesApart range) (map device_range xs)
+of_ranges range xs all = All-map (AreRangesApart range) device_range xs all
 
-pub of_devices : (range : ℕ × ℕ) (xs : List (ℕ × ℕ × Perm)) → All (AreRangesApart range) (map range_of xs) → All (λ device. AreRangesApart range (range_of device)) xs
-of_devices range xs all = λ k d low. rw (get_or-map range_of xs k d (range_of d) low) at (all k (range_of d) (omega (arith, length-map xs range_of)))
+pub of_devices : (range : ℕ × ℕ) (xs : List (ℕ × ℕ × Perm)) → All (AreRangesApart range) (map device_range xs) → All (λ device. AreRangesApart range (device_range device)) xs
+of_devices range xs all = λ k d low. rw (get_or-map device_range xs k d (device_range d) low) at (all k (device_range d) (omega (arith, length-map xs device_range)))
 
 front_of : (P : ℕ × ℕ → Type 0) (xs ys : List (ℕ × ℕ)) → AllByRecursion P (xs ++ ys) → AllByRecursion P xs
 front_of P [] ys all = tt
@@ -76,12 +76,12 @@ rest_apart [] ys each = each
 rest_apart (x ∷ xs) ys each = rest_apart xs ys each.1
 
 pub devices_from :
-    (xs : List (ℕ × ℕ × Perm)) → ((k : ℕ) (d : ℕ × ℕ × Perm) → k < length xs → All (AreRangesApart (range_of (get_or xs k d))) (map range_of (drop (k + 1) xs))) → EachApart (map range_of xs)
+    (xs : List (ℕ × ℕ × Perm)) → ((k : ℕ) (d : ℕ × ℕ × Perm) → k < length xs → All (AreRangesApart (device_range (get_or xs k d))) (map device_range (drop (k + 1) xs))) → EachApart (map device_range xs)
 devices_from [] here = tt
 devices_from (x ∷ xs) here = (here 0 x (omega arith), devices_from xs (λ k d low. rw (drop_behind k x xs) at (here (suc k) d (omega arith))))
 
 pub device_at :
-    (xs : List (ℕ × ℕ × Perm)) (k : ℕ) (d : ℕ × ℕ × Perm) → k < length xs → EachApart (map range_of xs) → All (AreRangesApart (range_of (get_or xs k d))) (map range_of (drop (k + 1) xs))
+    (xs : List (ℕ × ℕ × Perm)) (k : ℕ) (d : ℕ × ℕ × Perm) → k < length xs → EachApart (map device_range xs) → All (AreRangesApart (device_range (get_or xs k d))) (map device_range (drop (k + 1) xs))
 device_at [] k d low each = absurd (omega arith)
 device_at (x ∷ xs) zero d low each = each.0
 device_at (x ∷ xs) (suc k) d low each = rw (drop_behind k x xs) (device_at xs k d (omega arith) each.1)

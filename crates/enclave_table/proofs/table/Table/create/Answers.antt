@@ -16,8 +16,8 @@ use Rattle.enclave_table.proofs.SameViews.{list_same, tree_same, fits_same}
 use Rattle.enclave_table.proofs.Created.{along, fits_from, sound_from, apart_from, host_want, enclave_want, creates}
 use Rattle.enclave_table.proofs.table.Table.create.Goals as goal
 
-abbrev range_of : Create → PageRange
-range_of parts = record { first = parts.base / 4096; count = parts.text_pages + parts.data_pages }
+abbrev device_range : Create → PageRange
+device_range parts = record { first = parts.base / 4096; count = parts.text_pages + parts.data_pages }
 
 pub returns-in-Err-host_with-clause-refused : goal.returns-in-Err-host_with-clause-refused
 returns-in-Err-host_with-clause-refused g c =
@@ -27,7 +27,7 @@ returns-in-Err-host_with-clause-refused g c =
     let free = c.in-Ok.ensures.next.free in
     host_want (g.P.Pages.bytes_of c.args.pages.now) old c.args.world c.args.asked parts c.in-Ok.id (overwritten (host_view old) range.first range.count NoAccess) c.in-Err-host_with.refusal
     c.kept-parts.ensures c.in-Ok.ensures.passes c.in-Ok.ensures.next
-    (along (host_view old) (host_view (with_enclave old c.in-Ok.id (Some (fresh (g.P.Pages.bytes_of c.args.pages.now) parts)))) range (range_of parts) NoAccess c.private_pages.ensures.value
+    (along (host_view old) (host_view (with_enclave old c.in-Ok.id (Some (fresh (g.P.Pages.bytes_of c.args.pages.now) parts)))) range (device_range parts) NoAccess c.private_pages.ensures.value
     (host_added old c.in-Ok.id (fresh (g.P.Pages.bytes_of c.args.pages.now) parts) (free_place old c.in-Ok.id c.rules.ensures.table free.0 free.1) free.2))
     c.in-Err-host_with.ensures.want
 
@@ -47,7 +47,7 @@ place-requires-clause-kept g c =
     added_kept c.args.self.now c.in-Ok.id e c.in-Ok-host_with.host.list c.in-Ok-enclave_list.list (free_place old c.in-Ok.id c.rules.ensures.table free.0 free.1) c.rules.ensures.kept
     (sound_from old c.args.world parts c.in-Ok.ensures.passes) (apart_from old c.args.world parts c.in-Ok.ensures.passes)
     (list_same old.layout.limit (overwritten (host_view old) range.first range.count NoAccess) (host_view (with_enclave old c.in-Ok.id (Some e))) c.in-Ok-host_with.host.list
-    (along (host_view old) (host_view (with_enclave old c.in-Ok.id (Some e))) range (range_of parts) NoAccess c.private_pages.ensures.value
+    (along (host_view old) (host_view (with_enclave old c.in-Ok.id (Some e))) range (device_range parts) NoAccess c.private_pages.ensures.value
     (host_added old c.in-Ok.id e (free_place old c.in-Ok.id c.rules.ensures.table free.0 free.1) free.2))
     c.in-Ok-host_with.ensures.list)
     (subst L c.limit.ensures c.in-Ok-enclave_list.ensures.list)
@@ -61,7 +61,7 @@ place-requires-clause-tree g c =
     let e : Enclave = record { parts = parts; state = Fresh; digest = c.digest.result } in
     record {
       means = tree_same (overwritten (host_view old) range.first range.count NoAccess) (host_view (with_enclave old c.in-Ok.id (Some e))) c.in-Ok-host_with.host.tree
-          (along (host_view old) (host_view (with_enclave old c.in-Ok.id (Some e))) range (range_of parts) NoAccess c.private_pages.ensures.value
+          (along (host_view old) (host_view (with_enclave old c.in-Ok.id (Some e))) range (device_range parts) NoAccess c.private_pages.ensures.value
           (host_added old c.in-Ok.id e (free_place old c.in-Ok.id c.rules.ensures.table free.0 free.1) free.2))
           c.in-Ok-host_with.ensures.means;
       canonical = c.in-Ok-host_with.ensures.canonical;
@@ -79,7 +79,7 @@ returns-clause-done g c =
     ap (λ (k : Kept). k.table) c.place.ensures ∙ ap (λ (d : List ℕ). with_enclave old c.in-Ok.id (Some (record { parts = parts; state = Fresh; digest = d }))) c.digest.ensures in
     creates (g.P.Pages.bytes_of c.args.pages.now) old c.args.world c.args.asked parts c.in-Ok.id c.place.new.self.table c.kept-parts.ensures c.in-Ok.ensures.passes c.in-Ok.ensures.next added
     (fits_same old.layout.limit (overwritten (host_view old) range.first range.count NoAccess) (host_view (with_enclave old c.in-Ok.id (Some e)))
-    (along (host_view old) (host_view (with_enclave old c.in-Ok.id (Some e))) range (range_of parts) NoAccess c.private_pages.ensures.value
+    (along (host_view old) (host_view (with_enclave old c.in-Ok.id (Some e))) range (device_range parts) NoAccess c.private_pages.ensures.value
     (host_added old c.in-Ok.id e (free_place old c.in-Ok.id c.rules.ensures.table free.0 free.1) free.2))
     (fits_from old.layout.limit (overwritten (host_view old) range.first range.count NoAccess) c.in-Ok-host_with.host.list c.in-Ok-host_with.ensures.list))
     (fits_from old.layout.limit (enclave_view parts) c.in-Ok-enclave_list.list (subst L c.limit.ensures c.in-Ok-enclave_list.ensures.list))
