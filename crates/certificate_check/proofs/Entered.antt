@@ -26,18 +26,18 @@ use Rattle.certificate_check.proofs.Swept.{one_decided}
 
 -- the pages of an entry
 abbrev span_for : Entry → Span
-span_for e = record { first = e.region.base / 4096; end = (e.region.base + 2 ^ e.region.log2) / 4096; perm = e.perm }
+span_for e = record { first = e.region.base / 4096; end = (e.region.base + 2 ^ e.region.log2) / 4096; size = e.region.log2 - 12; perm = e.perm }
 
 span_for_is : (e : Entry) → 12 ≤ e.region.log2 → IsSpanOf e (span_for e)
 span_for_is e h =
     let whole = page_multiple e h in
     let base : e.region.base ≡ whole.0.0 * 4096 = whole.0.1 in
     let more : 2 ^ e.region.log2 ≡ whole.1.0 * 4096 = whole.1.1 in
-    record { first = omega (arith, base); last = omega (arith, base, more); perm = refl }
+    record { first = omega (arith, base); last = omega (arith, base, more); size = omega arith; perm = refl }
 
 -- those of a list by their numbers
 abbrev spans_of : List Entry → ℕ → Span
-spans_of [] i = record { first = 0; end = 0; perm = NoAccess }
+spans_of [] i = record { first = 0; end = 0; size = 0; perm = NoAccess }
 spans_of (e ∷ es) zero = span_for e
 spans_of (e ∷ es) (suc i) = spans_of es i
 

@@ -1,6 +1,9 @@
 pub mod Spanned
 pub mod Swept
 pub mod Chained
+pub mod Blocks
+pub mod Opened
+pub mod Gathered
 pub mod Placed
 pub mod Views
 pub mod Six

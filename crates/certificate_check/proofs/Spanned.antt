@@ -13,20 +13,23 @@ pub page_multiple : (e : Entry) → 12 ≤ e.region.log2 → IsMultiple 4096 e.r
 page_multiple e h =
     (multiple_trans 4096 (2 ^ e.region.log2) e.region.base (power_multiple 12 e.region.log2 h) (multiple_from_mod (2 ^ e.region.log2) e.region.base e.region.block.aligned), power_multiple 12 e.region.log2 h)
 
-pub span_is : (e : Entry) (size : ℕ) → size ≡ 2 ^ e.region.log2 → 12 ≤ e.region.log2 → IsSpanOf e (record { first = e.region.base / 4096; end = (e.region.base + size + 4095) / 4096; perm = e.perm })
-span_is e size is h =
+pub span_is :
+    (e : Entry) (long size : ℕ) → long ≡ 2 ^ e.region.log2 → size + 12 ≡ e.region.log2 → 12 ≤ e.region.log2
+    → IsSpanOf e (record { first = e.region.base / 4096; end = (e.region.base + long + 4095) / 4096; size = size; perm = e.perm })
+span_is e long size is by h =
     let whole = page_multiple e h in
     let base : e.region.base ≡ whole.0.0 * 4096 = whole.0.1 in
     let more : 2 ^ e.region.log2 ≡ whole.1.0 * 4096 = whole.1.1 in
-    record { first = omega (arith, base); last = omega (arith, base, more, is); perm = refl }
+    record { first = omega (arith, base); last = omega (arith, base, more, is); size = by; perm = refl }
 
 -- two spans of one entry are one
 one_span : (e : Entry) (s t : Span) → IsSpanOf e s → IsSpanOf e t → s ≡ t
 one_span e s t p q =
     let first : s.first ≡ t.first = omega (arith, p.first, q.first) in
     let end : s.end ≡ t.end = omega (arith, p.last, q.last) in
+    let size : s.size ≡ t.size = omega (arith, p.size, q.size) in
     let perm : s.perm ≡ t.perm = p.perm ∙ sym q.perm in
-    λ k. record { first = first k; end = end k; perm = perm k }
+    λ k. record { first = first k; end = end k; size = size k; perm = perm k }
 
 -- the span at a place is that of the entry that the bytes there mean
 pub span_at :

@@ -1,5 +1,5 @@
 -- Pieces of pages over which the first span that covers a page stays the same.
-use Rattle.std.proofs.Common.{◌≡◌, ℕ, ◌+◌, ◌<◌, ◌≤◌, ⊎_elim, min, arith, sym, subst, ap, refl}
+use Rattle.std.proofs.Common.{◌≡◌, ℕ, ◌<◌, ◌≤◌, ⊎_elim, min, arith, sym, subst, ap, refl}
 use Rattle.std.proofs.lemmas.Bool.{cases_lt}
 use Rattle.pmp_encoding.specs.declared.perm.Perm.TheVariants.{NoAccess}
 use Rattle.pmp_encoding.specs.declared.perm.Perm.{Perm}
@@ -16,21 +16,6 @@ decided_by spans count page end to i s is below from over shorter clear at after
 
 pub decided_none : (spans : ℕ → Span) (count page end : ℕ) → AreClear spans count page end → (at : ℕ) → page ≤ at → at < end → Decides spans count at NoAccess
 decided_none spans count page end clear at after before = none (λ j less. clear j at less after before)
-
--- one more span that begins later, up to where it begins
-pub clear_later :
-    (spans : ℕ → Span) (i page end to : ℕ) (s : Span) → s ≡ spans i → to ≡ min end s.first → AreClear spans i page end → AreClear spans (i + 1) page to
-clear_later spans i page end to s is shorter clear j at below after before covers =
-    ⊎_elim (λ less. clear j at less after (omega arith) covers)
-    (λ over. let same : j ≡ i = omega arith in let c : Covers s at = subst (λ (x : Span). Covers x at) (sym is) (subst (λ k. Covers (spans k) at) same covers) in omega arith)
-    (cases_lt j i)
-
--- one more span that has ended
-pub clear_earlier : (spans : ℕ → Span) (i page end to : ℕ) (s : Span) → s ≡ spans i → to ≡ end → s.end ≤ page → AreClear spans i page end → AreClear spans (i + 1) page to
-clear_earlier spans i page end to s is same_end ended clear j at below after before covers =
-    ⊎_elim (λ less. clear j at less after (omega arith) covers)
-    (λ over. let same : j ≡ i = omega arith in let c : Covers s at = subst (λ (x : Span). Covers x at) (sym is) (subst (λ k. Covers (spans k) at) same covers) in omega arith)
-    (cases_lt j i)
 
 -- one permission is decided
 pub one_decided : (spans : ℕ → Span) (count page : ℕ) (p q : Perm) → Decides spans count page p → Decides spans count page q → p ≡ q

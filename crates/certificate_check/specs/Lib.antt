@@ -1,5 +1,6 @@
 pub mod Spans
 pub mod Places
+pub mod InOrder
 pub mod Later
 pub mod Refusals
 pub mod Numbers

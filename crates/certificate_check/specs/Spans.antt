@@ -11,6 +11,7 @@ use Rattle.certificate_check.specs.declared.entries.Span.{Span}
 pub record IsSpanOf (e : Entry) (s : Span) : Type 0 where
   pub first : s.first * 4096 ≡ e.region.base
   pub last : s.end * 4096 ≡ e.region.base + 2 ^ e.region.log2
+  pub size : s.size + 12 ≡ e.region.log2
   pub perm : s.perm ≡ e.perm
 
 -- the nine bytes of number i mean an entry of at least a page, with the pages of the span
@@ -58,3 +59,11 @@ RiseTo from (x ∷ xs) to = (from ≤ x) × (x ≤ to) × RiseTo x xs to
 abbrev pub AreChains : (ℕ → Span) → ℕ → List ℕ → ℕ → Type 0
 AreChains spans from [] to = from ≡ to
 AreChains spans from (x ∷ xs) to = IsChain spans from x × AreChains spans x xs to
+
+-- the spans are aligned blocks of the space: two of one size that have a page in common are the same
+pub record AreBlocks (spans : ℕ → Span) (count : ℕ) : Type 0 where
+  pub small : (j : ℕ) → j < count → (spans j).size < 45
+  pub inside : (j : ℕ) → j < count → (spans j).first < 2 ^ 44
+  pub same :
+      (i j page : ℕ) → i < count → j < count → (spans i).size ≡ (spans j).size → Covers (spans i) page → Covers (spans j) page
+      → ((spans i).first ≡ (spans j).first) × ((spans i).end ≡ (spans j).end)

@@ -1,10 +1,7 @@
-use crate::entries::{Entries, Span};
+use crate::entries::{Entries, SIZES, Span};
 use crate::piece::{PAGES, Piece};
 use arrayvec::ArrayVec;
 use pmp_encoding::Perm;
-
-/// How many sizes a region of at least a page can have.
-pub(crate) const SIZES: usize = 45;
 
 /// A place in a chain: the span that was read last, and the number of the one behind it.
 #[derive(Clone, Copy)]
@@ -19,6 +16,7 @@ pub(crate) const BEFORE: Place = Place {
     span: Span {
         first: 0,
         end: 0,
+        size: 0,
         perm: Perm::NoAccess,
     },
 };

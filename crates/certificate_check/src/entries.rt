@@ -4,11 +4,15 @@ ghost use Rattle.pmp_encoding.specs.declared.region.Entry.{Entry};
 use byteorder::{ByteOrder, LittleEndian};
 use pmp_encoding::{Entry, Perm, decode};
 
-/// The pages from `first` to before `end`, and a permission on them.
+/// How many sizes a region of at least a page can have.
+pub(crate) const SIZES: usize = 45;
+
+/// The 2^size pages from `first` to before `end`, and a permission on them.
 #[derive(Clone, Copy, PartialEq, Eq, Debug)]
 pub(crate) struct Span {
     pub(crate) first: u64,
     pub(crate) end: u64,
+    pub(crate) size: usize,
     pub(crate) perm: Perm,
 }
 
@@ -24,6 +28,7 @@ ghost use Rattle.certificate_check.specs.Spans.{IsSpanOf, ReadsAs, count_in};
 fn span_of(entry: &Entry) -> Span
     ensures some { result.first < result.end }
     ensures inside { result.end ≤ 2 ^ 44 }
+    ensures small { result.size < 45 }
     ensures value { 12 ≤ entry.now.region.log2 → IsSpanOf entry.now result }
 {
     let base = entry.region.base;
@@ -31,6 +36,7 @@ fn span_of(entry: &Entry) -> Span
     Span {
         first: base / 4096,
         end: (end + 4095) / 4096,
+        size: entry.region.log2.saturating_sub(12) as usize,
         perm: entry.perm,
     }
 }
@@ -48,6 +54,7 @@ impl<'a> Entries<'a> {
         requires { i < count_in self.now.bytes.now }
         ensures some { result.first < result.end }
         ensures inside { result.end ≤ 2 ^ 44 }
+        ensures small { result.size < 45 }
         ensures value { (spans : ℕ → Span) → ReadsAs self.now.bytes.now spans → result ≡ spans i }
     {
         let at = 9 * i;
@@ -58,6 +65,7 @@ impl<'a> Entries<'a> {
             _ => Span {
                 first: 0,
                 end: 1,
+                size: 0,
                 perm: Perm::NoAccess,
             },
         }

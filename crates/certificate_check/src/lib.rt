@@ -11,8 +11,8 @@
 //!
 //! The entries may stand in any order. Where they stand in at most 45 chains, as a planner's do by rising size and
 //! then by rising address, a place in each chain goes on with the pages, so that each entry is passed once. Where
-//! there are more chains, the entry that decides is looked for among all: that takes as many steps as there are
-//! entries, for each piece of the space on which one entry decides.
+//! there are more chains, the entries begin by rising first page: those that begin next are gathered by a look at all
+//! of them, at least 16,384 by each look.
 //!
 //! ```rust
 //! let mut map = PermissionMap::new(alloc);
@@ -22,16 +22,17 @@
 //! ```
 #![tactic(auto)]
 
+mod begun;
 mod chains;
 mod checking;
 mod entries;
+mod keys;
 mod listing;
 mod nodes;
 mod numbers;
 mod piece;
 mod refusal;
 mod runs;
-mod scan;
 mod sweep;
 #[cfg(test)]
 mod tests;

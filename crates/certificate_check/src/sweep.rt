@@ -1,41 +1,93 @@
-ghost use Rattle.std.specs.Prelude.{◌≡◌, ℕ, ◌<◌, ◌≤◌, ◌^◌, ◌↔◌, List, IsTrue, IfSome};
+ghost use Rattle.std.specs.Prelude.{◌≡◌, ℕ, ◌<◌, ◌≤◌, ◌^◌, ◌↔◌, List, IsTrue, IfSome, IfNone, length};
 ghost use Rattle.pmp_encoding.specs.declared.region.Entry.{Entry};
 ghost use Rattle.pmp_match.specs.Meaning.{Means};
 ghost use Rattle.certificate_format.specs.Spelling.{SpellsEntries, AreNoSubPages};
 ghost use Rattle.permission_map.specs.Runs.{view_of_runs};
 ghost use Rattle.certificate_check.specs.declared.entries.Span.{Span};
-ghost use Rattle.certificate_check.specs.Spans.{ReadsAs, Decides, RiseTo, AreChains, count_in};
-ghost use Rattle.certificate_check.specs.Places.{ArePlaces};
+ghost use Rattle.certificate_check.specs.Spans.{ReadsAs, Decides, RiseTo, AreBlocks, AreChains, count_in};
+ghost use Rattle.certificate_check.specs.InOrder.{AreBegun, NoneBegins};
 ghost use Rattle.certificate_check.specs.Later.{AreLaterRuns};
 
-use crate::chains::{BEFORE, Place, SIZES, chains_of, piece_of_chains};
-use crate::entries::Entries;
-use crate::piece::{PAGES, Piece};
+use crate::begun::{Begun, NONE, begin, piece_of_begun};
+use crate::chains::{BEFORE, chains_of, piece_of_chains};
+use crate::entries::{Entries, SIZES};
+use crate::keys::{END, Keys, first_of, gather, number_of};
+use crate::piece::PAGES;
 use crate::runs::{piece_of_runs, runs_from};
-use crate::scan::piece_of_all;
-use arrayvec::ArrayVec;
 use permission_map::{PermissionMap, Run};
 
-/// What the entries give from the page on, by their chains where they have few.
-fn piece_at(
-    entries: &Entries,
-    chains: &Option<ArrayVec<usize, SIZES>>,
-    places: &mut [Place; SIZES],
-    page: u64,
-) -> Piece
-    requires page { page < 2 ^ 44 }
-    requires rise { IfSome chains.now (λ ends. RiseTo 0 ends.items (count_in entries.now.bytes.now)) }
-    requires chains { IfSome chains.now (λ ends. (spans : ℕ → Span) → ReadsAs entries.now.bytes.now spans → AreChains spans 0 ends.items (count_in entries.now.bytes.now)) }
-    requires placed { IfSome chains.now (λ ends. (spans : ℕ → Span) → ReadsAs entries.now.bytes.now spans → ArePlaces spans ends.items page places.old) }
-    ensures places { IfSome chains.now (λ ends. (spans : ℕ → Span) → ReadsAs entries.now.bytes.now spans → ArePlaces spans ends.items page places.new) }
-    ensures some { page < result.end }
-    ensures inside { result.end ≤ 2 ^ 44 }
-    ensures value { (spans : ℕ → Span) → ReadsAs entries.now.bytes.now spans → (at : ℕ) → page ≤ at → at < result.end → Decides spans (count_in entries.now.bytes.now) at result.perm }
+/// Whether entries in chains that end at `ends` give the runs' permission at each page of the space.
+fn agrees_in_chains(entries: &Entries, ends: &[usize], runs: &[Run]) -> bool
+    requires later { AreLaterRuns runs.now }
+    requires few { length ends.now ≤ 45 }
+    requires rise { RiseTo 0 ends.now (count_in entries.now.bytes.now) }
+    requires chains { (spans : ℕ → Span) → ReadsAs entries.now.bytes.now spans → AreChains spans 0 ends.now (count_in entries.now.bytes.now) }
+    ensures { (spans : ℕ → Span) → ReadsAs entries.now.bytes.now spans → IsTrue result ↔ ((page : ℕ) → page < 2 ^ 44 → Decides spans (count_in entries.now.bytes.now) page (view_of_runs runs.now page)) }
 {
-    match chains {
-        Some(ends) => piece_of_chains(entries, ends.as_slice(), places, page),
-        None => piece_of_all(entries, page),
+    let mut places = [BEFORE; SIZES];
+    let mut rest = runs;
+    let mut page = 0;
+    while page < PAGES {
+        rest = runs_from(rest, page);
+        let wanted = piece_of_runs(rest, page);
+        let given = piece_of_chains(entries, ends, &mut places, page);
+        if given.perm != wanted.perm {
+            return false;
+        }
+        page = given.end.min(wanted.end);
     }
+    true
+}
+
+/// The later runs, where the entries that have begun give the runs' permissions on the pages from `from` to before
+/// `to`. No other entry begins there.
+fn agreed<'a>(slots: &[Begun; SIZES], runs: &'a [Run], from: u64, to: u64) -> Option<&'a [Run]>
+    requires order { from ≤ to }
+    requires inside { to ≤ 2 ^ 44 }
+    requires later { AreLaterRuns runs.now }
+    ensures later { IfSome result (λ rest. AreLaterRuns rest.now) }
+    ensures same { IfSome result (λ rest. (at : ℕ) → to ≤ at → view_of_runs rest.now at ≡ view_of_runs runs.now at) }
+    ensures given { IfSome result (λ _. (spans : ℕ → Span) (count below : ℕ) → AreBlocks spans count → AreBegun spans count below from slots.now → NoneBegins spans count below to → (at : ℕ) → from ≤ at → at < to → Decides spans count at (view_of_runs runs.now at)) }
+    ensures differs { IfNone result ((spans : ℕ → Span) (count below : ℕ) → AreBlocks spans count → AreBegun spans count below from slots.now → NoneBegins spans count below to → (at : ℕ) × (from ≤ at) × (at < to) × (Decides spans count at (view_of_runs runs.now at) → ⊥)) }
+{
+    let mut rest = runs;
+    let mut page = from;
+    while page < to {
+        rest = runs_from(rest, page);
+        let wanted = piece_of_runs(rest, page);
+        let given = piece_of_begun(slots, page, to);
+        if given.perm != wanted.perm {
+            return None;
+        }
+        page = wanted.end.min(given.end);
+    }
+    Some(rest)
+}
+
+/// Whether entries in any order give the runs' permission at each page of the space. They begin by rising first page.
+fn agrees_in_any_order(entries: &Entries, runs: &[Run]) -> bool
+    requires { AreLaterRuns runs.now }
+    ensures { (spans : ℕ → Span) → ReadsAs entries.now.bytes.now spans → IsTrue result ↔ ((page : ℕ) → page < 2 ^ 44 → Decides spans (count_in entries.now.bytes.now) page (view_of_runs runs.now page)) }
+{
+    let mut keys = Keys::new();
+    let mut slots = [NONE; SIZES];
+    let mut rest = runs;
+    let mut page = 0;
+    let mut low = 0;
+    while low < END {
+        low = gather(entries, low, &mut keys);
+        for key in keys.iter() {
+            let first = first_of(*key);
+            let Some(later) = agreed(&slots, rest, page, first) else {
+                return false;
+            };
+            rest = later;
+            page = first;
+            let number = number_of(*key);
+            begin(&mut slots, page, number, entries.span(number));
+        }
+    }
+    agreed(&slots, rest, page, PAGES).is_some()
 }
 
 /// Whether the first entry that covers a page has the runs' permission, at each page of the space.
@@ -43,20 +95,10 @@ pub(crate) fn agrees(entries: &Entries, runs: &[Run]) -> bool
     requires { AreLaterRuns runs.now }
     ensures { (spans : ℕ → Span) → ReadsAs entries.now.bytes.now spans → IsTrue result ↔ ((page : ℕ) → page < 2 ^ 44 → Decides spans (count_in entries.now.bytes.now) page (view_of_runs runs.now page)) }
 {
-    let chains = chains_of(entries);
-    let mut places = [BEFORE; SIZES];
-    let mut rest = runs;
-    let mut page = 0;
-    while page < PAGES {
-        rest = runs_from(rest, page);
-        let wanted = piece_of_runs(rest, page);
-        let given = piece_at(entries, &chains, &mut places, page);
-        if given.perm != wanted.perm {
-            return false;
-        }
-        page = given.end.min(wanted.end);
+    match chains_of(entries) {
+        Some(ends) => agrees_in_chains(entries, ends.as_slice(), runs),
+        None => agrees_in_any_order(entries, runs),
     }
-    true
 }
 
 /// Whether the entries mean the map.

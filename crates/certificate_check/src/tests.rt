@@ -223,6 +223,11 @@ fn falling_pages(alloc: Global) -> Result<Vec<u8>, AllocError> {
     Ok(bytes)
 }
 
+/// Whether entries of these bytes mean the map.
+fn list_means(bytes: &[u8], map: &PermissionMap) -> bool {
+    means(&Entries { bytes }, map)
+}
+
 #[test]
 fn entries_in_any_order_mean_a_map(rt: HostRuntime) -> Result<(), Fail> {
     let alloc = rt.alloc();
@@ -237,39 +242,63 @@ fn entries_in_any_order_mean_a_map(rt: HostRuntime) -> Result<(), Fail> {
     }
     assert_eq!(rt; rising.len(), 450);
     let (fewer, _) = rising.as_slice().split_at(441);
-    assert!(rt;
-        means(
-            &Entries {
-                bytes: falling.as_slice()
-            },
-            &map
-        )
-    );
-    assert!(rt;
-        means(
-            &Entries {
-                bytes: rising.as_slice()
-            },
-            &map
-        )
-    );
-    assert!(rt; !means(&Entries { bytes: fewer }, &map));
+    assert!(rt; list_means(&falling, &map));
+    assert!(rt; list_means(&rising, &map));
+    assert!(rt; !list_means(fewer, &map));
     map.set_range(0x80001, 1, Perm::Read)?;
-    assert!(rt;
-        !means(
-            &Entries {
-                bytes: falling.as_slice()
-            },
-            &map
-        )
-    );
-    assert!(rt;
-        !means(
-            &Entries {
-                bytes: rising.as_slice()
-            },
-            &map
-        )
-    );
+    assert!(rt; !list_means(&falling, &map));
+    assert!(rt; !list_means(&rising, &map));
+    Ok(())
+}
+
+/// The block of 256 pages from 0x80000 on, with read alone.
+const WIDE: [u8; 9] = [0x19, 0xFF, 0xFF, 0x01, 0x20, 0, 0, 0, 0];
+
+#[test]
+fn of_entries_in_any_order_the_first_decides(rt: HostRuntime) -> Result<(), Fail> {
+    let alloc = rt.alloc();
+    let mut wide = PermissionMap::new(alloc);
+    wide.set_range(0x80000, 256, Perm::Read)?;
+    let mut both = PermissionMap::new(alloc);
+    both.set_range(0x80000, 256, Perm::Read)?;
+    for i in 0..50 {
+        both.set_range(0x80000 + 2 * i, 1, Perm::ReadWriteExecute)?;
+    }
+    let falling = falling_pages(alloc)?;
+    let mut wide_last = falling.clone()?;
+    wide_last.extend_from_slice(WIDE.as_slice())?;
+    let mut wide_first = Vec::new(alloc);
+    wide_first.extend_from_slice(WIDE.as_slice())?;
+    wide_first.extend_from_slice(&falling)?;
+    let mut twice = wide_last.clone()?;
+    for pair in falling.chunks(9) {
+        twice.push(0x19)?;
+        twice.extend_from_slice(&pair[1..])?;
+    }
+    assert!(rt; list_means(&wide_last, &both));
+    assert!(rt; !list_means(&wide_last, &wide));
+    assert!(rt; list_means(&wide_first, &wide));
+    assert!(rt; !list_means(&wide_first, &both));
+    assert!(rt; list_means(&twice, &both));
+    Ok(())
+}
+
+#[test]
+fn more_entries_than_are_held_at_once_mean_a_map(rt: HostRuntime) -> Result<(), Fail> {
+    let alloc = rt.alloc();
+    let mut map = PermissionMap::new(alloc);
+    map.set_range(0x80000, 70000, Perm::ReadWriteExecute)?;
+    let mut bytes = Vec::new(alloc);
+    for i in 0..70000u64 {
+        let page = 0x80000 + 69999 - i;
+        bytes.push(0x1F)?;
+        bytes.extend_from_slice((page * 1024 + 511).to_le_bytes().as_slice())?;
+    }
+    assert!(rt; list_means(&bytes, &map));
+    assert_eq!(rt; bytes.len(), 630000);
+    let (fewer, _) = bytes.as_slice().split_at(629991);
+    assert!(rt; !list_means(fewer, &map));
+    map.set_range(0x80000 + 34999, 1, Perm::Read)?;
+    assert!(rt; !list_means(&bytes, &map));
     Ok(())
 }

@@ -1,5 +1,5 @@
 -- One place goes on.
-use Rattle.std.proofs.Common.{ℕ, get_or, arith}
+use Rattle.std.proofs.Common.{get_or, arith}
 use Rattle.certificate_check.specs.declared.chains.Place.{Place}
 use Rattle.certificate_check.specs.Places.{IsPlace}
 use Rattle.certificate_check.proofs.Placed.{places_set}

@@ -1,11 +1,10 @@
 -- Where the two permissions differ at some page, no list of those spans gives the runs' view there.
 use Rattle.std.proofs.Common.{ℕ, arith, rules, sym, refl, ◌∙◌}
-use Rattle.std.proofs.lemmas.Option.{IfSome_then}
 use denote.Enum.Bare.{differs_true}
 use Rattle.pmp_encoding.specs.contracts.perm.Perm.{the_type}
 use Rattle.certificate_check.proofs.Swept.{one_decided}
 use Rattle.certificate_check.proofs.Placed.{places_begun, places_later}
-use Rattle.certificate_check.proofs.sweep.agrees.Goals as goal
+use Rattle.certificate_check.proofs.sweep.agrees_in_chains.Goals as goal
 
 pub returns-then-ne : goal.returns-then-ne
 returns-then-ne c =
@@ -13,7 +12,7 @@ returns-then-ne c =
       (λ t. absurd (cc)),
       λ all.
           let page : ℕ = c.loop-page.page in
-          let here = c.piece_at-given.ensures.value spans reads page (omega arith) c.piece_at-given.ensures.some in
+          let here = c.piece_of_chains-given.ensures.value spans reads page (omega arith) c.piece_of_chains-given.ensures.some in
           let there = all page (omega arith) in
           let view = sym (c.loop-page.invariant.same page (omega arith)) ∙ sym (c.runs_from-rest.ensures.same page (omega arith))
           ∙ c.piece_of_runs-wanted.ensures.value page (omega arith) c.piece_of_runs-wanted.ensures.some in
@@ -23,9 +22,9 @@ returns-then-ne c =
 pub loop-page-init : goal.loop-page-init
 loop-page-init c = record {
   inside = omega arith;
-  later = c.requires;
+  later = c.requires.later;
   same = λ at h. refl;
-  places = IfSome_then c.chains_of-chains.result c.chains_of-chains.ensures.few (λ ends few. λ spans reads. places_begun spans ends.items 0 45 _ few refl refl);
+  places = λ spans reads. places_begun spans c.args.ends.now 0 45 _ c.requires.few refl refl;
   given = λ spans reads at less. absurd (omega arith);
 }
 
@@ -34,7 +33,6 @@ loop-page-preserved c = record {
   inside = omega arith;
   later = c.runs_from-rest.ensures.later;
   same = search rules;
-  places = IfSome_then c.chains_of-chains.result c.piece_at-given.ensures.places
-      (λ ends placed. λ spans reads. places_later spans ends.items c.loop-page.page _ _ (omega arith) (placed spans reads));
+  places = λ spans reads. places_later spans c.args.ends.now c.loop-page.page _ _ (omega arith) (c.piece_of_chains-given.ensures.places spans reads);
   given = search rules;
 }

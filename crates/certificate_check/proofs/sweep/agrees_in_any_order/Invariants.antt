@@ -1,0 +1,32 @@
+use Rattle.std.proofs.Common.{◌≡◌, ℕ, ◌*◌, ◌<◌, ◌≤◌, ◌^◌, ◌-◌, slice_index_or}
+use Rattle.permission_map.specs.Runs.{view_of_runs}
+use Rattle.certificate_check.specs.declared.entries.Span.{Span}
+use Rattle.certificate_check.specs.Spans.{ReadsAs, Decides, count_in}
+use Rattle.certificate_check.specs.InOrder.{AreBegun}
+use Rattle.certificate_check.specs.Later.{AreLaterRuns}
+use Rattle.certificate_check.proofs.sweep.agrees_in_any_order.Given as goal
+
+abbrev pub invariant-loop-low : goal.invariant-loop-low
+invariant-loop-low l = record {
+  inside : l.page ≤ 2 ^ 44;
+  keys : l.low ≤ 2 ^ 108;
+  few : 0 < l.low → count_in l.entries.bytes.now < 2 ^ 64;
+  order : l.page * 2 ^ 64 ≤ l.low;
+  later : AreLaterRuns l.rest;
+  same : (at : ℕ) → l.page ≤ at → view_of_runs l.rest at ≡ view_of_runs l.runs at;
+  begun : (spans : ℕ → Span) → ReadsAs l.entries.bytes.now spans → AreBegun spans (count_in l.entries.bytes.now) l.low l.page l.slots;
+  given : (spans : ℕ → Span) → ReadsAs l.entries.bytes.now spans → (at : ℕ) → at < l.page → Decides spans (count_in l.entries.bytes.now) at (view_of_runs l.runs at);
+}
+
+abbrev pub decreases-loop-low : goal.decreases-loop-low
+decreases-loop-low l = 2 ^ 108 - l.low
+
+abbrev pub invariant-loop-key : goal.invariant-loop-key
+invariant-loop-key l = record {
+  inside : l.page ≤ 2 ^ 44;
+  order : l.page * 2 ^ 64 ≤ slice_index_or l.key-items l.key-index l.low;
+  later : AreLaterRuns l.rest;
+  same : (at : ℕ) → l.page ≤ at → view_of_runs l.rest at ≡ view_of_runs l.runs at;
+  begun : (spans : ℕ → Span) → ReadsAs l.entries.bytes.now spans → AreBegun spans (count_in l.entries.bytes.now) (slice_index_or l.key-items l.key-index l.low) l.page l.slots;
+  given : (spans : ℕ → Span) → ReadsAs l.entries.bytes.now spans → (at : ℕ) → at < l.page → Decides spans (count_in l.entries.bytes.now) at (view_of_runs l.runs at);
+}
