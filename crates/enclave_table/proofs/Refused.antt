@@ -1,5 +1,6 @@
 -- Refusals of the calls that plan.
-use Rattle.std.proofs.Common.{ℕ, ◌≡◌, ◌∙◌, ap, inl, inr, ⊎_elim, Bool, true, false, List, [], ◌∷◌, Some, None, refl}
+use Rattle.std.proofs.Common.{ℕ, ◌≡◌, ◌∙◌, ap, sym, subst, Result, Ok, Err, inl, inr, ⊎_elim, Bool, true, false, List, [], ◌∷◌, Some, None, refl}
+use Rattle.std.specs.Result.{IsErrAnd, IfErr}
 use Rattle.std.proofs.lemmas.Bool.{true≢false}
 use Rattle.pmp_match.specs.Meaning.{View}
 use Rattle.permission_map.specs.Views.{SameView}
@@ -116,3 +117,8 @@ destroy_want old world id view TableFull passes same want = absurd want
 destroy_want old world id view BadId passes same want = absurd want
 destroy_want old world id view BadState passes same want = absurd want
 destroy_want old world id view BadWord passes same want = absurd want
+
+-- a refusal that is handed on
+pub handed_on : {T : Type 0} (result : Result T Refusal) (refusal : Refusal) (P : Refusal → Type 0) → IsErrAnd result (λ r. r ≡ refusal) → P refusal → IfErr result P
+handed_on (Ok x) refusal P h p = tt
+handed_on (Err r) refusal P h p = subst P (sym h) p

@@ -28,18 +28,9 @@ impl Table {
     {
         self.rules();
         let parts = asked.kept();
-        let id = match self.checked_create(world, &parts) {
-            Ok(id) => id,
-            Err(refusal) => return Err(refusal),
-        };
-        let host = match self.host_with(parts.private_pages(), Perm::NoAccess) {
-            Ok(host) => host,
-            Err(refusal) => return Err(refusal),
-        };
-        let list = match enclave_list(self.alloc(), self.limit(), &parts) {
-            Ok(list) => list,
-            Err(refusal) => return Err(refusal),
-        };
+        let id = self.checked_create(world, &parts)?;
+        let host = self.host_with(parts.private_pages(), Perm::NoAccess)?;
+        let list = enclave_list(self.alloc(), self.limit(), &parts)?;
         let enclave = Enclave {
             parts,
             state: State::Fresh,

@@ -20,15 +20,9 @@ impl Table {
         ensures kept { OnErr result (self.new ≡ self.old) }
     {
         self.rules();
-        let enclave = match self.checked_destroy(world, id) {
-            Ok(enclave) => enclave,
-            Err(refusal) => return Err(refusal),
-        };
+        let enclave = self.checked_destroy(world, id)?;
         let range = enclave.parts.private_pages();
-        let host = match self.host_with(range, Perm::ReadWriteExecute) {
-            Ok(host) => host,
-            Err(refusal) => return Err(refusal),
-        };
+        let host = self.host_with(range, Perm::ReadWriteExecute)?;
         let list = EntryList::empty(self.alloc());
         self.place(id, None, host, list);
         Ok(range)

@@ -87,9 +87,7 @@ impl Table {
             Err(MapFault::TooManyRanges) => unreachable!(),
             Err(MapFault::PastEnd) => unreachable!(),
         };
-        match listed(self.alloc(), self.limit(), &tree) {
-            Ok(list) => Ok(HostView { tree, list }),
-            Err(refusal) => Err(refusal),
-        }
+        let list = listed(self.alloc(), self.limit(), &tree)?;
+        Ok(HostView { tree, list })
     }
 }

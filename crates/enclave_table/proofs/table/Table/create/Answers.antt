@@ -6,7 +6,7 @@ use Rattle.enclave_table.specs.Enclaves.{EnclaveTable, with_enclave}
 use Rattle.enclave_table.specs.Views.{host_view, enclave_view}
 use Rattle.enclave_table.specs.Tables.{Kept}
 use Rattle.enclave_table.specs.Fewest.{IsListOf}
-use Rattle.enclave_table.specs.Creating.{fresh}
+use Rattle.enclave_table.specs.Creating.{fresh, RefusesCreate}
 use Rattle.enclave_table.specs.declared.request.Create.{Create}
 use Rattle.enclave_table.specs.declared.enclave.Enclave.{Enclave}
 use Rattle.enclave_table.specs.declared.enclave.State.TheVariants.{Fresh}
@@ -14,57 +14,63 @@ use Rattle.page_views.specs.declared.pages.PageRange.{PageRange}
 use Rattle.enclave_table.proofs.Placed.{free_place, host_added, added_kept}
 use Rattle.enclave_table.proofs.SameViews.{list_same, tree_same, fits_same}
 use Rattle.enclave_table.proofs.Created.{along, fits_from, sound_from, apart_from, host_want, enclave_want, creates}
+use Rattle.enclave_table.proofs.Refused.{handed_on}
 use Rattle.enclave_table.proofs.table.Table.create.Goals as goal
 
-abbrev device_range : Create → PageRange
-device_range parts = record { first = parts.base / 4096; count = parts.text_pages + parts.data_pages }
+abbrev private_range : Create → PageRange
+private_range parts = record { first = parts.base / 4096; count = parts.text_pages + parts.data_pages }
 
-pub returns-in-Err-host_with-clause-refused : goal.returns-in-Err-host_with-clause-refused
-returns-in-Err-host_with-clause-refused g c =
+pub returns-in_err-host-clause-refused : goal.returns-in_err-host-clause-refused
+returns-in_err-host-clause-refused g c =
     let old : EnclaveTable = c.args.self.now.table in
+    let pages : ℕ → List ℕ = g.P.Pages.bytes_of c.args.pages.now in
     let parts : Create = c.kept-parts.result in
     let range : PageRange = c.private_pages.result in
-    let free = c.in-Ok.ensures.next.free in
-    host_want (g.P.Pages.bytes_of c.args.pages.now) old c.args.world c.args.asked parts c.in-Ok.id (overwritten (host_view old) range.first range.count NoAccess) c.in-Err-host_with.refusal
-    c.kept-parts.ensures c.in-Ok.ensures.passes c.in-Ok.ensures.next
-    (along (host_view old) (host_view (with_enclave old c.in-Ok.id (Some (fresh (g.P.Pages.bytes_of c.args.pages.now) parts)))) range (device_range parts) NoAccess c.private_pages.ensures.value
-    (host_added old c.in-Ok.id (fresh (g.P.Pages.bytes_of c.args.pages.now) parts) (free_place old c.in-Ok.id c.rules.ensures.table free.0 free.1) free.2))
-    c.in-Err-host_with.ensures.want
+    let free = c.in_ok-id.ensures.next.free in
+    handed_on c.from_residual-in_err-host.result c.in_err-host.field-0.0 (RefusesCreate pages old c.args.world c.args.asked) c.from_residual-in_err-host.ensures.1
+    (host_want pages old c.args.world c.args.asked parts c.in_ok-id.id (overwritten (host_view old) range.first range.count NoAccess) c.in_err-host.field-0.0
+    c.kept-parts.ensures c.in_ok-id.ensures.passes c.in_ok-id.ensures.next
+    (along (host_view old) (host_view (with_enclave old c.in_ok-id.id (Some (fresh pages parts)))) range (private_range parts) NoAccess c.private_pages.ensures.value
+    (host_added old c.in_ok-id.id (fresh pages parts) (free_place old c.in_ok-id.id c.rules.ensures.table free.0 free.1) free.2))
+    c.in_err-host.ensures.want)
 
-pub returns-in-Err-enclave_list-clause-refused : goal.returns-in-Err-enclave_list-clause-refused
-returns-in-Err-enclave_list-clause-refused g c =
-    enclave_want (g.P.Pages.bytes_of c.args.pages.now) c.args.self.now.table c.args.world c.args.asked c.kept-parts.result c.limit.result c.in-Err-enclave_list.refusal c.kept-parts.ensures c.limit.ensures
-    c.in-Ok.ensures.passes c.in-Err-enclave_list.ensures.want
+pub returns-in_err-list-clause-refused : goal.returns-in_err-list-clause-refused
+returns-in_err-list-clause-refused g c =
+    let old : EnclaveTable = c.args.self.now.table in
+    let pages : ℕ → List ℕ = g.P.Pages.bytes_of c.args.pages.now in
+    handed_on c.from_residual-in_err-list.result c.in_err-list.field-0.0 (RefusesCreate pages old c.args.world c.args.asked) c.from_residual-in_err-list.ensures.1
+    (enclave_want pages old c.args.world c.args.asked c.kept-parts.result c.limit.result c.in_err-list.field-0.0 c.kept-parts.ensures c.limit.ensures
+    c.in_ok-id.ensures.passes c.in_err-list.ensures.want)
 
 pub place-requires-clause-kept : goal.place-requires-clause-kept
 place-requires-clause-kept g c =
     let old : EnclaveTable = c.args.self.now.table in
     let parts : Create = c.kept-parts.result in
     let range : PageRange = c.private_pages.result in
-    let free = c.in-Ok.ensures.next.free in
+    let free = c.in_ok-id.ensures.next.free in
     let e : Enclave = record { parts = parts; state = Fresh; digest = c.digest.result } in
-    let L : Limit → Type 0 = λ l. IsListOf l (enclave_view parts) c.in-Ok-enclave_list.list in
-    added_kept c.args.self.now c.in-Ok.id e c.in-Ok-host_with.host.list c.in-Ok-enclave_list.list (free_place old c.in-Ok.id c.rules.ensures.table free.0 free.1) c.rules.ensures.kept
-    (sound_from old c.args.world parts c.in-Ok.ensures.passes) (apart_from old c.args.world parts c.in-Ok.ensures.passes)
-    (list_same old.layout.limit (overwritten (host_view old) range.first range.count NoAccess) (host_view (with_enclave old c.in-Ok.id (Some e))) c.in-Ok-host_with.host.list
-    (along (host_view old) (host_view (with_enclave old c.in-Ok.id (Some e))) range (device_range parts) NoAccess c.private_pages.ensures.value
-    (host_added old c.in-Ok.id e (free_place old c.in-Ok.id c.rules.ensures.table free.0 free.1) free.2))
-    c.in-Ok-host_with.ensures.list)
-    (subst L c.limit.ensures c.in-Ok-enclave_list.ensures.list)
+    let L : Limit → Type 0 = λ l. IsListOf l (enclave_view parts) c.in_ok-list.list in
+    added_kept c.args.self.now c.in_ok-id.id e c.in_ok-host.host.list c.in_ok-list.list (free_place old c.in_ok-id.id c.rules.ensures.table free.0 free.1) c.rules.ensures.kept
+    (sound_from old c.args.world parts c.in_ok-id.ensures.passes) (apart_from old c.args.world parts c.in_ok-id.ensures.passes)
+    (list_same old.layout.limit (overwritten (host_view old) range.first range.count NoAccess) (host_view (with_enclave old c.in_ok-id.id (Some e))) c.in_ok-host.host.list
+    (along (host_view old) (host_view (with_enclave old c.in_ok-id.id (Some e))) range (private_range parts) NoAccess c.private_pages.ensures.value
+    (host_added old c.in_ok-id.id e (free_place old c.in_ok-id.id c.rules.ensures.table free.0 free.1) free.2))
+    c.in_ok-host.ensures.list)
+    (subst L c.limit.ensures c.in_ok-list.ensures.list)
 
 pub place-requires-clause-tree : goal.place-requires-clause-tree
 place-requires-clause-tree g c =
     let old : EnclaveTable = c.args.self.now.table in
     let parts : Create = c.kept-parts.result in
     let range : PageRange = c.private_pages.result in
-    let free = c.in-Ok.ensures.next.free in
+    let free = c.in_ok-id.ensures.next.free in
     let e : Enclave = record { parts = parts; state = Fresh; digest = c.digest.result } in
     record {
-      means = tree_same (overwritten (host_view old) range.first range.count NoAccess) (host_view (with_enclave old c.in-Ok.id (Some e))) c.in-Ok-host_with.host.tree
-          (along (host_view old) (host_view (with_enclave old c.in-Ok.id (Some e))) range (device_range parts) NoAccess c.private_pages.ensures.value
-          (host_added old c.in-Ok.id e (free_place old c.in-Ok.id c.rules.ensures.table free.0 free.1) free.2))
-          c.in-Ok-host_with.ensures.means;
-      canonical = c.in-Ok-host_with.ensures.canonical;
+      means = tree_same (overwritten (host_view old) range.first range.count NoAccess) (host_view (with_enclave old c.in_ok-id.id (Some e))) c.in_ok-host.host.tree
+          (along (host_view old) (host_view (with_enclave old c.in_ok-id.id (Some e))) range (private_range parts) NoAccess c.private_pages.ensures.value
+          (host_added old c.in_ok-id.id e (free_place old c.in_ok-id.id c.rules.ensures.table free.0 free.1) free.2))
+          c.in_ok-host.ensures.means;
+      canonical = c.in_ok-host.ensures.canonical;
     }
 
 pub returns-clause-done : goal.returns-clause-done
@@ -72,14 +78,14 @@ returns-clause-done g c =
     let old : EnclaveTable = c.args.self.now.table in
     let parts : Create = c.kept-parts.result in
     let range : PageRange = c.private_pages.result in
-    let free = c.in-Ok.ensures.next.free in
+    let free = c.in_ok-id.ensures.next.free in
     let e : Enclave = fresh (g.P.Pages.bytes_of c.args.pages.now) parts in
-    let L : Limit → Type 0 = λ l. IsListOf l (enclave_view parts) c.in-Ok-enclave_list.list in
-    let added : c.place.new.self.table ≡ with_enclave old c.in-Ok.id (Some e) =
-    ap (λ (k : Kept). k.table) c.place.ensures ∙ ap (λ (d : List ℕ). with_enclave old c.in-Ok.id (Some (record { parts = parts; state = Fresh; digest = d }))) c.digest.ensures in
-    creates (g.P.Pages.bytes_of c.args.pages.now) old c.args.world c.args.asked parts c.in-Ok.id c.place.new.self.table c.kept-parts.ensures c.in-Ok.ensures.passes c.in-Ok.ensures.next added
-    (fits_same old.layout.limit (overwritten (host_view old) range.first range.count NoAccess) (host_view (with_enclave old c.in-Ok.id (Some e)))
-    (along (host_view old) (host_view (with_enclave old c.in-Ok.id (Some e))) range (device_range parts) NoAccess c.private_pages.ensures.value
-    (host_added old c.in-Ok.id e (free_place old c.in-Ok.id c.rules.ensures.table free.0 free.1) free.2))
-    (fits_from old.layout.limit (overwritten (host_view old) range.first range.count NoAccess) c.in-Ok-host_with.host.list c.in-Ok-host_with.ensures.list))
-    (fits_from old.layout.limit (enclave_view parts) c.in-Ok-enclave_list.list (subst L c.limit.ensures c.in-Ok-enclave_list.ensures.list))
+    let L : Limit → Type 0 = λ l. IsListOf l (enclave_view parts) c.in_ok-list.list in
+    let added : c.place.new.self.table ≡ with_enclave old c.in_ok-id.id (Some e) =
+    ap (λ (k : Kept). k.table) c.place.ensures ∙ ap (λ (d : List ℕ). with_enclave old c.in_ok-id.id (Some (record { parts = parts; state = Fresh; digest = d }))) c.digest.ensures in
+    creates (g.P.Pages.bytes_of c.args.pages.now) old c.args.world c.args.asked parts c.in_ok-id.id c.place.new.self.table c.kept-parts.ensures c.in_ok-id.ensures.passes c.in_ok-id.ensures.next added
+    (fits_same old.layout.limit (overwritten (host_view old) range.first range.count NoAccess) (host_view (with_enclave old c.in_ok-id.id (Some e)))
+    (along (host_view old) (host_view (with_enclave old c.in_ok-id.id (Some e))) range (private_range parts) NoAccess c.private_pages.ensures.value
+    (host_added old c.in_ok-id.id e (free_place old c.in_ok-id.id c.rules.ensures.table free.0 free.1) free.2))
+    (fits_from old.layout.limit (overwritten (host_view old) range.first range.count NoAccess) c.in_ok-host.host.list c.in_ok-host.ensures.list))
+    (fits_from old.layout.limit (enclave_view parts) c.in_ok-list.list (subst L c.limit.ensures c.in_ok-list.ensures.list))

@@ -7,23 +7,26 @@ use Rattle.enclave_table.specs.Views.{host_view}
 use Rattle.permission_map.specs.Views.{overwritten}
 use Rattle.prefix_tree.specs.Trees.{PermTree, view_of_tree}
 use Rattle.enclave_table.proofs.SameViews.{tree_overwritten, tree_view}
+use Rattle.enclave_table.specs.Fewest.{IsWant}
+use Rattle.enclave_table.proofs.Refused.{handed_on}
 use Rattle.enclave_table.proofs.table.Table.host_with.Goals as goal
 
-pub returns-in-Ok-listed-clause-means : goal.returns-in-Ok-listed-clause-means
-returns-in-Ok-listed-clause-means c =
+pub returns-clause-means : goal.returns-clause-means
+returns-clause-means c =
     tree_overwritten (host_view c.args.self.now.table) c.host_tree.result.now c.in-Ok.tree c.args.pages.first c.args.pages.count c.args.perm c.host_tree.ensures.means c.in-Ok.ensures.means
 
-pub returns-in-Ok-listed-clause-list : goal.returns-in-Ok-listed-clause-list
-returns-in-Ok-listed-clause-list c =
+pub returns-clause-list : goal.returns-clause-list
+returns-clause-list c =
     let view : View = overwritten (host_view c.args.self.now.table) c.args.pages.first c.args.pages.count c.args.perm in
-    rw c.limit.ensures at c.in-Ok-listed.ensures.list view
+    rw c.limit.ensures at c.in_ok-list.ensures.list view
     (tree_overwritten (host_view c.args.self.now.table) c.host_tree.result.now c.in-Ok.tree c.args.pages.first c.args.pages.count c.args.perm c.host_tree.ensures.means c.in-Ok.ensures.means)
 
-pub returns-in-Err-clause-want : goal.returns-in-Err-clause-want
-returns-in-Err-clause-want c =
+pub returns-in_err-list-clause-want : goal.returns-in_err-list-clause-want
+returns-in_err-list-clause-want c =
     let view : View = overwritten (host_view c.args.self.now.table) c.args.pages.first c.args.pages.count c.args.perm in
-    rw c.limit.ensures at c.in-Err.ensures.want view
-    (tree_overwritten (host_view c.args.self.now.table) c.host_tree.result.now c.in-Ok.tree c.args.pages.first c.args.pages.count c.args.perm c.host_tree.ensures.means c.in-Ok.ensures.means)
+    handed_on c.from_residual.result c.in_err-list.field-0.0 (IsWant c.args.self.now.table.layout.limit view) c.from_residual.ensures.1
+    (rw c.limit.ensures at c.in_err-list.ensures.want view
+    (tree_overwritten (host_view c.args.self.now.table) c.host_tree.result.now c.in-Ok.tree c.args.pages.first c.args.pages.count c.args.perm c.host_tree.ensures.means c.in-Ok.ensures.means))
 
 pub unreachable-requires : goal.unreachable-requires
 unreachable-requires c =
