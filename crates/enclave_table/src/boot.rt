@@ -8,9 +8,9 @@ ghost use Rattle.enclave_table.specs.Booting.{opening, IsBootFault, boot_fault_n
 
 use crate::enclave::Enclave;
 use crate::entry_list::EntryList;
-use crate::fewest::fewest;
 use crate::platform::Platform;
 use crate::table::Table;
+use entry_planner::plan;
 use permission_map::Memory;
 use prefix_tree::build;
 use std::alloc::Global;
@@ -69,13 +69,15 @@ impl Table {
         let Ok(tree) = build(alloc, &map) else {
             return Err(BootFault::Memory);
         };
-        let Ok(list) = fewest(alloc, &tree) else {
+        let Ok(plan) = plan(alloc, &tree) else {
             return Err(BootFault::Memory);
         };
-        let needed = list.len();
-        if needed > platform.limit().number() as usize {
-            return Err(BootFault::NeedsMoreEntries(needed as u64));
+        if plan.needed() > platform.limit().number() {
+            return Err(BootFault::NeedsMoreEntries(u64::from(plan.needed())));
         }
+        let Ok(list) = EntryList::copied(alloc, plan.entries()) else {
+            return Err(BootFault::Memory);
+        };
         let Ok(enclaves) = no_enclaves(alloc) else {
             return Err(BootFault::Memory);
         };

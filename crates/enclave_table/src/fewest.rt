@@ -13,34 +13,24 @@ use crate::refusal::Refusal;
 use crate::request::Create;
 use crate::table::Table;
 use crate::views::enclave_map;
-use entry_planner::plan;
+use entry_planner::{Plan, plan};
 use page_views::PageRange;
-use permission_map::{MapFault, Memory};
+use permission_map::MapFault;
 use pmp_encoding::{Limit, Perm};
 use prefix_tree::{Tree, build};
 use std::alloc::Global;
 
-/// The fewest entries of a tree's view.
-pub(crate) fn fewest(alloc: Global, tree: &Tree) -> Result<EntryList, Memory>
-    ensures means { (view : ℕ → Perm) → TreeMeans view tree.now → IfOk result (λ list. Means list view) }
-    ensures needs { (view : ℕ → Perm) → TreeMeans view tree.now → IfOk result (λ list. Needs view (length list)) }
+/// The entries of a plan, if there are as many.
+fn listed(alloc: Global, limit: Limit, plan: &Plan) -> Result<EntryList, Refusal>
+    ensures list { (view : ℕ → Perm) → Means plan.now.entries view → Needs view (length plan.now.entries) → IfOk result (λ list. IsListOf limit view list) }
+    ensures want { (view : ℕ → Perm) → Needs view (length plan.now.entries) → IfErr result (λ refusal. IsWant limit view refusal) }
 {
-    let plan = plan(alloc, tree)?;
-    let list = EntryList::copied(alloc, plan.entries())?;
-    Ok(list)
-}
-
-/// The fewest entries of a tree's view, if there are as many.
-pub(crate) fn listed(alloc: Global, limit: Limit, tree: &Tree) -> Result<EntryList, Refusal>
-    ensures list { (view : ℕ → Perm) → TreeMeans view tree.now → IfOk result (λ list. IsListOf limit view list) }
-    ensures want { (view : ℕ → Perm) → TreeMeans view tree.now → IfErr result (λ refusal. IsWant limit view refusal) }
-{
-    let Ok(list) = fewest(alloc, tree) else {
-        return Err(Refusal::NoMemory);
-    };
-    if list.len() > limit.number() as usize {
+    if plan.needed() > limit.number() {
         return Err(Refusal::NoEntries);
     }
+    let Ok(list) = EntryList::copied(alloc, plan.entries()) else {
+        return Err(Refusal::NoMemory);
+    };
     Ok(list)
 }
 
@@ -61,7 +51,10 @@ pub(crate) fn enclave_list(
     let Ok(tree) = build(alloc, &map) else {
         return Err(Refusal::NoMemory);
     };
-    listed(alloc, limit, &tree)
+    let Ok(plan) = plan(alloc, &tree) else {
+        return Err(Refusal::NoMemory);
+    };
+    listed(alloc, limit, &plan)
 }
 
 /// The tree and the entries of a host's view.
@@ -87,7 +80,10 @@ impl Table {
             Err(MapFault::TooManyRanges) => unreachable!(),
             Err(MapFault::PastEnd) => unreachable!(),
         };
-        let list = listed(self.alloc(), self.limit(), &tree)?;
+        let Ok(plan) = plan(self.alloc(), &tree) else {
+            return Err(Refusal::NoMemory);
+        };
+        let list = listed(self.alloc(), self.limit(), &plan)?;
         Ok(HostView { tree, list })
     }
 }

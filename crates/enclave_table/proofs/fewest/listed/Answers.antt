@@ -1,10 +1,12 @@
-use Rattle.std.proofs.Common.{arith}
+use Rattle.std.proofs.Common.{◌≡◌, ◌∙◌, length, arith}
+use Rattle.pmp_match.specs.Meaning.{Means, Needs}
 use Rattle.enclave_table.proofs.fewest.listed.Goals as goal
 
 pub returns-clause-list : goal.returns-clause-list
-returns-clause-list c = λ view means.
+returns-clause-list c = λ view means needs.
+    let is : c.in-Ok.list ≡ c.args.plan.now.entries = c.in-Ok.ensures ∙ c.entries.ensures in
     record {
-      means = c.in-Ok.ensures.means view means;
-      needs = c.in-Ok.ensures.needs view means;
-      room = omega (arith, c.if-len-number.false, c.len.ensures, c.number.ensures.value);
+      means = rw is means;
+      needs = rw is needs;
+      room = rw is (omega (arith, c.if-needed-number.false, c.needed.ensures, c.number.ensures.value));
     }

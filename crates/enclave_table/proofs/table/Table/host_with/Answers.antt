@@ -4,9 +4,10 @@ use Rattle.prefix_tree.specs.RunsOf.{AreRunsOf}
 use Rattle.enclave_table.proofs.FewRuns.{host_with_few}
 use Rattle.pmp_match.specs.Meaning.{View}
 use Rattle.enclave_table.specs.Views.{host_view}
-use Rattle.permission_map.specs.Views.{overwritten}
+use Rattle.permission_map.specs.Views.{SameView, overwritten}
+use Rattle.pmp_encoding.specs.declared.region.Entry.{Entry}
 use Rattle.prefix_tree.specs.Trees.{PermTree, view_of_tree}
-use Rattle.enclave_table.proofs.SameViews.{tree_overwritten, tree_view}
+use Rattle.enclave_table.proofs.SameViews.{tree_overwritten, tree_view, means_same, needs_same}
 use Rattle.enclave_table.specs.Fewest.{IsWant}
 use Rattle.enclave_table.proofs.Refused.{handed_on}
 use Rattle.enclave_table.proofs.table.Table.host_with.Goals as goal
@@ -18,15 +19,23 @@ returns-clause-means c =
 pub returns-clause-list : goal.returns-clause-list
 returns-clause-list c =
     let view : View = overwritten (host_view c.args.self.now.table) c.args.pages.first c.args.pages.count c.args.perm in
-    rw c.limit.ensures at c.in_ok-list.ensures.list view
-    (tree_overwritten (host_view c.args.self.now.table) c.host_tree.result.now c.in-Ok.tree c.args.pages.first c.args.pages.count c.args.perm c.host_tree.ensures.means c.in-Ok.ensures.means)
+    let own : View = view_of_tree c.in-Ok.tree in
+    let entries : List Entry = c.in-Ok-plan.plan.entries in
+    let same : SameView own view =
+    tree_view view c.in-Ok.tree
+    (tree_overwritten (host_view c.args.self.now.table) c.host_tree.result.now c.in-Ok.tree c.args.pages.first c.args.pages.count c.args.perm c.host_tree.ensures.means c.in-Ok.ensures.means) in
+    rw c.limit.ensures at c.in_ok-list.ensures.list view (means_same own view entries same c.in-Ok-plan.ensures.means) (needs_same own view (length entries) same c.in-Ok-plan.ensures.needs)
 
 pub returns-in_err-list-clause-want : goal.returns-in_err-list-clause-want
 returns-in_err-list-clause-want c =
     let view : View = overwritten (host_view c.args.self.now.table) c.args.pages.first c.args.pages.count c.args.perm in
+    let own : View = view_of_tree c.in-Ok.tree in
+    let entries : List Entry = c.in-Ok-plan.plan.entries in
+    let same : SameView own view =
+    tree_view view c.in-Ok.tree
+    (tree_overwritten (host_view c.args.self.now.table) c.host_tree.result.now c.in-Ok.tree c.args.pages.first c.args.pages.count c.args.perm c.host_tree.ensures.means c.in-Ok.ensures.means) in
     handed_on c.from_residual.result c.in_err-list.field-0.0 (IsWant c.args.self.now.table.layout.limit view) c.from_residual.ensures.1
-    (rw c.limit.ensures at c.in_err-list.ensures.want view
-    (tree_overwritten (host_view c.args.self.now.table) c.host_tree.result.now c.in-Ok.tree c.args.pages.first c.args.pages.count c.args.perm c.host_tree.ensures.means c.in-Ok.ensures.means))
+    (rw c.limit.ensures at c.in_err-list.ensures.want view (needs_same own view (length entries) same c.in-Ok-plan.ensures.needs))
 
 pub unreachable-requires : goal.unreachable-requires
 unreachable-requires c =
