@@ -1,19 +1,17 @@
 -- Plain lines say what the grammar of traces says.
-use Rattle.std.proofs.Common.{◌≡◌, ◌⊎◌, inl, inr, ◌∙◌, ℕ, ◌+◌, ◌-◌, ◌^◌, Bool, true, false, not, ◌&&◌, List, [], ◌∷◌, ◌++◌, length, take, drop, Option, Some, None, cond, suc, refl, ap, sym, arith, append-nil}
+use Rattle.std.proofs.Common.{◌≡◌, ◌⊎◌, inl, inr, ◌∙◌, ℕ, ◌+◌, ◌^◌, Bool, true, false, not, ◌&&◌, List, [], ◌∷◌, ◌++◌, length, Option, Some, None, cond, suc, refl, ap, sym, arith, append-nil}
 use Rattle.std.specs.Prelude.{◌==◌, nat_lt, IfSome}
 use Rattle.std.specs.List.{list_all, position_or_len}
 use Rattle.std.proofs.lemmas.Bool.{and_parts, and_from}
 use Rattle.std.proofs.lemmas.Bool.Decides.{nat_tests}
 use Rattle.std.proofs.lemmas.Grind.{common_steps}
-use Rattle.std.proofs.lemmas.List.{take-append-drop}
 use Rattle.pmp_match.specs.declared.access.Mode.{Mode}
 use Rattle.pmp_match.specs.declared.access.Kind.{Kind}
 use Rattle.pmp_match.specs.declared.access.Access.{Access}
 use Rattle.pmp_match.specs.Kinds.{has_size}
 use Rattle.text_lines.specs.Words.{is_allowed, is_blank, content_of, split_words, words_of}
-use Rattle.text_lines.specs.Numbers.{digit_of, is_numeral, numeral_of, number_of, value_of}
+use Rattle.text_lines.specs.Numbers.{BeginsNumeral, digit_of, is_numeral, numeral_of, number_of, value_of}
 use Rattle.text_lines.proofs.WordsOfText.{word_split}
-use Rattle.text_lines.proofs.Splitting.{rest_from}
 use Rattle.hart_trace.specs.declared.event.Event.{Event}
 use Rattle.hart_trace.specs.declared.event.Event.TheVariants as events
 use Rattle.hart_trace.specs.Events.{access_of, event_of, hart_of, meaning_of, mode_of, sized}
@@ -144,8 +142,8 @@ look_says Kind.Store rest access harts (inr f) plain e = cc
 pub store_says : (rest : List ℕ) (access : Access) (word : List ℕ) (value : ℕ) (harts : ℕ) → list_all is_plain rest ≡ true → access_of Kind.Store (split_words rest) ≡ Some (access, word ∷ []) → number_of word ≡ Some value → meaning_of harts (keyword Kind.Store ++ 32 ∷ rest) ≡ Some (Some (0, events.Access access value))
 store_says rest access word value harts plain e f = line_says 115 (116 ∷ 111 ∷ 114 ∷ 101 ∷ []) rest (events.Access access value) harts refl plain refl (rw (e, f) refl)
 
--- the address of a store is cut before a blank
-pub cut : (text behind digits : List ℕ) (mode : Mode) (size end : ℕ) → Starts text mode size behind → take (length behind - end) (drop end behind) ≡ 32 ∷ 48 ∷ 120 ∷ digits → Starts text mode size (take end behind ++ 32 ∷ 48 ∷ 120 ∷ digits)
-cut text behind digits mode size end st e =
-    let whole : behind ≡ take end behind ++ 32 ∷ 48 ∷ 120 ∷ digits = sym (take-append-drop end behind) ∙ ap (λ xs. take end behind ++ xs) (sym (rest_from end behind) ∙ e) in
+-- the address of a store stands before a blank
+pub cut : (text behind rest digits : List ℕ) (mode : Mode) (size address : ℕ) → Starts text mode size behind → (h : BeginsNumeral 16 behind address rest) → rest ≡ 32 ∷ 48 ∷ 120 ∷ digits → Starts text mode size (h.digits ++ 32 ∷ 48 ∷ 120 ∷ digits)
+cut text behind rest digits mode size address st h e =
+    let whole : behind ≡ h.digits ++ 32 ∷ 48 ∷ 120 ∷ digits = h.parts ∙ ap (λ xs. h.digits ++ xs) e in
     (st.0, st.1, st.2 ∙ ap (λ xs. st.0 ∷ 32 ∷ st.1 ∷ 32 ∷ 48 ∷ 120 ∷ xs) whole, st.3, st.4, st.5, st.6)

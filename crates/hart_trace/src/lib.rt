@@ -18,4 +18,5 @@ mod tests;
 mod trace;
 
 pub use event::Event;
+pub use plain::plain_access;
 pub use trace::parse_line;

@@ -6,13 +6,13 @@ ghost use Rattle.std.specs.Prelude.{◌≡◌, ℕ, List, ◌∷◌, ◌++◌, [
 ghost use Rattle.std.specs.List.{list_all};
 ghost use Rattle.text_lines.specs.Words.{split_words};
 ghost use Rattle.text_lines.specs.Numbers.{number_of};
+ghost use Rattle.hart_trace.specs.declared.event.Event.TheVariants as events;
 ghost use Rattle.hart_trace.specs.Events.{access_of, meaning_of, mode_of};
 ghost use Rattle.hart_trace.specs.Plain.{Starts, is_letter, is_plain, keyword};
 
-use crate::event::Event;
 use crate::trace::sized;
 use pmp_match::{Access, Kind, Mode};
-use text_lines::{numeral, word_len};
+use text_lines::{leading_numeral, numeral};
 
 fn plain_mode(byte: u8) -> Option<Mode>
     ensures mode { IfSome result (λ mode. mode_of (byte ∷ []) ≡ Some mode) }
@@ -75,10 +75,9 @@ fn plain_store(rest: &[u8]) -> Option<(Access, u64)>
     ensures access { IfSome result (λ store. (word : List ℕ) × (access_of Kind.Store (split_words rest.now) ≡ Some (store.0, word ∷ [])) × (number_of word ≡ Some store.1)) }
     ensures plain { IfSome result (λ _. list_all is_plain rest.now ≡ true) }
 {
-    let (mode, size, behind) = plain_start(rest)?;
-    let end = word_len(behind);
-    let address = numeral(&behind[..end], 16)?;
-    let digits = behind_blank(&behind[end..])?;
+    let (mode, size, digits) = plain_start(rest)?;
+    let (address, behind) = leading_numeral(digits, 16)?;
+    let digits = behind_blank(behind)?;
     let value = numeral(digits, 16)?;
     let access = sized(mode, Kind::Store, size, address)?;
     Some((access, value))
@@ -96,19 +95,22 @@ fn behind_keyword(line: &[u8]) -> Option<(Kind, &[u8])>
     }
 }
 
-/// The event of a plain line, which names no hart. None says nothing of the line.
-pub(crate) fn plain_event(line: &[u8]) -> Option<Event>
-    ensures { IfSome result (λ event. (harts : ℕ) → meaning_of harts line.now ≡ Some (Some (0, event))) }
+/// The access of a plain line, which names no hart, and the value that a store writes, 0 else. None says nothing of the line.
+///
+/// For those who ask for accesses alone: an [`Event`](crate::Event) has room for a call's eight words, which
+/// [`parse_line`](crate::parse_line) hands on with each.
+pub fn plain_access(line: &[u8]) -> Option<(Access, u64)>
+    ensures { IfSome result (λ found. (harts : ℕ) → meaning_of harts line.now ≡ Some (Some (0, events.Access found.0 found.1))) }
 {
     let (kind, rest) = behind_keyword(line)?;
     match kind {
         Kind::Store => {
             let (access, value) = plain_store(rest)?;
-            Some(Event::Access(access, value))
+            Some((access, value))
         }
         Kind::Fetch | Kind::Load => {
             let access = plain_look(kind, rest)?;
-            Some(Event::Access(access, 0))
+            Some((access, 0))
         }
     }
 }

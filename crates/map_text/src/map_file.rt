@@ -1,7 +1,7 @@
 //! A map file: each line sets a permission on pages, and a later line overrides an earlier one.
 
 ghost use Rattle.std.specs.Prelude.{◌≡◌, ℕ, ◌+◌, ◌-◌, ◌^◌, ◌<◌, Err, IfErr, IfOk, None, OnOk, length};
-ghost use Rattle.text_lines.specs.LineReaders.{came_of, limit_of};
+ghost use Rattle.text_lines.specs.LineReaders.{came_of, most_of};
 ghost use Rattle.map_text.specs.Lines.{NextOf};
 ghost use Rattle.map_text.specs.MapFile.{FaultAt, IsUnknown, Leads, Makes, MakesMore, MakesTooMany, line_says};
 
@@ -35,10 +35,10 @@ enum LineFault {
 
 /// Hands out the next line of bytes that are all there, or says that there is none; or which line is too long.
 fn next_line(lines: &mut LineReader, rest: &mut &[u8]) -> Result<bool, u64>
-    requires limit { limit_of lines.old ≡ 2 ^ 64 - 1 }
+    requires limit { most_of lines.old ≡ 2 ^ 64 - 1 }
     requires few { came_of lines.old + length rest.old.now < 2 ^ 64 - 1 }
     ensures next { NextOf result lines.old lines.new rest.old.now rest.new.now }
-    ensures limit { limit_of lines.new ≡ limit_of lines.old }
+    ensures limit { most_of lines.new ≡ most_of lines.old }
     ensures came { came_of lines.new + length rest.new.now ≡ came_of lines.old + length rest.old.now }
 {
     match lines.next_line(rest) {

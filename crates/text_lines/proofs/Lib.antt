@@ -8,3 +8,4 @@ pub mod Looped
 pub mod Mapped
 mod FirstLf
 mod HexDigits
+mod Digits

@@ -10,7 +10,7 @@ use Rattle.text_lines.specs.declared.fault.ReadFault.TheVariants.{LongLine, TooM
 use Rattle.text_lines.specs.declared.fault.RunFault.TheVariants.{Line, TooLong, Read}
 use Rattle.text_lines.specs.Faults.{run_fault}
 use Rattle.text_lines.specs.Lines.{has_no_end, AreLines, IsShortLine, without_return}
-use Rattle.text_lines.specs.LineReaders.{line_of, pending_of, number_of, came_of, limit_of, ended_of, NextLine}
+use Rattle.text_lines.specs.LineReaders.{line_of, pending_of, number_of, came_of, most_of, ended_of, NextLine}
 use Rattle.text_lines.specs.LineLoop.{Meaning, Does, counted, told, ended, Stands, DoesAll, DoesLines, ComesTo, StopsAt, StopsForMemory, StopsReading, StopsTooLong, StopsWriting}
 use Rattle.text_lines.specs.LineLoop.{none, silent, answer}
 
@@ -81,7 +81,7 @@ few_as : (n : ℕ) (xs : List ℕ) → n ≡ length xs → n ≤ 2 ^ 40 → leng
 few_as n xs e h = omega (arith, e, h)
 
 -- no more came than may
-pub few_by : (reader next : LineReader) → came_of next ≤ limit_of next → limit_of next ≡ limit_of reader → limit_of reader ≡ 2 ^ 40 → came_of next ≤ 2 ^ 40
+pub few_by : (reader next : LineReader) → came_of next ≤ most_of next → most_of next ≡ most_of reader → most_of reader ≡ 2 ^ 40 → came_of next ≤ 2 ^ 40
 few_by reader next few same limit = omega (arith, few, same, limit)
 
 -- a line was handed out behind those that are interpreted
@@ -213,7 +213,7 @@ stops_long does refuses old now reader next count m before middle after held hol
 }
 
 -- a byte came behind the limit
-pub stops_past : {S : Type 0} (does : Meaning S) (old now : S) (reader next : LineReader) (count : ℕ) (before middle after held holds : Option (List ℕ)) → Progress does old now reader count before middle held holds → NextLine (Err TooManyBytes) reader next middle after → limit_of reader ≡ 2 ^ 40 → StopsTooLong does old now before after held holds
+pub stops_past : {S : Type 0} (does : Meaning S) (old now : S) (reader next : LineReader) (count : ℕ) (before middle after held holds : Option (List ℕ)) → Progress does old now reader count before middle held holds → NextLine (Err TooManyBytes) reader next middle after → most_of reader ≡ 2 ^ 40 → StopsTooLong does old now before after held holds
 stops_past does old now reader next count before middle after held holds p n limit = record {
   lines = p.lines;
   bytes = pending_of reader ++ n.0;

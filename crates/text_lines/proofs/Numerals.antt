@@ -1,10 +1,11 @@
 -- The value of digits, from the first on.
-use Rattle.std.proofs.Common.{◌≡◌, ℕ, ◌+◌, ◌*◌, ◌^◌, ◌<◌, ◌≤◌, ◌∙◌, true, List, [], ◌∷◌, length, get_or, take, drop, refl, ap, sym, ltb, fold, take-append-drop, take_all, mul-le-mul_right, Some, None, arith}
+use Rattle.std.proofs.Common.{◌≡◌, ℕ, ◌+◌, ◌*◌, ◌^◌, ◌<◌, ◌≤◌, ◌∙◌, true, false, zero, suc, List, [], ◌∷◌, ◌++◌, append-nil, length, length-take-le, get_or, take, drop, refl, ap, sym, ltb, fold, take-append-drop, take_all, mul-le-mul_right, Some, None, arith}
 use Rattle.std.proofs.lemmas.Bool.{and_right, and_from, lt-ltb, le-ltb, cond-true}
+use Rattle.std.proofs.lemmas.List.{drop_all}
 use Rattle.std.proofs.lemmas.Grind.{common_steps, fold-append}
 use Rattle.std.specs.Prelude.{nat_lt}
 use Rattle.std.specs.List.{list_all}
-use Rattle.text_lines.specs.Numbers.{digit_of, value_of, is_numeral, numeral_of}
+use Rattle.text_lines.specs.Numbers.{BeginsNumeral, EndsDigits, digit_of, value_of, is_numeral, numeral_of}
 
 -- more digits make no smaller value
 grows : (base : ℕ) → 1 ≤ base → (value : ℕ) (digits : List ℕ) → value ≤ fold (λ v b. base * v + digit_of b) value digits
@@ -53,3 +54,23 @@ numeral_of-value base digits i value end some is fits all =
     let numeral : is_numeral base digits ≡ true = and_from _ _ (lt-ltb 0 (length digits) some) (ap (list_all (λ b. nat_lt (digit_of b) base)) (sym whole) ∙ all) in
     let fits : ltb (value_of base digits) (2 ^ 64) ≡ true = lt-ltb (value_of base digits) (2 ^ 64) (omega arith) in
     ap Some is ∙ sym (cond-true _ (Some (value_of base digits)) None (and_from _ _ numeral fits))
+
+-- digits that end before the rest of a text, and spell their value
+pub begins_numeral : (base : ℕ) (text : List ℕ) (n value : ℕ) → n ≤ length text → (n ≡ 0 → ⊥) → value ≡ value_of base (take n text) → value < 2 ^ 64 → list_all (λ b. nat_lt (digit_of b) base) (take n text) ≡ true → EndsDigits base (drop n text) → BeginsNumeral base text value (drop n text)
+begins_numeral base text n value within some is fits all ends =
+    let long : length (take n text) ≡ n = length-take-le n text within in
+    record {
+      digits = take n text;
+      parts = sym (take-append-drop n text);
+      value_is = sym (numeral_of-value base (take n text) n value (omega (arith, long)) (omega (arith, long, some)) (is ∙ ap (value_of base) (sym (take_all n (take n text) (omega (arith, long))))) fits (ap (list_all (λ b. nat_lt (digit_of b) base)) (take_all n (take n text) (omega (arith, long))) ∙ all));
+      ends = ends;
+    }
+
+-- a byte that is no digit stands there, or nothing does
+pub ends_here : (base : ℕ) (text : List ℕ) (n digit : ℕ) → n < length text → digit ≡ digit_of (get_or text n 0) → base ≤ digit → EndsDigits base (drop n text)
+ends_here base [] n digit below is large = absurd (omega (arith, below))
+ends_here base (b ∷ text) zero digit below is large = le-ltb (digit_of b) base (omega (arith, is, large))
+ends_here base (b ∷ text) (suc n) digit below is large = ends_here base text n digit (omega (arith, below)) is large
+
+pub ends_all : (base : ℕ) (text : List ℕ) (n : ℕ) → length text ≤ n → EndsDigits base (drop n text)
+ends_all base text n all = let none : drop n text ≡ [] = drop_all n text all in rw none tt

@@ -21,8 +21,8 @@ number_of reader = reader.number
 abbrev pub came_of : LineReader → ℕ
 came_of reader = reader.came
 
-abbrev pub limit_of : LineReader → ℕ
-limit_of reader = reader.limit
+abbrev pub most_of : LineReader → ℕ
+most_of reader = reader.limit
 
 -- whether that line was the last, which lacks its LF
 abbrev pub ended_of : LineReader → Bool
@@ -51,7 +51,7 @@ abbrev pub Answers : Result Bool ReadFault → LineReader → LineReader → Lis
 Answers (Ok true) old new bytes after = (line : List ℕ) × Hands old new bytes after line
 Answers (Ok false) old new bytes after = (bytes ≡ []) × IsAtEnd after × Holds old new bytes
 Answers (Err (LongLine n)) old new bytes after = (n ≡ number_of old + 1) × BeginsLongLine bytes × Holds old new bytes
-Answers (Err TooManyBytes) old new bytes after = (came_of new ≡ limit_of old) × IsShortLine bytes × Holds old new bytes
+Answers (Err TooManyBytes) old new bytes after = (came_of new ≡ most_of old) × IsShortLine bytes × Holds old new bytes
 Answers (Err Device) old new bytes after = IsShortLine bytes × Holds old new bytes
 
 -- a byte past the limit left the source too, where that is the answer

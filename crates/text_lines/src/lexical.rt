@@ -1,10 +1,10 @@
 //! The words of a line of a map or a trace, and the numbers among them.
 
-ghost use Rattle.std.specs.Prelude.{◌≡◌, ℕ, ◌+◌, ◌-◌, ◌^◌, ◌<◌, ◌≤◌, ◌==◌, [], ◌∷◌, Some, IfOk, IfErr, IfSome, IfNone, OnSome, option_map, slice_index, MatchOption, MatchResult, true, false, length};
+ghost use Rattle.std.specs.Prelude.{◌≡◌, ℕ, ◌+◌, ◌-◌, ◌^◌, ◌<◌, ◌≤◌, ◌==◌, [], ◌∷◌, None, Some, IfOk, IfErr, IfSome, IfNone, OnSome, option_map, slice_index, MatchOption, MatchResult, true, false, length};
 ghost use Rattle.std.specs.Result.{result_ok};
 ghost use Rattle.std.specs.List.{list_all, prefix_len, position_or_len};
 ghost use Rattle.text_lines.specs.Words.{is_blank, is_allowed, content_of, split_words, words_of};
-ghost use Rattle.text_lines.specs.Numbers.{digit_of, value_of, numeral_of, number_of, permission_of};
+ghost use Rattle.text_lines.specs.Numbers.{BeginsNumeral, digit_of, value_of, numeral_of, number_of, permission_of};
 
 use pmp_encoding::Perm;
 use thiserror::Error;
@@ -71,17 +71,54 @@ pub fn word_len(text: &[u8]) -> usize
     text.len()
 }
 
+/// The value of each byte as a digit in bases up to 16, and 16 for one that is none. Tests of ranges would be guessed wrong at
+/// every other hexadecimal digit.
+static DIGITS: [u8; 256] = [
+    16, 16, 16, 16, 16, 16, 16, 16, 16, 16, 16, 16, 16, 16, 16, 16, 16, 16, 16, 16, 16, 16, 16, 16,
+    16, 16, 16, 16, 16, 16, 16, 16, 16, 16, 16, 16, 16, 16, 16, 16, 16, 16, 16, 16, 16, 16, 16, 16,
+    0, 1, 2, 3, 4, 5, 6, 7, 8, 9, 16, 16, 16, 16, 16, 16, 16, 10, 11, 12, 13, 14, 15, 16, 16, 16,
+    16, 16, 16, 16, 16, 16, 16, 16, 16, 16, 16, 16, 16, 16, 16, 16, 16, 16, 16, 16, 16, 16, 16, 10,
+    11, 12, 13, 14, 15, 16, 16, 16, 16, 16, 16, 16, 16, 16, 16, 16, 16, 16, 16, 16, 16, 16, 16, 16,
+    16, 16, 16, 16, 16, 16, 16, 16, 16, 16, 16, 16, 16, 16, 16, 16, 16, 16, 16, 16, 16, 16, 16, 16,
+    16, 16, 16, 16, 16, 16, 16, 16, 16, 16, 16, 16, 16, 16, 16, 16, 16, 16, 16, 16, 16, 16, 16, 16,
+    16, 16, 16, 16, 16, 16, 16, 16, 16, 16, 16, 16, 16, 16, 16, 16, 16, 16, 16, 16, 16, 16, 16, 16,
+    16, 16, 16, 16, 16, 16, 16, 16, 16, 16, 16, 16, 16, 16, 16, 16, 16, 16, 16, 16, 16, 16, 16, 16,
+    16, 16, 16, 16, 16, 16, 16, 16, 16, 16, 16, 16, 16, 16, 16, 16, 16, 16, 16, 16, 16, 16, 16, 16,
+    16, 16, 16, 16, 16, 16, 16, 16, 16, 16, 16, 16, 16, 16,
+];
+
 /// The value of a digit in bases up to 16, and 16 for a byte that is none.
 fn digit(byte: u8) -> u8
     ensures value { result ≡ digit_of byte }
     ensures most { result ≤ 16 }
 {
-    match byte {
-        b'0'..=b'9' => byte - b'0',
-        b'A'..=b'F' => byte - b'A' + 10,
-        b'a'..=b'f' => byte - b'a' + 10,
-        _ => 16,
+    DIGITS[usize::from(byte)]
+}
+
+/// The value of the digits that a text begins with, of a base from 2 to 16, and what stands behind them. None where there are
+/// none, or their value is 2^64 or more.
+pub fn leading_numeral(text: &[u8], base: u8) -> Option<(u64, &[u8])>
+    requires least { 2 ≤ base }
+    requires most { base ≤ 16 }
+    ensures digits { IfSome result (λ front. BeginsNumeral base text.now front.0 front.1.now) }
+    ensures none { IfNone result (numeral_of base text.now ≡ None) }
+{
+    let mut value: u64 = 0;
+    let mut len = 0;
+    while len < text.len() {
+        let digit = digit(text[len]);
+        if digit >= base {
+            break;
+        }
+        value = value
+            .checked_mul(u64::from(base))?
+            .checked_add(u64::from(digit))?;
+        len += 1;
     }
+    if len == 0 {
+        return None;
+    }
+    Some((value, &text[len..]))
 }
 
 /// The value of one or more digits of a base from 2 to 16, where it is below 2^64.
@@ -90,18 +127,9 @@ pub fn numeral(digits: &[u8], base: u8) -> Option<u64>
     requires most { base ≤ 16 }
     ensures { result ≡ numeral_of base digits.now }
 {
-    if digits.is_empty() {
+    let (value, rest) = leading_numeral(digits, base)?;
+    if !rest.is_empty() {
         return None;
-    }
-    let mut value: u64 = 0;
-    for byte in digits {
-        let digit = digit(*byte);
-        if digit >= base {
-            return None;
-        }
-        value = value
-            .checked_mul(u64::from(base))?
-            .checked_add(u64::from(digit))?;
     }
     Some(value)
 }

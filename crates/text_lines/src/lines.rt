@@ -72,7 +72,7 @@ pub struct LineReader {
 
 impl LineReader {
     ghost use Rattle.text_lines.specs.Lines.{without_return, IsShortLine};
-    ghost use Rattle.text_lines.specs.LineReaders.{line_of, pending_of, number_of, came_of, limit_of, ended_of, NextLine, FailsOnRead, ReadsMore};
+    ghost use Rattle.text_lines.specs.LineReaders.{line_of, pending_of, number_of, came_of, most_of, ended_of, NextLine, FailsOnRead, ReadsMore};
 
     /// A reader to which no byte has come, and to which at most 2^40 may.
     pub fn new() -> LineReader
@@ -80,7 +80,7 @@ impl LineReader {
         ensures pending { pending_of result ≡ [] }
         ensures number { number_of result ≡ 0 }
         ensures came { came_of result ≡ 0 }
-        ensures limit { limit_of result ≡ 2 ^ 40 }
+        ensures limit { most_of result ≡ 2 ^ 40 }
         ensures ended { ended_of result ≡ false }
     {
         LineReader::with_limit(LIMIT)
@@ -92,7 +92,7 @@ impl LineReader {
         ensures pending { pending_of result ≡ [] }
         ensures number { number_of result ≡ 0 }
         ensures came { came_of result ≡ 0 }
-        ensures limit { limit_of result ≡ limit }
+        ensures limit { most_of result ≡ limit }
         ensures ended { ended_of result ≡ false }
     {
         LineReader {
@@ -153,7 +153,7 @@ impl LineReader {
         ensures pending { pending_of self.new ≡ drop end self.old.buffer }
         ensures number { number_of self.new ≡ number_of self.old + 1 }
         ensures came { came_of self.new ≡ came_of self.old }
-        ensures limit { limit_of self.new ≡ limit_of self.old }
+        ensures limit { most_of self.new ≡ most_of self.old }
         ensures ended { ended_of self.new ≡ ended_of self.old }
     {
         let text_len = text_len(&self.buffer.as_slice()[..len]);
@@ -193,8 +193,8 @@ impl LineReader {
         requires { R.failures source.old < 2 ^ 64 - 1 }
         ensures line { NextLine result self.old self.new (R.remaining source.old) (R.remaining source.new) }
         ensures failures { FailsOnRead result (R.failures source.old) (R.failures source.new) }
-        ensures few { came_of self.new ≤ limit_of self.new }
-        ensures limit { limit_of self.new ≡ limit_of self.old }
+        ensures few { came_of self.new ≤ most_of self.new }
+        ensures limit { most_of self.new ≡ most_of self.old }
     {
         self.let_go();
         'reads: loop {

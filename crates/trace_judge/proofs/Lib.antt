@@ -1,1 +1,2 @@
 mod Judged
+mod OneDigit

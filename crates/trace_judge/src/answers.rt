@@ -17,7 +17,7 @@ pub fn push_answer(line: &mut Line, n: u64, answer: Result<(), Cause>)
         Ok(()) => push_text(line, b" ok\n"),
         Err(cause) => {
             push_text(line, b" fault ");
-            push_decimal(line, u64::from(cause.number()));
+            line.push(b'0' + cause.number());
             line.push(b'\n');
         }
     }

@@ -7,7 +7,7 @@ ghost use Rattle.trace_judge.specs.Judging.{access_on, is_no_access, judged_by};
 
 use crate::answers::push_answer;
 use byte_streams::{Sink, Source};
-use hart_trace::{Event, parse_line};
+use hart_trace::{Event, parse_line, plain_access};
 use pmp_encoding::Bank;
 use pmp_match::{Access, judge};
 use text_lines::{Interpreter, Line, NotUnderstood, Refusal, RunFault, interpret_lines};
@@ -16,6 +16,9 @@ use text_lines::{Interpreter, Line, NotUnderstood, Refusal, RunFault, interpret_
 fn access_in(line: &[u8]) -> Result<Option<Access>, NotUnderstood>
     ensures { result_ok result ≡ access_on line.now }
 {
+    if let Some((access, _)) = plain_access(line) {
+        return Ok(Some(access));
+    }
     match parse_line(line, 0) {
         Ok(None) => Ok(None),
         Ok(Some((_, Event::Access(access, _)))) => Ok(Some(access)),

@@ -1,5 +1,5 @@
 use Rattle.std.proofs.Common.{◌≡◌, ◌-◌, ◌^◌, ◌≤◌}
-use Rattle.text_lines.specs.LineReaders.{limit_of, number_of}
+use Rattle.text_lines.specs.LineReaders.{most_of, number_of}
 use Rattle.text_lines.proofs.Looped.{Progress}
 use Rattle.text_lines.proofs.line_loop.interpret_lines.Given as goal
 
@@ -10,7 +10,7 @@ invariant-lines g l = record {
   stalls : g.W.Sink.stalls l.sink ≡ g.W.Sink.stalls l.fn.sink;
   progress : g.I.Interpreter.keeps l.fn.interpreter → Progress g.I.Interpreter.does l.fn.interpreter l.interpreter l.reader l.count (g.R.Source.remaining l.fn.source) (g.R.Source.remaining l.source) (g.W.Sink.contents l.fn.sink) (g.W.Sink.contents l.sink);
   few : l.count ≤ number_of l.reader;
-  limit : limit_of l.reader ≡ 2 ^ 40;
+  limit : most_of l.reader ≡ 2 ^ 40;
   keeps : g.I.Interpreter.keeps l.fn.interpreter → g.I.Interpreter.keeps l.interpreter;
 }
 

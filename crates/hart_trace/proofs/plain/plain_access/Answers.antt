@@ -1,7 +1,7 @@
 use Rattle.std.proofs.Common.{◌∙◌, ap}
 use Rattle.hart_trace.specs.Events.{meaning_of}
 use Rattle.hart_trace.proofs.PlainLines.{look_says, store_says}
-use Rattle.hart_trace.proofs.plain.plain_event.Goals as goal
+use Rattle.hart_trace.proofs.plain.plain_access.Goals as goal
 
 pub returns-in_ok-access-in-Store : goal.returns-in_ok-access-in-Store
 returns-in_ok-access-in-Store c = λ harts.
