@@ -1,0 +1,6 @@
+pub mod Answered
+pub mod Each
+pub mod Judged
+pub mod Listed
+pub mod Uncut
+pub mod Agreed

@@ -1,0 +1,17 @@
+use Rattle.std.proofs.Common.{◌^◌, arith}
+use Rattle.permission_map.specs.Runs.{view_of_runs}
+use Rattle.pmp_match.proofs.Uncut.{means_from_bytes}
+use Rattle.register_audit.proofs.Agreed.{agreed, difference}
+use Rattle.register_audit.proofs.Uncut.{never_cut}
+use Rattle.register_audit.proofs.comparing.compared.Goals as goal
+
+pub returns-in-Some : goal.returns-in-Some
+returns-in-Some c = difference (view_of_runs c.args.map.now) c.args.entries.now (2 ^ 56) _ c.in-Some.stretch c.in_ok-all.ensures (rw c.as_slice.ensures.value at c.in-Some.ensures)
+
+pub returns : goal.returns
+returns c =
+    let view = view_of_runs c.args.map.now in
+    let entries = c.args.entries.now in
+    means_from_bytes entries view
+    (λ byte inside. agreed view entries 0 (2 ^ 56) _ c.in_ok-all.ensures (rw c.as_slice.ensures.value at c.in_default.ensures) byte (omega arith) inside)
+    (never_cut view entries c.in_default-first_cut.ensures)

@@ -1,0 +1,17 @@
+use Rattle.std.proofs.Common.{arith, subst}
+use Rattle.pmp_encoding.specs.declared.region.Entry.{Entry}
+use Rattle.permission_map.specs.Runs.{view_of_runs}
+use Rattle.register_audit.specs.Findings.{IsUncut}
+use Rattle.register_audit.proofs.Each.{all_more, all_whole}
+use Rattle.register_audit.proofs.cutting.first_cut.Goals as goal
+
+pub loop-i-preserved : goal.loop-i-preserved
+loop-i-preserved c =
+    let view = view_of_runs c.args.map.now in
+    let entries = c.args.entries.now in
+    let entry = c.index-entries-i.result in
+    all_more (IsUncut view entries) entries c.loop-i.i entry c.loop-i-test.true c.loop-i.invariant
+    (subst (λ (e : Entry). IsUncut view entries e) c.index-entries-i.is (c.in_default.ensures entries c.requires))
+
+pub returns : goal.returns
+returns c = all_whole (IsUncut (view_of_runs c.args.map.now) c.args.entries.now) c.args.entries.now c.loop-i.i (omega (arith, c.loop-i-test.false)) c.loop-i.invariant

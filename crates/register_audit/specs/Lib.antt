@@ -1,0 +1,5 @@
+pub mod Registers
+pub mod Findings
+pub mod Verdicts
+pub mod Texts
+pub mod Audits

@@ -1,0 +1,124 @@
+//! Listings against maps, with the line and the answer of each.
+
+use crate::{AuditFault, audit};
+use byte_streams::fakes::PieceSink;
+use permission_map::PermissionMap;
+use pmp_encoding::Perm;
+use std::alloc::Global;
+use std::process::Abort;
+use std::test::Fail;
+
+/// A map of these ranges: first page, number of pages, permission.
+fn map_of(rt: &impl Abort, alloc: Global, ranges: &[(u64, u64, Perm)]) -> PermissionMap {
+    let mut map = PermissionMap::new(alloc);
+    for (first, count, perm) in ranges {
+        map.set_range(*first, *count, *perm).expect(rt, "inside");
+    }
+    map
+}
+
+/// That the audit of the listing has this answer and writes this line.
+fn expect_audit(
+    rt: &impl Abort,
+    alloc: Global,
+    map: &PermissionMap,
+    fewest: u64,
+    listing: &str,
+    means: bool,
+    line: &str,
+) {
+    let mut out = PieceSink::new(7, None);
+    let answer = audit(alloc, map, fewest, listing.as_bytes(), &mut out);
+    assert!(rt; answer == Ok(means));
+    assert_eq!(rt; out.written(), line.as_bytes());
+}
+
+#[test]
+fn a_board_whose_registers_mean_its_map_or_not(rt: HostRuntime) -> Result<(), Fail> {
+    let alloc = rt.alloc();
+    let ranges = [
+        (0x80000, 0x8000, Perm::ReadWriteExecute),
+        (0x80000, 0x200, Perm::NoAccess),
+        (0x10000, 1, Perm::ReadWrite),
+    ];
+    let map = map_of(&rt, alloc, ranges.as_slice());
+    for (listing, means, line) in [
+        (
+            "entries 3\n0 0x1b 0x00000000040001ff\n1 0x18 0x000000002003ffff\n2 0x1f 0x0000000020ffffff\npmpcfg0 0x00000000001f181b\npmpcfg2 0x0000000000000000\n",
+            true,
+            "means the map: 3 entries where 3 are enough\n",
+        ),
+        (
+            "pmpaddr10 0x20ffffff\npmpaddr9 0x2003ffff\npmpaddr0 0x40001ff\npmpcfg0 0x1b\npmpcfg2 0x1f1800\n",
+            true,
+            "means the map: 3 entries where 3 are enough\n",
+        ),
+        (
+            "pmpaddr2 0x20ffffff\npmpaddr1 0x2003ffff\npmpaddr0 0x40001ff\npmpcfg0 0x1f001b\n",
+            false,
+            "differs 0x0000000080000000 0x00000000801fffff: map ---, entry 2 rwx\n",
+        ),
+        (
+            "# nothing was set\n",
+            false,
+            "differs 0x0000000010000000 0x0000000010000fff: map rw-, no entry ---\n",
+        ),
+        (
+            "pmpcfg0 0x9900\npmpaddr1 0x40001ff\n",
+            false,
+            "pair 1 0x99 0x00000000040001ff: locked\n",
+        ),
+        (
+            "pmpcfg0 0x0900000a\n",
+            false,
+            "pair 0 0x0a 0x0000000000000000: W without R\n",
+        ),
+        (
+            "pmpcfg0 0x09000000\n",
+            false,
+            "pair 3 0x09 0x0000000000000000: TOR\n",
+        ),
+        (
+            "pmpcfg14 0x2000000000000000\n",
+            false,
+            "pair 63 0x20 0x0000000000000000: reserved bits\n",
+        ),
+        (
+            "pmpaddr5 0x40000000000000\n",
+            false,
+            "pair 5 0x00 0x0040000000000000: address bits above 53\n",
+        ),
+    ] {
+        expect_audit(&rt, alloc, &map, 3, listing, means, line);
+    }
+    Ok(())
+}
+
+#[test]
+fn entries_below_a_page_by_what_they_mean(rt: HostRuntime) -> Result<(), Fail> {
+    let alloc = rt.alloc();
+    let read = map_of(&rt, alloc, [(1, 1, Perm::Read)].as_slice());
+    let halves = "pmpaddr0 0x4ff\npmpaddr1 0x6ff\npmpcfg0 0x1919\n";
+    let line = "means the map: 2 entries where 1 is enough\n";
+    expect_audit(&rt, alloc, &read, 1, halves, true, line);
+    let four = "pmpaddr0 0x400\npmpaddr1 0x5ff\npmpcfg0 0x1911\n";
+    let cut = "differs 0x0000000000001000 0x0000000000001007: entry 0 cuts an access of 8 bytes\n";
+    expect_audit(&rt, alloc, &read, 1, four, false, cut);
+    let execute = map_of(&rt, alloc, [(1, 1, Perm::Execute)].as_slice());
+    let four = "pmpaddr0 0x400\npmpaddr1 0x5ff\npmpcfg0 0x1c14\n";
+    expect_audit(&rt, alloc, &execute, 1, four, true, line);
+    Ok(())
+}
+
+#[test]
+fn a_line_and_a_device_that_fail(rt: HostRuntime) {
+    let map = PermissionMap::new(rt.alloc());
+    let mut out = PieceSink::new(7, None);
+    let unknown = audit(rt.alloc(), &map, 0, b"pmpaddr0 1\nwhat\n", &mut out);
+    assert!(rt; unknown == Err(AuditFault::Line(2)));
+    assert_eq!(rt; out.written().len(), 0);
+    let mut failing = PieceSink::new(7, Some(2));
+    let stopped = audit(rt.alloc(), &map, 0, b"", &mut failing);
+    assert!(rt; stopped == Err(AuditFault::Device));
+    assert_eq!(rt; failing.written(), b"means t".as_slice());
+}

@@ -1,0 +1,143 @@
+//! The line of a verdict.
+
+ghost use Rattle.std.specs.Prelude.{◌≡◌, ℕ, ◌+◌, ◌^◌, ◌++◌, ◌<◌, ◌≤◌, length};
+ghost use Rattle.register_text.specs.declared.registers.Registers.{Registers};
+ghost use Rattle.register_audit.specs.declared.verdict.Verdict as Verdict;
+ghost use Rattle.arrayvec.specs.ArrayVec.{array_vec_len};
+ghost use Rattle.register_audit.specs.Texts.{differs_text, enough, entries_named, fault_name, sayer, verdict_text};
+ghost use Rattle.register_audit.specs.Verdicts.{IsWritable};
+
+use crate::decoded::PairFault;
+use crate::verdict::Verdict;
+use arrayvec::ArrayVec;
+use map_table::letters;
+use pmp_encoding::EncodingFault;
+use register_text::Registers;
+use stretches::Stretch;
+use text_lines::{Line, push_decimal, push_hex, push_text};
+
+fn fault_name(fault: EncodingFault) -> &'static str
+    ensures value { result.now ≡ fault_name fault }
+    ensures length { length result.now ≤ 32 }
+{
+    match fault {
+        EncodingFault::ReservedPerm => "W without R",
+        EncodingFault::Tor => "TOR",
+        EncodingFault::Locked => "locked",
+        EncodingFault::ReservedBits => "reserved bits",
+        EncodingFault::AddressBits => "address bits above 53",
+        EncodingFault::NoSuchCsr => "no such register",
+    }
+}
+
+fn entries_named(n: u64) -> &'static str
+    ensures value { result.now ≡ entries_named n }
+    ensures length { length result.now ≤ 16 }
+{
+    if n == 1 { " entry" } else { " entries" }
+}
+
+fn enough(n: u64) -> &'static str
+    ensures value { result.now ≡ enough n }
+    ensures length { length result.now ≤ 16 }
+{
+    if n == 1 { " is enough" } else { " are enough" }
+}
+
+/// Appends which entry says something.
+fn push_sayer(line: &mut Line, place: Option<usize>)
+    requires { array_vec_len line.old ≤ 64 }
+    ensures items { line.new.items ≡ line.old.items ++ sayer place }
+    ensures len { array_vec_len line.new ≤ array_vec_len line.old + 26 }
+{
+    let Some(place) = place else {
+        push_text(line, b"no entry");
+        return;
+    };
+    push_text(line, b"entry ");
+    push_decimal(line, place as u64);
+}
+
+/// The beginning of a line on bytes that differ.
+fn differs_line(first: u64, last: u64) -> Line
+    ensures items { result.items ≡ differs_text first last }
+    ensures len { array_vec_len result ≡ 47 }
+{
+    let mut line = ArrayVec::new();
+    push_text(&mut line, b"differs 0x");
+    push_hex(&mut line, first, 16);
+    push_text(&mut line, b" 0x");
+    push_hex(&mut line, last, 16);
+    push_text(&mut line, b": ");
+    line
+}
+
+fn means_line(fewest: u64, count: usize) -> Line
+    ensures { (registers : Registers) → result.items ≡ verdict_text fewest registers (Verdict.Means count) }
+{
+    let count = count as u64;
+    let mut line = ArrayVec::new();
+    push_text(&mut line, b"means the map: ");
+    push_decimal(&mut line, count);
+    push_text(&mut line, entries_named(count).as_bytes());
+    push_text(&mut line, b" where ");
+    push_decimal(&mut line, fewest);
+    push_text(&mut line, enough(fewest).as_bytes());
+    line.push(b'\n');
+    line
+}
+
+fn stretch_line(stretch: &Stretch, place: Option<usize>) -> Line
+    requires { 0 < stretch.now.end }
+    ensures { (fewest : ℕ) (registers : Registers) → result.items ≡ verdict_text fewest registers (Verdict.Differs stretch.now place) }
+{
+    let mut line = differs_line(stretch.first, stretch.end - 1);
+    push_text(&mut line, b"map ");
+    push_text(&mut line, letters(stretch.wanted).as_bytes());
+    push_text(&mut line, b", ");
+    push_sayer(&mut line, place);
+    line.push(b' ');
+    push_text(&mut line, letters(stretch.given).as_bytes());
+    line.push(b'\n');
+    line
+}
+
+fn cut_line(place: Option<usize>, at: u64) -> Line
+    requires { at + 7 < 2 ^ 64 }
+    ensures { (fewest : ℕ) (registers : Registers) → result.items ≡ verdict_text fewest registers (Verdict.Cuts place at) }
+{
+    let mut line = differs_line(at, at + 7);
+    push_sayer(&mut line, place);
+    push_text(&mut line, b" cuts an access of 8 bytes\n");
+    line
+}
+
+fn fault_line(registers: &Registers, fault: &PairFault) -> Line
+    requires { fault.now.place < 64 }
+    ensures { (fewest : ℕ) → result.items ≡ verdict_text fewest registers.now (Verdict.NoEntry fault.now) }
+{
+    let mut line = ArrayVec::new();
+    push_text(&mut line, b"pair ");
+    push_decimal(&mut line, fault.place as u64);
+    push_text(&mut line, b" 0x");
+    push_hex(&mut line, u64::from(registers.cfgs[fault.place]), 2);
+    push_text(&mut line, b" 0x");
+    push_hex(&mut line, registers.addresses[fault.place], 16);
+    push_text(&mut line, b": ");
+    push_text(&mut line, fault_name(fault.fault).as_bytes());
+    line.push(b'\n');
+    line
+}
+
+/// The line of a verdict on registers.
+pub(crate) fn verdict_line(fewest: u64, registers: &Registers, verdict: &Verdict) -> Line
+    requires { IsWritable verdict.now }
+    ensures { result.items ≡ verdict_text fewest registers.now verdict.now }
+{
+    match verdict {
+        Verdict::Means { count } => means_line(fewest, *count),
+        Verdict::Differs { stretch, place } => stretch_line(stretch, *place),
+        Verdict::Cuts { place, at } => cut_line(*place, *at),
+        Verdict::NoEntry(fault) => fault_line(registers, fault),
+    }
+}

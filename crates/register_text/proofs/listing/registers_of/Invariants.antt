@@ -1,0 +1,15 @@
+use Rattle.std.proofs.Common.{◌≡◌, ◌+◌, ◌-◌, ◌^◌, ℕ, List, ◌++◌, Some, length}
+use Rattle.text_lines.specs.LineReaders.{came_of, most_of, number_of}
+use Rattle.map_text.specs.Lines.{left_of, raw_lines}
+use Rattle.register_text.specs.Listings.{are_off, set_by_lines}
+use Rattle.register_text.proofs.listing.registers_of.Given as goal
+
+abbrev pub invariant-loop-lines : goal.invariant-loop-lines
+invariant-loop-lines l = record {
+  followed : (before : List (List ℕ)) × (raw_lines l.bytes ≡ before ++ raw_lines (left_of l.lines l.rest)) × (length before ≡ number_of l.lines) × (set_by_lines are_off before ≡ Some l.registers);
+  came : came_of l.lines + length l.rest ≡ length l.bytes;
+  limit : most_of l.lines ≡ 2 ^ 64 - 1;
+}
+
+abbrev pub decreases-loop-lines : goal.decreases-loop-lines
+decreases-loop-lines l = length (left_of l.lines l.rest)

@@ -1,0 +1,71 @@
+-- What a line of a listing sets.
+use Rattle.std.specs.Prelude.{ℕ, ◌+◌, ◌*◌, ◌%◌, ◌<◌, ◌≤◌, ⊤, Bool, false, ◌&&◌, ◌==◌, nat_lt, nat_le, if◌then◌else◌, List, [], ◌∷◌, length, take, drop, Option, Some, None, codes, bytes_eq}
+use Rattle.std.specs.Option.{option_and_then}
+use Rattle.text_lines.specs.Words.{words_of}
+use Rattle.text_lines.specs.Numbers.{numeral_of, number_of}
+use Rattle.text_lines.specs.Lines.{without_return}
+use Rattle.register_text.specs.declared.register_lines.Setting.{Setting}
+use Rattle.register_text.specs.declared.register_lines.Setting.TheVariants as settings
+
+-- the places of a setting are those of 64 entries
+abbrev pub IsInside : Setting → Type 0
+IsInside settings.Nothing = ⊤
+IsInside (settings.Pair place cfg address) = place < 64
+IsInside (settings.Address place value) = place < 64
+IsInside (settings.Word place value) = place + 8 ≤ 64
+
+-- what stands behind a name that a word begins with
+abbrev pub behind : List ℕ → List ℕ → Option (List ℕ)
+behind word name = if nat_le (length name) (length word) && bytes_eq (take (length name) word) name then Some (drop (length name) word) else None
+
+-- decimal digits with no leading zero
+abbrev pub has_leading_zero : List ℕ → Bool
+has_leading_zero (first ∷ second ∷ digits) = first == 48
+has_leading_zero _ = false
+
+abbrev pub index_of : List ℕ → Option ℕ
+index_of digits = if has_leading_zero digits then None else numeral_of 10 digits
+
+-- `pmpaddrN`, N from 0 to 63
+abbrev pub address_at : ℕ → ℕ → Option Setting
+address_at value place = if nat_lt place 64 then Some (settings.Address place value) else None
+
+abbrev pub address_setting : List ℕ → ℕ → Option Setting
+address_setting digits value = option_and_then (address_at value) (index_of digits)
+
+-- `pmpcfgK`, K even and from 0 to 14: the bytes of the entries from 4 * K on
+abbrev pub word_at : ℕ → ℕ → Option Setting
+word_at value k = if nat_lt k 16 && k % 2 == 0 then Some (settings.Word (4 * k) value) else None
+
+abbrev pub word_setting : List ℕ → ℕ → Option Setting
+word_setting digits value = option_and_then (word_at value) (index_of digits)
+
+-- a name of a register and its value, or a count of entries, which sets nothing
+abbrev pub by_behind : ℕ → Option (List ℕ) → Option (List ℕ) → Option Setting
+by_behind value (Some digits) cfg = address_setting digits value
+by_behind value None (Some digits) = word_setting digits value
+by_behind value None None = None
+
+abbrev pub named_setting : List ℕ → ℕ → Option Setting
+named_setting name value =
+    if bytes_eq name (codes "entries") then Some settings.Nothing else by_behind value (behind name (codes "pmpaddr")) (behind name (codes "pmpcfg"))
+
+-- the number of an entry, below 64, its configuration byte and its address
+abbrev pub pair_setting : ℕ → ℕ → ℕ → Option Setting
+pair_setting place cfg address = if nat_lt place 64 && nat_lt cfg 256 then Some (settings.Pair place cfg address) else None
+
+-- what words set
+abbrev pub set_by_words : List (List ℕ) → Option Setting
+set_by_words [] = Some settings.Nothing
+set_by_words (name ∷ value ∷ []) = option_and_then (named_setting name) (number_of value)
+set_by_words (place ∷ cfg ∷ address ∷ []) =
+    option_and_then (λ p. option_and_then (λ c. option_and_then (pair_setting p c) (number_of address)) (number_of cfg)) (number_of place)
+set_by_words _ = None
+
+-- what a line sets, where it is understood
+abbrev pub line_sets : List ℕ → Option Setting
+line_sets line = option_and_then set_by_words (words_of line)
+
+-- what a line of at most 1023 bytes sets, its CR counted
+abbrev pub raw_sets : List ℕ → Option Setting
+raw_sets raw = if nat_le (length raw) 1023 then line_sets (without_return raw) else None

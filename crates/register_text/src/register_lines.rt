@@ -1,0 +1,185 @@
+//! What one line of a listing sets.
+
+ghost use Rattle.std.specs.Prelude.{◌≡◌, [], ◌∷◌, IfOk, IfSome, bytes_eq, option_map};
+ghost use Rattle.std.specs.Result.{result_ok};
+ghost use Rattle.text_lines.specs.Words.{split_words};
+ghost use Rattle.register_text.specs.Lines.{IsInside, address_setting, behind, has_leading_zero, index_of, line_sets, named_setting, pair_setting, set_by_words, word_setting};
+
+use text_lines::{NotUnderstood, Words, number, numeral};
+
+/// What a line sets. Places are below 64.
+#[derive(Clone, Copy, Debug, PartialEq, Eq)]
+pub enum Setting {
+    /// A line without words, or a count of entries.
+    Nothing,
+    /// The pair of an entry.
+    Pair {
+        /// The number of the entry.
+        place: usize,
+        /// Its configuration byte.
+        cfg: u8,
+        /// Its address register.
+        address: u64,
+    },
+    /// An address register.
+    Address {
+        /// The number of the entry.
+        place: usize,
+        /// What it holds.
+        value: u64,
+    },
+    /// A configuration word: the bytes of eight entries.
+    Word {
+        /// The number of the first entry.
+        place: usize,
+        /// What it holds, the lowest byte first.
+        value: u64,
+    },
+}
+
+fn is_text(word: &[u8], text: &[u8]) -> bool
+    ensures { result ≡ bytes_eq word.now text.now }
+{
+    word == text
+}
+
+/// What stands behind a name that a word begins with.
+fn behind<'a>(word: &'a [u8], name: &[u8]) -> Option<&'a [u8]>
+    ensures { option_map (λ rest. rest.now) result ≡ behind word.now name.now }
+{
+    if name.len() > word.len() {
+        return None;
+    }
+    if is_text(&word[..name.len()], name) {
+        Some(&word[name.len()..])
+    } else {
+        None
+    }
+}
+
+fn has_leading_zero(digits: &[u8]) -> bool
+    ensures { result ≡ has_leading_zero digits.now }
+{
+    match digits {
+        [first, _, ..] => *first == b'0',
+        _ => false,
+    }
+}
+
+/// The number that decimal digits with no leading zero spell.
+fn index_of(digits: &[u8]) -> Option<u64>
+    ensures { result ≡ index_of digits.now }
+{
+    if has_leading_zero(digits) {
+        return None;
+    }
+    numeral(digits, 10)
+}
+
+fn address_setting(digits: &[u8], value: u64) -> Option<Setting>
+    ensures value { result ≡ address_setting digits.now value }
+    ensures inside { IfSome result IsInside }
+{
+    let place = index_of(digits)?;
+    if place >= 64 {
+        return None;
+    }
+    Some(Setting::Address {
+        place: place as usize,
+        value,
+    })
+}
+
+fn word_setting(digits: &[u8], value: u64) -> Option<Setting>
+    ensures value { result ≡ word_setting digits.now value }
+    ensures inside { IfSome result IsInside }
+{
+    let k = index_of(digits)?;
+    if k >= 16 || k % 2 != 0 {
+        return None;
+    }
+    Some(Setting::Word {
+        place: 4 * k as usize,
+        value,
+    })
+}
+
+/// What a name and a value set.
+fn named_setting(name: &[u8], value: u64) -> Option<Setting>
+    ensures value { result ≡ named_setting name.now value }
+    ensures inside { IfSome result IsInside }
+{
+    if is_text(name, b"entries") {
+        return Some(Setting::Nothing);
+    }
+    if let Some(digits) = behind(name, b"pmpaddr") {
+        return address_setting(digits, value);
+    }
+    let digits = behind(name, b"pmpcfg")?;
+    word_setting(digits, value)
+}
+
+/// What the number of an entry and its pair set.
+fn pair_setting(place: u64, cfg: u64, address: u64) -> Option<Setting>
+    ensures value { result ≡ pair_setting place cfg address }
+    ensures inside { IfSome result IsInside }
+{
+    if place >= 64 || cfg >= 256 {
+        return None;
+    }
+    Some(Setting::Pair {
+        place: place as usize,
+        cfg: cfg as u8,
+        address,
+    })
+}
+
+/// What two words set.
+fn set_by_two(name: &[u8], value: &[u8]) -> Option<Setting>
+    ensures value { result ≡ set_by_words (name.now ∷ value.now ∷ []) }
+    ensures inside { IfSome result IsInside }
+{
+    let value = number(value)?;
+    named_setting(name, value)
+}
+
+/// What three words set.
+fn set_by_three(place: &[u8], cfg: &[u8], address: &[u8]) -> Option<Setting>
+    ensures value { result ≡ set_by_words (place.now ∷ cfg.now ∷ address.now ∷ []) }
+    ensures inside { IfSome result IsInside }
+{
+    let place = number(place)?;
+    let cfg = number(cfg)?;
+    let address = number(address)?;
+    pair_setting(place, cfg, address)
+}
+
+/// What words set.
+fn set_by_words(mut words: Words<'_>) -> Option<Setting>
+    ensures value { result ≡ set_by_words (split_words words.entry.rest.now) }
+    ensures inside { IfSome result IsInside }
+{
+    let Some(first) = words.next_word() else {
+        return Some(Setting::Nothing);
+    };
+    let second = words.next_word()?;
+    let Some(third) = words.next_word() else {
+        return set_by_two(first, second);
+    };
+    match words.next_word() {
+        Some(_) => None,
+        None => set_by_three(first, second, third),
+    }
+}
+
+/// What a line sets, where it is understood.
+pub fn line_sets(line: &[u8]) -> Result<Setting, NotUnderstood>
+    ensures value { result_ok result ≡ line_sets line.now }
+    ensures inside { IfOk result IsInside }
+{
+    let words = Words::of(line)?;
+    match set_by_words(words) {
+        Some(setting) => Ok(setting),
+        None => Err(NotUnderstood),
+    }
+}

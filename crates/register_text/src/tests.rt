@@ -1,0 +1,53 @@
+//! Listings as `plan` prints them, as a debugger has them, and lines that are not understood.
+
+use crate::registers_of;
+use std::test::Fail;
+
+#[test]
+fn what_plan_prints_is_read_back(rt: HostRuntime) -> Result<(), Fail> {
+    let listing =
+        b"entries 2\n0 0x18 0x0000000020083dff\n1 0x1d 0x0000000020082fff\npmpcfg0 0x0000000000001d18\npmpcfg2 0x0000000000000000\n";
+    let registers = registers_of(listing.as_slice()).expect(&rt, "understood");
+    assert_eq!(rt; &registers.cfgs[..3], [0x18, 0x1d, 0].as_slice());
+    assert_eq!(rt;
+        &registers.addresses[..3],
+        [0x2008_3dff, 0x2008_2fff, 0].as_slice()
+    );
+    Ok(())
+}
+
+#[test]
+fn registers_in_any_order_and_set_twice(rt: HostRuntime) -> Result<(), Fail> {
+    let listing =
+        b"# from the boot log\r\npmpcfg14 0x1122334455667788 # the last eight\n\npmpaddr63 7\npmpaddr0 1\npmpaddr0 2\n\tpmpcfg0 255\n2 24 0x10";
+    let registers = registers_of(listing.as_slice()).expect(&rt, "understood");
+    assert_eq!(rt; &registers.cfgs[..4], [255, 0, 24, 0].as_slice());
+    assert_eq!(rt;
+        &registers.cfgs[56..],
+        [0x88, 0x77, 0x66, 0x55, 0x44, 0x33, 0x22, 0x11].as_slice()
+    );
+    assert_eq!(rt; &registers.addresses[..3], [2, 0, 16].as_slice());
+    assert_eq!(rt; registers.addresses[63], 7);
+    Ok(())
+}
+
+#[test]
+fn the_first_line_that_is_not_understood(rt: HostRuntime) {
+    for (listing, line) in [
+        (b"pmpaddr64 1".as_slice(), 1),
+        (b"\n\npmpaddr01 1\nwhat", 3),
+        (b"pmpcfg1 0", 1),
+        (b"pmpcfg16 0", 1),
+        (b"pmpcfg0\n", 1),
+        (b"pmpaddr 1\n", 1),
+        (b"pmpaddr0 1\n64 0 0\n", 2),
+        (b"0 0x100 0\n", 1),
+        (b"0 0 0 0\n", 1),
+        (b"entries many\n", 1),
+        (b"PMPADDR0 1\n", 1),
+        (b"pmpaddr0 0x10000000000000000\n", 1),
+        (b"pmpaddr0 1\npmpaddr1 \x80\n", 2),
+    ] {
+        assert!(rt; registers_of(listing) == Err(line));
+    }
+}
