@@ -7,6 +7,7 @@ mod Loaded
 mod Accessed
 mod Shown
 mod Stayed
+mod Written
 mod Marks
 mod Layouts
 mod Awake

@@ -1,7 +1,7 @@
 //! The bytes of the physical address space, kept by pages. A page that was not written has no bytes of its own and
 //! reads as zero.
 
-ghost use Rattle.std.specs.Prelude.{◌≡◌, ℕ, ◌+◌, ◌-◌, ◌*◌, ◌/◌, ◌%◌, ◌^◌, ◌<◌, ◌≤◌, OnOk, OnErr, false, true, not, ◌==◌, ◌||◌, ◌&&◌, if◌then◌else◌, length, slice_index};
+ghost use Rattle.std.specs.Prelude.{◌≡◌, ℕ, ◌+◌, ◌-◌, ◌*◌, ◌/◌, ◌%◌, ◌^◌, ◌<◌, ◌≤◌, OnOk, OnErr, IfSome, None, false, true, not, ◌==◌, ◌||◌, ◌&&◌, if◌then◌else◌, length, slice_index};
 ghost use Rattle.pmp_encoding.specs.Registers.{byte_of};
 ghost use Rattle.hart_sim.specs.Memory.{bytes_at, number_of, in_range, stored, zeroed, byte_at, is_written};
 
@@ -152,14 +152,29 @@ impl Memory {
         let _ = self.pages.remove(&page);
     }
 
-    /// Makes every byte of some pages zero, and the pages not written.
+    /// The first page from one on and before another that was written.
+    fn first_written(&self, from: u64, end: u64) -> Option<u64>
+        requires { from ≤ end }
+        ensures found { IfSome result (λ page. (from ≤ page) × (page < end) × ((q : ℕ) → from ≤ q → q < page → is_written self.now q ≡ false)) }
+        ensures none { result ≡ None → (q : ℕ) → from ≤ q → q < end → is_written self.now q ≡ false }
+    {
+        match self.pages.range(from..end).next() {
+            Some((page, _)) => Some(*page),
+            None => None,
+        }
+    }
+
+    /// Makes every byte of some pages zero, and the pages not written. It looks at those alone that were written.
     pub(crate) fn forget(&mut self, first: u64, count: u64)
         requires { first + count < 2 ^ 64 }
         ensures bytes { (a : ℕ) → byte_at self.new a ≡ zeroed (byte_at self.old) first count a }
         ensures written { (page : ℕ) → is_written self.new page ≡ (if in_range first count page then false else is_written self.old page) }
     {
-        for page in first..first + count {
+        let end = first + count;
+        let mut from = first;
+        while let Some(page) = self.first_written(from, end) {
             self.forget_page(page);
+            from = page + 1;
         }
     }
 
