@@ -8,3 +8,4 @@ pub mod RunCount
 pub mod Edges
 pub mod Overwritten
 pub mod RunsExist
+pub mod Canonical

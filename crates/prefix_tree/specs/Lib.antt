@@ -4,6 +4,7 @@ pub mod Counts
 pub mod Coding
 pub mod PartsOf
 pub mod Joined
+pub mod TreeOf
 pub mod Slices
 pub mod Overlaps
 pub mod RunsOf
