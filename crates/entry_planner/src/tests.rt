@@ -211,7 +211,7 @@ fn the_lower_half_costs_one_under_either_permission(rt: HostRuntime) -> Result<(
     let mut costs = Vec::new(rt.alloc());
     let mut halves = Vec::new(rt.alloc());
     assert!(rt; tree.branches() < 1 << 32);
-    let whole = add_costs(tree.root(), &mut costs, &mut halves)?;
+    let whole = add_costs(&tree.root(), &mut costs, &mut halves)?;
     assert_eq!(rt; whole.least, 1);
     assert_eq!(rt; whole.best.bits, 0x21);
     let plan = plan(rt.alloc(), &tree)?;

@@ -9,3 +9,4 @@ pub mod Edges
 pub mod Overwritten
 pub mod RunsExist
 pub mod Canonical
+pub mod EdgeTrees
