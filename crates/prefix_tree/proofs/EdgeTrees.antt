@@ -10,7 +10,7 @@ use Rattle.prefix_tree.specs.Trees.{Uniform, Split, TreeMeansAt}
 use Rattle.prefix_tree.specs.Joined.{one_perm}
 use Rattle.prefix_tree.specs.Slices.{AreBlockRuns}
 use Rattle.prefix_tree.specs.TreeOf.{tree_at}
-use Rattle.prefix_tree.specs.EdgeTrees.{edge_view, edge_tree, IsEdgeIn}
+use Rattle.prefix_tree.specs.EdgeTrees.{edge_view, edge_tree, IsEdgeIn, later}
 use Rattle.prefix_tree.proofs.Canonical.{tree_at-is, tree_at-moved, tree_at-means, tree_at-halves, not_one, one_run}
 
 -- ---- one edge
@@ -53,9 +53,6 @@ pub in_lower : (edge : Edge) (h k : ℕ) → h ≡ suc k → IsEdgeIn edge h →
 in_lower edge h k e is low = record { low = omega (arith, is.low); begins = is.begins; ends = low; apart = is.apart }
 
 -- in the upper half, whose pages are counted from its first
-abbrev pub later : Edge → ℕ → Edge
-later edge n = record { place = edge.place - n; before = edge.before; behind = edge.behind }
-
 later_view : (edge : Edge) (n i : ℕ) → n ≤ edge.place → edge_view edge (0 + n + i) ≡ edge_view (later edge n) (0 + i)
 later_view edge n i low =
     ⊎_elim (λ before. before_edge edge (0 + n + i) (omega arith) ∙ sym (before_edge (later edge n) (0 + i) before))

@@ -1,5 +1,5 @@
 -- Blocks with one edge, at which the permission changes.
-use Rattle.std.specs.Prelude.{◌≢◌, ℕ, ◌^◌, ◌<◌, ◌≤◌, cond, ltb}
+use Rattle.std.specs.Prelude.{◌≢◌, ℕ, ◌-◌, ◌^◌, ◌<◌, ◌≤◌, cond, ltb}
 use Rattle.pmp_encoding.specs.declared.perm.Perm.{Perm}
 use Rattle.prefix_tree.specs.declared.edge_blocks.Edge.{Edge}
 use Rattle.prefix_tree.specs.Trees.{PermTree}
@@ -19,3 +19,7 @@ pub record IsEdgeIn (edge : Edge) (height : ℕ) : Type 0 where
   pub begins : 0 < edge.place
   pub ends : edge.place < 2 ^ height
   pub apart : edge.before ≢ edge.behind
+
+-- the edge in a block without its first n pages
+abbrev pub later : Edge → ℕ → Edge
+later edge n = record { place = edge.place - n; before = edge.before; behind = edge.behind }
