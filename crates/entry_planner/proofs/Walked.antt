@@ -108,12 +108,3 @@ pub uniform_chosen :
 uniform_chosen tree k first p q a b one own =
     let T : PermTree → Type 0 = λ t. IsChosenAt k first p t own.0 in
     (own.0, own.1, subst T (sym (is_uniform tree q one)) own.2)
-
--- what is handed back behind both halves
-pub rest_behind :
-    (halves mid rest : List HalfPerms) (tree low high : PermTree) → tree ≡ Split low high → BeginsWith halves tree
-    → take (length halves - 1) (drop 1 halves) ≡ half_perms_in low ++ mid → mid ≡ half_perms_in high ++ rest → halves ≡ half_perms_in tree ++ rest
-rest_behind halves mid rest tree low high split begins first second =
-    let behind = upper_begins halves mid tree low high split begins first in
-    let same : rest ≡ begins.0 = append_cancel_left (half_perms_in high) rest begins.0 (sym second ∙ behind.1) in
-    begins.1 ∙ ap (λ l. half_perms_in tree ++ l) (sym same)

@@ -1,7 +1,6 @@
 use crate::perm_set::PermSet;
-use page_views::pages_of;
 use pmp_encoding::Perm;
-use prefix_tree::{Edge, Halving};
+use prefix_tree::Halving;
 use std::alloc::AllocError;
 
 /// What a block costs: the least number of entries, and the permissions under which it costs that.
@@ -19,12 +18,10 @@ pub struct HalfPerms {
     pub either: PermSet,
 }
 
-ghost use Rattle.std.specs.Prelude.{◌≡◌, ◌+◌, ◌<◌, ◌^◌, ◌++◌, ◌∷◌, [], IfOk, OnOk, slice_set, vec_len};
+ghost use Rattle.std.specs.Prelude.{◌≡◌, ◌+◌, ◌<◌, ◌^◌, ◌++◌, IfOk, OnOk};
 ghost use Rattle.entry_planner.specs.Best.{is_best, least_cost};
 ghost use Rattle.entry_planner.specs.PermSets.{set_of};
 ghost use Rattle.entry_planner.specs.Plans.{block_cost, cost_of, half_perms, costs_in, half_perms_in};
-ghost use Rattle.pmp_encoding.specs.declared.perm.Perm.TheVariants.{NoAccess};
-ghost use Rattle.prefix_tree.specs.EdgeTrees.{IsEdgeIn, edge_tree};
 ghost use Rattle.prefix_tree.specs.Counts.{splits};
 ghost use Rattle.prefix_tree.specs.Trees.{PermTree, Uniform, Split};
 
@@ -79,78 +76,13 @@ fn cost_of_split(together: u32, perms: HalfPerms) -> BlockCost
     }
 }
 
-/// Keeps a place for a split block, the halves of which come after it.
-fn keep_place(costs: &mut Vec<BlockCost>, halves: &mut Vec<HalfPerms>) -> Result<(), AllocError>
-    ensures costs { OnOk result (costs.new.items ≡ costs.old.items ++ block_cost (Uniform NoAccess) ∷ []) }
-    ensures halves { OnOk result (halves.new.items ≡ halves.old.items ++ half_perms (Uniform NoAccess) (Uniform NoAccess) ∷ []) }
-{
-    let unknown = cost_of_uniform(Perm::NoAccess);
-    costs.push(unknown)?;
-    halves.push(perms_of_halves(unknown, unknown))?;
-    Ok(())
-}
-
-/// Fills the place of a split block, whose halves cost so much.
-fn fill(
-    costs: &mut Vec<BlockCost>,
-    halves: &mut Vec<HalfPerms>,
-    at: usize,
-    low: BlockCost,
-    high: BlockCost,
-) -> BlockCost
-    requires costs { at < vec_len costs.old }
-    requires halves { at < vec_len halves.old }
-    requires sum { low.least + high.least + 1 < 2 ^ 32 }
-    ensures own { (lower upper : PermTree) → low ≡ block_cost lower → high ≡ block_cost upper → result ≡ block_cost (Split lower upper) }
-    ensures costs { (lower upper : PermTree) → low ≡ block_cost lower → high ≡ block_cost upper → costs.new.items ≡ slice_set costs.old.items at (block_cost (Split lower upper)) }
-    ensures halves { (lower upper : PermTree) → low ≡ block_cost lower → high ≡ block_cost upper → halves.new.items ≡ slice_set halves.old.items at (half_perms lower upper) }
-{
-    let perms = perms_of_halves(low, high);
-    let cost = cost_of_split(low.least + high.least, perms);
-    costs[at] = cost;
-    halves[at] = perms;
-    cost
-}
-
-/// The same for a block with one edge, one half of which is of one permission.
-fn add_edge_costs(
-    edge: Edge,
-    height: u32,
-    costs: &mut Vec<BlockCost>,
-    halves: &mut Vec<HalfPerms>,
-) -> Result<BlockCost, AllocError>
-    requires inside { IsEdgeIn edge height }
-    requires splits { splits (edge_tree edge height) < 2 ^ 32 }
-    requires alike { vec_len costs.old ≡ vec_len halves.old }
-    ensures own { IfOk result (λ cost. cost ≡ block_cost (edge_tree edge height)) }
-    ensures costs { OnOk result (costs.new.items ≡ costs.old.items ++ costs_in (edge_tree edge height)) }
-    ensures halves { OnOk result (halves.new.items ≡ halves.old.items ++ half_perms_in (edge_tree edge height)) }
-{
-    let at = costs.len();
-    keep_place(costs, halves)?;
-    let height = height - 1;
-    let middle = pages_of(height);
-    let before = cost_of_uniform(edge.before);
-    let behind = cost_of_uniform(edge.behind);
-    if edge.place < middle {
-        let low = add_edge_costs(edge, height, costs, halves)?;
-        return Ok(fill(costs, halves, at, low, behind));
-    }
-    if middle < edge.place {
-        let high = add_edge_costs(edge.later(middle), height, costs, halves)?;
-        return Ok(fill(costs, halves, at, before, high));
-    }
-    Ok(fill(costs, halves, at, before, behind))
-}
-
 /// Appends the costs of the split blocks of a block, and their halves' permissions, in preorder.
 pub fn add_costs<H: Halving>(
     block: &H,
     costs: &mut Vec<BlockCost>,
     halves: &mut Vec<HalfPerms>,
 ) -> Result<BlockCost, AllocError>
-    requires splits { splits (H.shape block.now) < 2 ^ 32 }
-    requires alike { vec_len costs.old ≡ vec_len halves.old }
+    requires { splits (H.shape block.now) < 2 ^ 32 }
     ensures own { IfOk result (λ cost. cost ≡ block_cost (H.shape block.now)) }
     ensures costs { OnOk result (costs.new.items ≡ costs.old.items ++ costs_in (H.shape block.now)) }
     ensures halves { OnOk result (halves.new.items ≡ halves.old.items ++ half_perms_in (H.shape block.now)) }
@@ -158,14 +90,17 @@ pub fn add_costs<H: Halving>(
     if let Some(perm) = block.one_perm() {
         return Ok(cost_of_uniform(perm));
     }
-    if let Some(cut) = block.edge() {
-        let cost = add_edge_costs(cut.edge, cut.height, costs, halves)?;
-        return Ok(cost);
-    }
     let (lower, upper) = block.halves();
     let at = costs.len();
-    keep_place(costs, halves)?;
+    let there = halves.len();
+    let unknown = cost_of_uniform(Perm::NoAccess);
+    costs.push(unknown)?;
+    halves.push(perms_of_halves(unknown, unknown))?;
     let low = add_costs(&lower, costs, halves)?;
     let high = add_costs(&upper, costs, halves)?;
-    Ok(fill(costs, halves, at, low, high))
+    let perms = perms_of_halves(low, high);
+    let cost = cost_of_split(low.least + high.least, perms);
+    costs[at] = cost;
+    halves[there] = perms;
+    Ok(cost)
 }

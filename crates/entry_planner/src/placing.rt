@@ -1,7 +1,7 @@
 use crate::costs::HalfPerms;
 use page_views::pages_of;
 use pmp_encoding::{Entry, Perm, Region};
-use prefix_tree::{Edge, Halving};
+use prefix_tree::Halving;
 use std::alloc::AllocError;
 
 /// An aligned block of 2^log2 pages.
@@ -13,7 +13,6 @@ pub struct Pages {
 
 ghost use Rattle.std.specs.Prelude.{◌≡◌, ◌+◌, ◌-◌, ◌*◌, ◌≤◌, ◌<◌, ◌^◌, ◌++◌, List, IfOk, OnOk};
 ghost use Rattle.pmp_encoding.specs.declared.region.Entry.{Entry};
-ghost use Rattle.prefix_tree.specs.EdgeTrees.{IsEdgeIn, edge_tree};
 ghost use Rattle.prefix_tree.specs.Trees.{PermTree, Fits};
 ghost use Rattle.entry_planner.specs.declared.costs.HalfPerms.{HalfPerms};
 ghost use Rattle.entry_planner.specs.Choice.{IsChosenAt, handed_on};
@@ -91,46 +90,6 @@ fn turn(
     Ok(())
 }
 
-/// Adds the entries of a block with one edge, as [`place`] does. One half of it is of one permission.
-fn place_edge<'a>(
-    edge: Edge,
-    height: u32,
-    pages: Pages,
-    inherited: Perm,
-    halves: &'a [HalfPerms],
-    entries: &mut Vec<Entry>,
-) -> Result<&'a [HalfPerms], AllocError>
-    requires inside { IsEdgeIn edge height }
-    requires fits { Fits pages.log2 (edge_tree edge height) }
-    requires pages { ArePages pages.log2 pages.first }
-    requires halves { (rest : List HalfPerms) × (halves.now ≡ half_perms_in (edge_tree edge height) ++ rest) }
-    ensures rest { IfOk result (λ rest. halves.now ≡ half_perms_in (edge_tree edge height) ++ rest.now) }
-    ensures placed { OnOk result ((placed : List Entry) × (entries.new.items ≡ entries.old.items ++ placed) × IsChosenAt pages.log2 pages.first inherited (edge_tree edge height) placed) }
-{
-    let [perms, rest @ ..] = halves else {
-        unreachable!();
-    };
-    let perm = chosen(*perms, inherited);
-    let height = height - 1;
-    let middle = pages_of(height);
-    if edge.place < middle {
-        let rest = place_edge(edge, height, pages.lower(), perm, rest, entries)?;
-        turn(pages.upper(), perm, edge.behind, entries)?;
-        turn(pages, inherited, perm, entries)?;
-        return Ok(rest);
-    }
-    turn(pages.lower(), perm, edge.before, entries)?;
-    if middle < edge.place {
-        let edge = edge.later(middle);
-        let rest = place_edge(edge, height, pages.upper(), perm, rest, entries)?;
-        turn(pages, inherited, perm, entries)?;
-        return Ok(rest);
-    }
-    turn(pages.upper(), perm, edge.behind, entries)?;
-    turn(pages, inherited, perm, entries)?;
-    Ok(rest)
-}
-
 /// Adds the entries of a block that inherits a permission. The halves' permissions of its split blocks
 /// come first in the list; what comes after them is handed back.
 pub fn place<'a, H: Halving>(
@@ -149,10 +108,6 @@ pub fn place<'a, H: Halving>(
     if let Some(perm) = block.one_perm() {
         turn(pages, inherited, perm, entries)?;
         return Ok(halves);
-    }
-    if let Some(cut) = block.edge() {
-        let rest = place_edge(cut.edge, cut.height, pages, inherited, halves, entries)?;
-        return Ok(rest);
     }
     let (lower, upper) = block.halves();
     let [perms, rest @ ..] = halves else {
