@@ -65,7 +65,8 @@ pub fn plan(alloc: Global, tree: &Tree) -> Result<Plan, Memory>
     Ok(plan)
 }
 
-/// The plan of a map, as [`plan`] has it for the canonical tree of its view. No tree is made.
+/// The plan of a map, as [`plan`] has it for the canonical tree of its view. That tree has at most 44 split blocks for
+/// each of the two ends of a run, and is not made.
 pub fn plan_map(alloc: Global, map: &PermissionMap) -> Result<Plan, Memory>
     ensures means { IfOk result (λ plan. Means plan.entries (view_of_runs map.now)) }
     ensures least { IfOk result (λ plan. (others : List Entry) → Means others (view_of_runs map.now) → length plan.entries ≤ length others) }
@@ -75,6 +76,7 @@ pub fn plan_map(alloc: Global, map: &PermissionMap) -> Result<Plan, Memory>
     ensures choice { IfOk result (λ plan. AreChosen (tree_of (view_of_runs map.now)) plan.entries) }
     ensures costs { IfOk result (λ plan. CostsAre plan.costs 0 (tree_of (view_of_runs map.now))) }
     ensures branches { IfOk result (λ plan. length plan.costs ≡ splits (tree_of (view_of_runs map.now))) }
+    ensures most { IfOk result (λ plan. length plan.costs ≤ 44 * 8192) }
     ensures bound { IfOk result (λ plan. IsSoundBound (view_of_runs map.now) (costed plan.costs 0 (tree_of (view_of_runs map.now)))) }
     ensures root { IfOk result (λ plan. bound_of (costed plan.costs 0 (tree_of (view_of_runs map.now))) NoAccess ≡ length plan.entries) }
 {

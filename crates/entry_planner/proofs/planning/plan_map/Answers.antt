@@ -1,4 +1,6 @@
 -- Each clause is what the placing says of the canonical tree of the map's view.
+use Rattle.std.proofs.Common.{ap, arith}
+use Rattle.prefix_tree.specs.Counts.{splits}
 use Rattle.permission_map.specs.Runs.{view_of_runs}
 use Rattle.prefix_tree.specs.TreeOf.{tree_of}
 use Rattle.prefix_tree.proofs.Canonical.{tree_at-means}
@@ -18,6 +20,7 @@ returns c =
       choice = p.choice;
       costs = p.costs;
       branches = p.branches;
+      most = omega (arith, p.branches, ap splits c.of.ensures.tree, c.of.ensures.splits, c.of.ensures.most);
       bound = p.bound;
       root = p.root;
     }
