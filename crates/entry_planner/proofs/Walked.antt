@@ -1,10 +1,11 @@
 -- What a walk down a split block adds, from what it adds in the halves.
-use Rattle.std.proofs.Common.{◌≡◌, ℕ, suc, ◌+◌, ◌-◌, ◌^◌, List, ◌++◌, length, take, drop, get_or, refl, sym, ap, subst, ◌∙◌, arith, append_assoc}
+use Rattle.std.proofs.Common.{◌≡◌, ℕ, suc, ◌+◌, ◌-◌, ◌^◌, List, ◌++◌, length, take, drop, get_or, Some, refl, sym, ap, subst, ◌∙◌, arith, append_assoc}
 use Rattle.std.proofs.lemmas.Grind.{common_steps}
 use Rattle.std.proofs.lemmas.List.{append_cancel_left}
 use Rattle.pmp_encoding.specs.declared.perm.Perm.{Perm}
 use Rattle.pmp_encoding.specs.declared.region.Entry.{Entry}
-use Rattle.prefix_tree.specs.Trees.{PermTree, Split, Fits}
+use Rattle.prefix_tree.specs.Trees.{PermTree, Uniform, Split, Fits}
+use Rattle.prefix_tree.specs.Joined.{one_perm}
 use Rattle.entry_planner.specs.declared.costs.HalfPerms.{HalfPerms}
 use Rattle.entry_planner.specs.Choice.{IsChosenAt, handed_on}
 use Rattle.entry_planner.specs.Placing.{ArePages, IsOwn}
@@ -97,3 +98,13 @@ split_chosen tree low high k i j first lower upper p q a b c d split low_height 
       o.1 ∙ ap (λ x. x ++ o.0) (h.1 ∙ ap (λ x. x ++ h.0) l.1) ∙ append_assoc (a ++ l.0) h.0 o.0 ∙ append_assoc a l.0 (h.0 ++ o.0),
       subst N (sym up) (subst T (sym split) whole),
     )
+
+is_uniform : (tree : PermTree) (q : Perm) → Some q ≡ one_perm tree → tree ≡ Uniform q
+is_uniform (Uniform p) q e = let same : q ≡ p = cc in ap Uniform (sym same)
+is_uniform (Split lower upper) q e = absurd (let no : ⊥ = cc in no)
+
+pub uniform_chosen :
+    (tree : PermTree) (k first : ℕ) (p q : Perm) (a b : List Entry) → Some q ≡ one_perm tree → AddsOwn k first p q a b → AddsChosen k first p tree a b
+uniform_chosen tree k first p q a b one own =
+    let T : PermTree → Type 0 = λ t. IsChosenAt k first p t own.0 in
+    (own.0, own.1, subst T (sym (is_uniform tree q one)) own.2)

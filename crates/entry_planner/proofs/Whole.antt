@@ -8,19 +8,18 @@ use Rattle.std.proofs.lemmas.List.Sorted.{All-permutation, length_permutation}
 use Rattle.pmp_encoding.specs.declared.perm.Perm.{Perm}
 use Rattle.pmp_encoding.specs.declared.perm.Perm.TheVariants.{NoAccess}
 use Rattle.pmp_encoding.specs.declared.region.Entry.{Entry}
-use Rattle.pmp_match.specs.Bounds.{IsSoundAt, bound_of}
-use Rattle.pmp_match.specs.Meaning.{View, Means}
+use Rattle.pmp_match.specs.Bounds.{IsSoundAt, IsSoundBound, bound_of}
+use Rattle.pmp_match.specs.Meaning.{View, Means, Needs}
 use Rattle.pmp_match.proofs.Meant.{least}
 use Rattle.prefix_tree.specs.Counts.{splits}
-use Rattle.prefix_tree.specs.Trees.{PermTree, Uniform, Split, Fits, TreeMeansAt, view_of_tree}
-use Rattle.prefix_tree.proofs.Meant.{means_perm_in}
+use Rattle.prefix_tree.specs.Trees.{PermTree, Uniform, Split, TreeMeansAt, TreeMeans}
 use Rattle.entry_planner.specs.declared.costs.BlockCost.{BlockCost}
 use Rattle.entry_planner.specs.Best.{is_best, least_cost}
 use Rattle.entry_planner.specs.Costs.{cost, bounds_of}
 use Rattle.entry_planner.specs.Choice.{AreChosen}
 use Rattle.entry_planner.specs.Order.{AreInOrder}
 use Rattle.entry_planner.specs.Placing.{IsPlaced}
-use Rattle.entry_planner.specs.Plans.{AreSmall, CostsAre, Planned, block_cost, cost_in, cost_of, costed, costs_in}
+use Rattle.entry_planner.specs.Plans.{AreSmall, CostsAre, IsMade, Planned, block_cost, cost_in, cost_of, costed, costs_in}
 use Rattle.entry_planner.proofs.BestCosts.{cost_is}
 use Rattle.entry_planner.proofs.BlockCosts.{least_le_branches}
 use Rattle.entry_planner.proofs.Choices.{chosen_placed}
@@ -38,22 +37,18 @@ AreListed tree entries = (placed : List Entry) × IsPlaced tree placed × IsPerm
 pub chosen_listed : (tree : PermTree) (entries : List Entry) → AreChosen tree entries → AreListed tree entries
 chosen_listed tree entries chosen = (chosen.0, chosen_placed tree 44 0 NoAccess chosen.0 chosen.1, chosen.2)
 
-own_means : (tree : PermTree) → Fits 44 tree → TreeMeansAt (view_of_tree tree) 44 0 tree
-own_means tree fits = means_perm_in (view_of_tree tree) 44 0 tree fits (λ i h. let e : 0 + i ≡ i = omega arith in ap (view_of_tree tree) e)
-
-pub listed_means : (tree : PermTree) (entries : List Entry) → Fits 44 tree → AreListed tree entries → AreInOrder entries → Means entries (view_of_tree tree)
-listed_means tree entries fits listed order =
-    placed_means (view_of_tree tree) tree listed.0 entries (own_means tree fits) listed.1 listed.2 (sizes_rise entries order)
+pub listed_means :
+    (view : View) (tree : PermTree) (entries : List Entry) → TreeMeans view tree → AreListed tree entries → AreInOrder entries → Means entries view
+listed_means view tree entries means listed order = placed_means view tree listed.0 entries means listed.1 listed.2 (sizes_rise entries order)
 
 pub listed_count : (tree : PermTree) (entries : List Entry) → AreListed tree entries → length entries ≡ cost tree NoAccess
 listed_count tree entries listed = length_permutation listed.0 entries listed.2 ∙ placed_count tree 44 0 NoAccess listed.0 listed.1
 
 pub listed_least :
-    (tree : PermTree) (entries : List Entry) → Fits 44 tree → AreListed tree entries → (others : List Entry) → Means others (view_of_tree tree)
+    (view : View) (tree : PermTree) (entries : List Entry) → TreeMeans view tree → AreListed tree entries → (others : List Entry) → Means others view
     → length entries ≤ length others
-listed_least tree entries fits listed others means =
-    let bound : bound_of (bounds_of tree) NoAccess ≤ length others =
-    least (view_of_tree tree) (bounds_of tree) others (costs_sound (view_of_tree tree) tree 44 0 (own_means tree fits)) means in
+listed_least view tree entries means listed others same =
+    let bound : bound_of (bounds_of tree) NoAccess ≤ length others = least view (bounds_of tree) others (costs_sound view tree 44 0 means) same in
     omega (arith, listed_count tree entries listed, bound_of-bounds_of tree NoAccess)
 
 pub listed_pages : (tree : PermTree) (entries : List Entry) → AreListed tree entries → All (λ e. 12 ≤ e.region.log2) entries
@@ -180,8 +175,8 @@ whole_stands tree costs are = record { before = []; after = []; split = are ∙ 
 pub whole_costs : (tree : PermTree) (costs : List BlockCost) → costs ≡ costs_in tree → CostsAre costs 0 tree
 whole_costs tree costs are = costs_stand costs 0 tree (whole_stands tree costs are)
 
-pub whole_sound : (tree : PermTree) (costs : List BlockCost) → Fits 44 tree → costs ≡ costs_in tree → IsSoundAt (view_of_tree tree) 44 0 (costed costs 0 tree)
-whole_sound tree costs fits are = costed_sound (view_of_tree tree) costs 0 tree 44 0 (whole_stands tree costs are) (own_means tree fits)
+pub whole_sound : (view : View) (tree : PermTree) (costs : List BlockCost) → TreeMeans view tree → costs ≡ costs_in tree → IsSoundAt view 44 0 (costed costs 0 tree)
+whole_sound view tree costs means are = costed_sound view costs 0 tree 44 0 (whole_stands tree costs are) means
 
 pub whole_root :
     (tree : PermTree) (entries : List Entry) (costs : List BlockCost) → costs ≡ costs_in tree → AreListed tree entries
@@ -191,18 +186,43 @@ whole_root tree entries costs are listed =
 
 -- ---- the plan
 
--- the entries are those that are chosen for the tree, in order, and the costs are the tree's
-pub record IsMade (tree : PermTree) (plan : Planned) : Type 0 where
-  pub chosen : AreChosen tree plan.entries
-  pub order : AreInOrder plan.entries
-  pub costs : plan.costs ≡ costs_in tree
-
 pub made :
-    (tree shape : PermTree) (entries : List Entry) (none costs : List BlockCost) (plan : Planned) → shape ≡ tree → AreChosen shape entries → AreInOrder entries
-    → none ≡ [] → costs ≡ none ++ costs_in shape → plan ≡ record { entries = entries; costs = costs } → IsMade tree plan
-made tree shape entries none costs plan same chosen order empty are is =
-    let L : PermTree → Type 0 = λ t. AreChosen t entries in
-    let own : IsMade tree (record { entries = entries; costs = costs }) =
-    record { chosen = subst L same chosen; order = order; costs = are ∙ ap (λ l. l ++ costs_in shape) empty ∙ ap costs_in same } in
-    let M : Planned → Type 0 = IsMade tree in
-    subst M (sym is) own
+    (tree : PermTree) (entries : List Entry) (none costs : List BlockCost) → AreChosen tree entries → AreInOrder entries → none ≡ [] → costs ≡ none ++ costs_in tree
+    → IsMade tree (record { entries = entries; costs = costs })
+made tree entries none costs chosen order empty are = record { chosen = chosen; order = order; costs = are ∙ ap (λ l. l ++ costs_in tree) empty }
+
+pub made_is : (tree : PermTree) (made plan : Planned) → plan ≡ made → IsMade tree made → IsMade tree plan
+made_is tree made plan is own = let M : Planned → Type 0 = IsMade tree in subst M (sym is) own
+
+-- what the plan of a tree promises of a view that the tree means
+pub record IsPlanOf (view : View) (tree : PermTree) (plan : Planned) : Type 0 where
+  pub means : Means plan.entries view
+  pub least : (others : List Entry) → Means others view → length plan.entries ≤ length others
+  pub needs : Needs view (length plan.entries)
+  pub pages : All (λ e. 12 ≤ e.region.log2) plan.entries
+  pub order : AreInOrder plan.entries
+  pub choice : AreChosen tree plan.entries
+  pub costs : CostsAre plan.costs 0 tree
+  pub branches : length plan.costs ≡ splits tree
+  pub bound : IsSoundBound view (costed plan.costs 0 tree)
+  pub root : bound_of (costed plan.costs 0 tree) NoAccess ≡ length plan.entries
+
+pub promised : (view : View) (tree shape : PermTree) (plan : Planned) → TreeMeans view tree → shape ≡ tree → IsMade shape plan → IsPlanOf view tree plan
+promised view tree shape plan meant same made =
+    let M : PermTree → Type 0 = λ t. IsMade t plan in
+    let m = subst M same made in
+    let listed = chosen_listed tree plan.entries m.chosen in
+    let means = listed_means view tree plan.entries meant listed m.order in
+    let least = listed_least view tree plan.entries meant listed in
+    record {
+      means = means;
+      least = least;
+      needs = record { entries = plan.entries; means = means; count = refl; least = least };
+      pages = listed_pages tree plan.entries listed;
+      order = m.order;
+      choice = m.chosen;
+      costs = whole_costs tree plan.costs m.costs;
+      branches = ap length m.costs ∙ length-costs_in tree;
+      bound = whole_sound view tree plan.costs meant m.costs;
+      root = whole_root tree plan.entries plan.costs m.costs listed;
+    }

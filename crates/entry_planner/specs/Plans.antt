@@ -8,7 +8,9 @@ use Rattle.entry_planner.specs.declared.costs.HalfPerms.{HalfPerms}
 use Rattle.prefix_tree.specs.Trees.{PermTree, Uniform, Split}
 use Rattle.prefix_tree.specs.Counts.{splits}
 use Rattle.entry_planner.specs.Best.{is_best, least_cost}
+use Rattle.entry_planner.specs.Choice.{AreChosen}
 use Rattle.entry_planner.specs.Costs.{cost}
+use Rattle.entry_planner.specs.Order.{AreInOrder}
 use Rattle.entry_planner.specs.PermSets.{has, set_of}
 
 -- a list of entries, and what each split block of a tree costs, in preorder
@@ -63,3 +65,9 @@ abbrev pub CostsAre : List BlockCost → ℕ → PermTree → Type 0
 CostsAre costs i (Uniform q) = Unit {0}
 CostsAre costs i (Split lower upper) =
     ((p : Perm) → cost_in costs i p ≡ cost (Split lower upper) p) × CostsAre costs (i + 1) lower × CostsAre costs (i + 1 + splits lower) upper
+
+-- the plan has the entries that are chosen for the tree, in order, and its costs
+pub record IsMade (tree : PermTree) (plan : Planned) : Type 0 where
+  pub chosen : AreChosen tree plan.entries
+  pub order : AreInOrder plan.entries
+  pub costs : plan.costs ≡ costs_in tree

@@ -1,6 +1,6 @@
 use crate::perm_set::PermSet;
 use pmp_encoding::Perm;
-use prefix_tree::{Block, Parts};
+use prefix_tree::Halving;
 use std::alloc::AllocError;
 
 /// What a block costs: the least number of entries, and the permissions under which it costs that.
@@ -23,7 +23,6 @@ ghost use Rattle.entry_planner.specs.Best.{is_best, least_cost};
 ghost use Rattle.entry_planner.specs.PermSets.{set_of};
 ghost use Rattle.entry_planner.specs.Plans.{block_cost, cost_of, half_perms, costs_in, half_perms_in};
 ghost use Rattle.prefix_tree.specs.Counts.{splits};
-ghost use Rattle.prefix_tree.specs.Shapes.{shape_of};
 ghost use Rattle.prefix_tree.specs.Trees.{PermTree, Uniform, Split};
 
 impl BlockCost {
@@ -78,31 +77,30 @@ fn cost_of_split(together: u32, perms: HalfPerms) -> BlockCost
 }
 
 /// Appends the costs of the split blocks of a block, and their halves' permissions, in preorder.
-pub fn add_costs(
-    block: &Block,
+pub fn add_costs<H: Halving>(
+    block: &H,
     costs: &mut Vec<BlockCost>,
     halves: &mut Vec<HalfPerms>,
 ) -> Result<BlockCost, AllocError>
-    requires { splits (shape_of block.now) < 2 ^ 32 }
-    ensures own { IfOk result (λ cost. cost ≡ block_cost (shape_of block.now)) }
-    ensures costs { OnOk result (costs.new.items ≡ costs.old.items ++ costs_in (shape_of block.now)) }
-    ensures halves { OnOk result (halves.new.items ≡ halves.old.items ++ half_perms_in (shape_of block.now)) }
+    requires { splits (H.shape block.now) < 2 ^ 32 }
+    ensures own { IfOk result (λ cost. cost ≡ block_cost (H.shape block.now)) }
+    ensures costs { OnOk result (costs.new.items ≡ costs.old.items ++ costs_in (H.shape block.now)) }
+    ensures halves { OnOk result (halves.new.items ≡ halves.old.items ++ half_perms_in (H.shape block.now)) }
 {
-    match block.parts() {
-        Parts::Leaf(perm) => Ok(cost_of_uniform(perm)),
-        Parts::Halves(lower, upper) => {
-            let at = costs.len();
-            let there = halves.len();
-            let unknown = cost_of_uniform(Perm::NoAccess);
-            costs.push(unknown)?;
-            halves.push(perms_of_halves(unknown, unknown))?;
-            let low = add_costs(lower, costs, halves)?;
-            let high = add_costs(upper, costs, halves)?;
-            let perms = perms_of_halves(low, high);
-            let cost = cost_of_split(low.least + high.least, perms);
-            costs[at] = cost;
-            halves[there] = perms;
-            Ok(cost)
-        }
+    if let Some(perm) = block.one_perm() {
+        return Ok(cost_of_uniform(perm));
     }
+    let (lower, upper) = block.halves();
+    let at = costs.len();
+    let there = halves.len();
+    let unknown = cost_of_uniform(Perm::NoAccess);
+    costs.push(unknown)?;
+    halves.push(perms_of_halves(unknown, unknown))?;
+    let low = add_costs(&lower, costs, halves)?;
+    let high = add_costs(&upper, costs, halves)?;
+    let perms = perms_of_halves(low, high);
+    let cost = cost_of_split(low.least + high.least, perms);
+    costs[at] = cost;
+    halves[there] = perms;
+    Ok(cost)
 }

@@ -1,6 +1,7 @@
 use crate::costs::HalfPerms;
+use page_views::pages_of;
 use pmp_encoding::{Entry, Perm, Region};
-use prefix_tree::{Block, Parts};
+use prefix_tree::Halving;
 use std::alloc::AllocError;
 
 /// An aligned block of 2^log2 pages.
@@ -12,20 +13,11 @@ pub struct Pages {
 
 ghost use Rattle.std.specs.Prelude.{◌≡◌, ◌+◌, ◌-◌, ◌*◌, ◌≤◌, ◌<◌, ◌^◌, ◌++◌, List, IfOk, OnOk};
 ghost use Rattle.pmp_encoding.specs.declared.region.Entry.{Entry};
-ghost use Rattle.prefix_tree.specs.Shapes.{shape_of};
 ghost use Rattle.prefix_tree.specs.Trees.{PermTree, Fits};
 ghost use Rattle.entry_planner.specs.declared.costs.HalfPerms.{HalfPerms};
 ghost use Rattle.entry_planner.specs.Choice.{IsChosenAt, handed_on};
 ghost use Rattle.entry_planner.specs.Placing.{ArePages, IsOwn};
 ghost use Rattle.entry_planner.specs.Plans.{half_perms, half_perms_in};
-
-/// How many pages such a block has.
-fn pages_of(log2: u32) -> u64
-    requires { log2 ≤ 44 }
-    ensures { result ≡ 2 ^ log2 }
-{
-    1 << log2
-}
 
 impl Pages {
     fn lower(self) -> Pages
@@ -100,33 +92,30 @@ fn turn(
 
 /// Adds the entries of a block that inherits a permission. The halves' permissions of its split blocks
 /// come first in the list; what comes after them is handed back.
-pub fn place<'a>(
-    block: &Block,
+pub fn place<'a, H: Halving>(
+    block: &H,
     pages: Pages,
     inherited: Perm,
     halves: &'a [HalfPerms],
     entries: &mut Vec<Entry>,
 ) -> Result<&'a [HalfPerms], AllocError>
-    requires fits { Fits pages.log2 (shape_of block.now) }
+    requires fits { Fits pages.log2 (H.shape block.now) }
     requires pages { ArePages pages.log2 pages.first }
-    requires halves { (rest : List HalfPerms) × (halves.now ≡ half_perms_in (shape_of block.now) ++ rest) }
-    ensures rest { IfOk result (λ rest. halves.now ≡ half_perms_in (shape_of block.now) ++ rest.now) }
-    ensures placed { OnOk result ((placed : List Entry) × (entries.new.items ≡ entries.old.items ++ placed) × IsChosenAt pages.log2 pages.first inherited (shape_of block.now) placed) }
+    requires halves { (rest : List HalfPerms) × (halves.now ≡ half_perms_in (H.shape block.now) ++ rest) }
+    ensures rest { IfOk result (λ rest. halves.now ≡ half_perms_in (H.shape block.now) ++ rest.now) }
+    ensures placed { OnOk result ((placed : List Entry) × (entries.new.items ≡ entries.old.items ++ placed) × IsChosenAt pages.log2 pages.first inherited (H.shape block.now) placed) }
 {
-    match block.parts() {
-        Parts::Leaf(perm) => {
-            turn(pages, inherited, perm, entries)?;
-            Ok(halves)
-        }
-        Parts::Halves(lower, upper) => {
-            let [perms, rest @ ..] = halves else {
-                unreachable!();
-            };
-            let perm = chosen(*perms, inherited);
-            let rest = place(lower, pages.lower(), perm, rest, entries)?;
-            let rest = place(upper, pages.upper(), perm, rest, entries)?;
-            turn(pages, inherited, perm, entries)?;
-            Ok(rest)
-        }
+    if let Some(perm) = block.one_perm() {
+        turn(pages, inherited, perm, entries)?;
+        return Ok(halves);
     }
+    let (lower, upper) = block.halves();
+    let [perms, rest @ ..] = halves else {
+        unreachable!();
+    };
+    let perm = chosen(*perms, inherited);
+    let rest = place(&lower, pages.lower(), perm, rest, entries)?;
+    let rest = place(&upper, pages.upper(), perm, rest, entries)?;
+    turn(pages, inherited, perm, entries)?;
+    Ok(rest)
 }

@@ -1,32 +1,38 @@
-ghost use Rattle.std.specs.Prelude.{◌≡◌, ◌≤◌, List, length, All, IfOk};
+ghost use Rattle.std.specs.Prelude.{◌≡◌, ◌≤◌, ◌*◌, List, length, All, IfOk};
 ghost use Rattle.pmp_encoding.specs.declared.perm.Perm.TheVariants.{NoAccess};
 ghost use Rattle.pmp_encoding.specs.declared.region.Entry.{Entry};
 ghost use Rattle.pmp_match.specs.Bounds.{IsSoundBound, bound_of};
 ghost use Rattle.pmp_match.specs.Meaning.{Means, Needs};
 ghost use Rattle.prefix_tree.specs.Counts.{splits};
-ghost use Rattle.prefix_tree.specs.Shapes.{shape_of};
 ghost use Rattle.prefix_tree.specs.Trees.{Fits, view_of_tree};
 ghost use Rattle.entry_planner.specs.Order.{AreInOrder};
 ghost use Rattle.entry_planner.specs.Choice.{AreChosen};
-ghost use Rattle.entry_planner.specs.Plans.{CostsAre, costed, half_perms_in};
+ghost use Rattle.entry_planner.specs.Plans.{CostsAre, IsMade, costed, half_perms_in};
+ghost use Rattle.permission_map.specs.Runs.{view_of_runs};
+ghost use Rattle.prefix_tree.specs.TreeOf.{tree_of};
 
 use crate::costs::{HalfPerms, add_costs};
 use crate::order::put_in_order;
 use crate::placing::{Pages, place};
 use crate::planned::Plan;
-use permission_map::Memory;
+use permission_map::{Memory, PermissionMap};
 use pmp_encoding::{Entry, Perm};
-use prefix_tree::{Block, Tree};
+use prefix_tree::{Halving, MapBlock, Tree};
 use std::alloc::Global;
 
 /// The entries of the whole space, in which no access is inherited, in order.
-fn entries_of(alloc: Global, root: &Block, halves: &[HalfPerms]) -> Result<Vec<Entry>, Memory>
-    requires fits { Fits 44 (shape_of root.now) }
-    requires halves { halves.now ≡ half_perms_in (shape_of root.now) }
-    ensures chosen { IfOk result (λ v. AreChosen (shape_of root.now) v.items) }
+fn entries_of<H: Halving>(
+    alloc: Global,
+    root: &H,
+    least: u32,
+    halves: &[HalfPerms],
+) -> Result<Vec<Entry>, Memory>
+    requires fits { Fits 44 (H.shape root.now) }
+    requires halves { halves.now ≡ half_perms_in (H.shape root.now) }
+    ensures chosen { IfOk result (λ v. AreChosen (H.shape root.now) v.items) }
     ensures order { IfOk result (λ v. AreInOrder v.items) }
 {
-    let mut entries = Vec::new(alloc);
+    let mut entries = Vec::with_capacity(alloc, least as usize)?;
     let space = Pages { first: 0, log2: 44 };
     let _ = place(root, space, Perm::NoAccess, halves, &mut entries)?;
     put_in_order(&mut entries)?;
@@ -55,11 +61,40 @@ pub fn plan(alloc: Global, tree: &Tree) -> Result<Plan, Memory>
     ensures bound { IfOk result (λ plan. IsSoundBound (view_of_tree tree.now) (costed plan.costs 0 tree.now)) }
     ensures root { IfOk result (λ plan. bound_of (costed plan.costs 0 tree.now) NoAccess ≡ length plan.entries) }
 {
-    let branches = tree.branches();
-    let root = tree.root();
-    let mut costs = Vec::with_capacity(alloc, branches)?;
-    let mut halves = Vec::with_capacity(alloc, branches)?;
-    let _ = add_costs(root, &mut costs, &mut halves)?;
-    let entries = entries_of(alloc, root, halves.as_slice())?;
+    let plan = plan_of(alloc, &tree.root(), tree.branches())?;
+    Ok(plan)
+}
+
+/// The plan of a map, as [`plan`] has it for the canonical tree of its view. That tree has at most 44 split blocks for
+/// each of the two ends of a run, and is not made.
+pub fn plan_map(alloc: Global, map: &PermissionMap) -> Result<Plan, Memory>
+    ensures means { IfOk result (λ plan. Means plan.entries (view_of_runs map.now)) }
+    ensures least { IfOk result (λ plan. (others : List Entry) → Means others (view_of_runs map.now) → length plan.entries ≤ length others) }
+    ensures needs { IfOk result (λ plan. Needs (view_of_runs map.now) (length plan.entries)) }
+    ensures pages { IfOk result (λ plan. All (λ e. 12 ≤ e.region.log2) plan.entries) }
+    ensures order { IfOk result (λ plan. AreInOrder plan.entries) }
+    ensures choice { IfOk result (λ plan. AreChosen (tree_of (view_of_runs map.now)) plan.entries) }
+    ensures costs { IfOk result (λ plan. CostsAre plan.costs 0 (tree_of (view_of_runs map.now))) }
+    ensures branches { IfOk result (λ plan. length plan.costs ≡ splits (tree_of (view_of_runs map.now))) }
+    ensures most { IfOk result (λ plan. length plan.costs ≤ 44 * 8192) }
+    ensures bound { IfOk result (λ plan. IsSoundBound (view_of_runs map.now) (costed plan.costs 0 (tree_of (view_of_runs map.now)))) }
+    ensures root { IfOk result (λ plan. bound_of (costed plan.costs 0 (tree_of (view_of_runs map.now))) NoAccess ≡ length plan.entries) }
+{
+    let most = 88 * map.ranges().len();
+    let plan = plan_of(alloc, &MapBlock::of(map), most)?;
+    Ok(plan)
+}
+
+/// The plan of the space, of which so many blocks are split at most.
+fn plan_of<H: Halving>(alloc: Global, root: &H, most: usize) -> Result<Plan, Memory>
+    requires fits { Fits 44 (H.shape root.now) }
+    requires splits { splits (H.shape root.now) ≤ most }
+    requires most { most ≤ 88 * 4096 }
+    ensures { IfOk result (λ plan. IsMade (H.shape root.now) plan) }
+{
+    let mut costs = Vec::with_capacity(alloc, most)?;
+    let mut halves = Vec::with_capacity(alloc, most)?;
+    let cost = add_costs(root, &mut costs, &mut halves)?;
+    let entries = entries_of(alloc, root, cost.least + 1, halves.as_slice())?;
     Ok(Plan::new(entries, costs))
 }

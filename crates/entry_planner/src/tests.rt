@@ -7,17 +7,37 @@ use std::alloc::Global;
 use std::process::Abort;
 use std::test::Fail;
 
-/// The tree of a view that gives these ranges their permissions: the first page, the number of pages, the permission.
-fn tree_of(alloc: Global, ranges: &[(u64, u64, Perm)]) -> Result<Tree, Fail> {
+/// The map that gives these ranges their permissions: the first page, the number of pages, the permission.
+fn map_of(alloc: Global, ranges: &[(u64, u64, Perm)]) -> Result<PermissionMap, Fail> {
     let mut map = PermissionMap::new(alloc);
     for (first, count, perm) in ranges {
         map.set_range(*first, *count, *perm)?;
     }
-    let tree = build(alloc, &map)?;
+    Ok(map)
+}
+
+/// The tree of that map.
+fn tree_of(alloc: Global, ranges: &[(u64, u64, Perm)]) -> Result<Tree, Fail> {
+    let tree = build(alloc, &map_of(alloc, ranges)?)?;
     Ok(tree)
 }
 
-/// The plan of the ranges has these entries, written as pairs, in this order.
+/// The costs of all split blocks under all permissions.
+fn all_costs(alloc: Global, plan: &Plan) -> Result<Vec<u32>, Fail> {
+    let mut costs = Vec::new(alloc);
+    for i in 0..plan.branches() {
+        costs.push(plan.cost(i, Perm::NoAccess))?;
+        costs.push(plan.cost(i, Perm::Read))?;
+        costs.push(plan.cost(i, Perm::ReadWrite))?;
+        costs.push(plan.cost(i, Perm::Execute))?;
+        costs.push(plan.cost(i, Perm::ReadExecute))?;
+        costs.push(plan.cost(i, Perm::ReadWriteExecute))?;
+    }
+    Ok(costs)
+}
+
+/// The plan of the ranges has these entries, written as pairs, in this order, and so has that of their map without a tree,
+/// with the same costs.
 fn is_planned(
     ranges: &[(u64, u64, Perm)],
     pairs: &[(u8, u64)],
@@ -33,6 +53,9 @@ fn is_planned(
     assert_eq!(rt; found.as_slice(), pairs);
     assert_eq!(rt; plan.needed() as usize, pairs.len());
     assert_eq!(rt; plan.branches(), tree.branches());
+    let of_map = plan_map(alloc, &map_of(alloc, ranges)?)?;
+    assert_eq!(rt; of_map.entries(), plan.entries());
+    assert_eq!(rt; all_costs(alloc, &of_map)?, all_costs(alloc, &plan)?);
     Ok(plan)
 }
 
@@ -211,7 +234,7 @@ fn the_lower_half_costs_one_under_either_permission(rt: HostRuntime) -> Result<(
     let mut costs = Vec::new(rt.alloc());
     let mut halves = Vec::new(rt.alloc());
     assert!(rt; tree.branches() < 1 << 32);
-    let whole = add_costs(tree.root(), &mut costs, &mut halves)?;
+    let whole = add_costs(&tree.root(), &mut costs, &mut halves)?;
     assert_eq!(rt; whole.least, 1);
     assert_eq!(rt; whole.best.bits, 0x21);
     let plan = plan(rt.alloc(), &tree)?;

@@ -2,4 +2,3 @@ pub mod Names
 mod Ends
 pub mod Refusals
 mod Parts
-pub mod SameViews

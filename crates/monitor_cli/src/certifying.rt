@@ -16,11 +16,10 @@ ghost use Rattle.monitor_cli.specs.Tasks.{IsFewest};
 
 use crate::trouble::Trouble;
 use byte_streams::{Sink, write_whole};
-use entry_planner::{Plan, plan};
+use entry_planner::{Plan, plan_map};
 use permission_map::{Memory, PermissionMap};
-use plan_certificate::write;
+use plan_certificate::write_map;
 use pmp_encoding::{Bank, Entry, Limit};
-use prefix_tree::build;
 use std::alloc::Global;
 
 /// The fewest entries that mean a map.
@@ -28,8 +27,7 @@ pub fn planned(alloc: Global, map: &PermissionMap) -> Result<Plan, Memory>
     ensures means { IfOk result (λ plan. Means plan.entries (view_of_runs map.now)) }
     ensures least { IfOk result (λ plan. (others : List Entry) → Means others (view_of_runs map.now) → length plan.entries ≤ length others) }
 {
-    let tree = build(alloc, map)?;
-    let plan = plan(alloc, &tree)?;
+    let plan = plan_map(alloc, map)?;
     Ok(plan)
 }
 
@@ -57,11 +55,8 @@ pub fn certified(
     ensures spells { IfOk result (λ r. (tree : BoundTree) × Spells r.1.items (version_for limit) r.0.entries tree) }
     ensures accepted { IfOk result (λ r. IsRight (view_of_runs map.now) r.1.items (length r.0.entries)) }
 {
-    let tree = build(alloc, map)?;
-    let branches = tree.branches();
-    let plan = plan(alloc, &tree)?;
-    prove!(branches == plan.branches());
-    let bytes = write(alloc, &tree, &plan, limit)?;
+    let plan = plan_map(alloc, map)?;
+    let bytes = write_map(alloc, map, &plan, limit)?;
     Ok((plan, bytes))
 }
 

@@ -18,4 +18,4 @@ mod writing;
 
 pub use certificate_format::{Costs, EntryBytes, Header, ReadFault, Reader, Tag, Version};
 pub use laws::certificate_law;
-pub use writing::write;
+pub use writing::{write, write_map};

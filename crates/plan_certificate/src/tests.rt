@@ -1,5 +1,5 @@
-use crate::{Header, ReadFault, Reader, Tag, write};
-use entry_planner::plan;
+use crate::{Header, ReadFault, Reader, Tag, write, write_map};
+use entry_planner::{plan, plan_map};
 use permission_map::PermissionMap;
 use pmp_encoding::{Limit, Perm};
 use prefix_tree::build;
@@ -35,7 +35,7 @@ fn read_whole(bytes: &[u8]) -> Result<(Header, usize), ReadFault> {
     Ok((header, reader.rest().len()))
 }
 
-/// The certificate of a map of one range, of that many pages.
+/// The certificate of a map of one range, of that many pages, by its tree and without it.
 fn certificate(
     alloc: Global,
     first: u64,
@@ -48,6 +48,10 @@ fn certificate(
     let tree = build(alloc, &map)?;
     let plan = plan(alloc, &tree)?;
     let bytes = write(alloc, &tree, &plan, limit)?;
+    let of_map = write_map(alloc, &map, &plan_map(alloc, &map)?, limit)?;
+    if bytes != of_map {
+        return Err(Fail::from("the certificate of the map is another"));
+    }
     Ok(bytes)
 }
 

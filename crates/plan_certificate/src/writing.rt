@@ -1,17 +1,18 @@
-ghost use Rattle.std.specs.Prelude.{◌≡◌, ◌+◌, ◌≤◌, ◌<◌, ◌^◌, ◌++◌, ℕ, IfOk, OnOk, length};
+ghost use Rattle.std.specs.Prelude.{◌≡◌, ◌+◌, ◌*◌, ◌≤◌, ◌<◌, ◌^◌, ◌++◌, ℕ, IfOk, OnOk, length};
 ghost use Rattle.std.specs.List.{flat_map};
 ghost use Rattle.prefix_tree.specs.Trees.{Fits};
 ghost use Rattle.prefix_tree.specs.Counts.{splits};
-ghost use Rattle.prefix_tree.specs.Shapes.{shape_of};
+ghost use Rattle.prefix_tree.specs.TreeOf.{tree_of};
+ghost use Rattle.permission_map.specs.Runs.{view_of_runs};
 ghost use Rattle.entry_planner.specs.Plans.{cost_in, costed};
 ghost use Rattle.certificate_format.specs.Spelling.{u32_bytes, u64_bytes, header_bytes, costs_bytes, node_bytes, FitsNode, Spells};
 ghost use Rattle.plan_certificate.specs.Written.{version_for, entry_bytes, certificate_bytes};
 
 use certificate_format::{Header, Version};
 use entry_planner::Plan;
-use permission_map::Memory;
+use permission_map::{Memory, PermissionMap};
 use pmp_encoding::{Entry, Limit, Perm};
-use prefix_tree::{Block, Parts, Tree};
+use prefix_tree::{Halving, MapBlock, Tree};
 use std::alloc::Global;
 
 #[tactic(auto, unfolding(crate::specs::Spelling::u32_bytes))]
@@ -77,26 +78,55 @@ fn push_costs(out: &mut Vec<u8>, plan: &Plan, i: usize) -> Result<(), Memory>
 }
 
 /// The node of a block whose split blocks count from the i-th on, and the number of the first one behind it.
-fn push_node(out: &mut Vec<u8>, block: &Block, plan: &Plan, i: usize) -> Result<usize, Memory>
-    requires counted { i + splits (shape_of block.now) ≤ length plan.now.costs }
+fn push_node<H: Halving>(
+    out: &mut Vec<u8>,
+    block: &H,
+    plan: &Plan,
+    i: usize,
+) -> Result<usize, Memory>
+    requires counted { i + splits (H.shape block.now) ≤ length plan.now.costs }
     requires small { length plan.now.costs < 2 ^ 64 }
-    ensures next { IfOk result (λ next. next ≡ i + splits (shape_of block.now)) }
-    ensures bytes { OnOk result (out.new.items ≡ out.old.items ++ node_bytes (costed plan.now.costs i (shape_of block.now))) }
-    ensures fits { OnOk result ((k : ℕ) → Fits k (shape_of block.now) → FitsNode k (costed plan.now.costs i (shape_of block.now))) }
+    ensures next { IfOk result (λ next. next ≡ i + splits (H.shape block.now)) }
+    ensures bytes { OnOk result (out.new.items ≡ out.old.items ++ node_bytes (costed plan.now.costs i (H.shape block.now))) }
+    ensures fits { OnOk result ((k : ℕ) → Fits k (H.shape block.now) → FitsNode k (costed plan.now.costs i (H.shape block.now))) }
 {
-    match block.parts() {
-        Parts::Leaf(perm) => {
-            out.push(0)?;
-            out.push(perm.bits())?;
-            Ok(i)
-        }
-        Parts::Halves(lower, upper) => {
-            out.push(1)?;
-            push_costs(out, plan, i)?;
-            let next = push_node(out, lower, plan, i + 1)?;
-            push_node(out, upper, plan, next)
-        }
+    if let Some(perm) = block.one_perm() {
+        out.push(0)?;
+        out.push(perm.bits())?;
+        return Ok(i);
     }
+    let (lower, upper) = block.halves();
+    out.push(1)?;
+    push_costs(out, plan, i)?;
+    let next = push_node(out, &lower, plan, i + 1)?;
+    let next = push_node(out, &upper, plan, next)?;
+    Ok(next)
+}
+
+/// The certificate of the space, of which the plan has so many split blocks.
+fn write_of<H: Halving>(
+    alloc: Global,
+    root: &H,
+    plan: &Plan,
+    limit: Limit,
+) -> Result<Vec<u8>, Memory>
+    requires fits { Fits 44 (H.shape root.now) }
+    requires splits { splits (H.shape root.now) ≡ length plan.now.costs }
+    requires most { splits (H.shape root.now) ≤ 88 * 4096 }
+    ensures bytes { IfOk result (λ v. v.items ≡ certificate_bytes (version_for limit) plan.now.entries (costed plan.now.costs 0 (H.shape root.now))) }
+    ensures spells { IfOk result (λ v. Spells v.items (version_for limit) plan.now.entries (costed plan.now.costs 0 (H.shape root.now))) }
+{
+    let branches = plan.branches();
+    let count = plan.needed();
+    let header = Header {
+        version: version_for(limit),
+        count,
+    };
+    let mut out = Vec::with_capacity(alloc, 12 + 9 * count as usize + 27 * branches)?;
+    push_header(&mut out, header)?;
+    push_entries(&mut out, plan.entries())?;
+    push_node(&mut out, root, plan, 0)?;
+    Ok(out)
 }
 
 /// The certificate of a tree and its plan, for harts of so many entries: sixteen are written in the first form,
@@ -109,14 +139,21 @@ pub fn write(alloc: Global, tree: &Tree, plan: &Plan, limit: Limit) -> Result<Ve
 {
     let branches = tree.branches();
     prove!(branches == plan.branches());
-    let count = plan.needed();
-    let header = Header {
-        version: version_for(limit),
-        count,
-    };
-    let mut out = Vec::with_capacity(alloc, 12 + 9 * count as usize + 27 * branches)?;
-    push_header(&mut out, header)?;
-    push_entries(&mut out, plan.entries())?;
-    push_node(&mut out, tree.root(), plan, 0)?;
-    Ok(out)
+    let bytes = write_of(alloc, &tree.root(), plan, limit)?;
+    Ok(bytes)
+}
+
+/// The certificate of a map and its plan, as [`write`] has it for the canonical tree of its view. No tree is made.
+pub fn write_map(
+    alloc: Global,
+    map: &PermissionMap,
+    plan: &Plan,
+    limit: Limit,
+) -> Result<Vec<u8>, Memory>
+    requires { splits (tree_of (view_of_runs map.now)) ≡ length plan.now.costs }
+    ensures bytes { IfOk result (λ v. v.items ≡ certificate_bytes (version_for limit) plan.now.entries (costed plan.now.costs 0 (tree_of (view_of_runs map.now)))) }
+    ensures spells { IfOk result (λ v. Spells v.items (version_for limit) plan.now.entries (costed plan.now.costs 0 (tree_of (view_of_runs map.now)))) }
+{
+    let bytes = write_of(alloc, &MapBlock::of(map), plan, limit)?;
+    Ok(bytes)
 }

@@ -8,3 +8,5 @@ pub mod RunCount
 pub mod Edges
 pub mod Overwritten
 pub mod RunsExist
+pub mod Canonical
+pub mod EdgeTrees

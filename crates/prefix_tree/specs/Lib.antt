@@ -4,6 +4,8 @@ pub mod Counts
 pub mod Coding
 pub mod PartsOf
 pub mod Joined
+pub mod TreeOf
 pub mod Slices
 pub mod Overlaps
 pub mod RunsOf
+pub mod EdgeTrees

@@ -39,6 +39,19 @@ fn summary_of(lower: &Block, upper: &Block) -> Summary
     }
 }
 
+/// The block that is split into two halves.
+pub fn split(alloc: Global, lower: Block, upper: Block) -> Result<Block, AllocError>
+    requires lower_fits { Fits 43 (shape_of lower) }
+    requires upper_fits { Fits 43 (shape_of upper) }
+    requires lower { IsSummed lower }
+    requires upper { IsSummed upper }
+    ensures shape { IfOk result (λ b. shape_of b ≡ Split (shape_of lower) (shape_of upper)) }
+    ensures summed { IfOk result (λ b. IsSummed b) }
+{
+    let summary = summary_of(&lower, &upper);
+    Ok(Block::Branch(Rc::new(alloc, (lower, upper))?, summary))
+}
+
 /// The block of two halves: split, unless both are of one permission.
 pub fn join(alloc: Global, lower: Block, upper: Block) -> Result<Block, AllocError>
     requires lower_fits { Fits 43 (shape_of lower) }
@@ -51,8 +64,7 @@ pub fn join(alloc: Global, lower: Block, upper: Block) -> Result<Block, AllocErr
     if let Some(perm) = shared_perm(&lower, &upper) {
         return Ok(Block::Leaf(perm));
     }
-    let summary = summary_of(&lower, &upper);
-    Ok(Block::Branch(Rc::new(alloc, (lower, upper))?, summary))
+    split(alloc, lower, upper)
 }
 
 /// The permission of both halves, if each is of one and it is the same.

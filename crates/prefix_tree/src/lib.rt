@@ -24,13 +24,19 @@
 
 mod blocks;
 mod building;
+mod edge_blocks;
+mod halving;
 mod joining;
 mod laws;
+mod map_blocks;
 mod overwriting;
 mod trees;
 
 pub use blocks::{Block, Parts};
+pub use edge_blocks::{Edge, EdgeBlock};
+pub use halving::Halving;
 pub use laws::{canonical_law, meaning_law};
+pub use map_blocks::MapBlock;
 pub use trees::{Tree, build};
 
 #[cfg(test)]

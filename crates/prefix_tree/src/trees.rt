@@ -4,6 +4,7 @@ ghost use Rattle.permission_map.specs.declared.runs.Run.{Run};
 ghost use Rattle.permission_map.specs.Runs.{view_of_runs};
 ghost use Rattle.page_views.specs.Views.{overwritten};
 ghost use Rattle.prefix_tree.specs.Trees.{TreeMeans, view_of_tree, Fits, IsCanonical};
+ghost use Rattle.prefix_tree.specs.TreeOf.{tree_of};
 ghost use Rattle.prefix_tree.specs.RunsOf.{AreRunsOf};
 ghost use Rattle.prefix_tree.specs.Counts.{splits, leaves};
 ghost use Rattle.prefix_tree.specs.Shapes.{shape_of};
@@ -11,6 +12,7 @@ ghost use Rattle.prefix_tree.specs.Shapes.{shape_of};
 use crate::blocks::Block;
 use crate::building::build_block;
 use crate::joining::run_count;
+use crate::map_blocks::MapBlock;
 use crate::overwriting::overwritten_block;
 use page_views::SPACE_PAGES;
 use permission_map::{MapFault, Memory, PermissionMap, Run};
@@ -49,8 +51,9 @@ impl Model for Tree {
 pub fn build(alloc: Global, map: &PermissionMap) -> Result<Tree, Memory>
     ensures means { IfOk result (λ t. TreeMeans (view_of_runs map.now) t) }
     ensures canonical { IfOk result (λ t. IsCanonical t) }
+    ensures tree { IfOk result (λ t. t ≡ tree_of (view_of_runs map.now)) }
 {
-    let root = build_block(alloc, map.ranges(), 0, 44)?;
+    let root = build_block(alloc, &MapBlock::of(map))?;
     Ok(Tree { alloc, root })
 }
 

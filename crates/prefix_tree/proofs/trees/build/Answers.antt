@@ -1,21 +1,22 @@
-use Rattle.std.proofs.Common.{arith, refl}
-use Rattle.pmp_encoding.specs.declared.perm.Perm.TheVariants.{NoAccess}
-use Rattle.permission_map.specs.Runs.{view_of_runs}
-use Rattle.prefix_tree.specs.Shapes.{shape_of}
-use Rattle.prefix_tree.proofs.Cut.{runs_meet}
-use Rattle.prefix_tree.proofs.RunCount.{runs_in-length}
+-- The tree is that of the map's view, which has as many runs as the map.
+use Rattle.std.proofs.Common.{◌∙◌, sym, subst, ap, arith}
+use Rattle.prefix_tree.specs.Trees.{PermTree, Fits}
+use Rattle.prefix_tree.specs.Counts.{runs_in}
+use Rattle.prefix_tree.proofs.Canonical.{map_means, map_canonical}
 use Rattle.prefix_tree.proofs.trees.build.Goals as goal
-
-pub build_block-requires-clause-runs : goal.build_block-requires-clause-runs
-build_block-requires-clause-runs c = rw c.ranges-2.ensures.value (runs_meet 0 NoAccess c.args.map.now c.ranges-2.ensures.runs)
 
 pub invariant_of-result : goal.invariant_of-result
 invariant_of-result c =
-    let means = rw c.ranges-2.ensures.value at c.in_ok-root.ensures.means in
-    let few = runs_in-length (view_of_runs c.args.map.now) (shape_of c.in_ok-root.root) c.args.map.now means c.ranges-2.ensures.runs (λ page h. refl) in
+    let shape = c.in_ok-root.ensures.shape in
     record {
-      fits = c.in_ok-root.ensures.fits;
-      canonical = c.in_ok-root.ensures.canonical;
-      few = omega (arith, c.ranges-2.ensures.most);
+      fits = subst (λ (t : PermTree). Fits 44 t) (sym shape) c.of.ensures.fits;
+      canonical = map_canonical _ _ (shape ∙ c.of.ensures.tree);
+      few = omega (arith, ap runs_in shape, c.of.ensures.runs, c.of.ensures.most);
       summed = c.in_ok-root.ensures.summed;
     }
+
+pub returns-clause-means : goal.returns-clause-means
+returns-clause-means c = map_means _ _ (c.in_ok-root.ensures.shape ∙ c.of.ensures.tree)
+
+pub returns-clause-canonical : goal.returns-clause-canonical
+returns-clause-canonical c = map_canonical _ _ (c.in_ok-root.ensures.shape ∙ c.of.ensures.tree)

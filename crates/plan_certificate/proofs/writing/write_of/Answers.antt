@@ -8,10 +8,11 @@ use Rattle.certificate_format.specs.declared.header.Version.{Version}
 use Rattle.certificate_format.specs.Spelling.{Spells, FitsNode, header_bytes, node_bytes}
 use Rattle.plan_certificate.specs.Written.{version_for, entry_bytes}
 use Rattle.plan_certificate.proofs.Spelled.{certificate_spelled}
-use Rattle.plan_certificate.proofs.writing.write.Goals as goal
+use Rattle.plan_certificate.proofs.writing.write_of.Goals as goal
 
 pub returns-clause-bytes : goal.returns-clause-bytes
-returns-clause-bytes c =
+returns-clause-bytes g c =
+    let tree = g.H.Halving.shape c.args.root.now in
     let costs = c.args.plan.now.costs in
     let front : ℕ → Version → List ℕ = λ count version. header_bytes (record { version = version; count = count }) in
     let header : c.push_header.new.out.items ≡ front (length c.args.plan.now.entries) (version_for c.args.limit) =
@@ -19,17 +20,15 @@ returns-clause-bytes c =
     in
     let listed = c.in_ok-push_entries.ensures ∙ ap₂ (λ (a : List ℕ) (es : List Entry). a ++ flat_map entry_bytes es) header c.entries.ensures in
     c.in_ok-push_node.ensures.bytes
-    ∙ ap₂ (λ (a : List ℕ) (t : PermTree). a ++ node_bytes (costed costs 0 t)) listed c.root.ensures.shape
-    ∙ append_assoc (front (length c.args.plan.now.entries) (version_for c.args.limit)) (flat_map entry_bytes c.args.plan.now.entries) (node_bytes (costed costs 0 c.args.tree.now))
+    ∙ ap (λ (a : List ℕ). a ++ node_bytes (costed costs 0 tree)) listed
+    ∙ append_assoc (front (length c.args.plan.now.entries) (version_for c.args.limit)) (flat_map entry_bytes c.args.plan.now.entries) (node_bytes (costed costs 0 tree))
 
 pub returns-clause-spells : goal.returns-clause-spells
-returns-clause-spells c =
+returns-clause-spells g c =
     let costs = c.args.plan.now.costs in
     let entries = c.args.plan.now.entries in
     let version = version_for c.args.limit in
-    let tree = costed costs 0 c.args.tree.now in
-    let shape = c.root.ensures.shape in
-    let here = subst (λ (t : PermTree). Fits 44 t) (sym shape) c.root.ensures.fits in
-    let fits : FitsNode 44 tree = subst (λ (t : PermTree). FitsNode 44 (costed costs 0 t)) shape (c.in_ok-push_node.ensures.fits 44 here) in
+    let tree = costed costs 0 (g.H.Halving.shape c.args.root.now) in
+    let fits : FitsNode 44 tree = c.in_ok-push_node.ensures.fits 44 c.requires.fits in
     let counted : length entries < 2 ^ 32 = omega arith in
-    subst (λ (b : List ℕ). Spells b version entries tree) (sym (returns-clause-bytes c)) (certificate_spelled version entries tree counted fits)
+    subst (λ (b : List ℕ). Spells b version entries tree) (sym (returns-clause-bytes g c)) (certificate_spelled version entries tree counted fits)

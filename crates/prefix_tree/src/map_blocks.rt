@@ -1,0 +1,146 @@
+ghost use Rattle.std.specs.Prelude.{◌≡◌, ◌+◌, ◌^◌, ◌*◌, ◌≤◌, length, count_by, nat_lt, nat_le, ◌-◌, IfSome, None};
+ghost use Rattle.permission_map.specs.Runs.{view_of_runs};
+ghost use Rattle.prefix_tree.specs.EdgeTrees.{IsEdgeIn, edge_tree};
+ghost use Rattle.prefix_tree.specs.Joined.{one_perm};
+ghost use Rattle.prefix_tree.specs.Slices.{AreBlockRuns};
+ghost use Rattle.prefix_tree.specs.Counts.{runs_in, splits};
+ghost use Rattle.prefix_tree.specs.Trees.{Fits};
+ghost use Rattle.prefix_tree.specs.TreeOf.{tree_at, tree_of};
+
+use crate::edge_blocks::{Edge, EdgeBlock};
+use crate::halving::Halving;
+use page_views::pages_of;
+use permission_map::{PermissionMap, Run};
+use pmp_encoding::Perm;
+use std::marker::Model;
+
+/// A block of the pages of a map, with the runs that have a page in it. It is seen as the canonical tree of its view.
+#[derive(Drop)]
+pub struct MapBlock<'a> {
+    runs: &'a [Run],
+    first: u64,
+    height: u32,
+}
+
+impl<'a> Model for MapBlock<'a> {
+    ghost use Rattle.prefix_tree.specs.Trees.{PermTree};
+    ghost use Rattle.prefix_tree.specs.Coding.{tree_code};
+
+    ghost Value = { PermTree };
+
+    ghost coded = { tree_code };
+
+    ghost use Rattle.permission_map.specs.Runs.{view_of_runs};
+    ghost use Rattle.prefix_tree.specs.Slices.{AreBlockRuns};
+    ghost use Rattle.prefix_tree.specs.TreeOf.{tree_at};
+
+    ghost view = { λ b. tree_at (view_of_runs b.runs.now) b.height b.first };
+
+    ghost invariant = { λ b. AreBlockRuns b.runs.now b.first b.height };
+}
+
+/// How many of the runs begin before the page.
+fn begun_before(runs: &[Run], page: u64) -> usize
+    ensures { result ≡ count_by (λ run. nat_lt run.first page) runs.now }
+{
+    runs.iter().filter(|run| run.first < page).count()
+}
+
+/// How many of the runs end before the page.
+fn ended_before(runs: &[Run], page: u64) -> usize
+    ensures { result ≡ count_by (λ run. nat_le run.count (page - run.first)) runs.now }
+{
+    runs.iter()
+        .filter(|run| run.count <= page.saturating_sub(run.first))
+        .count()
+}
+
+/// The one permission of the 2^height pages from `first` on, which the runs meet.
+fn uniform_perm(runs: &[Run], first: u64, height: u32) -> Option<Perm>
+    requires { AreBlockRuns runs.now first height }
+    ensures { result ≡ one_perm (tree_at (view_of_runs runs.now) height first) }
+{
+    let [run, ..] = runs else {
+        return Some(Perm::NoAccess);
+    };
+    let end = first + pages_of(height);
+    if run.first <= first && end - run.first <= run.count {
+        return Some(run.perm);
+    }
+    None
+}
+
+/// The edge inside the 2^height pages from `first` on, where one run meets them and just one end of it lies inside.
+fn only_edge(runs: &[Run], first: u64, height: u32) -> Option<EdgeBlock>
+    requires block { AreBlockRuns runs.now first height }
+    requires cut { one_perm (tree_at (view_of_runs runs.now) height first) ≡ None }
+    ensures { IfSome result (λ b. IsEdgeIn b.edge b.height × (tree_at (view_of_runs runs.now) height first ≡ edge_tree b.edge b.height)) }
+{
+    let [run] = runs else {
+        return None;
+    };
+    let stop = run.first + run.count;
+    if run.first <= first {
+        let edge = Edge {
+            place: stop - first,
+            before: run.perm,
+            behind: Perm::NoAccess,
+        };
+        return Some(EdgeBlock { edge, height });
+    }
+    if stop < first + pages_of(height) {
+        return None;
+    }
+    let edge = Edge {
+        place: run.first - first,
+        before: Perm::NoAccess,
+        behind: run.perm,
+    };
+    Some(EdgeBlock { edge, height })
+}
+
+impl<'a> MapBlock<'a> {
+    /// The whole space, as the map has it. At most 88 blocks are split for each run of the map: 44 on the way down to
+    /// either end of it.
+    pub fn of(map: &'a PermissionMap) -> MapBlock<'a>
+        ensures tree { result ≡ tree_of (view_of_runs map.now) }
+        ensures fits { Fits 44 result }
+        ensures runs { runs_in result ≡ length map.now }
+        ensures most { length map.now ≤ 4096 }
+        ensures splits { splits result ≤ 88 * length map.now }
+    {
+        MapBlock {
+            runs: map.ranges(),
+            first: 0,
+            height: 44,
+        }
+    }
+}
+
+impl<'a> Halving for MapBlock<'a> {
+    ghost shape = { λ b. b };
+
+    fn one_perm(&self) -> Option<Perm> {
+        uniform_perm(self.runs, self.first, self.height)
+    }
+
+    fn edge(&self) -> Option<EdgeBlock> {
+        only_edge(self.runs, self.first, self.height)
+    }
+
+    fn halves(&self) -> (MapBlock<'a>, MapBlock<'a>) {
+        let height = self.height - 1;
+        let middle = self.first + pages_of(height);
+        let lower = MapBlock {
+            runs: &self.runs[..begun_before(self.runs, middle)],
+            first: self.first,
+            height,
+        };
+        let upper = MapBlock {
+            runs: &self.runs[ended_before(self.runs, middle)..],
+            first: middle,
+            height,
+        };
+        (lower, upper)
+    }
+}
