@@ -13,11 +13,11 @@ use crate::refusal::Refusal;
 use crate::request::Create;
 use crate::table::Table;
 use crate::views::enclave_map;
-use entry_planner::{Plan, plan};
+use entry_planner::{Plan, plan, plan_map};
 use page_views::PageRange;
 use permission_map::MapFault;
 use pmp_encoding::{Limit, Perm};
-use prefix_tree::{Tree, build};
+use prefix_tree::Tree;
 use std::alloc::Global;
 
 /// The entries of a plan, if there are as many.
@@ -48,10 +48,7 @@ pub(crate) fn enclave_list(
     let Ok(map) = enclave_map(alloc, parts) else {
         return Err(Refusal::NoMemory);
     };
-    let Ok(tree) = build(alloc, &map) else {
-        return Err(Refusal::NoMemory);
-    };
-    let Ok(plan) = plan(alloc, &tree) else {
+    let Ok(plan) = plan_map(alloc, &map) else {
         return Err(Refusal::NoMemory);
     };
     listed(alloc, limit, &plan)

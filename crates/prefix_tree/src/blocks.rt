@@ -21,7 +21,7 @@ pub struct Summary {
 #[derive(Drop)]
 pub enum Block {
     Leaf(Perm),
-    Branch(Rc<(Block, Block)>, Summary),
+    Branch(Rc<(Block, Block, Summary)>),
 }
 
 /// What a block is made of.
@@ -45,7 +45,7 @@ impl Block {
     {
         match self {
             Block::Leaf(perm) => Parts::Leaf(*perm),
-            Block::Branch(halves, _) => Parts::Halves(&halves.0, &halves.1),
+            Block::Branch(halves) => Parts::Halves(&halves.0, &halves.1),
         }
     }
 
@@ -74,7 +74,7 @@ impl Block {
                 starts: 0,
                 branches: 0,
             },
-            Block::Branch(_, summary) => *summary,
+            Block::Branch(halves) => halves.2,
         }
     }
 
@@ -86,7 +86,7 @@ impl Block {
     {
         match self {
             Block::Leaf(perm) => Ok(Block::Leaf(*perm)),
-            Block::Branch(halves, summary) => Ok(Block::Branch(halves.clone()?, *summary)),
+            Block::Branch(halves) => Ok(Block::Branch(halves.clone()?)),
         }
     }
 }

@@ -42,7 +42,7 @@ impl<'a> Halving for &'a Block {
 
     fn halves(&self) -> (&'a Block, &'a Block) {
         match *self {
-            Block::Branch(halves, _) => (&halves.0, &halves.1),
+            Block::Branch(halves) => (&halves.0, &halves.1),
             Block::Leaf(_) => unreachable!(),
         }
     }

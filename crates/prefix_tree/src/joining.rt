@@ -49,7 +49,7 @@ pub fn split(alloc: Global, lower: Block, upper: Block) -> Result<Block, AllocEr
     ensures summed { IfOk result (λ b. IsSummed b) }
 {
     let summary = summary_of(&lower, &upper);
-    Ok(Block::Branch(Rc::new(alloc, (lower, upper))?, summary))
+    Ok(Block::Branch(Rc::new(alloc, (lower, upper, summary))?))
 }
 
 /// The block of two halves: split, unless both are of one permission.

@@ -51,7 +51,7 @@ fn halves_of(block: &Block) -> (&Block, &Block)
 {
     match block {
         Block::Leaf(_) => (block, block),
-        Block::Branch(halves, _) => (&halves.0, &halves.1),
+        Block::Branch(halves) => (&halves.0, &halves.1),
     }
 }
 

@@ -124,10 +124,10 @@ fn versions_are_as_built_afresh(rt: HostRuntime) -> Result<(), Fail> {
 
 /// The halves of the upper half of the space, if it is split.
 fn upper_halves(tree: &Tree) -> Option<&Rc<(Block, Block)>> {
-    let Block::Branch(halves, _) = tree.root() else {
+    let Block::Branch(halves) = tree.root() else {
         return None;
     };
-    let Block::Branch(upper, _) = &halves.1 else {
+    let Block::Branch(upper) = &halves.1 else {
         return None;
     };
     Some(upper)
