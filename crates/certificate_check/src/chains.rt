@@ -1,6 +1,7 @@
 use crate::entries::{Entries, SIZES, Span};
-use crate::piece::{PAGES, Piece};
+use crate::piece::Piece;
 use arrayvec::ArrayVec;
+use page_views::SPACE_PAGES;
 use pmp_encoding::Perm;
 
 /// A place in a chain: the span that was read last, and the number of the one behind it.
@@ -79,7 +80,7 @@ pub(crate) fn piece_of_chains(
     ensures value { (spans : ℕ → Span) → ReadsAs entries.now.bytes.now spans → (at : ℕ) → page ≤ at → at < result.end → Decides spans (count_in entries.now.bytes.now) at result.perm }
     ensures places { (spans : ℕ → Span) → ReadsAs entries.now.bytes.now spans → ArePlaces spans ends.now page places.new }
 {
-    let mut end = PAGES;
+    let mut end = SPACE_PAGES;
     let mut from = 0;
     for (i, to) in ends.iter().enumerate() {
         go_on(entries, places, i, from, *to, page);

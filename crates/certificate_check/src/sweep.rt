@@ -12,8 +12,8 @@ use crate::begun::{Begun, NONE, begin, piece_of_begun};
 use crate::chains::{BEFORE, chains_of, piece_of_chains};
 use crate::entries::{Entries, SIZES};
 use crate::keys::{END, Keys, first_of, gather, number_of};
-use crate::piece::PAGES;
 use crate::runs::{piece_of_runs, runs_from};
+use page_views::SPACE_PAGES;
 use permission_map::{PermissionMap, Run};
 
 /// Whether entries in chains that end at `ends` give the runs' permission at each page of the space.
@@ -27,7 +27,7 @@ fn agrees_in_chains(entries: &Entries, ends: &[usize], runs: &[Run]) -> bool
     let mut places = [BEFORE; SIZES];
     let mut rest = runs;
     let mut page = 0;
-    while page < PAGES {
+    while page < SPACE_PAGES {
         rest = runs_from(rest, page);
         let wanted = piece_of_runs(rest, page);
         let given = piece_of_chains(entries, ends, &mut places, page);
@@ -87,7 +87,7 @@ fn agrees_in_any_order(entries: &Entries, runs: &[Run]) -> bool
             begin(&mut slots, page, number, entries.span(number));
         }
     }
-    agreed(&slots, rest, page, PAGES).is_some()
+    agreed(&slots, rest, page, SPACE_PAGES).is_some()
 }
 
 /// Whether the first entry that covers a page has the runs' permission, at each page of the space.
