@@ -25,7 +25,7 @@ use Rattle.certificate_check.proofs.InTurn.{means_small}
 use Rattle.certificate_check.proofs.Swept.{one_decided}
 
 -- the pages of an entry
-abbrev span_for : Entry → Span
+abbrev pub span_for : Entry → Span
 span_for e = record { first = e.region.base / 4096; end = (e.region.base + 2 ^ e.region.log2) / 4096; size = e.region.log2 - 12; perm = e.perm }
 
 span_for_is : (e : Entry) → 12 ≤ e.region.log2 → IsSpanOf e (span_for e)
@@ -36,7 +36,7 @@ span_for_is e h =
     record { first = omega (arith, base); last = omega (arith, base, more); size = omega arith; perm = refl }
 
 -- those of a list by their numbers
-abbrev spans_of : List Entry → ℕ → Span
+abbrev pub spans_of : List Entry → ℕ → Span
 spans_of [] i = record { first = 0; end = 0; size = 0; perm = NoAccess }
 spans_of (e ∷ es) zero = span_for e
 spans_of (e ∷ es) (suc i) = spans_of es i
@@ -89,7 +89,7 @@ span_at_each listed (e ∷ es) (before, rest, split, here, later) pages (suc i) 
 count_listed : (listed : List ℕ) (es : List Entry) → SpellsEntries listed es → count_in listed ≡ length es
 count_listed listed es h = omega (arith, listed_long listed es h)
 
-reads_listed : (listed : List ℕ) (es : List Entry) → SpellsEntries listed es → AreNoSubPages es → ReadsAs listed (spans_of es)
+pub reads_listed : (listed : List ℕ) (es : List Entry) → SpellsEntries listed es → AreNoSubPages es → ReadsAs listed (spans_of es)
 reads_listed listed es h pages i less = span_at_each listed es h pages i (omega (arith, count_listed listed es h))
 
 -- ---- what the spans decide is what the entries give at the first byte of the page

@@ -17,7 +17,8 @@ use Rattle.certificate_check.specs.declared.refusal.CheckRefusal.{CheckRefusal}
 use Rattle.certificate_check.specs.declared.refusal.CheckRefusal.TheVariants.{CostTooHigh, CostOverflow}
 use Rattle.certificate_check.specs.declared.numbers.Numbers.{Numbers}
 use Rattle.certificate_check.specs.Numbers.{number_for}
-use Rattle.certificate_check.specs.Nodes.{IsUniform, IsRightNode, IsAllowed, IsTooLarge, IsTooHigh, BranchFault, NodeFault, overflow, too_high, IsNodeRead, IsAnswer}
+use Rattle.page_views.specs.Views.{IsUniform}
+use Rattle.certificate_check.specs.Nodes.{IsRightNode, IsAllowed, IsTooLarge, IsTooHigh, BranchFault, NodeFault, overflow, too_high, IsNodeRead, IsAnswer}
 
 -- functions that agree everywhere are one
 pub same_function : (f g : Perm → ℕ) → ((p : Perm) → f p ≡ g p) → f ≡ g

@@ -1,6 +1,5 @@
 -- The entries of a certificate.
 use Rattle.std.specs.Prelude.{◌≡◌, ℕ, ◌<◌, ◌^◌, List, ◌++◌, length, Result, MatchResult}
-use Rattle.certificate_check.specs.declared.entries.Entries.{Entries}
 use Rattle.pmp_encoding.specs.declared.region.Entry.{Entry}
 use Rattle.pmp_encoding.specs.Encoding.{MeansEntry}
 use Rattle.certificate_format.specs.Spelling.{pair_bytes, SpellsEntries, AreNoSubPages}
@@ -30,5 +29,5 @@ pub record ListFault (bytes : List ℕ) (count : ℕ) (refusal : CheckRefusal) :
   pub fault : EntryFault rest refusal
 
 -- the answer to such bytes: the bytes of the entries, and the rest is left
-abbrev pub IsListAnswer : List Entry → List ℕ → Result Entries CheckRefusal → List ℕ → Type 0
-IsListAnswer entries rest answer left = MatchResult answer (λ list. SpellsEntries list.bytes.now entries × (left ≡ rest)) (λ _. ⊥)
+abbrev pub IsListAnswer : List Entry → List ℕ → Result (List ℕ) CheckRefusal → List ℕ → Type 0
+IsListAnswer entries rest answer left = MatchResult answer (λ list. SpellsEntries list entries × (left ≡ rest)) (λ _. ⊥)

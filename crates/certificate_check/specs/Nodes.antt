@@ -2,7 +2,7 @@
 use Rattle.std.specs.Prelude.{◌≡◌, ◌≢◌, ℕ, suc, ◌+◌, ◌^◌, ◌<◌, ◌≤◌, ◌⊎◌, List, ◌∷◌, ◌++◌, Result, MatchResult}
 use Rattle.pmp_encoding.specs.declared.perm.Perm.{Perm}
 use Rattle.pmp_encoding.specs.Perms.{bits_of}
-use Rattle.pmp_match.specs.Meaning.{View}
+use Rattle.page_views.specs.Views.{View, IsUniform}
 use Rattle.pmp_match.specs.Bounds.{BoundTree, bound_of, IsSoundAt}
 use Rattle.certificate_format.specs.Spelling.{costs_bytes, node_bytes, FitsNode, HasNoOverflow}
 use Rattle.certificate_format.specs.Faults.{ShortFault, TagFault, PermFault}
@@ -12,10 +12,6 @@ use Rattle.certificate_check.specs.declared.refusal.CheckRefusal.TheVariants.{To
 use Rattle.certificate_check.specs.declared.numbers.Numbers.{Numbers}
 use Rattle.certificate_check.specs.Numbers.{number_for}
 use Rattle.certificate_check.specs.Refusals.{refusal_of}
-
--- the 2 ^ k pages from `first` on have one permission
-abbrev pub IsUniform : View → ℕ → ℕ → Perm → Type 0
-IsUniform view k first perm = (i : ℕ) → i < 2 ^ k → view (first + i) ≡ perm
 
 -- a sound bound of the 2 ^ k pages from `first` on that a certificate can spell and that has no overflow
 pub record IsRightNode (view : View) (k first : ℕ) (tree : BoundTree) : Type 0 where

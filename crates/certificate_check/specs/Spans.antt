@@ -29,6 +29,10 @@ count_in bytes = length bytes / 9
 abbrev pub ReadsAs : List ℕ → (ℕ → Span) → Type 0
 ReadsAs bytes spans = (i : ℕ) → i < count_in bytes → IsSpanAt bytes i (spans i)
 
+-- each nine bytes mean an entry of at least a page
+abbrev pub AreEntries : List ℕ → Type 0
+AreEntries bytes = (i : ℕ) → i < count_in bytes → (s : Span) × IsSpanAt bytes i s
+
 -- the page is one of the span's
 abbrev pub Covers : Span → ℕ → Type 0
 Covers s page = (s.first ≤ page) × (page < s.end)

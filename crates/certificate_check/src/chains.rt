@@ -1,6 +1,7 @@
 use crate::entries::{Entries, SIZES, Span};
-use crate::piece::{PAGES, Piece};
+use crate::piece::Piece;
 use arrayvec::ArrayVec;
+use page_views::SPACE_PAGES;
 use pmp_encoding::Perm;
 
 /// A place in a chain: the span that was read last, and the number of the one behind it.
@@ -29,9 +30,9 @@ ghost use Rattle.certificate_check.specs.Places.{IsPlace, start_of, ArePlaces};
 
 /// Goes on in the chain of the entries from `from` to before `to`, to the first span that ends behind the page.
 fn next_in_chain(entries: &Entries, place: Place, from: usize, to: usize, page: u64) -> Place
-    requires inside { to ≤ count_in entries.now.bytes.now }
+    requires inside { to ≤ count_in entries.now }
     ensures all { result.span.end ≤ page → to ≤ result.next }
-    ensures value { (spans : ℕ → Span) → ReadsAs entries.now.bytes.now spans → IsPlace spans from to page place → IsPlace spans from to page result }
+    ensures value { (spans : ℕ → Span) → ReadsAs entries.now spans → IsPlace spans from to page place → IsPlace spans from to page result }
 {
     let mut next = place.next.max(from);
     let mut span = place.span;
@@ -53,9 +54,9 @@ fn go_on(
     page: u64,
 )
     requires place { i < 45 }
-    requires inside { to ≤ count_in entries.now.bytes.now }
+    requires inside { to ≤ count_in entries.now }
     ensures all { (d : Place) → (slice_index_or places.new i d).span.end ≤ page → to ≤ (slice_index_or places.new i d).next }
-    ensures value { (spans : ℕ → Span) → ReadsAs entries.now.bytes.now spans → (ends : List ℕ) → start_of ends i ≡ from → slice_index ends i ≡ to → i < length ends → ArePlaces spans ends page places.old → ArePlaces spans ends page places.new }
+    ensures value { (spans : ℕ → Span) → ReadsAs entries.now spans → (ends : List ℕ) → start_of ends i ≡ from → slice_index ends i ≡ to → i < length ends → ArePlaces spans ends page places.old → ArePlaces spans ends page places.new }
 {
     if places[i].span.end <= page {
         places[i] = next_in_chain(entries, places[i], from, to, page);
@@ -71,15 +72,15 @@ pub(crate) fn piece_of_chains(
 ) -> Piece
     requires few { length ends.now ≤ 45 }
     requires page { page < 2 ^ 44 }
-    requires rise { RiseTo 0 ends.now (count_in entries.now.bytes.now) }
-    requires chains { (spans : ℕ → Span) → ReadsAs entries.now.bytes.now spans → AreChains spans 0 ends.now (count_in entries.now.bytes.now) }
-    requires placed { (spans : ℕ → Span) → ReadsAs entries.now.bytes.now spans → ArePlaces spans ends.now page places.old }
+    requires rise { RiseTo 0 ends.now (count_in entries.now) }
+    requires chains { (spans : ℕ → Span) → ReadsAs entries.now spans → AreChains spans 0 ends.now (count_in entries.now) }
+    requires placed { (spans : ℕ → Span) → ReadsAs entries.now spans → ArePlaces spans ends.now page places.old }
     ensures some { page < result.end }
     ensures inside { result.end ≤ 2 ^ 44 }
-    ensures value { (spans : ℕ → Span) → ReadsAs entries.now.bytes.now spans → (at : ℕ) → page ≤ at → at < result.end → Decides spans (count_in entries.now.bytes.now) at result.perm }
-    ensures places { (spans : ℕ → Span) → ReadsAs entries.now.bytes.now spans → ArePlaces spans ends.now page places.new }
+    ensures value { (spans : ℕ → Span) → ReadsAs entries.now spans → (at : ℕ) → page ≤ at → at < result.end → Decides spans (count_in entries.now) at result.perm }
+    ensures places { (spans : ℕ → Span) → ReadsAs entries.now spans → ArePlaces spans ends.now page places.new }
 {
-    let mut end = PAGES;
+    let mut end = SPACE_PAGES;
     let mut from = 0;
     for (i, to) in ends.iter().enumerate() {
         go_on(entries, places, i, from, *to, page);
@@ -103,8 +104,8 @@ pub(crate) fn piece_of_chains(
 /// Where the entries' chains end, if there are no more than sizes, as in a planner's list by rising size and address.
 pub(crate) fn chains_of(entries: &Entries) -> Option<ArrayVec<usize, SIZES>>
     ensures few { IfSome result (λ ends. length ends.items ≤ 45) }
-    ensures rise { IfSome result (λ ends. RiseTo 0 ends.items (count_in entries.now.bytes.now)) }
-    ensures chains { IfSome result (λ ends. (spans : ℕ → Span) → ReadsAs entries.now.bytes.now spans → AreChains spans 0 ends.items (count_in entries.now.bytes.now)) }
+    ensures rise { IfSome result (λ ends. RiseTo 0 ends.items (count_in entries.now)) }
+    ensures chains { IfSome result (λ ends. (spans : ℕ → Span) → ReadsAs entries.now spans → AreChains spans 0 ends.items (count_in entries.now)) }
 {
     let mut ends = ArrayVec::new();
     let mut last = 0;

@@ -3,6 +3,7 @@ ghost use Rattle.pmp_encoding.specs.declared.region.Entry.{Entry};
 
 use byteorder::{ByteOrder, LittleEndian};
 use pmp_encoding::{Entry, Perm, decode};
+use std::marker::Model;
 
 /// How many sizes a region of at least a page can have.
 pub(crate) const SIZES: usize = 45;
@@ -16,10 +17,21 @@ pub(crate) struct Span {
     pub(crate) perm: Perm,
 }
 
-/// The entries of a certificate, nine bytes each: a configuration byte and an address.
-#[derive(Clone, Copy)]
+/// The entries of a certificate, nine bytes each: a configuration byte and an address. Each is of at least a page.
+#[derive(Drop)]
 pub(crate) struct Entries<'a> {
     pub(crate) bytes: &'a [u8],
+}
+
+impl<'a> Model for Entries<'a> {
+    ghost use Rattle.std.specs.Prelude.{ℕ, List};
+    ghost use Rattle.certificate_check.specs.Spans.{AreEntries};
+
+    ghost Value = { List ℕ };
+
+    ghost view = { λ e. e.bytes.now };
+
+    ghost invariant = { λ e. AreEntries e.bytes.now };
 }
 
 ghost use Rattle.certificate_check.specs.Spans.{IsSpanOf, ReadsAs, count_in};
@@ -44,30 +56,29 @@ fn span_of(entry: &Entry) -> Span
 impl<'a> Entries<'a> {
     /// How many there are.
     pub(crate) fn len(&self) -> usize
-        ensures { result ≡ count_in self.now.bytes.now }
+        ensures { result ≡ count_in self.now }
     {
         self.bytes.len() / 9
     }
 
     /// The pages of one of them.
     pub(crate) fn span(&self, i: usize) -> Span
-        requires { i < count_in self.now.bytes.now }
+        requires { i < count_in self.now }
         ensures some { result.first < result.end }
         ensures inside { result.end ≤ 2 ^ 44 }
         ensures small { result.size < 45 }
-        ensures value { (spans : ℕ → Span) → ReadsAs self.now.bytes.now spans → result ≡ spans i }
+        ensures value { (spans : ℕ → Span) → ReadsAs self.now spans → result ≡ spans i }
     {
+        let bytes = self.bytes;
         let at = 9 * i;
-        let cfg = self.bytes[at];
-        let address = LittleEndian::read_u64(&self.bytes[at + 1..]);
-        match decode(cfg, address) {
-            Ok(Some(entry)) => span_of(&entry),
-            _ => Span {
-                first: 0,
-                end: 1,
-                size: 0,
-                perm: Perm::NoAccess,
-            },
-        }
+        let cfg = bytes[at];
+        let address = LittleEndian::read_u64(&bytes[at + 1..]);
+        let Ok(decoded) = decode(cfg, address) else {
+            unreachable!();
+        };
+        let Some(entry) = decoded else {
+            unreachable!();
+        };
+        span_of(&entry)
     }
 }

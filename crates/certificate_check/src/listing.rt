@@ -39,7 +39,7 @@ pub(crate) fn entries(reader: &mut Reader, count: u32) -> Result<(), CheckRefusa
 
 /// Reads that many entries of at least a page, and answers their bytes.
 pub(crate) fn listed<'a>(reader: &mut Reader<'a>, count: u32) -> Result<Entries<'a>, CheckRefusal>
-    ensures read { IfOk result (λ list. (es : List Entry) × IsListed reader.old reader.new es × (length es ≡ count) × SpellsEntries list.bytes.now es) }
+    ensures read { IfOk result (λ list. (es : List Entry) × IsListed reader.old reader.new es × (length es ≡ count) × SpellsEntries list es) }
     ensures given { (es : List Entry) (rest : List ℕ) → IsListed reader.old rest es → length es ≡ count → IsListAnswer es rest result reader.new }
     ensures fault { IfErr result (ListFault reader.old count) }
 {

@@ -7,20 +7,14 @@ ghost use Rattle.certificate_format.specs.Spelling.{costs_bytes, node_bytes};
 ghost use Rattle.certificate_format.specs.Costs.{cost_of};
 ghost use Rattle.certificate_check.specs.declared.refusal.CheckRefusal.{CheckRefusal};
 ghost use Rattle.certificate_check.specs.Numbers.{number_for};
-ghost use Rattle.certificate_check.specs.Nodes.{IsUniform, IsRightNode, AreNumbersOf, IsAllowed, BranchFault, NodeFault, IsNodeRead, IsAnswer};
+ghost use Rattle.page_views.specs.Views.{IsUniform};
+ghost use Rattle.certificate_check.specs.Nodes.{IsRightNode, AreNumbersOf, IsAllowed, BranchFault, NodeFault, IsNodeRead, IsAnswer};
 
 use crate::numbers::{Numbers, numbers_of_branch, numbers_of_leaf};
 use crate::refusal::CheckRefusal;
 use certificate_format::{Costs, Reader, Tag};
+use page_views::pages_of;
 use permission_map::PermissionMap;
-
-/// How many pages a block has.
-fn pages_of(log2: u32) -> u64
-    requires { log2 ≤ 44 }
-    ensures { result ≡ 2 ^ log2 }
-{
-    1 << log2
-}
 
 /// Reads what follows the tag of a leaf of the 2^log2 pages from `first` on.
 fn leaf(

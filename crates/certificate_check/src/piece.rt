@@ -1,8 +1,5 @@
 use pmp_encoding::Perm;
 
-/// How many pages the space has.
-pub(crate) const PAGES: u64 = 1 << 44;
-
 /// A permission that holds from some page to before `end`.
 #[derive(Clone, Copy, PartialEq, Eq, Debug)]
 pub(crate) struct Piece {

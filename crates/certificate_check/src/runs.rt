@@ -2,7 +2,8 @@ ghost use Rattle.std.specs.Prelude.{◌≡◌, ℕ, ◌+◌, ◌<◌, ◌≤◌,
 ghost use Rattle.permission_map.specs.Runs.{view_of_runs};
 ghost use Rattle.certificate_check.specs.Later.{AreLaterRuns, StartsBehind};
 
-use crate::piece::{PAGES, Piece};
+use crate::piece::Piece;
+use page_views::SPACE_PAGES;
 use permission_map::Run;
 use pmp_encoding::Perm;
 
@@ -34,7 +35,7 @@ pub(crate) fn piece_of_runs(runs: &[Run], page: u64) -> Piece
 {
     match runs {
         [] => Piece {
-            end: PAGES,
+            end: SPACE_PAGES,
             perm: Perm::NoAccess,
         },
         [run, ..] => {

@@ -12,22 +12,22 @@ use crate::begun::{Begun, NONE, begin, piece_of_begun};
 use crate::chains::{BEFORE, chains_of, piece_of_chains};
 use crate::entries::{Entries, SIZES};
 use crate::keys::{END, Keys, first_of, gather, number_of};
-use crate::piece::PAGES;
 use crate::runs::{piece_of_runs, runs_from};
+use page_views::SPACE_PAGES;
 use permission_map::{PermissionMap, Run};
 
 /// Whether entries in chains that end at `ends` give the runs' permission at each page of the space.
 fn agrees_in_chains(entries: &Entries, ends: &[usize], runs: &[Run]) -> bool
     requires later { AreLaterRuns runs.now }
     requires few { length ends.now ≤ 45 }
-    requires rise { RiseTo 0 ends.now (count_in entries.now.bytes.now) }
-    requires chains { (spans : ℕ → Span) → ReadsAs entries.now.bytes.now spans → AreChains spans 0 ends.now (count_in entries.now.bytes.now) }
-    ensures { (spans : ℕ → Span) → ReadsAs entries.now.bytes.now spans → IsTrue result ↔ ((page : ℕ) → page < 2 ^ 44 → Decides spans (count_in entries.now.bytes.now) page (view_of_runs runs.now page)) }
+    requires rise { RiseTo 0 ends.now (count_in entries.now) }
+    requires chains { (spans : ℕ → Span) → ReadsAs entries.now spans → AreChains spans 0 ends.now (count_in entries.now) }
+    ensures { (spans : ℕ → Span) → ReadsAs entries.now spans → IsTrue result ↔ ((page : ℕ) → page < 2 ^ 44 → Decides spans (count_in entries.now) page (view_of_runs runs.now page)) }
 {
     let mut places = [BEFORE; SIZES];
     let mut rest = runs;
     let mut page = 0;
-    while page < PAGES {
+    while page < SPACE_PAGES {
         rest = runs_from(rest, page);
         let wanted = piece_of_runs(rest, page);
         let given = piece_of_chains(entries, ends, &mut places, page);
@@ -67,7 +67,7 @@ fn agreed<'a>(slots: &[Begun; SIZES], runs: &'a [Run], from: u64, to: u64) -> Op
 /// Whether entries in any order give the runs' permission at each page of the space. They begin by rising first page.
 fn agrees_in_any_order(entries: &Entries, runs: &[Run]) -> bool
     requires { AreLaterRuns runs.now }
-    ensures { (spans : ℕ → Span) → ReadsAs entries.now.bytes.now spans → IsTrue result ↔ ((page : ℕ) → page < 2 ^ 44 → Decides spans (count_in entries.now.bytes.now) page (view_of_runs runs.now page)) }
+    ensures { (spans : ℕ → Span) → ReadsAs entries.now spans → IsTrue result ↔ ((page : ℕ) → page < 2 ^ 44 → Decides spans (count_in entries.now) page (view_of_runs runs.now page)) }
 {
     let mut keys = Keys::new();
     let mut slots = [NONE; SIZES];
@@ -87,13 +87,13 @@ fn agrees_in_any_order(entries: &Entries, runs: &[Run]) -> bool
             begin(&mut slots, page, number, entries.span(number));
         }
     }
-    agreed(&slots, rest, page, PAGES).is_some()
+    agreed(&slots, rest, page, SPACE_PAGES).is_some()
 }
 
 /// Whether the first entry that covers a page has the runs' permission, at each page of the space.
 pub(crate) fn agrees(entries: &Entries, runs: &[Run]) -> bool
     requires { AreLaterRuns runs.now }
-    ensures { (spans : ℕ → Span) → ReadsAs entries.now.bytes.now spans → IsTrue result ↔ ((page : ℕ) → page < 2 ^ 44 → Decides spans (count_in entries.now.bytes.now) page (view_of_runs runs.now page)) }
+    ensures { (spans : ℕ → Span) → ReadsAs entries.now spans → IsTrue result ↔ ((page : ℕ) → page < 2 ^ 44 → Decides spans (count_in entries.now) page (view_of_runs runs.now page)) }
 {
     match chains_of(entries) {
         Some(ends) => agrees_in_chains(entries, ends.as_slice(), runs),
@@ -103,7 +103,7 @@ pub(crate) fn agrees(entries: &Entries, runs: &[Run]) -> bool
 
 /// Whether the entries mean the map.
 pub(crate) fn means(entries: &Entries, map: &PermissionMap) -> bool
-    ensures { (es : List Entry) → SpellsEntries entries.now.bytes.now es → AreNoSubPages es → IsTrue result ↔ Means es (view_of_runs map.now) }
+    ensures { (es : List Entry) → SpellsEntries entries.now es → AreNoSubPages es → IsTrue result ↔ Means es (view_of_runs map.now) }
 {
     agrees(entries, map.ranges())
 }

@@ -1,8 +1,9 @@
 mod ways;
 
-use crate::entries::Entries;
+use crate::listing::listed;
 use crate::sweep::means;
 use crate::{CheckRefusal, check};
+use certificate_format::Reader;
 use permission_map::{MapFault, PermissionMap};
 use pmp_encoding::Perm;
 use std::alloc::{AllocError, Global};
@@ -223,9 +224,11 @@ fn falling_pages(alloc: Global) -> Result<Vec<u8>, AllocError> {
     Ok(bytes)
 }
 
-/// Whether entries of these bytes mean the map.
-fn list_means(bytes: &[u8], map: &PermissionMap) -> bool {
-    means(&Entries { bytes }, map)
+/// Whether that many entries of these bytes mean the map.
+fn list_means(bytes: &[u8], count: u32, map: &PermissionMap) -> Result<bool, CheckRefusal> {
+    let mut reader = Reader::new(bytes);
+    let list = listed(&mut reader, count)?;
+    Ok(means(&list, map))
 }
 
 #[test]
@@ -242,12 +245,12 @@ fn entries_in_any_order_mean_a_map(rt: HostRuntime) -> Result<(), Fail> {
     }
     assert_eq!(rt; rising.len(), 450);
     let (fewer, _) = rising.as_slice().split_at(441);
-    assert!(rt; list_means(&falling, &map));
-    assert!(rt; list_means(&rising, &map));
-    assert!(rt; !list_means(fewer, &map));
+    assert_eq!(rt; list_means(&falling, 50, &map), Ok(true));
+    assert_eq!(rt; list_means(&rising, 50, &map), Ok(true));
+    assert_eq!(rt; list_means(fewer, 49, &map), Ok(false));
     map.set_range(0x80001, 1, Perm::Read)?;
-    assert!(rt; !list_means(&falling, &map));
-    assert!(rt; !list_means(&rising, &map));
+    assert_eq!(rt; list_means(&falling, 50, &map), Ok(false));
+    assert_eq!(rt; list_means(&rising, 50, &map), Ok(false));
     Ok(())
 }
 
@@ -275,11 +278,11 @@ fn of_entries_in_any_order_the_first_decides(rt: HostRuntime) -> Result<(), Fail
         twice.push(0x19)?;
         twice.extend_from_slice(&pair[1..])?;
     }
-    assert!(rt; list_means(&wide_last, &both));
-    assert!(rt; !list_means(&wide_last, &wide));
-    assert!(rt; list_means(&wide_first, &wide));
-    assert!(rt; !list_means(&wide_first, &both));
-    assert!(rt; list_means(&twice, &both));
+    assert_eq!(rt; list_means(&wide_last, 51, &both), Ok(true));
+    assert_eq!(rt; list_means(&wide_last, 51, &wide), Ok(false));
+    assert_eq!(rt; list_means(&wide_first, 51, &wide), Ok(true));
+    assert_eq!(rt; list_means(&wide_first, 51, &both), Ok(false));
+    assert_eq!(rt; list_means(&twice, 101, &both), Ok(true));
     Ok(())
 }
 
@@ -294,11 +297,11 @@ fn more_entries_than_are_held_at_once_mean_a_map(rt: HostRuntime) -> Result<(), 
         bytes.push(0x1F)?;
         bytes.extend_from_slice((page * 1024 + 511).to_le_bytes().as_slice())?;
     }
-    assert!(rt; list_means(&bytes, &map));
+    assert_eq!(rt; list_means(&bytes, 70000, &map), Ok(true));
     assert_eq!(rt; bytes.len(), 630000);
     let (fewer, _) = bytes.as_slice().split_at(629991);
-    assert!(rt; !list_means(fewer, &map));
+    assert_eq!(rt; list_means(fewer, 69999, &map), Ok(false));
     map.set_range(0x80000 + 34999, 1, Perm::Read)?;
-    assert!(rt; !list_means(&bytes, &map));
+    assert_eq!(rt; list_means(&bytes, 70000, &map), Ok(false));
     Ok(())
 }

@@ -44,18 +44,18 @@ pub returns-clause-rise : goal.returns-clause-rise
 returns-clause-rise c =
     let from : ℕ = c.loop-i.invariant.0 in
     let low : from ≤ c.loop-i.i = c.loop-i.invariant.1 in
-    let more : from ≤ count_in c.args.entries.now.bytes.now = omega arith in
-    let items : c.try_push-2.new.self.items ≡ c.loop-i.ends.items ++ count_in c.args.entries.now.bytes.now ∷ [] =
+    let more : from ≤ count_in c.args.entries.now = omega arith in
+    let items : c.try_push-2.new.self.items ≡ c.loop-i.ends.items ++ count_in c.args.entries.now ∷ [] =
     c.in-Ok-try_push.ensures.ok ∙ ap (λ n. c.loop-i.ends.items ++ n ∷ []) c.len.ensures in
-    subst (λ (xs : List ℕ). RiseTo 0 xs (count_in c.args.entries.now.bytes.now)) (sym items) (rise_append 0 c.loop-i.ends.items from _ c.loop-i.invariant.2 more)
+    subst (λ (xs : List ℕ). RiseTo 0 xs (count_in c.args.entries.now)) (sym items) (rise_append 0 c.loop-i.ends.items from _ c.loop-i.invariant.2 more)
 
 pub returns-clause-chains : goal.returns-clause-chains
 returns-clause-chains c =
     λ spans reads.
     let from : ℕ = c.loop-i.invariant.0 in
     let known = c.loop-i.invariant.3 spans reads in
-    let all : c.loop-i.i ≡ count_in c.args.entries.now.bytes.now = omega arith in
-    let items : c.try_push-2.new.self.items ≡ c.loop-i.ends.items ++ count_in c.args.entries.now.bytes.now ∷ [] =
+    let all : c.loop-i.i ≡ count_in c.args.entries.now = omega arith in
+    let items : c.try_push-2.new.self.items ≡ c.loop-i.ends.items ++ count_in c.args.entries.now ∷ [] =
     c.in-Ok-try_push.ensures.ok ∙ ap (λ n. c.loop-i.ends.items ++ n ∷ []) c.len.ensures in
-    subst (λ (xs : List ℕ). AreChains spans 0 xs (count_in c.args.entries.now.bytes.now)) (sym items)
+    subst (λ (xs : List ℕ). AreChains spans 0 xs (count_in c.args.entries.now)) (sym items)
     (chains_append spans 0 c.loop-i.ends.items from _ known.0 (subst (λ (n : ℕ). IsChain spans from n) all known.1))

@@ -6,5 +6,5 @@ use Rattle.certificate_check.proofs.chains.chains_of.Given as goal
 abbrev pub invariant-loop-i : goal.invariant-loop-i
 invariant-loop-i l =
     (from : ℕ) × (from ≤ l.i) × RiseTo 0 l.ends.items from
-    × ((spans : ℕ → Span) → ReadsAs l.entries.bytes.now spans
+    × ((spans : ℕ → Span) → ReadsAs l.entries spans
     → AreChains spans 0 l.ends.items from × IsChain spans from l.i × ((j : ℕ) → from ≤ j → j < l.i → (spans j).end ≤ l.last))

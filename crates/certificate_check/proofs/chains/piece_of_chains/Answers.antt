@@ -14,7 +14,7 @@ pub returns-then-places-i-clause-value : goal.returns-then-places-i-clause-value
 returns-then-places-i-clause-value c =
     λ spans reads.
     let split = drop_at c.args.ends.now c.loop-i.i c.loop-i-test.true in
-    let rise = subst (λ (xs : List ℕ). RiseTo c.loop-i.from xs (count_in c.args.entries.now.bytes.now)) split c.loop-i.invariant.rise in
+    let rise = subst (λ (xs : List ℕ). RiseTo c.loop-i.from xs (count_in c.args.entries.now)) split c.loop-i.invariant.rise in
     let are = c.go_on.ensures.value spans reads c.args.ends.now (sym c.loop-i.invariant.from) refl c.loop-i-test.true (c.loop-i.invariant.places spans reads) in
     let place : (d : Place) → IsPlace spans c.loop-i.from (slice_index c.args.ends.now c.loop-i.i) c.args.page (get_or c.go_on.new.places c.loop-i.i d) =
     λ d. rw (c.loop-i.invariant.from) (are c.loop-i.i d c.loop-i-test.true) in
@@ -29,7 +29,7 @@ returns-then-places-i-clause-places c =
 pub loop-i-preserved : goal.loop-i-preserved
 loop-i-preserved c =
     let split = drop_at c.args.ends.now c.loop-i.i c.loop-i-test.true in
-    let rise = subst (λ (xs : List ℕ). RiseTo c.loop-i.from xs (count_in c.args.entries.now.bytes.now)) split c.loop-i.invariant.rise in
+    let rise = subst (λ (xs : List ℕ). RiseTo c.loop-i.from xs (count_in c.args.entries.now)) split c.loop-i.invariant.rise in
     elim c.if-page-places.branch [
       | then-page-places+else-places-i w ↦
           record {
@@ -38,9 +38,9 @@ loop-i-preserved c =
             long = c.go_on.array_long;
             from = w.from-is ∙ sym (start_next c.args.ends.now c.loop-i.i);
             rise = rw (w.from-is) rise.2;
-            chains = λ spans reads. rw (w.from-is) (subst (λ (xs : List ℕ). AreChains spans c.loop-i.from xs (count_in c.args.entries.now.bytes.now)) split (c.loop-i.invariant.chains spans reads)).1;
+            chains = λ spans reads. rw (w.from-is) (subst (λ (xs : List ℕ). AreChains spans c.loop-i.from xs (count_in c.args.entries.now)) split (c.loop-i.invariant.chains spans reads)).1;
             clear = λ spans reads.
-                let chains = subst (λ (xs : List ℕ). AreChains spans c.loop-i.from xs (count_in c.args.entries.now.bytes.now)) split (c.loop-i.invariant.chains spans reads) in
+                let chains = subst (λ (xs : List ℕ). AreChains spans c.loop-i.from xs (count_in c.args.entries.now)) split (c.loop-i.invariant.chains spans reads) in
                 let are = c.go_on.ensures.value spans reads c.args.ends.now (sym c.loop-i.invariant.from) refl c.loop-i-test.true (c.loop-i.invariant.places spans reads) in
                 let place : (d : Place) → IsPlace spans c.loop-i.from (slice_index c.args.ends.now c.loop-i.i) c.args.page (get_or c.go_on.new.places c.loop-i.i d) =
                 λ d. rw (c.loop-i.invariant.from) (are c.loop-i.i d c.loop-i-test.true) in
@@ -58,7 +58,7 @@ loop-i-preserved c =
             long = c.go_on.array_long;
             from = w.from-is ∙ sym (start_next c.args.ends.now c.loop-i.i);
             rise = rw (w.from-is) rise.2;
-            chains = λ spans reads. rw (w.from-is) (subst (λ (xs : List ℕ). AreChains spans c.loop-i.from xs (count_in c.args.entries.now.bytes.now)) split (c.loop-i.invariant.chains spans reads)).1;
+            chains = λ spans reads. rw (w.from-is) (subst (λ (xs : List ℕ). AreChains spans c.loop-i.from xs (count_in c.args.entries.now)) split (c.loop-i.invariant.chains spans reads)).1;
             clear = λ spans reads.
                 let are = c.go_on.ensures.value spans reads c.args.ends.now (sym c.loop-i.invariant.from) refl c.loop-i-test.true (c.loop-i.invariant.places spans reads) in
                 let place : (d : Place) → IsPlace spans c.loop-i.from (slice_index c.args.ends.now c.loop-i.i) c.args.page (get_or c.go_on.new.places c.loop-i.i d) =
@@ -76,6 +76,6 @@ pub returns-clause-value : goal.returns-clause-value
 returns-clause-value c =
     λ spans reads.
     let done = drop_all c.args.ends.now c.loop-i.i c.loop-i-test.false in
-    let all : c.loop-i.from ≡ count_in c.args.entries.now.bytes.now =
-    subst (λ (xs : List ℕ). RiseTo c.loop-i.from xs (count_in c.args.entries.now.bytes.now)) done c.loop-i.invariant.rise in
+    let all : c.loop-i.from ≡ count_in c.args.entries.now =
+    subst (λ (xs : List ℕ). RiseTo c.loop-i.from xs (count_in c.args.entries.now)) done c.loop-i.invariant.rise in
     decided_none spans _ c.args.page c.loop-i.end (subst (λ (n : ℕ). AreClear spans n c.args.page c.loop-i.end) all (c.loop-i.invariant.clear spans reads))

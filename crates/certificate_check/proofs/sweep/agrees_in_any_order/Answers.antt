@@ -39,8 +39,8 @@ loop-key-init c =
       later = inv.later;
       same = inv.same;
       begun = λ spans reads.
-          let are : AreKeys spans (count_in c.args.entries.now.bytes.now) low high ks = rw (c.deref-key-items.ensures.0) (c.gather-low.ensures.value spans reads) in
-          begun_among spans (count_in c.args.entries.now.bytes.now) low (get_or ks 0 high) c.loop-low.page c.loop-low.slots (keys_first spans (count_in c.args.entries.now.bytes.now) low high ks are sorted)
+          let are : AreKeys spans (count_in c.args.entries.now) low high ks = rw (c.deref-key-items.ensures.0) (c.gather-low.ensures.value spans reads) in
+          begun_among spans (count_in c.args.entries.now) low (get_or ks 0 high) c.loop-low.page c.loop-low.slots (keys_first spans (count_in c.args.entries.now) low high ks are sorted)
           (inv.begun spans reads);
       given = inv.given;
     }
@@ -59,7 +59,7 @@ loop-low-preserved c =
       later = inv.later;
       same = inv.same;
       begun = λ spans reads.
-          subst (λ (n : ℕ). AreBegun spans (count_in c.args.entries.now.bytes.now) n c.loop-key.page c.loop-key.slots) all (inv.begun spans reads);
+          subst (λ (n : ℕ). AreBegun spans (count_in c.args.entries.now) n c.loop-key.page c.loop-key.slots) all (inv.begun spans reads);
       given = inv.given;
     }
 
@@ -71,7 +71,7 @@ loop-key-preserved c =
     let ks : List ℕ = c.deref-key-items.result.now in
     let x : ℕ = c.loop-key.key-index in
     let page : ℕ = c.first_of-first.result in
-    let count : ℕ = count_in c.args.entries.now.bytes.now in
+    let count : ℕ = count_in c.args.entries.now in
     let within : AreWithin low high ks = rw (c.deref-key-items.ensures.0) (λ k d less. let n = c.gather-low.ensures.numbers k d less in (n.1, n.2)) in
     let sorted : IsNonDecreasing ks = rw (c.deref-key-items.ensures.0) c.gather-low.ensures.sorted in
     let key : get_or ks x 0 ≡ get_or ks x high = same_element ks x 0 high c.loop-key-test.true in
@@ -94,7 +94,7 @@ loop-key-preserved c =
           let real : get_or ks x high ≡ key_of spans c.number_of-number.result = is.real ∙ ap (λ n. key_of spans n) (sym number) in
           let begins : c.span.result.first ≡ page =
           ap (λ (s : Span). s.first) span ∙ begins_at spans c.number_of-number.result (get_or ks x high) page (omega (arith, inside, few)) first real in
-          c.begin.ensures spans count (get_or ks x high) (get_or ks (x + 1) high) (blocks_read c.args.entries.now.bytes.now spans reads)
+          c.begin.ensures spans count (get_or ks x high) (get_or ks (x + 1) high) (blocks_read c.args.entries.now spans reads)
           (begun_later spans count (get_or ks x high) c.loop-key.page page c.loop-key.slots some (inv.begun spans reads)) inside span begins
           (λ j less early. subst (λ (n : ℕ). (key_of spans j < get_or ks x high) ⊎ (j ≡ n)) (sym number) (keys_next spans count low high x ks are sorted few c.loop-key-test.true j less early));
       given = λ spans reads at less.
@@ -102,7 +102,7 @@ loop-key-preserved c =
           (λ from.
           let none : NoneBegins spans count (get_or ks x high) page = λ j inside later. begins_later spans j (get_or ks x high) page (omega (arith, inside, few)) first later in
           subst (λ (p : Perm). Decides spans count at p) (inv.same at from)
-          (c.in-Some.ensures.given spans count (get_or ks x high) (blocks_read c.args.entries.now.bytes.now spans reads) (inv.begun spans reads) none at from less))
+          (c.in-Some.ensures.given spans count (get_or ks x high) (blocks_read c.args.entries.now spans reads) (inv.begun spans reads) none at from less))
           (cases_lt at c.loop-key.page);
     }
 
@@ -114,7 +114,7 @@ returns-in_default c =
     let ks : List ℕ = c.deref-key-items.result.now in
     let x : ℕ = c.loop-key.key-index in
     let page : ℕ = c.first_of-first.result in
-    let count : ℕ = count_in c.args.entries.now.bytes.now in
+    let count : ℕ = count_in c.args.entries.now in
     let within : AreWithin c.loop-low.low high ks = rw (c.deref-key-items.ensures.0) (λ k d less. let n = c.gather-low.ensures.numbers k d less in (n.1, n.2)) in
     let key : get_or ks x 0 ≡ get_or ks x high = same_element ks x 0 high c.loop-key-test.true in
     let first : page ≡ get_or ks x high / 2 ^ 64 = c.first_of-first.ensures ∙ ap (λ n. n / 2 ^ 64) key in
@@ -122,15 +122,15 @@ returns-in_default c =
     let inside : page ≤ 2 ^ 44 = (let h = c.gather-low.ensures.inside in omega (arith, h, first, below)) in
     let few = c.gather-low.ensures.count in
     let none : NoneBegins spans count (get_or ks x high) page = λ j less later. begins_later spans j (get_or ks x high) page (omega (arith, less, few)) first later in
-    let differs = c.in_default.ensures.differs spans count (get_or ks x high) (blocks_read c.args.entries.now.bytes.now spans reads) (inv.begun spans reads) none in
+    let differs = c.in_default.ensures.differs spans count (get_or ks x high) (blocks_read c.args.entries.now spans reads) (inv.begun spans reads) none in
     ((λ t. absurd (cc)), (λ all. absurd (differs.3 (subst (λ (p : Perm). Decides spans count differs.0 p) (sym (inv.same differs.0 differs.1)) (all differs.0 (let d = differs.2 in omega (arith, d, inside)))))))
 
 pub returns : goal.returns
 returns c =
     λ spans reads.
     let inv = c.loop-low.invariant in
-    let count : ℕ = count_in c.args.entries.now.bytes.now in
-    let blocks = blocks_read c.args.entries.now.bytes.now spans reads in
+    let count : ℕ = count_in c.args.entries.now in
+    let blocks = blocks_read c.args.entries.now spans reads in
     let past = c.loop-low-test.false in
     let few : count < 2 ^ 64 = inv.few (omega (arith, past)) in
     let none : NoneBegins spans count c.loop-low.low (2 ^ 44) = λ j less later. absurd (let inside = blocks.inside j less in omega (arith, inside, later, past, less, few)) in

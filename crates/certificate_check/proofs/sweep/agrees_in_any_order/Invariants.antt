@@ -10,12 +10,12 @@ abbrev pub invariant-loop-low : goal.invariant-loop-low
 invariant-loop-low l = record {
   inside : l.page ≤ 2 ^ 44;
   keys : l.low ≤ 2 ^ 108;
-  few : 0 < l.low → count_in l.entries.bytes.now < 2 ^ 64;
+  few : 0 < l.low → count_in l.entries < 2 ^ 64;
   order : l.page * 2 ^ 64 ≤ l.low;
   later : AreLaterRuns l.rest;
   same : (at : ℕ) → l.page ≤ at → view_of_runs l.rest at ≡ view_of_runs l.runs at;
-  begun : (spans : ℕ → Span) → ReadsAs l.entries.bytes.now spans → AreBegun spans (count_in l.entries.bytes.now) l.low l.page l.slots;
-  given : (spans : ℕ → Span) → ReadsAs l.entries.bytes.now spans → (at : ℕ) → at < l.page → Decides spans (count_in l.entries.bytes.now) at (view_of_runs l.runs at);
+  begun : (spans : ℕ → Span) → ReadsAs l.entries spans → AreBegun spans (count_in l.entries) l.low l.page l.slots;
+  given : (spans : ℕ → Span) → ReadsAs l.entries spans → (at : ℕ) → at < l.page → Decides spans (count_in l.entries) at (view_of_runs l.runs at);
 }
 
 abbrev pub decreases-loop-low : goal.decreases-loop-low
@@ -27,6 +27,6 @@ invariant-loop-key l = record {
   order : l.page * 2 ^ 64 ≤ slice_index_or l.key-items l.key-index l.low;
   later : AreLaterRuns l.rest;
   same : (at : ℕ) → l.page ≤ at → view_of_runs l.rest at ≡ view_of_runs l.runs at;
-  begun : (spans : ℕ → Span) → ReadsAs l.entries.bytes.now spans → AreBegun spans (count_in l.entries.bytes.now) (slice_index_or l.key-items l.key-index l.low) l.page l.slots;
-  given : (spans : ℕ → Span) → ReadsAs l.entries.bytes.now spans → (at : ℕ) → at < l.page → Decides spans (count_in l.entries.bytes.now) at (view_of_runs l.runs at);
+  begun : (spans : ℕ → Span) → ReadsAs l.entries spans → AreBegun spans (count_in l.entries) (slice_index_or l.key-items l.key-index l.low) l.page l.slots;
+  given : (spans : ℕ → Span) → ReadsAs l.entries spans → (at : ℕ) → at < l.page → Decides spans (count_in l.entries) at (view_of_runs l.runs at);
 }

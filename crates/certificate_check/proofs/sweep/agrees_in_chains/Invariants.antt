@@ -11,8 +11,8 @@ invariant-loop-page l = record {
   inside : l.page ≤ 2 ^ 44;
   later : AreLaterRuns l.rest;
   same : (at : ℕ) → l.page ≤ at → view_of_runs l.rest at ≡ view_of_runs l.runs at;
-  places : (spans : ℕ → Span) → ReadsAs l.entries.bytes.now spans → ArePlaces spans l.ends l.page l.places;
-  given : (spans : ℕ → Span) → ReadsAs l.entries.bytes.now spans → (at : ℕ) → at < l.page → Decides spans (count_in l.entries.bytes.now) at (view_of_runs l.runs at);
+  places : (spans : ℕ → Span) → ReadsAs l.entries spans → ArePlaces spans l.ends l.page l.places;
+  given : (spans : ℕ → Span) → ReadsAs l.entries spans → (at : ℕ) → at < l.page → Decides spans (count_in l.entries) at (view_of_runs l.runs at);
 }
 
 abbrev pub decreases-loop-page : goal.decreases-loop-page
