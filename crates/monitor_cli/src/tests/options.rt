@@ -49,7 +49,7 @@ fn contains(text: &[u8], part: &[u8]) -> bool {
 #[test]
 fn a_plan_has_other_formats(rt: HostRuntime) -> Result<(), Fail> {
     let rows: [(&str, &[u8]); 3] = [
-        ("c", b"0x1f"),
+        ("c", b"static const"),
         ("asm", b"csrw"),
         ("json", b"\"map\": \"board.map\""),
     ];
