@@ -1,24 +1,39 @@
 -- The program's command line, as `clap` sees it, and the task that it names.
-use Rattle.std.specs.Prelude.{Bool, true, false, List, [], ◌∷◌, Option, Some, codes, ◌≡◌, option_map}
+use Rattle.std.specs.Prelude.{ℕ, Bool, true, false, List, [], ◌∷◌, Option, Some, None, codes, ◌≡◌, ◌≢◌, option_map}
 use Rattle.clap.specs.Words.{App, Row, Rule, Text, first_of, one_of, new_app, new_rule, with_rule, with_subcommand}
 use Rattle.clap.specs.declared.builder.ArgAction.TheVariants.{Set, SetTrue}
 use Rattle.pmp_encoding.specs.declared.limit.Limit.{Limit}
 use Rattle.pmp_encoding.specs.declared.limit.Limit.TheVariants.{Sixteen, SixtyFour}
+use Rattle.text_lines.specs.Numbers.{number_of}
+use Rattle.command_line.specs.declared.task.Format.{Format}
+use Rattle.command_line.specs.declared.task.Format.TheVariants as formats
 use Rattle.command_line.specs.declared.task.Task.{Task}
-use Rattle.command_line.specs.declared.task.Task.TheVariants.{Run, Plan, Judge, Check}
+use Rattle.command_line.specs.declared.task.Task.TheVariants.{Run, Plan, Judge, Check, Show}
 
 -- a file that is named by its place among the words
 abbrev pub file_rule : Text → Bool → Rule
 file_rule name is_required = record (new_rule name) { action = Some Set; required = is_required }
 
--- `--entries`, which is 16 where it is not given
-abbrev pub entries_rule : Rule
-entries_rule = record (new_rule (codes "entries")) {
-  long = Some (codes "entries");
+-- an option with a value, and the one that it has where it is not given
+abbrev pub option_rule : Text → List Text → Rule
+option_rule name defaults = record (new_rule name) {
+  long = Some name;
   value_names = 1;
   action = Some Set;
-  defaults = codes "16" ∷ [];
+  defaults = defaults;
 }
+
+-- `--entries`, which is 16 where it is not given
+abbrev pub entries_rule : Rule
+entries_rule = option_rule (codes "entries") (codes "16" ∷ [])
+
+-- `--at-most`, which has no value where it is not given
+abbrev pub at_most_rule : Rule
+at_most_rule = option_rule (codes "at-most") []
+
+-- `--format`, which is text where it is not given
+abbrev pub format_rule : Rule
+format_rule = option_rule (codes "format") (codes "text" ∷ [])
 
 -- `--measure`, which takes no value
 abbrev pub measure_rule : Rule
@@ -29,10 +44,12 @@ run_app = with_rule
     (with_rule (with_rule (new_app (codes "run")) (file_rule (codes "PLATFORM") true)) (file_rule (codes "TRACE") true))
     measure_rule
 
+-- `plan` before its options
+abbrev pub plan_files_app : App
+plan_files_app = with_rule (with_rule (new_app (codes "plan")) (file_rule (codes "MAP") true)) (file_rule (codes "CERT") false)
+
 abbrev pub plan_app : App
-plan_app = with_rule
-    (with_rule (with_rule (new_app (codes "plan")) (file_rule (codes "MAP") true)) (file_rule (codes "CERT") false))
-    entries_rule
+plan_app = with_rule (with_rule (with_rule plan_files_app entries_rule) at_most_rule) format_rule
 
 abbrev pub judge_app : App
 judge_app = with_rule
@@ -42,40 +59,87 @@ judge_app = with_rule
 abbrev pub check_app : App
 check_app = with_rule (with_rule (new_app (codes "check")) (file_rule (codes "MAP") true)) (file_rule (codes "CERT") true)
 
--- the program before its subcommands: one has to be named
+abbrev pub show_app : App
+show_app = with_rule (with_rule (with_rule (new_app (codes "show")) (file_rule (codes "MAP") true)) entries_rule) at_most_rule
+
+-- the program before its subcommands, which tells its version: one of them has to be named
 abbrev pub bare_app : App
-bare_app = record { top = record (new_app (codes "pmpmon")).top { subcommand_required = true }; subs = [] }
+bare_app = record { top = record (new_app (codes "pmpmon")).top { subcommand_required = true; has_version = true }; subs = [] }
 
 abbrev pub running_app : App
 running_app = with_subcommand bare_app run_app.top
 
+-- with the commands that make, use and check a plan
+abbrev pub planning_app : App
+planning_app = with_subcommand (with_subcommand (with_subcommand running_app plan_app.top) judge_app.top) check_app.top
+
 abbrev pub program_app : App
-program_app = with_subcommand (with_subcommand (with_subcommand running_app plan_app.top) judge_app.top) check_app.top
+program_app = with_subcommand planning_app show_app.top
 
 -- the word that names a limit
 abbrev pub limit_word : Limit → Text
 limit_word Sixteen = codes "16"
 limit_word SixtyFour = codes "64"
 
+-- the word that names a format
+abbrev pub format_word : Format → Text
+format_word formats.Text = codes "text"
+format_word formats.C = codes "c"
+format_word formats.Asm = codes "asm"
+format_word formats.Json = codes "json"
+
+-- the number that a word names, where there is one
+abbrev pub Counts : Option Text → Option ℕ → Type 0
+Counts None count = count ≡ None
+Counts (Some word) count = (n : ℕ) × (number_of word ≡ Some n) × (count ≡ Some n)
+
 -- the subcommand of that name was entered, with these rows
 abbrev pub Enters : Option (Text × List Row) → Text → List Row → Type 0
 Enters found name rows = found ≡ Some (name, rows)
 
--- the task is the subcommand that was entered, with the values of its words
-abbrev pub IsTask : Option (Text × List Row) → Task → Type 0
-IsTask found (Run platform trace measure) = (rows : List Row) × Enters found (codes "run") rows
-    × (first_of (codes "PLATFORM") rows ≡ Some platform.now)
+-- the subcommand of a task
+abbrev pub word_of : Task → Text
+word_of (Run platform trace measure) = codes "run"
+word_of (Plan map cert limit at_most format) = codes "plan"
+word_of (Judge map trace limit) = codes "judge"
+word_of (Check map cert) = codes "check"
+word_of (Show map limit at_most) = codes "show"
+
+-- the task has the values of its words
+abbrev pub HasValues : List Row → Task → Type 0
+HasValues rows (Run platform trace measure) =
+    (first_of (codes "PLATFORM") rows ≡ Some platform.now)
     × (first_of (codes "TRACE") rows ≡ Some trace.now)
     × (one_of (codes "measure") rows ≡ Some (codes "true") → measure ≡ true)
     × (one_of (codes "measure") rows ≡ Some (codes "false") → measure ≡ false)
-IsTask found (Plan map cert limit) = (rows : List Row) × Enters found (codes "plan") rows
-    × (first_of (codes "MAP") rows ≡ Some map.now)
+HasValues rows (Plan map cert limit at_most format) =
+    (first_of (codes "MAP") rows ≡ Some map.now)
     × (first_of (codes "CERT") rows ≡ option_map (λ s. s.now) cert)
     × (first_of (codes "entries") rows ≡ Some (limit_word limit))
-IsTask found (Judge map trace limit) = (rows : List Row) × Enters found (codes "judge") rows
-    × (first_of (codes "MAP") rows ≡ Some map.now)
+    × Counts (first_of (codes "at-most") rows) at_most
+    × (first_of (codes "format") rows ≡ Some (format_word format))
+HasValues rows (Judge map trace limit) =
+    (first_of (codes "MAP") rows ≡ Some map.now)
     × (first_of (codes "TRACE") rows ≡ Some trace.now)
     × (first_of (codes "entries") rows ≡ Some (limit_word limit))
-IsTask found (Check map cert) = (rows : List Row) × Enters found (codes "check") rows
-    × (first_of (codes "MAP") rows ≡ Some map.now)
+HasValues rows (Check map cert) =
+    (first_of (codes "MAP") rows ≡ Some map.now)
     × (first_of (codes "CERT") rows ≡ Some cert.now)
+HasValues rows (Show map limit at_most) =
+    (first_of (codes "MAP") rows ≡ Some map.now)
+    × (first_of (codes "entries") rows ≡ Some (limit_word limit))
+    × Counts (first_of (codes "at-most") rows) at_most
+
+-- the task is the subcommand that was entered, with the values of its words
+abbrev pub IsTask : Option (Text × List Row) → Task → Type 0
+IsTask found task = (rows : List Row) × Enters found (word_of task) rows × HasValues rows task
+
+-- a word that standard input stands for
+abbrev pub input_word : Text
+input_word = codes "-"
+
+-- standard input is read once at most, and a certificate never takes the place of its map
+abbrev pub IsSound : Task → Type 0
+IsSound (Plan map cert limit at_most format) = option_map (λ s. s.now) cert ≢ Some map.now
+IsSound (Judge map trace limit) = ¬ ((map.now ≡ input_word) × (trace.now ≡ input_word))
+IsSound task = Unit {0}

@@ -8,11 +8,13 @@
 //! ```
 #![tactic(auto)]
 
+mod fault;
 mod subcommands;
 mod task;
 mod words;
 
-pub use task::Task;
+pub use fault::takes_place;
+pub use task::{Format, Task};
 pub use words::command_of;
 
 #[cfg(test)]

@@ -3,22 +3,29 @@
 ghost use Rattle.std.specs.Prelude.{◌≡◌, IfOk, false};
 ghost use Rattle.clap.specs.Words.{app_of, new_app, rule_of};
 ghost use Rattle.clap.specs.declared.builder.command.Command.TheViews.{out-Command};
-ghost use Rattle.command_line.specs.CommandLine.{bare_app, check_app, entries_rule, file_rule, judge_app, measure_rule, plan_app, program_app, run_app, running_app};
+ghost use Rattle.command_line.specs.CommandLine.{at_most_rule, bare_app, check_app, entries_rule, file_rule, format_rule, judge_app, measure_rule, plan_app, plan_files_app, planning_app, program_app, run_app, running_app, show_app};
 
 use clap::{Arg, ArgAction, Command};
 use std::alloc::{AllocError, Global};
+
+/// The version, the kit that proves it, and what is proved.
+const VERSION: &str =
+    "0.2.0 (rattle-kit-13b logic dac8208d650f15bf)\nProved: a plan's entries mean the map and are the fewest that do; check accepts right certificates alone; judge and run answer as the registers decide";
 
 const ABOUT: &str =
     "Runs traces on a modelled RISC-V hart whose monitor isolates enclaves by PMP, with the fewest entries, and plans, certifies and checks such entries";
 
 const EXAMPLE: &str =
-    "Example, with a file map.txt that holds the line\n\n  0x80000000 0x1000 rwx\n\n  pmpmon plan map.txt map.pmpc      prints one entry, and writes its certificate\n  pmpmon check map.txt map.pmpc     prints 'accepted 1'\n\nStatus: 0 done, 1 refused by the checker, 2 bad input, 3 input or output failed, 4 memory";
+    "Example, with a file map.txt that holds the line\n\n  0x80000000 0x1000 rwx\n\n  pmpmon plan map.txt map.pmpc      prints one entry, and writes its certificate\n  pmpmon check map.txt map.pmpc     prints 'accepted 1'\n\nMAP and TRACE can be '-', standard input.\n\nStatus: 0 done, 1 refused by the checker, 2 bad input, 3 input or output failed, 4 memory";
 
 const RUN_HELP: &str =
     "A platform file is TOML: [monitor] and one [[ram]] or more, each with base and size in bytes, whole pages of 4096;\n[[device]] with a perm too; and, above them, harts = 1 to 4 (1) and entries = 16 or 64 (16).\n\nA trace has a line for each event, with M s or u, and SIZE 1, 2, 4 or 8 (for a fetch 2 or 4):\n\n  fetch M SIZE ADDR\n  load M SIZE ADDR\n  store M SIZE ADDR VALUE\n  reg xN VALUE\n  ecall W1 .. Wk         up to 8 words, put in a7, a6, a0 to a5\n  irq                    the timer's interrupt\n\n@H before an event names its hart, from 0. # begins a comment. The monitor's calls are\n\n  ecall 0x08454E43 0 BASE TEXT DATA SHARED_BASE SHARED ENTRY    create (pages; ENTRY is an offset in bytes)\n  ecall 0x08454E43 1 ID     destroy         ecall 0x08454E43 2 ID     run\n  ecall 0x08454E43 3        stop            ecall 0x08454E43 4 ID     resume\n  ecall 0x08454E43 5 VALUE  exit            ecall 0x08454E43 6 ID K   word K of the measurement\n\nEach event N is answered by 'N ok', 'N ok VALUE' (a load), 'N fault CAUSE', 'N call STATUS VALUE WORLD USED' or\n'N irq WORLD USED': WORLD is 0 for the host or an enclave's id, and USED how many PMP entries are loaded.\n\nExample:\n  pmpmon run platform.toml trace.txt --measure";
 
 const PLAN_HELP: &str =
-    "Prints 'entries N', each entry as 'I 0xCC 0xAAAAAAAAAAAAAAAA' (configuration byte and address register),\nand the configuration words where the entries fit. The certificate shows that no shorter list means the map.\n\nA map file has lines 'BASE SIZE PERM', in bytes: whole pages of 4096 bytes, and one of none, r, rw, x, rx, rwx.\n\nExample:\n  pmpmon plan map.txt map.pmpc --entries 64";
+    "Prints 'entries N', each entry as 'I 0xCC 0xAAAAAAAAAAAAAAAA' (configuration byte and address register),\nand the configuration words where the entries fit. The certificate shows that no shorter list means the map.\n\nA map file has lines 'BASE SIZE PERM', in bytes: whole pages of 4096 bytes, and one of none, r, rw, x, rx, rwx.\n\nWith --format c, asm or json the same registers are printed as C arrays, as assembly that loads them, or as one JSON\nobject.\n\nExample:\n  pmpmon plan map.txt map.pmpc --entries 64";
+
+const SHOW_HELP: &str =
+    "Prints the map as a table: each stretch of bytes with one permission that one entry decides, its size, its\npermission (r, w, x, a hyphen for each that it lacks), the entry, and the entries that it overrides there; then all\nelse; then how many entries the map needs, and whether a hart of --entries has as many.\n\nExample:\n  pmpmon show map.txt --entries 64";
 
 const JUDGE_HELP: &str =
     "A trace has a line for each access, with M s or u, and SIZE 1, 2, 4 or 8 (for a fetch 2 or 4):\n\n  fetch M SIZE ADDR\n  load M SIZE ADDR\n  store M SIZE ADDR VALUE\n\nEach is answered by 'N ok' or 'N fault CAUSE'.\n\nExample, with a file trace.txt that holds the line 'load s 8 0x80000ff8':\n  pmpmon judge map.txt trace.txt";
@@ -48,6 +55,31 @@ fn entries_arg<'a>(alloc: Global) -> Arg<'a>
         .help("How many PMP entries the hart has")
         .action(ArgAction::Set)
         .default_value("16")
+}
+
+/// The option that says how many entries a plan may have.
+fn at_most_arg<'a>(alloc: Global) -> Arg<'a>
+    ensures rule { rule_of result ≡ at_most_rule }
+    ensures local { result.global ≡ false }
+{
+    Arg::new(alloc, "at-most")
+        .long("at-most")
+        .value_name("N")
+        .help("Refuse a map that needs more than N entries, with status 2")
+        .action(ArgAction::Set)
+}
+
+/// The option that says how a plan is printed.
+fn format_arg<'a>(alloc: Global) -> Arg<'a>
+    ensures rule { rule_of result ≡ format_rule }
+    ensures local { result.global ≡ false }
+{
+    Arg::new(alloc, "format")
+        .long("format")
+        .value_name("text|c|asm|json")
+        .help("How the plan is printed")
+        .action(ArgAction::Set)
+        .default_value("text")
 }
 
 /// A command without arguments, with its texts for help.
@@ -84,18 +116,27 @@ fn run_command<'a>(alloc: Global) -> Result<Command<'a>, AllocError>
     Ok(run)
 }
 
-fn plan_command<'a>(alloc: Global) -> Result<Command<'a>, AllocError>
-    ensures app { IfOk result (λ c. app_of c ≡ plan_app) }
+/// `plan` before its options.
+fn plan_files<'a>(alloc: Global) -> Result<Command<'a>, AllocError>
+    ensures app { IfOk result (λ c. app_of c ≡ plan_files_app) }
     ensures local { IfOk result (λ c. (out-Command c).has_globals ≡ false) }
 {
     let map = file_arg(alloc, "MAP", "The map file", true);
     let cert = file_arg(alloc, "CERT", "The file to write the certificate to", false);
-    let entries = entries_arg(alloc);
     let about = "Print the fewest entries that mean a map, and write their certificate";
-    let plan = named(alloc, "plan", about, PLAN_HELP)
-        .arg(map)?
-        .arg(cert)?
-        .arg(entries)?;
+    let plan = named(alloc, "plan", about, PLAN_HELP).arg(map)?.arg(cert)?;
+    Ok(plan)
+}
+
+fn plan_command<'a>(alloc: Global) -> Result<Command<'a>, AllocError>
+    ensures app { IfOk result (λ c. app_of c ≡ plan_app) }
+    ensures local { IfOk result (λ c. (out-Command c).has_globals ≡ false) }
+{
+    let files = plan_files(alloc)?;
+    let entries = entries_arg(alloc);
+    let at_most = at_most_arg(alloc);
+    let format = format_arg(alloc);
+    let plan = files.arg(entries)?.arg(at_most)?.arg(format)?;
     Ok(plan)
 }
 
@@ -127,12 +168,29 @@ fn check_command<'a>(alloc: Global) -> Result<Command<'a>, AllocError>
     Ok(check)
 }
 
+fn show_command<'a>(alloc: Global) -> Result<Command<'a>, AllocError>
+    ensures app { IfOk result (λ c. app_of c ≡ show_app) }
+    ensures local { IfOk result (λ c. (out-Command c).has_globals ≡ false) }
+{
+    let map = file_arg(alloc, "MAP", "The map file", true);
+    let entries = entries_arg(alloc);
+    let at_most = at_most_arg(alloc);
+    let about = "Print a map as a table, each stretch with the entry that decides it";
+    let show = named(alloc, "show", about, SHOW_HELP)
+        .arg(map)?
+        .arg(entries)?
+        .arg(at_most)?;
+    Ok(show)
+}
+
 /// The program without its subcommands, one of which has to be named.
 fn bare_program<'a>(alloc: Global) -> Command<'a>
     ensures app { app_of result ≡ bare_app }
     ensures local { (out-Command result).has_globals ≡ false }
 {
-    named(alloc, "pmpmon", ABOUT, EXAMPLE).subcommand_required(true)
+    named(alloc, "pmpmon", ABOUT, EXAMPLE)
+        .version(VERSION)
+        .subcommand_required(true)
 }
 
 /// The program with the first of its subcommands.
@@ -145,9 +203,9 @@ fn running_program<'a>(alloc: Global) -> Result<Command<'a>, AllocError>
     Ok(program)
 }
 
-/// The program with its subcommands.
-pub fn program<'a>(alloc: Global) -> Result<Command<'a>, AllocError>
-    ensures app { IfOk result (λ c. app_of c ≡ program_app) }
+/// The program with the commands that make, use and check a plan.
+fn planning_program<'a>(alloc: Global) -> Result<Command<'a>, AllocError>
+    ensures app { IfOk result (λ c. app_of c ≡ planning_app) }
     ensures local { IfOk result (λ c. (out-Command c).has_globals ≡ false) }
 {
     let running = running_program(alloc)?;
@@ -159,4 +217,35 @@ pub fn program<'a>(alloc: Global) -> Result<Command<'a>, AllocError>
         .subcommand(judge)?
         .subcommand(check)?;
     Ok(program)
+}
+
+/// The program with its subcommands.
+pub fn program<'a>(alloc: Global) -> Result<Command<'a>, AllocError>
+    ensures app { IfOk result (λ c. app_of c ≡ program_app) }
+    ensures local { IfOk result (λ c. (out-Command c).has_globals ≡ false) }
+{
+    let planning = planning_program(alloc)?;
+    let show = show_command(alloc)?;
+    let program = planning.subcommand(show)?;
+    Ok(program)
+}
+
+/// The subcommand of that name as the program calls it, and the program itself where it has none of that name.
+pub fn subcommand_named<'a>(alloc: Global, name: &str) -> Result<Command<'a>, AllocError> {
+    if name == "run" {
+        return run_command(alloc)?.bin_name("pmpmon run");
+    }
+    if name == "plan" {
+        return plan_command(alloc)?.bin_name("pmpmon plan");
+    }
+    if name == "judge" {
+        return judge_command(alloc)?.bin_name("pmpmon judge");
+    }
+    if name == "check" {
+        return check_command(alloc)?.bin_name("pmpmon check");
+    }
+    if name == "show" {
+        return show_command(alloc)?.bin_name("pmpmon show");
+    }
+    program(alloc)
 }

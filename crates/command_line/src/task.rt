@@ -2,6 +2,19 @@
 
 use pmp_encoding::Limit;
 
+/// How a plan is printed.
+#[derive(Clone, Copy, Debug, PartialEq, Eq)]
+pub enum Format {
+    /// A line for each entry, and the configuration words behind them.
+    Text,
+    /// Arrays of C.
+    C,
+    /// RISC-V assembly that loads the registers.
+    Asm,
+    /// One JSON object.
+    Json,
+}
+
 /// One command of the program. The names of files are the words that were given.
 #[derive(Clone, Copy, Debug, PartialEq, Eq)]
 pub enum Task<'a> {
@@ -22,6 +35,10 @@ pub enum Task<'a> {
         cert: Option<&'a str>,
         /// How many entries the register file has.
         limit: Limit,
+        /// How many entries the plan may have, where that is asked for.
+        at_most: Option<u64>,
+        /// How the plan is printed.
+        format: Format,
     },
     /// Load a map's entries, and judge the accesses of a trace by them.
     Judge {
@@ -38,5 +55,14 @@ pub enum Task<'a> {
         map: &'a str,
         /// The certificate.
         cert: &'a str,
+    },
+    /// Print a map as a table of its stretches, each with the entry that decides it.
+    Show {
+        /// The map file.
+        map: &'a str,
+        /// How many entries the register file has.
+        limit: Limit,
+        /// How many entries the plan may have, where that is asked for.
+        at_most: Option<u64>,
     },
 }

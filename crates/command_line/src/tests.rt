@@ -1,6 +1,7 @@
-use crate::{Task, command_of};
+use crate::{Format, Task, command_of, takes_place};
 use clap::error::ErrorKind;
 use pmp_encoding::Limit;
+use std::alloc::Global;
 use std::test::Fail;
 
 #[test]
@@ -40,7 +41,9 @@ fn plan_takes_a_map_and_maybe_a_certificate(rt: HostRuntime) -> Result<(), Fail>
         Task::Plan {
             map: "map.txt",
             cert: None,
-            limit: Limit::Sixteen
+            limit: Limit::Sixteen,
+            at_most: None,
+            format: Format::Text
         }
     );
     let written = command_of(rt.alloc(), &["pmpmon", "plan", "map.txt", "out.pmpc"])?;
@@ -49,7 +52,9 @@ fn plan_takes_a_map_and_maybe_a_certificate(rt: HostRuntime) -> Result<(), Fail>
         Task::Plan {
             map: "map.txt",
             cert: Some("out.pmpc"),
-            limit: Limit::Sixteen
+            limit: Limit::Sixteen,
+            at_most: None,
+            format: Format::Text
         }
     );
     let named = command_of(
@@ -66,7 +71,9 @@ fn plan_takes_a_map_and_maybe_a_certificate(rt: HostRuntime) -> Result<(), Fail>
         Task::Plan {
             map: "map.txt",
             cert: Some("out.pmpc"),
-            limit: Limit::SixtyFour
+            limit: Limit::SixtyFour,
+            at_most: None,
+            format: Format::Text
         }
     );
     Ok(())
@@ -118,8 +125,23 @@ fn check_takes_a_map_and_a_certificate(rt: HostRuntime) -> Result<(), Fail> {
 
 #[test]
 fn other_words_are_faults_of_the_command_line(rt: HostRuntime) {
-    let lines: [&[&str]; 13] = [
+    let lines: [&[&str]; 22] = [
         &["pmpmon"],
+        &["pmpmon", "plan", "map.txt", "map.txt"],
+        &["pmpmon", "plan", "-", "-"],
+        &["pmpmon", "plan", "map.txt", "--at-most", "few"],
+        &["pmpmon", "plan", "map.txt", "--at-most", "-1"],
+        &[
+            "pmpmon",
+            "plan",
+            "map.txt",
+            "--at-most",
+            "18446744073709551616",
+        ],
+        &["pmpmon", "plan", "map.txt", "--format", "xml"],
+        &["pmpmon", "judge", "-", "-"],
+        &["pmpmon", "show", "map.txt", "more"],
+        &["pmpmon", "show", "map.txt", "--format", "c"],
         &["pmpmon", "draw", "map.txt"],
         &["pmpmon", "run", "p.toml"],
         &["pmpmon", "run", "p.toml", "t.txt", "more"],
@@ -157,4 +179,125 @@ fn help_is_no_mistake(rt: HostRuntime) {
             Err(error) => assert_eq!(rt; error.kind(), ErrorKind::DisplayHelp),
         }
     }
+}
+
+#[test]
+fn plan_and_show_take_options(rt: HostRuntime) -> Result<(), Fail> {
+    let few = command_of(
+        rt.alloc(),
+        &[
+            "pmpmon",
+            "plan",
+            "-",
+            "out.pmpc",
+            "--at-most",
+            "8",
+            "--format",
+            "asm",
+        ],
+    )?;
+    assert_eq!(rt;
+        few,
+        Task::Plan {
+            map: "-",
+            cert: Some("out.pmpc"),
+            limit: Limit::Sixteen,
+            at_most: Some(8),
+            format: Format::Asm
+        }
+    );
+    let formats = [
+        ("c", Format::C),
+        ("json", Format::Json),
+        ("text", Format::Text),
+    ];
+    for (word, wanted) in formats {
+        match command_of(rt.alloc(), &["pmpmon", "plan", "map.txt", "--format", word])? {
+            Task::Plan { format, .. } => assert_eq!(rt; format, wanted),
+            _ => assert!(rt; false, "another task"),
+        }
+    }
+    let shown = command_of(
+        rt.alloc(),
+        &[
+            "pmpmon",
+            "show",
+            "map.txt",
+            "--at-most=0x10",
+            "--entries=64",
+        ],
+    )?;
+    assert_eq!(rt;
+        shown,
+        Task::Show {
+            map: "map.txt",
+            limit: Limit::SixtyFour,
+            at_most: Some(16)
+        }
+    );
+    let plain = command_of(rt.alloc(), &["pmpmon", "show", "-"])?;
+    assert_eq!(rt;
+        plain,
+        Task::Show {
+            map: "-",
+            limit: Limit::Sixteen,
+            at_most: None
+        }
+    );
+    Ok(())
+}
+
+/// Whether words name no task, and that is told of them.
+fn is_told(alloc: Global, words: &[&str], wanted: &str) -> Result<bool, Fail> {
+    match command_of(alloc, words) {
+        Ok(_) => Ok(false),
+        Err(error) => {
+            let text = format!(in alloc; "{error}")?;
+            Ok(text.as_str() == wanted)
+        }
+    }
+}
+
+#[test]
+fn a_fault_names_the_value_and_the_usage(rt: HostRuntime) -> Result<(), Fail> {
+    assert!(rt;
+        is_told(
+            rt.alloc(),
+            &["pmpmon", "judge", "map.txt", "trace.txt", "--entries", "32"],
+            "error: invalid value '32' for '--entries <16|64>'\n  [possible values: 16, 64]\n\nUsage: pmpmon judge [OPTIONS] <MAP> <TRACE>\n\nFor more information, try '--help'.\n",
+        )?
+    );
+    assert!(rt;
+        is_told(
+            rt.alloc(),
+            &["pmpmon", "show", "map.txt", "--at-most", "few"],
+            "error: invalid value 'few' for '--at-most <N>': no number below 2^64\n\nUsage: pmpmon show [OPTIONS] <MAP>\n\nFor more information, try '--help'.\n",
+        )?
+    );
+    assert!(rt;
+        is_told(
+            rt.alloc(),
+            &["pmpmon", "plan", "map.txt", "map.txt"],
+            "error: the certificate would take the place of the map 'map.txt'\n\nUsage: pmpmon plan [OPTIONS] <MAP> [CERT]\n\nFor more information, try '--help'.\n",
+        )?
+    );
+    let other = takes_place(rt.alloc(), "m")?;
+    assert_eq!(rt; other.kind(), ErrorKind::ArgumentConflict);
+    Ok(())
+}
+
+#[test]
+fn the_version_names_the_kit(rt: HostRuntime) -> Result<(), Fail> {
+    match command_of(rt.alloc(), &["pmpmon", "--version"]) {
+        Ok(_) => assert!(rt; false, "taken"),
+        Err(error) => {
+            assert_eq!(rt; error.kind(), ErrorKind::DisplayVersion);
+            let text = format!(in rt.alloc(); "{error}")?;
+            assert!(rt;
+                text.as_str()
+                    .contains("rattle-kit-13b logic dac8208d650f15bf")
+            );
+        }
+    }
+    Ok(())
 }

@@ -1,5 +1,6 @@
--- How runs over lines, and texts that are written, end.
-use Rattle.std.proofs.Common.{ℕ, ◌≡◌, Bool, true, false, List, Option, Result, Ok, Err, IfOk, IfErr, refl}
+-- How runs over lines, texts that are written and plans end.
+use Rattle.std.proofs.Common.{ℕ, ◌≡◌, ◌≤◌, ◌⊎◌, inl, inr, Bool, true, false, List, Option, Some, None, Result, Ok, Err, IfOk, IfErr, arith, refl}
+use Rattle.std.specs.Borrow.{Bor}
 use Rattle.std.specs.Io.KnownBytes.{Appends}
 use Rattle.byte_streams.specs.Streams.{WriteFails}
 use Rattle.text_lines.specs.declared.fault.RunFault.{RunFault}
@@ -9,7 +10,12 @@ use Rattle.printed_lines.specs.Plans.{TakesPart}
 use Rattle.monitor_cli.specs.declared.trouble.Trouble.{Trouble}
 use Rattle.hart_sim.specs.declared.machine.Machine.{Machine}
 use Rattle.hart_sim.specs.Machines.{kept_of}
-use Rattle.monitor_cli.specs.Commands.{Writing, IsMeasured, Tells, told, cut}
+use Rattle.pmp_encoding.specs.declared.limit.Limit.{Limit}
+use Rattle.pmp_encoding.specs.Limits.{limit_number}
+use Rattle.pmp_match.specs.Meaning.{View}
+use Rattle.command_line.specs.declared.task.Format.TheVariants as formats
+use Rattle.monitor_cli.specs.declared.trouble.Trouble.TheVariants.{Memory}
+use Rattle.monitor_cli.specs.Commands.{Writing, Placing, Breaks, IsMeasured, IsUnplanned, IsUnwritten, IsWithin, NeedsMore, Tells, beyond, most_entries, starved, told, cut}
 use Rattle.monitor_cli.specs.Tasks.{AreMeasures, Stops}
 use Rattle.monitor_cli.specs.Troubles.{trouble_text}
 
@@ -44,3 +50,27 @@ pub measured :
     → IsMeasured measure machine before after
 measured true machine before after e written = written
 measured false machine before after e written = cc
+
+-- a text that broke off
+pub broken :
+    {W X Y : Type 0} (sink : Writing W) (result : Result X Y) (P : List ℕ → Type 0) → IfErr result (λ _. (text : List ℕ) × P text × TakesPart text sink.before sink.after)
+    → IfErr result (λ _. WriteFails sink.failures sink.failed sink.stalls sink.stalled) → IfErr result (λ _. (text : List ℕ) × P text × Breaks text sink)
+broken sink (Ok x) P part fails = tt
+broken sink (Err y) P part fails = (part.0, part.1, record { part = part.2; fails = fails })
+
+-- no plan, where there is none within the bound
+pub unplanned :
+    {C X : Type 0} (view : View) (limit : Limit) (most : Option ℕ) (file : Option (Bor (List ℕ))) (cert : Placing C) (result : Result X Trouble) → IsUnwritten cert.sink
+    → IfErr result (λ trouble. (trouble ≡ Memory) ⊎ NeedsMore view most trouble) → IfErr result (λ trouble. IsUnplanned view limit most file cert trouble)
+unplanned view limit most file cert (Ok x) quiet refused = tt
+unplanned view limit most file cert (Err trouble) quiet (inl e) = starved e quiet
+unplanned view limit most file cert (Err trouble) quiet (inr more) = beyond more quiet
+
+-- what is within the bound of C and of assembly fits the hart
+pub fits_c : (limit : Limit) (at_most : Option ℕ) (n : ℕ) → IsWithin (most_entries limit at_most formats.C) n → n ≤ limit_number limit
+fits_c limit None n h = h
+fits_c limit (Some most) n h = omega (arith, h)
+
+pub fits_asm : (limit : Limit) (at_most : Option ℕ) (n : ℕ) → IsWithin (most_entries limit at_most formats.Asm) n → n ≤ limit_number limit
+fits_asm limit None n h = h
+fits_asm limit (Some most) n h = omega (arith, h)

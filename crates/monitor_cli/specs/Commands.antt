@@ -1,5 +1,5 @@
 -- What each command comes to, on the files and streams that are lent for it: a rule for each way in which it ends.
-use Rattle.std.specs.Prelude.{◌≡◌, ℕ, ◌+◌, ◌^◌, ◌<◌, ◌≤◌, Bool, true, false, List, Option, Some, None, Result, Ok, Err, length}
+use Rattle.std.specs.Prelude.{◌≡◌, ℕ, ◌+◌, ◌^◌, ◌<◌, ◌≤◌, min, Bool, true, false, List, Option, Some, None, Result, Ok, Err, length}
 use Rattle.std.specs.Borrow.{Bor}
 use Rattle.std.specs.Io.KnownBytes.{Appends, Consumes}
 use Rattle.byte_streams.specs.Streams.{WriteFails}
@@ -27,6 +27,12 @@ use Rattle.hart_sim.specs.Machines.{kept_of}
 use Rattle.hart_sim.specs.Reports.{DoesLine, RefusesLine, StarvesLine}
 use Rattle.trace_judge.specs.Judging.{is_no_access, judged_by}
 use Rattle.printed_lines.specs.Plans.{IsPlanText, TakesPart}
+use Rattle.map_table.specs.Tables.{IsTable}
+use Rattle.register_formats.specs.AsmTexts.{IsAsmText}
+use Rattle.register_formats.specs.CTexts.{IsCText}
+use Rattle.register_formats.specs.JsonTexts.{IsJsonText}
+use Rattle.command_line.specs.declared.task.Format.{Format}
+use Rattle.command_line.specs.declared.task.Format.TheVariants as formats
 use Rattle.command_line.specs.declared.task.Task.{Task}
 use Rattle.command_line.specs.declared.task.Task.TheVariants as tasks
 use Rattle.monitor_cli.specs.declared.trouble.Trouble.{Trouble}
@@ -77,6 +83,15 @@ writing contents failures stalls old new = record {
   stalled = stalls new;
 }
 
+-- a sink whose bytes come to stand in a place, over a call: the bytes that stood there and that stand there, where they are known
+pub record Placing (C : Type 0) : Type 0 where
+  pub sink : Writing C
+  pub stood : Option (List ℕ)
+  pub stands : Option (List ℕ)
+
+abbrev pub placing : {C : Type 0} → (C → Option (List ℕ)) → (C → ℕ) → (C → ℕ) → (C → Option (List ℕ)) → C → C → Placing C
+placing contents failures stalls stands old new = record { sink = writing contents failures stalls old new; stood = stands old; stands = stands new }
+
 -- nothing was read from it
 abbrev pub IsUnread : {R : Type 0} → Reading R → Type 0
 IsUnread source = source.new ≡ source.old
@@ -125,13 +140,19 @@ pub record IsCertificateOf (view : View) (limit : Limit) (entries : List Entry) 
   pub spells : Spells bytes (version_for limit) entries tree
   pub right : IsRight view bytes (length entries)
 
--- a certificate was written where a file for it is named, and else nothing
-abbrev pub IsCertified : {C : Type 0} → View → Limit → List Entry → Option (Bor (List ℕ)) → Writing C → Type 0
-IsCertified view limit entries None cert = IsUnwritten cert
-IsCertified view limit entries (Some file) cert = (bytes : List ℕ) × IsCertificateOf view limit entries bytes × Appends cert.before cert.after bytes
+-- a certificate was written and put in its place where a file for it is named, and else nothing was
+abbrev pub IsCertified : {C : Type 0} → View → Limit → List Entry → Option (Bor (List ℕ)) → Placing C → Type 0
+IsCertified view limit entries None cert = IsUnwritten cert.sink
+IsCertified view limit entries (Some file) cert =
+    (bytes : List ℕ) × IsCertificateOf view limit entries bytes × Appends cert.sink.before cert.sink.after bytes × (cert.stands ≡ cert.sink.after)
 
--- the certificate was not written whole
-pub record BreaksCertificate {C : Type 0} (view : View) (limit : Limit) (file : Option (Bor (List ℕ))) (cert : Writing C) (trouble : Trouble) : Type 0 where
+-- bytes were not written whole, or they were not put in their place
+pub data IsNotPlaced {C : Type 0} (bytes : List ℕ) (cert : Placing C) : Type 0 where
+  not_written : Breaks bytes cert.sink → IsNotPlaced bytes cert
+  not_moved : Appends cert.sink.before cert.sink.after bytes → cert.sink.failed ≡ cert.sink.failures + 1 → IsNotPlaced bytes cert
+
+-- the certificate could not be written
+pub record BreaksCertificate {C : Type 0} (view : View) (limit : Limit) (file : Option (Bor (List ℕ))) (cert : Placing C) (trouble : Trouble) : Type 0 where
   pub name : Bor (List ℕ)
   pub named : file ≡ Some name
   pub told : trouble ≡ CannotWrite name
@@ -139,21 +160,79 @@ pub record BreaksCertificate {C : Type 0} (view : View) (limit : Limit) (file : 
   pub fewest : IsFewest view entries
   pub bytes : List ℕ
   pub certificate : IsCertificateOf view limit entries bytes
-  pub broken : Breaks bytes cert
+  pub broken : IsNotPlaced bytes cert
+
+-- how many entries a plan may have, where there is a bound: what was asked for, and for C and assembly as many as the hart has
+abbrev pub most_entries : Limit → Option ℕ → Format → Option ℕ
+most_entries limit at_most formats.Text = at_most
+most_entries limit at_most formats.Json = at_most
+most_entries limit None format = Some (limit_number limit)
+most_entries limit (Some n) format = Some (min n (limit_number limit))
+
+-- as many entries as that are within the bound, or beyond it
+abbrev pub IsWithin : Option ℕ → ℕ → Type 0
+IsWithin None n = Unit {0}
+IsWithin (Some most) n = n ≤ most
+
+abbrev pub IsBeyond : Option ℕ → ℕ → Type 0
+IsBeyond None n = ⊥
+IsBeyond (Some most) n = most < n
+
+-- the text of a plan in a format, of the map of that name
+abbrev pub IsPrinted : Format → List ℕ → Limit → List Entry → List ℕ → Type 0
+IsPrinted formats.Text map limit entries text = IsPlanText limit entries text
+IsPrinted formats.C map limit entries text = IsCText limit entries text
+IsPrinted formats.Asm map limit entries text = IsAsmText limit entries text
+IsPrinted formats.Json map limit entries text = IsJsonText map limit entries text
+
+-- the plan of a map: the fewest entries, as many as may be
+pub record IsPlanned (view : View) (most : Option ℕ) (entries : List Entry) : Type 0 where
+  pub fewest : IsFewest view entries
+  pub within : IsWithin most (length entries)
+
+-- the plan of a map has more entries than may be
+pub record NeedsMore (view : View) (most : Option ℕ) (trouble : Trouble) : Type 0 where
+  pub entries : List Entry
+  pub fewest : IsFewest view entries
+  pub beyond : IsBeyond most (length entries)
+  pub told : trouble ≡ NeedsEntries (length entries)
+
+-- why there is no plan with its certificate: memory, too many entries, or the certificate
+pub data IsUnplanned {C : Type 0} (view : View) (limit : Limit) (most : Option ℕ) (file : Option (Bor (List ℕ))) (cert : Placing C) (trouble : Trouble) : Type 0 where
+  starved : trouble ≡ Memory → IsUnwritten cert.sink → IsUnplanned view limit most file cert trouble
+  beyond : NeedsMore view most trouble → IsUnwritten cert.sink → IsUnplanned view limit most file cert trouble
+  uncertified : BreaksCertificate view limit file cert trouble → IsUnplanned view limit most file cert trouble
 
 -- `plan`: the map is read, the certificate is written where one is asked for, and the plan behind it
-pub data Plans {R C W : Type 0} (map : Bor (List ℕ)) (file : Option (Bor (List ℕ))) (limit : Limit) (first : Reading R) (cert : Writing C) (out : Writing W) : Result ℕ Trouble → Type 0 where
+pub data Plans {R C W : Type 0} (map : Bor (List ℕ)) (file : Option (Bor (List ℕ))) (limit : Limit) (at_most : Option ℕ) (format : Format) (first : Reading R) (cert : Placing C) (out : Writing W) : Result ℕ Trouble → Type 0 where
   planned :
-      (runs : List Run) (entries : List Entry) (text : List ℕ) → HasMap first runs → IsFewest (view_of_runs runs) entries → IsCertified (view_of_runs runs) limit entries file cert
-      → IsPlanText limit entries text → Appends out.before out.after text → Plans map file limit first cert out (Ok 0)
-  no_map : (trouble : Trouble) → HasNoMap map first trouble → IsUnwritten cert → IsUnwritten out → Plans map file limit first cert out (Err trouble)
-  no_memory : (runs : List Run) → HasMap first runs → IsUnwritten cert → IsUnwritten out → Plans map file limit first cert out (Err Memory)
+      (runs : List Run) (entries : List Entry) (text : List ℕ) → HasMap first runs → IsPlanned (view_of_runs runs) (most_entries limit at_most format) entries
+      → IsCertified (view_of_runs runs) limit entries file cert → IsPrinted format map.now limit entries text → Appends out.before out.after text
+      → Plans map file limit at_most format first cert out (Ok 0)
+  no_map : (trouble : Trouble) → HasNoMap map first trouble → IsUnwritten cert.sink → IsUnwritten out → Plans map file limit at_most format first cert out (Err trouble)
+  no_memory : (runs : List Run) → HasMap first runs → IsUnwritten cert.sink → IsUnwritten out → Plans map file limit at_most format first cert out (Err Memory)
+  too_many :
+      (runs : List Run) (trouble : Trouble) → HasMap first runs → NeedsMore (view_of_runs runs) (most_entries limit at_most format) trouble → IsUnwritten cert.sink → IsUnwritten out
+      → Plans map file limit at_most format first cert out (Err trouble)
   no_certificate :
       (runs : List Run) (trouble : Trouble) → HasMap first runs → BreaksCertificate (view_of_runs runs) limit file cert trouble → IsUnwritten out
-      → Plans map file limit first cert out (Err trouble)
+      → Plans map file limit at_most format first cert out (Err trouble)
   no_output :
-      (runs : List Run) (entries : List Entry) (text : List ℕ) → HasMap first runs → IsFewest (view_of_runs runs) entries → IsCertified (view_of_runs runs) limit entries file cert
-      → IsPlanText limit entries text → Breaks text out → Plans map file limit first cert out (Err Output)
+      (runs : List Run) (entries : List Entry) (text : List ℕ) → HasMap first runs → IsPlanned (view_of_runs runs) (most_entries limit at_most format) entries
+      → IsCertified (view_of_runs runs) limit entries file cert → IsPrinted format map.now limit entries text → Breaks text out
+      → Plans map file limit at_most format first cert out (Err Output)
+
+-- `show`: the map is read, and the table of its stretches is printed
+pub data Shows {R W : Type 0} (map : Bor (List ℕ)) (limit : Limit) (at_most : Option ℕ) (first : Reading R) (out : Writing W) : Result ℕ Trouble → Type 0 where
+  shown :
+      (runs : List Run) (entries : List Entry) (text : List ℕ) → HasMap first runs → IsPlanned (view_of_runs runs) at_most entries → IsTable (view_of_runs runs) entries limit text
+      → Appends out.before out.after text → Shows map limit at_most first out (Ok 0)
+  no_map : (trouble : Trouble) → HasNoMap map first trouble → IsUnwritten out → Shows map limit at_most first out (Err trouble)
+  no_memory : (runs : List Run) → HasMap first runs → IsUnwritten out → Shows map limit at_most first out (Err Memory)
+  too_many : (runs : List Run) (trouble : Trouble) → HasMap first runs → NeedsMore (view_of_runs runs) at_most trouble → IsUnwritten out → Shows map limit at_most first out (Err trouble)
+  no_output :
+      (runs : List Run) (entries : List Entry) (text : List ℕ) → HasMap first runs → IsPlanned (view_of_runs runs) at_most entries → IsTable (view_of_runs runs) entries limit text
+      → Breaks text out → Shows map limit at_most first out (Err Output)
 
 -- `judge`: the map is read and its entries are loaded, and then the trace is judged line by line
 pub data Judges {R W : Type 0} (map trace : Bor (List ℕ)) (limit : Limit) (first second : Reading R) (out : Writing W) : Result ℕ Trouble → Type 0 where
@@ -219,11 +298,12 @@ pub data Runs {R W : Type 0} (file trace : Bor (List ℕ)) (measure : Bool) (fir
       → WriteFails out.failures out.failed out.stalls out.stalled → Runs file trace measure first second out (Err Output)
 
 -- what a task comes to: what its command does not use stays as it was
-abbrev pub Performs : {R C W : Type 0} → Task → Reading R → Reading R → Writing C → Writing W → Result ℕ Trouble → Type 0
-Performs (tasks.Run platform trace measure) first second cert out done = Runs platform trace measure first second out done × IsUnwritten cert
-Performs (tasks.Plan map file limit) first second cert out done = Plans map file limit first cert out done × IsUnread second
-Performs (tasks.Judge map trace limit) first second cert out done = Judges map trace limit first second out done × IsUnwritten cert
-Performs (tasks.Check map file) first second cert out done = Checks map file first second out done × IsUnwritten cert
+abbrev pub Performs : {R C W : Type 0} → Task → Reading R → Reading R → Placing C → Writing W → Result ℕ Trouble → Type 0
+Performs (tasks.Run platform trace measure) first second cert out done = Runs platform trace measure first second out done × IsUnwritten cert.sink
+Performs (tasks.Plan map file limit at_most format) first second cert out done = Plans map file limit at_most format first cert out done × IsUnread second
+Performs (tasks.Judge map trace limit) first second cert out done = Judges map trace limit first second out done × IsUnwritten cert.sink
+Performs (tasks.Check map file) first second cert out done = Checks map file first second out done × IsUnwritten cert.sink
+Performs (tasks.Show map limit at_most) first second cert out done = Shows map limit at_most first out done × IsUnread second × IsUnwritten cert.sink
 
 -- what standard error is told: nothing where there is no trouble, else its line, which breaks off only where the device does
 pub data Tells {E : Type 0} (err : Writing E) : Result ℕ Trouble → Type 0 where
@@ -233,7 +313,7 @@ pub data Tells {E : Type 0} (err : Writing E) : Result ℕ Trouble → Type 0 wh
 
 -- a task was done or came to trouble, which standard error is told of. The status is 0 where it was done, 1 where the checker
 -- refused, 2 for bad input, 3 for a device, 4 for memory, and it does not depend on standard error
-pub record Ends {R C W E : Type 0} (task : Task) (first second : Reading R) (cert : Writing C) (out : Writing W) (err : Writing E) (status : ℕ) : Type 0 where
+pub record Ends {R C W E : Type 0} (task : Task) (first second : Reading R) (cert : Placing C) (out : Writing W) (err : Writing E) (status : ℕ) : Type 0 where
   pub done : Result ℕ Trouble
   pub performed : Performs task first second cert out done
   pub told : Tells err done

@@ -11,11 +11,12 @@ ghost use Rattle.certificate_check.specs.Certificates.{IsRight};
 ghost use Rattle.certificate_format.specs.Spelling.{Spells};
 ghost use Rattle.plan_certificate.specs.Written.{version_for};
 ghost use Rattle.pmp_match.specs.Bounds.{BoundTree};
-ghost use Rattle.monitor_cli.specs.Commands.{writing, Breaks, BreaksCertificate, IsCertificateOf, IsCertified, IsLoaded};
+ghost use Rattle.monitor_cli.specs.Commands.{placing, writing, Breaks, IsBeyond, IsCertificateOf, IsCertified, IsLoaded, IsNotPlaced, IsPlanned, IsUnplanned, IsWithin, NeedsMore};
 ghost use Rattle.monitor_cli.specs.Tasks.{IsFewest};
 
+use crate::certificate_file::WholeSink;
 use crate::trouble::Trouble;
-use byte_streams::{Sink, write_whole};
+use byte_streams::{DeviceFault, Sink, write_whole};
 use entry_planner::{Plan, plan_map};
 use permission_map::{Memory, PermissionMap};
 use plan_certificate::write_map;
@@ -85,23 +86,68 @@ pub fn write_certified<'a, C: Sink>(
     Ok(plan)
 }
 
-/// The fewest entries of a map, whose certificate is written where a file for it is named.
-pub fn plan_and_certify<'a, C: Sink>(
+/// The fewest entries of a map, where they are within the bound.
+pub fn planned_within<'a>(
+    alloc: Global,
+    map: &PermissionMap,
+    most: Option<u64>,
+) -> Result<Plan, Trouble<'a>>
+    ensures planned { IfOk result (λ plan. IsPlanned (view_of_runs map.now) most plan.entries) }
+    ensures refused { IfErr result (λ trouble. (trouble ≡ Trouble.Memory) ⊎ NeedsMore (view_of_runs map.now) most trouble) }
+{
+    let plan = planned(alloc, map)?;
+    within(plan.entries(), most)?;
+    Ok(plan)
+}
+
+/// Refuses a list that is beyond the bound.
+fn within<'a>(entries: &[Entry], most: Option<u64>) -> Result<(), Trouble<'a>>
+    ensures within { IfOk result (λ _. IsWithin most (length entries.now)) }
+    ensures beyond { IfErr result (λ trouble. IsBeyond most (length entries.now) × (trouble ≡ Trouble.NeedsEntries (length entries.now))) }
+{
+    let needed = entries.len() as u64;
+    match most {
+        Some(most) if most < needed => Err(Trouble::NeedsEntries { needed }),
+        _ => Ok(()),
+    }
+}
+
+/// Writes a certificate and puts it in its place.
+fn put<'a, C: WholeSink>(bytes: &[u8], file: &'a str, sink: &mut C) -> Result<(), Trouble<'a>>
+    requires { C.failures sink.old < 2 ^ 64 - 1 }
+    ensures put { IfOk result (λ _. Appends (C.contents sink.old) (C.contents sink.new) bytes.now × (C.stands sink.new ≡ C.contents sink.new)) }
+    ensures broken { IfErr result (λ trouble. (trouble ≡ Trouble.CannotWrite file.entry) × IsNotPlaced bytes.now (placing C.contents C.failures C.stalls C.stands sink.old sink.new)) }
+{
+    let Ok(()) = write_whole(sink, bytes) else {
+        return Err(Trouble::CannotWrite { file });
+    };
+    match sink.put_in_place() {
+        Ok(()) => Ok(()),
+        Err(DeviceFault) => Err(Trouble::CannotWrite { file }),
+    }
+}
+
+/// The fewest entries of a map, where they are within the bound, whose certificate is put where a file for it is named.
+pub fn plan_and_certify<'a, C: WholeSink>(
     alloc: Global,
     map: &PermissionMap,
     limit: Limit,
+    most: Option<u64>,
     cert: Option<&'a str>,
     sink: &mut C,
 ) -> Result<Plan, Trouble<'a>>
     requires { C.failures sink.old < 2 ^ 64 - 1 }
-    ensures fewest { IfOk result (λ plan. IsFewest (view_of_runs map.now) plan.entries) }
-    ensures certified { IfOk result (λ plan. IsCertified (view_of_runs map.now) limit plan.entries cert.entry (writing C.contents C.failures C.stalls sink.old sink.new)) }
-    ensures refused { IfErr result (λ trouble. ((trouble ≡ Trouble.Memory) × (sink.new ≡ sink.old)) ⊎ BreaksCertificate (view_of_runs map.now) limit cert.entry (writing C.contents C.failures C.stalls sink.old sink.new) trouble) }
+    ensures planned { IfOk result (λ plan. IsPlanned (view_of_runs map.now) most plan.entries) }
+    ensures certified { IfOk result (λ plan. IsCertified (view_of_runs map.now) limit plan.entries cert.entry (placing C.contents C.failures C.stalls C.stands sink.old sink.new)) }
+    ensures refused { IfErr result (λ trouble. IsUnplanned (view_of_runs map.now) limit most cert.entry (placing C.contents C.failures C.stalls C.stands sink.old sink.new) trouble) }
 {
-    match cert {
-        Some(file) => write_certified(alloc, map, limit, file, sink),
-        None => Ok(planned(alloc, map)?),
-    }
+    let Some(file) = cert else {
+        return planned_within(alloc, map, most);
+    };
+    let (plan, bytes) = certified(alloc, map, limit)?;
+    within(plan.entries(), most)?;
+    put(bytes.as_slice(), file, sink)?;
+    Ok(plan)
 }
 
 /// The bank of the fewest entries that mean a map.

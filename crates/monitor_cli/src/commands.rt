@@ -4,8 +4,10 @@ mod check;
 mod judge;
 mod plan;
 mod run;
+mod show;
 
 pub use check::do_check;
 pub use judge::do_judge;
-pub use plan::do_plan;
+pub use plan::{Asked, do_plan};
 pub use run::do_run;
+pub use show::do_show;

@@ -37,40 +37,20 @@ impl<R: Files> Read for FileToRead<'_, R> {
     }
 }
 
-/// A file that is made at its first write.
+/// What a task reads: a file, or standard input.
 #[derive(Drop)]
-pub struct FileToWrite<'a, R: Files> {
-    files: &'a R,
-    name: &'a str,
-    file: Option<R::File>,
+pub enum InputToRead<'a, R: Files, S> {
+    /// A file that is opened at its first read.
+    File(FileToRead<'a, R>),
+    /// Standard input.
+    Standard(RetryInterrupted<S>),
 }
 
-impl<'a, R: Files> FileToWrite<'a, R> {
-    /// The file of that name, which is made anew where there is one.
-    pub fn new(files: &'a R, name: &'a str) -> FileToWrite<'a, R> {
-        FileToWrite {
-            files,
-            name,
-            file: None,
-        }
-    }
-}
-
-impl<R: Files> Write for FileToWrite<'_, R> {
-    fn write(&mut self, buf: &[u8]) -> io::Result<usize> {
-        if self.file.is_none() {
-            self.file = Some(fs::create(self.files, self.name)?);
-        }
-        match &mut self.file {
-            Some(file) => write_again(file, buf),
-            None => Err(io::Error::from(ErrorKind::NotFound)),
-        }
-    }
-
-    fn flush(&mut self) -> io::Result<()> {
-        match &mut self.file {
-            Some(file) => file.flush(),
-            None => Ok(()),
+impl<R: Files, S: Read> Read for InputToRead<'_, R, S> {
+    fn read(&mut self, buf: &mut [u8]) -> io::Result<usize> {
+        match self {
+            InputToRead::File(file) => file.read(buf),
+            InputToRead::Standard(input) => input.read(buf),
         }
     }
 }
@@ -85,6 +65,12 @@ impl<T> RetryInterrupted<T> {
     /// The reader or writer, whose interrupted calls are tried again.
     pub fn new(inner: T) -> RetryInterrupted<T> {
         RetryInterrupted { inner }
+    }
+}
+
+impl<T: Read> Read for RetryInterrupted<T> {
+    fn read(&mut self, buf: &mut [u8]) -> io::Result<usize> {
+        read_again(&mut self.inner, buf)
     }
 }
 
@@ -112,7 +98,7 @@ fn read_again<T: Read>(reader: &mut T, buf: &mut [u8]) -> io::Result<usize>
 }
 
 /// A write that is tried again where a signal interrupted it.
-fn write_again<T: Write>(writer: &mut T, buf: &[u8]) -> io::Result<usize>
+pub fn write_again<T: Write>(writer: &mut T, buf: &[u8]) -> io::Result<usize>
     ensures { WritesAtMost result buf.now }
 {
     for _ in 0..u64::MAX {

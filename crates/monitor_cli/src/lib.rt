@@ -12,6 +12,7 @@
 //! ```
 #![tactic(auto)]
 
+mod certificate_file;
 mod certifying;
 mod commands;
 mod devices;
@@ -22,9 +23,10 @@ mod trouble;
 mod verdicts;
 mod whole;
 
+pub use certificate_file::{CertificateFile, WholeSink};
 pub use certifying::{bank_of, certified, planned, write_certified};
-pub use command_line::{Task, command_of};
-pub use devices::{FileToRead, FileToWrite, RetryInterrupted};
+pub use command_line::{Format, Task, command_of, takes_place};
+pub use devices::{FileToRead, InputToRead, RetryInterrupted};
 pub use map_text::{MapFileFault, Setting, map_of, raw_says};
 pub use platform_file::{TextFault, platform_of};
 pub use printed_lines::{

@@ -3,10 +3,11 @@
 ghost use Rattle.std.specs.Prelude.{◌≡◌, ◌-◌, ◌^◌, ◌<◌, ◌⊎◌, IfErr, IfOk};
 ghost use Rattle.std.specs.Io.KnownBytes.{Appends};
 ghost use Rattle.printed_lines.specs.Plans.{TakesPart};
-ghost use Rattle.monitor_cli.specs.Commands.{reading, writing, Ends, Performs, Tells};
+ghost use Rattle.monitor_cli.specs.Commands.{placing, reading, writing, Ends, Performs, Tells};
 ghost use Rattle.monitor_cli.specs.Troubles.{status_of, trouble_text};
 
-use crate::commands::{do_check, do_judge, do_plan, do_run};
+use crate::certificate_file::WholeSink;
+use crate::commands::{Asked, do_check, do_judge, do_plan, do_run, do_show};
 use crate::trouble::Trouble;
 use byte_streams::{Sink, Source};
 use command_line::Task;
@@ -30,7 +31,7 @@ fn ended<E: Sink>(done: Result<u8, Trouble<'_>>, err: &mut E) -> u8
 }
 
 /// Does a task's command.
-fn done<'a, R: Source, C: Sink, W: Sink>(
+fn done<'a, R: Source, C: WholeSink, W: Sink>(
     alloc: Global,
     task: &Task<'a>,
     first: &mut R,
@@ -42,7 +43,7 @@ fn done<'a, R: Source, C: Sink, W: Sink>(
     requires second { R.failures second.old < 2 ^ 64 - 1 }
     requires cert { C.failures cert.old < 2 ^ 64 - 1 }
     requires out { W.failures out.old < 2 ^ 64 - 1 }
-    ensures { let source = reading R.remaining R.failures in Performs task.now (source first.old first.new) (source second.old second.new) (writing C.contents C.failures C.stalls cert.old cert.new) (writing W.contents W.failures W.stalls out.old out.new) result }
+    ensures { let source = reading R.remaining R.failures in Performs task.now (source first.old first.new) (source second.old second.new) (placing C.contents C.failures C.stalls C.stands cert.old cert.new) (writing W.contents W.failures W.stalls out.old out.new) result }
 {
     match task {
         Task::Run {
@@ -54,11 +55,26 @@ fn done<'a, R: Source, C: Sink, W: Sink>(
             map,
             cert: file,
             limit,
-        } => do_plan(alloc, *map, *file, *limit, first, cert, out),
+            at_most,
+            format,
+        } => {
+            let asked = Asked {
+                cert: *file,
+                limit: *limit,
+                at_most: *at_most,
+                format: *format,
+            };
+            do_plan(alloc, *map, asked, first, cert, out)
+        }
         Task::Judge { map, trace, limit } => {
             do_judge(alloc, *map, *trace, *limit, first, second, out)
         }
         Task::Check { map, cert } => do_check(alloc, *map, *cert, first, second, out),
+        Task::Show {
+            map,
+            limit,
+            at_most,
+        } => do_show(alloc, *map, *limit, *at_most, first, out),
     }
 }
 
@@ -66,7 +82,7 @@ fn done<'a, R: Source, C: Sink, W: Sink>(
 /// `cert`, what it prints to `out` and its one line of trouble to `err`, and answers the program's
 /// status: 0 done, 1 refused by the checker, 2 bad input, 3 a device failed, 4 memory. The status
 /// does not depend on `err`.
-pub fn perform<R: Source, C: Sink, W: Sink, E: Sink>(
+pub fn perform<R: Source, C: WholeSink, W: Sink, E: Sink>(
     alloc: Global,
     task: &Task<'_>,
     first: &mut R,
@@ -80,7 +96,7 @@ pub fn perform<R: Source, C: Sink, W: Sink, E: Sink>(
     requires cert { C.failures cert.old < 2 ^ 64 - 1 }
     requires out { W.failures out.old < 2 ^ 64 - 1 }
     requires err { E.failures err.old < 2 ^ 64 - 1 }
-    ensures { let source = reading R.remaining R.failures in Ends task.now (source first.old first.new) (source second.old second.new) (writing C.contents C.failures C.stalls cert.old cert.new) (writing W.contents W.failures W.stalls out.old out.new) (writing E.contents E.failures E.stalls err.old err.new) result }
+    ensures { let source = reading R.remaining R.failures in Ends task.now (source first.old first.new) (source second.old second.new) (placing C.contents C.failures C.stalls C.stands cert.old cert.new) (writing W.contents W.failures W.stalls out.old out.new) (writing E.contents E.failures E.stalls err.old err.new) result }
 {
     let done = done(alloc, task, first, second, cert, out);
     ended(done, err)

@@ -7,10 +7,24 @@ ghost use Rattle.hart_sim.specs.Streams.{failures_of};
 use clap::Error;
 use clap::error::ErrorKind;
 use hart_sim::Counted;
-use monitor_cli::{FileToRead, FileToWrite, RetryInterrupted, Task, Trouble, command_of, perform};
-use std::io::{BufWriter, Stderr, Write};
+use monitor_cli::{
+    CertificateFile, FileToRead, InputToRead, RetryInterrupted, Task, Trouble, command_of, perform,
+    takes_place,
+};
+use std::alloc::AllocError;
+use std::fs::MetadataExt;
+use std::io::{BufWriter, Stderr, Stdin, Write};
 use std::process::ExitCode;
-use std::{env, io};
+use std::{env, fs, io};
+
+/// What a task reads.
+type Input<'a> = Counted<InputToRead<'a, HostRuntime, Stdin>>;
+
+/// The name of the file that a certificate is written to where none is.
+const NO_FILE: &str = "";
+
+/// The word that standard input stands for.
+const STANDARD_INPUT: &str = "-";
 
 /// Standard error, where a write that a signal interrupted is tried again.
 fn standard_error(rt: &HostRuntime) -> Counted<RetryInterrupted<Stderr>>
@@ -26,7 +40,7 @@ fn stopped(rt: &HostRuntime, trouble: Trouble<'_>) -> ExitCode {
     ExitCode::from(trouble.status())
 }
 
-/// Help on standard output, or a fault of the command line on standard error.
+/// Help or the version on standard output, or a fault of the command line on standard error.
 fn explained(rt: &HostRuntime, error: &Error) -> ExitCode {
     if error.kind() == ErrorKind::OutOfMemory {
         return stopped(rt, Trouble::Memory);
@@ -50,26 +64,75 @@ fn words_in(rt: &HostRuntime) -> io::Result<Vec<String>> {
     Ok(words)
 }
 
-/// The names of a task's inputs and of the certificate that it writes, empty where it has none.
-fn files_of<'a>(task: &Task<'a>) -> (&'a str, &'a str, &'a str) {
+/// The file of that name, or standard input where its word may stand and does.
+fn input<'a>(rt: &'a HostRuntime, name: &'a str, may_be_standard: bool) -> Input<'a>
+    ensures { failures_of result ≡ 0 }
+{
+    if may_be_standard && name == STANDARD_INPUT {
+        return Counted::new(InputToRead::Standard(RetryInterrupted::new(rt.stdin())));
+    }
+    Counted::new(InputToRead::File(FileToRead::new(rt, name)))
+}
+
+/// The inputs of a task, and the file of the certificate that it writes, with empty names where it has none.
+fn files_of<'a>(rt: &'a HostRuntime, task: &Task<'a>) -> (Input<'a>, Input<'a>, &'a str)
+    ensures first { failures_of result.0 ≡ 0 }
+    ensures second { failures_of result.1 ≡ 0 }
+{
+    let none = NO_FILE;
     match task {
         Task::Run {
             platform,
             trace,
             ..
-        } => (*platform, *trace, ""),
-        Task::Plan { map, cert, .. } => (*map, "", cert.unwrap_or("")),
-        Task::Judge { map, trace, .. } => (*map, *trace, ""),
-        Task::Check { map, cert } => (*map, *cert, ""),
+        } => (input(rt, *platform, false), input(rt, *trace, true), none),
+        Task::Plan { map, cert, .. } => (
+            input(rt, *map, true),
+            input(rt, none, false),
+            cert.unwrap_or(none),
+        ),
+        Task::Judge { map, trace, .. } => (input(rt, *map, true), input(rt, *trace, true), none),
+        Task::Check { map, cert } => (input(rt, *map, true), input(rt, *cert, false), none),
+        Task::Show { map, .. } => (input(rt, *map, true), input(rt, none, false), none),
+    }
+}
+
+/// Whether two names are of one file.
+fn is_same_file(rt: &HostRuntime, one: &str, other: &str) -> bool {
+    match (fs::metadata(rt, one), fs::metadata(rt, other)) {
+        (Ok(one), Ok(other)) => one.dev() == other.dev() && one.ino() == other.ino(),
+        _ => false,
+    }
+}
+
+/// Refuses a task whose certificate would take the place of its map, under another name of the same file.
+fn refused(rt: &HostRuntime, task: &Task<'_>) -> Option<ExitCode> {
+    let Task::Plan {
+        map,
+        cert: Some(cert),
+        ..
+    } = task
+    else {
+        return None;
+    };
+    if !is_same_file(rt, *map, *cert) {
+        return None;
+    }
+    match takes_place(rt.alloc(), *map) {
+        Ok(error) => Some(explained(rt, &error)),
+        Err(AllocError) => Some(stopped(rt, Trouble::Memory)),
     }
 }
 
 /// Does the task on its files. Each is opened or made at its first read or write.
 fn done(rt: &HostRuntime, task: &Task<'_>) -> ExitCode {
-    let (first, second, cert) = files_of(task);
-    let mut first = Counted::new(FileToRead::new(rt, first));
-    let mut second = Counted::new(FileToRead::new(rt, second));
-    let mut cert = Counted::new(FileToWrite::new(rt, cert));
+    if let Some(code) = refused(rt, task) {
+        return code;
+    }
+    let (mut first, mut second, cert) = files_of(rt, task);
+    let Ok(mut cert) = CertificateFile::new(rt, rt.alloc(), cert) else {
+        return stopped(rt, Trouble::Memory);
+    };
     let Ok(out) = BufWriter::new(rt.alloc(), RetryInterrupted::new(rt.stdout())) else {
         return stopped(rt, Trouble::Memory);
     };

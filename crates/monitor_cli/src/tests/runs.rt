@@ -1,9 +1,21 @@
 //! A command line, run on files in memory.
 
-use crate::{command_of, perform};
-use byte_streams::Counted;
+ghost use Rattle.std.specs.Prelude.{Some};
+ghost use Rattle.byte_streams.specs.Fakes.{written_of};
+
+use crate::{WholeSink, command_of, perform};
+use byte_streams::fakes::PieceSink;
+use byte_streams::{Counted, DeviceFault};
 use std::alloc::Global;
 use std::test::Fail;
+
+impl WholeSink for PieceSink {
+    ghost stands = { λ s. Some (written_of s) };
+
+    fn put_in_place(&mut self) -> Result<(), DeviceFault> {
+        Ok(())
+    }
+}
 
 /// What a command left behind.
 #[derive(Drop)]

@@ -1,6 +1,6 @@
-use Rattle.std.proofs.Common.{inl, inr, refl}
+use Rattle.std.proofs.Common.{◌≡◌, length, refl, sym}
 use Rattle.std.proofs.lemmas.Result.{err_from_is_err_and}
-use Rattle.monitor_cli.specs.Commands.{planned}
+use Rattle.monitor_cli.specs.Commands.{beyond, planned, starved, uncertified}
 use Rattle.monitor_cli.specs.Commands as commands
 use Rattle.monitor_cli.proofs.commands.plan.do_plan.Goals as goal
 
@@ -12,18 +12,22 @@ returns-in_err-map g c =
 pub returns-in_err-plan : goal.returns-in_err-plan
 returns-in_err-plan g c =
     let p = err_from_is_err_and c.from_residual-in_err-plan.result c.from_residual-in_err-plan.ensures.1 in
-    rw (p.1, p.2) (elim c.in_err-plan.ensures.refused [
-      | inl w ↦ rw w.0 (commands.Plans.no_memory _ c.in_ok-map.ensures.made w.1 refl)
-      | inr broken ↦ commands.Plans.no_certificate _ _ c.in_ok-map.ensures.made broken refl
+    let refused = rw c.most-most.ensures at c.in_err-plan.ensures.refused in
+    rw (p.1, p.2) (elim refused [
+      | starved e quiet ↦ rw e (commands.Plans.no_memory _ c.in_ok-map.ensures.made quiet refl)
+      | beyond more quiet ↦ commands.Plans.too_many _ _ c.in_ok-map.ensures.made more quiet refl
+      | uncertified broken ↦ commands.Plans.no_certificate _ _ c.in_ok-map.ensures.made broken refl
     ])
+
+pub print_as-requires-clause-fits : goal.print_as-requires-clause-fits
+print_as-requires-clause-fits g c = (_, rw (sym c.entries.ensures) at (rw c.most-most.ensures at c.in_ok-plan.ensures.planned).within)
 
 pub returns-in-Ok : goal.returns-in-Ok
 returns-in-Ok g c =
-    let w = rw c.entries.ensures at c.in-Ok.ensures.written in
-    planned _ _ w.0 c.in_ok-map.ensures.made c.in_ok-plan.ensures.fewest c.in_ok-plan.ensures.certified w.1 w.2
+    let w = rw c.entries.ensures at c.in-Ok.ensures.printed in
+    planned _ _ w.0 c.in_ok-map.ensures.made (rw c.most-most.ensures at c.in_ok-plan.ensures.planned) c.in_ok-plan.ensures.certified w.1 w.2
 
 pub returns : goal.returns
 returns g c =
-    let w = rw c.entries.ensures at c.in-Err.ensures.part in
-    commands.Plans.no_output _ _ w.0 c.in_ok-map.ensures.made c.in_ok-plan.ensures.fewest c.in_ok-plan.ensures.certified w.1
-    (record { part = w.2; fails = c.in-Err.ensures.failed })
+    let w = rw c.entries.ensures at c.in-Err.ensures.broken in
+    commands.Plans.no_output _ _ w.0 c.in_ok-map.ensures.made (rw c.most-most.ensures at c.in_ok-plan.ensures.planned) c.in_ok-plan.ensures.certified w.1 w.2

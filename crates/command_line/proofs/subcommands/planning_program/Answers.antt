@@ -1,6 +1,6 @@
 use Rattle.std.proofs.Common.{◌∙◌, ap, ap₂}
 use Rattle.clap.specs.Words.{with_subcommand}
-use Rattle.command_line.proofs.subcommands.program.Goals as goal
+use Rattle.command_line.proofs.subcommands.planning_program.Goals as goal
 
 pub returns-clause-app : goal.returns-clause-app
 returns-clause-app c =

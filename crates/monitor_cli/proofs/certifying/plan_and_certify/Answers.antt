@@ -1,0 +1,40 @@
+use Rattle.std.proofs.Common.{refl}
+use Rattle.std.proofs.lemmas.Result.{err_from_is_err_and}
+use Rattle.monitor_cli.specs.Commands.{beyond, starved, uncertified}
+use Rattle.monitor_cli.proofs.Ends.{unplanned}
+use Rattle.monitor_cli.proofs.certifying.plan_and_certify.Goals as goal
+
+pub returns-in_default-clause-refused : goal.returns-in_default-clause-refused
+returns-in_default-clause-refused g c = unplanned _ _ _ _ _ c.planned_within.result refl c.planned_within.ensures.refused
+
+pub returns-in_err-plan-clause-refused : goal.returns-in_err-plan-clause-refused
+returns-in_err-plan-clause-refused g c =
+    let p = err_from_is_err_and c.from_residual.result c.from_residual.ensures.1 in
+    rw p.1 (starved p.2 refl)
+
+pub returns-in_err-within-clause-refused : goal.returns-in_err-within-clause-refused
+returns-in_err-within-clause-refused g c =
+    let p = err_from_is_err_and c.from_residual-in_err-within.result c.from_residual-in_err-within.ensures.1 in
+    let b = rw c.entries.ensures at c.in_err-within.ensures.beyond in
+    rw (p.1, p.2) (beyond (record {
+      entries = c.in_ok-plan.plan.entries;
+      fewest = record { means = c.in_ok-plan.ensures.means; least = c.in_ok-plan.ensures.least };
+      beyond = b.0;
+      told = b.1;
+    }) refl)
+
+pub returns-in_err-put-clause-refused : goal.returns-in_err-put-clause-refused
+returns-in_err-put-clause-refused g c =
+    let p = err_from_is_err_and c.from_residual-in_err-put.result c.from_residual-in_err-put.ensures.1 in
+    let b = rw c.as_slice.ensures.value at c.in_err-put.ensures.broken in
+    let spells = c.in_ok-plan.ensures.spells in
+    rw (p.1, p.2) (uncertified (record {
+      name = c.in-Some.file;
+      named = c.in-Some.is;
+      told = b.0;
+      entries = c.in_ok-plan.plan.entries;
+      fewest = record { means = c.in_ok-plan.ensures.means; least = c.in_ok-plan.ensures.least };
+      bytes = c.in_ok-plan.bytes.items;
+      certificate = record { tree = spells.0; spells = spells.1; right = c.in_ok-plan.ensures.accepted };
+      broken = b.1;
+    }))

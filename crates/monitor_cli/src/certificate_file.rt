@@ -1,0 +1,202 @@
+//! The file that a certificate is written to.
+
+ghost use Rattle.std.specs.Io.{WritesAtMost};
+ghost use Rattle.byte_streams.specs.Streams.{inner_of};
+ghost use Rattle.std.specs.Prelude.{◌≡◌, ◌+◌, ◌-◌, ◌^◌, ◌<◌, ℕ, List, Option, None, IfErr, IfOk, MatchResult};
+
+use crate::devices::write_again;
+use byte_streams::{Counted, DeviceFault, Sink};
+use std::alloc::{AllocError, Global};
+use std::fs::{File, OpenFile};
+use std::io::{ErrorKind, Write};
+use std::rt::Files;
+use std::{fs, io};
+
+/// A sink whose bytes come to stand in their place all at once, or not at all.
+pub trait WholeSink: Sink {
+    /// The bytes that stand in the place, where they are known.
+    ghost stands: { Self → Option (List ℕ) };
+
+    /// Puts what was written in its place.
+    fn put_in_place(&mut self) -> Result<(), DeviceFault>
+        requires { Self.failures self.old < 2 ^ 64 - 1 }
+        ensures placed { IfOk result (λ _. stands self.new ≡ Self.contents self.old) }
+        ensures stays { IfErr result (λ _. stands self.new ≡ stands self.old) }
+        ensures contents { Self.contents self.new ≡ Self.contents self.old }
+        ensures failures { MatchResult result (λ _. Self.failures self.new ≡ Self.failures self.old) (λ _. Self.failures self.new ≡ Self.failures self.old + 1) }
+        ensures stalls { Self.stalls self.new ≡ Self.stalls self.old };
+}
+
+/// A file that comes to stand whole or not at all: its bytes are written beside it, under its name and `.part` with a
+/// digit, and moved into its place at the end; where that fails they are removed. What is no plain file, as a device
+/// or a pipe, is written straight through.
+#[derive(Drop)]
+pub struct CertificateFile<'a, R: Files> {
+    files: &'a R,
+    place: String,
+    beside: String,
+    is_beside: bool,
+    file: Option<R::File>,
+    failures: u64,
+    stalls: u64,
+}
+
+impl<'a, R: Files> CertificateFile<'a, R> {
+    /// The file of that name, which may be there or not. Nothing is made before the first write.
+    pub fn new(
+        files: &'a R,
+        alloc: Global,
+        name: &str,
+    ) -> Result<CertificateFile<'a, R>, AllocError>
+        ensures { IfOk result (λ file. file.failures ≡ 0) }
+    {
+        let place = place_of(files, alloc, name)?;
+        let mut beside = String::with_capacity(alloc, place.len().saturating_add(6))?;
+        beside.push_str(place.as_str())?;
+        beside.push_str(".part")?;
+        Ok(CertificateFile {
+            files,
+            place,
+            beside,
+            is_beside: false,
+            file: None,
+            failures: 0,
+            stalls: 0,
+        })
+    }
+
+    /// Opens what is written to: a new file beside the place, or what stands there and is no plain file.
+    fn open(&mut self) -> io::Result<()>
+        ensures failures { self.new.failures ≡ self.old.failures }
+        ensures stalls { self.new.stalls ≡ self.old.stalls }
+    {
+        let stands = fs::metadata(self.files, self.place.as_str());
+        if let Ok(stands) = &stands {
+            if !stands.is_file() {
+                self.file = Some(fs::create(self.files, self.place.as_str())?);
+                return Ok(());
+            }
+        }
+        let file = new_file(self.files, &mut self.beside)?;
+        if let Ok(stands) = &stands {
+            // The new file may be read and written by whom the old one may; where that can't be had, it is as any new file.
+            let _ = file.set_permissions(stands.permissions());
+        }
+        self.file = Some(file);
+        self.is_beside = true;
+        Ok(())
+    }
+
+    fn write_some(&mut self, buf: &[u8]) -> io::Result<usize>
+        ensures most { WritesAtMost result buf.now }
+        ensures failures { self.new.failures ≡ self.old.failures }
+        ensures stalls { self.new.stalls ≡ self.old.stalls }
+    {
+        if self.file.is_none() {
+            self.open()?;
+        }
+        match &mut self.file {
+            Some(file) => write_again(file, buf),
+            None => Err(io::Error::from(ErrorKind::NotFound)),
+        }
+    }
+
+    /// Moves what was written beside the place into it, where that is so.
+    fn move_in(&mut self) -> io::Result<()>
+        ensures failures { self.new.failures ≡ self.old.failures }
+        ensures stalls { self.new.stalls ≡ self.old.stalls }
+    {
+        if !self.is_beside {
+            return Ok(());
+        }
+        if let Some(file) = &self.file {
+            file.sync_all()?;
+        }
+        self.file = None;
+        fs::rename(self.files, self.beside.as_str(), self.place.as_str())?;
+        self.is_beside = false;
+        Ok(())
+    }
+
+    /// Removes what was written beside the place.
+    fn discard(&mut self)
+        ensures failures { self.new.failures ≡ self.old.failures }
+        ensures stalls { self.new.stalls ≡ self.old.stalls }
+    {
+        self.file = None;
+        if self.is_beside {
+            let _ = fs::remove_file(self.files, self.beside.as_str());
+            self.is_beside = false;
+        }
+    }
+}
+
+/// The name of what stands where a name leads, by links too; the name itself where that cannot be told.
+fn place_of<R: Files>(files: &R, alloc: Global, name: &str) -> Result<String, AllocError> {
+    if let Ok(stands) = fs::symlink_metadata(files, name) {
+        if stands.is_symlink() {
+            if let Ok(path) = files.canonicalize(alloc, name) {
+                return String::from_str(alloc, path.as_path().as_str());
+            }
+        }
+    }
+    String::from_str(alloc, name)
+}
+
+/// A new file under a name with a digit behind it, the first that is free.
+fn new_file<R: Files>(files: &R, name: &mut String) -> io::Result<R::File> {
+    for digit in '0'..='9' {
+        name.push(digit)?;
+        match File::create_new(files, name.as_str()) {
+            Ok(file) => return Ok(file),
+            Err(error) if error.kind() == ErrorKind::AlreadyExists => {
+                let _ = name.pop();
+            }
+            Err(error) => return Err(error),
+        }
+    }
+    Err(io::Error::from(ErrorKind::AlreadyExists))
+}
+
+impl<R: Files> Sink for CertificateFile<'_, R> {
+    ghost contents = { λ _. None };
+
+    ghost failures = { λ c. c.failures };
+
+    ghost stalls = { λ c. c.stalls };
+
+    fn write(&mut self, buf: &[u8]) -> Result<usize, DeviceFault> {
+        match self.write_some(buf) {
+            Ok(n) if n > 0 || buf.is_empty() => Ok(n),
+            _ => {
+                self.discard();
+                self.failures += 1;
+                Err(DeviceFault)
+            }
+        }
+    }
+}
+
+impl<R: Files> WholeSink for CertificateFile<'_, R> {
+    ghost stands = { λ _. None };
+
+    fn put_in_place(&mut self) -> Result<(), DeviceFault> {
+        match self.move_in() {
+            Ok(()) => Ok(()),
+            Err(_) => {
+                self.discard();
+                self.failures += 1;
+                Err(DeviceFault)
+            }
+        }
+    }
+}
+
+/// A stream: what it took stands where it goes.
+impl<T: Write> WholeSink for Counted<T> {
+    ghost stands = { λ c. T.contents (inner_of c) };
+
+    fn put_in_place(&mut self) -> Result<(), DeviceFault> {
+        Ok(())
+    }
+}

@@ -1,0 +1,74 @@
+//! `--at-most`, `--format` and `show` on files in memory.
+
+use super::runs::run;
+use std::test::Fail;
+
+const MAP: &[u8] = b"0x80000000 0x8000000 rwx\n0x80000000 0x200000 none\n0x10000000 0x1000 rw\n";
+
+#[test]
+fn a_plan_of_more_than_was_asked_for_is_refused(rt: HostRuntime) -> Result<(), Fail> {
+    let lines: [&[&str]; 3] = [
+        &["pmpmon", "plan", "m", "c", "--at-most", "2"],
+        &[
+            "pmpmon",
+            "plan",
+            "m",
+            "c",
+            "--at-most",
+            "0",
+            "--format",
+            "json",
+        ],
+        &["pmpmon", "show", "m", "--at-most", "2"],
+    ];
+    for words in lines {
+        let ran = run(rt.alloc(), words, MAP, b"")?;
+        assert_eq!(rt; ran.status, 2);
+        assert_eq!(rt; ran.err.as_slice(), b"pmpmon: needs 3 entries\n".as_slice());
+        assert_eq!(rt; ran.out.len(), 0);
+        assert_eq!(rt; ran.cert.len(), 0);
+    }
+    let plain = run(rt.alloc(), &["pmpmon", "plan", "m"], MAP, b"")?;
+    let most = run(
+        rt.alloc(),
+        &["pmpmon", "plan", "m", "c", "--at-most", "3"],
+        MAP,
+        b"",
+    )?;
+    assert_eq!(rt; most.status, 0);
+    assert_eq!(rt; most.out.as_slice(), plain.out.as_slice());
+    assert!(rt; !most.cert.is_empty());
+    Ok(())
+}
+
+/// Whether a text stands in another.
+fn contains(text: &[u8], part: &[u8]) -> bool {
+    text.windows(part.len().max(1)).any(|window| window == part)
+}
+
+#[test]
+fn a_plan_has_other_formats(rt: HostRuntime) -> Result<(), Fail> {
+    let rows: [(&str, &[u8]); 3] = [
+        ("c", b"static const"),
+        ("asm", b"csrw"),
+        ("json", b"\"map\": \"board.map\""),
+    ];
+    for (format, part) in rows {
+        let words = ["pmpmon", "plan", "board.map", "--format", format];
+        let ran = run(rt.alloc(), &words, MAP, b"")?;
+        assert_eq!(rt; ran.status, 0);
+        assert!(rt; contains(ran.out.as_slice(), part));
+    }
+    Ok(())
+}
+
+#[test]
+fn show_prints_the_table(rt: HostRuntime) -> Result<(), Fail> {
+    let ran = run(rt.alloc(), &["pmpmon", "show", "m"], MAP, b"")?;
+    let out: &[u8] =
+        b"from               to                 size    perm by\n0x0000000010000000 0x0000000010000fff   4 KiB  rw-  0\n0x0000000080000000 0x00000000801fffff   2 MiB  ---  1 (before 2)\n0x0000000080200000 0x0000000087ffffff 126 MiB  rwx  2\nall else                                       ---  no entry\n3 entries: fewest possible; fits 16\n";
+    assert_eq!(rt; ran.status, 0);
+    assert_eq!(rt; ran.out.as_slice(), out);
+    assert_eq!(rt; ran.err.len(), 0);
+    Ok(())
+}
