@@ -1,0 +1,20 @@
+//! What is wrong with a map file, line by line, and what would mend it.
+//!
+//! For the layer above: [`lint`] writes a line for each line at fault, and a warning for each that changes nothing of what
+//! stands after the whole file; its answer is whether the file is a map.
+//!
+//! ```text
+//! icicle.map:9:12: SIZE 0x400 is not a multiple of 4096; the whole page is 0x1000
+//! ```
+#![tactic(auto)]
+
+mod findings;
+mod idle;
+mod linting;
+mod perms;
+mod reasons;
+#[cfg(test)]
+mod tests;
+mod texts;
+
+pub use linting::{LintFault, lint};

@@ -1,0 +1,75 @@
+//! Maps at fault, with what is said of each line.
+
+use crate::lint;
+use byte_streams::fakes::PieceSink;
+use std::alloc::Global;
+use std::process::Abort;
+use std::test::Fail;
+
+/// That the lint of the file has this answer and these lines.
+fn expect_lint(rt: &impl Abort, alloc: Global, bytes: &[u8], is_map: bool, wanted: &str) {
+    let mut out = PieceSink::new(4096, None);
+    let answer = lint(alloc, "m", bytes, &mut out);
+    assert!(rt; answer == Ok(is_map));
+    assert_eq!(rt; out.written(), wanted.as_bytes());
+}
+
+#[test]
+fn each_line_at_fault_by_its_column_and_reason(rt: HostRuntime) -> Result<(), Fail> {
+    for (map, wanted) in [
+        (
+            b"0x80000000 0x400 rwx\n".as_slice(),
+            "m:1:12: SIZE 0x400 is not a multiple of 4096; the whole page is 0x1000\n",
+        ),
+        (
+            b"\n0x80000800 0x1000 rwx",
+            "m:2:1: BASE 0x80000800 is not a multiple of 4096; its page begins at 0x80000000\n",
+        ),
+        (
+            b"0 0x1800 r\n",
+            "m:1:3: SIZE 0x1800 is not a multiple of 4096; the whole pages are 0x2000\n",
+        ),
+        (
+            b"0 4096 wx\n0 4096 w",
+            "m:1:8: PERM 'wx' is reserved: W without R; write rwx\nm:2:8: PERM 'w' is reserved: W without R; write rw\n",
+        ),
+        (
+            b"0 4096 XR\n0 4096 ---\n0 4096 all\n",
+            "m:1:8: PERM 'XR' is not written so; write rx\nm:2:8: PERM '---' is not written so; write none\nm:3:8: PERM 'all' is no permission; write none, r, rw, x, rx or rwx\n",
+        ),
+        (
+            b"0xfffffffffff000 0x2000 r\n0x100000000001000 0 r\n",
+            "m:1:18: BASE and SIZE end past 2^56; SIZE is at most 0x1000\nm:2:1: BASE is past 2^56; the space ends at 0x100000000000000\n",
+        ),
+        (
+            b"18446744073709551616 0 r\n0x 4096 r\n0 4k r\n",
+            "m:1:1: BASE '18446744073709551616' is too large; numbers are below 2^64\nm:2:1: BASE '0x' is no number; write decimal digits, or 0x and hexadecimal digits\nm:3:3: SIZE '4k' is no number; write decimal digits, or 0x and hexadecimal digits\n",
+        ),
+        (
+            b"0x1000\n0 4096\n0 4096 r w\n",
+            "m:1:7: SIZE and PERM are wanting; a line is BASE SIZE PERM\nm:2:7: PERM is wanting; write none, r, rw, x, rx or rwx\nm:3:10: a fourth word; a comment begins with #\n",
+        ),
+        (
+            b"\xEF\xBB\xBF0 4096 r\n0 4096 \xC3\xA9\n",
+            "m:1:1: a byte order mark; save the file without one\nm:2:8: a byte that is no visible ASCII character; write it behind a #\n",
+        ),
+    ] {
+        expect_lint(&rt, rt.alloc(), map, false, wanted);
+    }
+    let long = [b'0'; 1024];
+    let wanted = "m:1:1024: the line is too long; it has at most 1023 bytes\n";
+    expect_lint(&rt, rt.alloc(), long.as_slice(), false, wanted);
+    Ok(())
+}
+
+#[test]
+fn a_map_without_fault_and_lines_that_change_nothing(rt: HostRuntime) -> Result<(), Fail> {
+    let alloc = rt.alloc();
+    let host = b"0x80000000 0x8000000 rwx\n0x80000000 0x200000 none\n0x10000000 0x1000 rw\n";
+    expect_lint(&rt, alloc, host.as_slice(), true, "");
+    let idle = b"0 0x1000 r # overwritten below\n\n0 0x2000 rw\n0x1000 0x1000 rw\n0x5000 0 x\n";
+    let wanted =
+        "m:1:1: warning: the line changes nothing of the whole map; it can go\nm:4:1: warning: the line changes nothing of the whole map; it can go\nm:5:1: warning: the line changes nothing of the whole map; it can go\n";
+    expect_lint(&rt, alloc, idle.as_slice(), true, wanted);
+    Ok(())
+}
