@@ -12,8 +12,8 @@ use monitor_cli::{
     takes_place,
 };
 use std::alloc::AllocError;
-use std::fs::MetadataExt;
 use std::io::{BufWriter, Stderr, Stdin, Write};
+use std::os::unix::fs::MetadataExt;
 use std::process::ExitCode;
 use std::{env, fs, io};
 

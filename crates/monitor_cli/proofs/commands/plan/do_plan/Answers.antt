@@ -1,4 +1,4 @@
-use Rattle.std.proofs.Common.{◌≡◌, length, refl, sym}
+use Rattle.std.proofs.Common.{refl, sym}
 use Rattle.std.proofs.lemmas.Result.{err_from_is_err_and}
 use Rattle.monitor_cli.specs.Commands.{beyond, planned, starved, uncertified}
 use Rattle.monitor_cli.specs.Commands as commands
