@@ -1,4 +1,5 @@
 use super::*;
+use crate::blocks::Summary;
 use permission_map::{MapFault, PermissionMap};
 use pmp_encoding::Perm;
 use std::alloc::Global;
@@ -123,7 +124,7 @@ fn versions_are_as_built_afresh(rt: HostRuntime) -> Result<(), Fail> {
 }
 
 /// The halves of the upper half of the space, if it is split.
-fn upper_halves(tree: &Tree) -> Option<&Rc<(Block, Block)>> {
+fn upper_halves(tree: &Tree) -> Option<&Rc<(Block, Block, Summary)>> {
     let Block::Branch(halves) = tree.root() else {
         return None;
     };
