@@ -8,7 +8,7 @@ use Rattle.text_lines.specs.Numbers.{number_of}
 use Rattle.command_line.specs.declared.task.Format.{Format}
 use Rattle.command_line.specs.declared.task.Format.TheVariants as formats
 use Rattle.command_line.specs.declared.task.Task.{Task}
-use Rattle.command_line.specs.declared.task.Task.TheVariants.{Run, Plan, Judge, Check, Show}
+use Rattle.command_line.specs.declared.task.Task.TheVariants.{Run, Plan, Judge, Check, Show, Audit}
 
 -- a file that is named by its place among the words
 abbrev pub file_rule : Text → Bool → Rule
@@ -62,6 +62,9 @@ check_app = with_rule (with_rule (new_app (codes "check")) (file_rule (codes "MA
 abbrev pub show_app : App
 show_app = with_rule (with_rule (with_rule (new_app (codes "show")) (file_rule (codes "MAP") true)) entries_rule) at_most_rule
 
+abbrev pub audit_app : App
+audit_app = with_rule (with_rule (new_app (codes "audit")) (file_rule (codes "MAP") true)) (file_rule (codes "REGISTERS") true)
+
 -- the program before its subcommands, which tells its version: one of them has to be named
 abbrev pub bare_app : App
 bare_app = record { top = record (new_app (codes "pmpmon")).top { subcommand_required = true; has_version = true }; subs = [] }
@@ -74,7 +77,7 @@ abbrev pub planning_app : App
 planning_app = with_subcommand (with_subcommand (with_subcommand running_app plan_app.top) judge_app.top) check_app.top
 
 abbrev pub program_app : App
-program_app = with_subcommand planning_app show_app.top
+program_app = with_subcommand (with_subcommand planning_app show_app.top) audit_app.top
 
 -- the word that names a limit
 abbrev pub limit_word : Limit → Text
@@ -104,6 +107,7 @@ word_of (Plan map cert limit at_most format) = codes "plan"
 word_of (Judge map trace limit) = codes "judge"
 word_of (Check map cert) = codes "check"
 word_of (Show map limit at_most) = codes "show"
+word_of (Audit map registers) = codes "audit"
 
 -- the task has the values of its words
 abbrev pub HasValues : List Row → Task → Type 0
@@ -129,6 +133,9 @@ HasValues rows (Show map limit at_most) =
     (first_of (codes "MAP") rows ≡ Some map.now)
     × (first_of (codes "entries") rows ≡ Some (limit_word limit))
     × Counts (first_of (codes "at-most") rows) at_most
+HasValues rows (Audit map registers) =
+    (first_of (codes "MAP") rows ≡ Some map.now)
+    × (first_of (codes "REGISTERS") rows ≡ Some registers.now)
 
 -- the task is the subcommand that was entered, with the values of its words
 abbrev pub IsTask : Option (Text × List Row) → Task → Type 0
@@ -142,4 +149,5 @@ input_word = codes "-"
 abbrev pub IsSound : Task → Type 0
 IsSound (Plan map cert limit at_most format) = option_map (λ s. s.now) cert ≢ Some map.now
 IsSound (Judge map trace limit) = ¬ ((map.now ≡ input_word) × (trace.now ≡ input_word))
+IsSound (Audit map registers) = ¬ ((map.now ≡ input_word) × (registers.now ≡ input_word))
 IsSound task = Unit {0}

@@ -56,6 +56,13 @@ pub enum Task<'a> {
         /// The certificate.
         cert: &'a str,
     },
+    /// Say whether registers mean a map.
+    Audit {
+        /// The map file.
+        map: &'a str,
+        /// The listing of the registers.
+        registers: &'a str,
+    },
     /// Print a map as a table of its stretches, each with the entry that decides it.
     Show {
         /// The map file.

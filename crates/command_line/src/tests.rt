@@ -111,6 +111,19 @@ fn judge_takes_a_map_and_a_trace(rt: HostRuntime) -> Result<(), Fail> {
 }
 
 #[test]
+fn audit_takes_a_map_and_registers(rt: HostRuntime) -> Result<(), Fail> {
+    let task = command_of(rt.alloc(), &["pmpmon", "audit", "map.txt", "-"])?;
+    assert_eq!(rt;
+        task,
+        Task::Audit {
+            map: "map.txt",
+            registers: "-"
+        }
+    );
+    Ok(())
+}
+
+#[test]
 fn check_takes_a_map_and_a_certificate(rt: HostRuntime) -> Result<(), Fail> {
     let task = command_of(rt.alloc(), &["pmpmon", "check", "map.txt", "map.pmpc"])?;
     assert_eq!(rt;
@@ -125,7 +138,9 @@ fn check_takes_a_map_and_a_certificate(rt: HostRuntime) -> Result<(), Fail> {
 
 #[test]
 fn other_words_are_faults_of_the_command_line(rt: HostRuntime) {
-    let lines: [&[&str]; 22] = [
+    let lines: [&[&str]; 24] = [
+        &["pmpmon", "audit", "map.txt"],
+        &["pmpmon", "audit", "-", "-"],
         &["pmpmon"],
         &["pmpmon", "plan", "map.txt", "map.txt"],
         &["pmpmon", "plan", "-", "-"],

@@ -191,6 +191,19 @@ fn show_in<'a>(found: &ArgMatches<'a>) -> Result<Task<'a>, Fault<'a>>
     })
 }
 
+fn audit_in<'a>(found: &ArgMatches<'a>) -> Result<Task<'a>, Fault<'a>>
+    ensures word { IfOk result (λ task. word_of task ≡ codes "audit") }
+    ensures values { IfOk result (HasValues (rows_of (found_of found.now))) }
+    ensures sound { IfOk result IsSound }
+{
+    let map = value_in(found, "MAP")?;
+    let registers = value_in(found, "REGISTERS")?;
+    if is_input(map) && is_input(registers) {
+        return Err(Fault::InputTwice);
+    }
+    Ok(Task::Audit { map, registers })
+}
+
 /// The task of a subcommand with its arguments.
 fn task_in<'a>(name: &str, found: &ArgMatches<'a>) -> Result<Task<'a>, Fault<'a>>
     ensures word { IfOk result (λ task. word_of task ≡ name.now) }
@@ -211,6 +224,9 @@ fn task_in<'a>(name: &str, found: &ArgMatches<'a>) -> Result<Task<'a>, Fault<'a>
     }
     if name == "show" {
         return show_in(found);
+    }
+    if name == "audit" {
+        return audit_in(found);
     }
     Err(Fault::Missing)
 }

@@ -31,12 +31,14 @@ use Rattle.map_table.specs.Tables.{IsTable}
 use Rattle.register_formats.specs.AsmTexts.{IsAsmText}
 use Rattle.register_formats.specs.CTexts.{IsCText}
 use Rattle.register_formats.specs.JsonTexts.{IsJsonText}
+use Rattle.register_audit.specs.Audits.{IsAudit}
+use Rattle.register_text.specs.Listings.{IsFirstUnknown}
 use Rattle.command_line.specs.declared.task.Format.{Format}
 use Rattle.command_line.specs.declared.task.Format.TheVariants as formats
 use Rattle.command_line.specs.declared.task.Task.{Task}
 use Rattle.command_line.specs.declared.task.Task.TheVariants as tasks
 use Rattle.monitor_cli.specs.declared.trouble.Trouble.{Trouble}
-use Rattle.monitor_cli.specs.declared.trouble.Trouble.TheVariants.{TooLarge, NotAPlatform, NeedsEntries, CannotRead, CannotWrite, Output, Memory}
+use Rattle.monitor_cli.specs.declared.trouble.Trouble.TheVariants.{NotUnderstood, TooLarge, NotAPlatform, NeedsEntries, CannotRead, CannotWrite, Output, Memory}
 use Rattle.monitor_cli.specs.Tasks.{AreMeasures, IsBooted, IsFewest, IsMapFault, IsPlatformFile, IsWhole, Stops}
 use Rattle.monitor_cli.specs.Troubles.{boot_trouble, map_trouble, run_trouble, status_of, trouble_text}
 use Rattle.monitor_cli.specs.Verdicts.{IsVerdict}
@@ -297,12 +299,43 @@ pub data Runs {R W : Type 0} (file trace : Bor (List ℕ)) (measure : Bool) (fir
       → DoesAll DoesLine booted ended second.before second.after out.before report → n ≤ 64 → AreMeasures (kept_of ended).table n text → TakesPart text report out.after
       → WriteFails out.failures out.failed out.stalls out.stalled → Runs file trace measure first second out (Err Output)
 
+-- the status of an audit: 0 where the registers mean the map, and else 1
+abbrev pub audit_status : Bool → ℕ
+audit_status true = 0
+audit_status false = 1
+
+-- what an audit is made of: the map of the first file, the listing in the second, and how many entries are enough
+pub record IsAudited {R : Type 0} (first second : Reading R) (view : View) (listing : List ℕ) (fewest : ℕ) : Type 0 where
+  pub runs : List Run
+  pub has_map : HasMap first runs
+  pub is_view : view ≡ view_of_runs runs
+  pub read : HasBytes (2 ^ 20) second listing
+  pub entries : List Entry
+  pub is_fewest : IsFewest view entries
+  pub count : length entries ≡ fewest
+
+-- `audit`: the map is read, then the listing of registers, and the line of the verdict is printed
+pub data Audits {R W : Type 0} (map registers : Bor (List ℕ)) (first second : Reading R) (out : Writing W) : Result ℕ Trouble → Type 0 where
+  audited :
+      (view : View) (listing text : List ℕ) (fewest : ℕ) (means : Bool) → IsAudited first second view listing fewest → IsAudit view fewest listing text means
+      → Appends out.before out.after text → Audits map registers first second out (Ok (audit_status means))
+  no_map : (trouble : Trouble) → HasNoMap map first trouble → IsUnread second → IsUnwritten out → Audits map registers first second out (Err trouble)
+  no_registers : (runs : List Run) (trouble : Trouble) → HasMap first runs → HasNoBytes (2 ^ 20) registers second trouble → IsUnwritten out → Audits map registers first second out (Err trouble)
+  no_memory : (runs : List Run) (listing : List ℕ) → HasMap first runs → HasBytes (2 ^ 20) second listing → IsUnwritten out → Audits map registers first second out (Err Memory)
+  not_understood :
+      (view : View) (listing : List ℕ) (fewest n : ℕ) → IsAudited first second view listing fewest → IsFirstUnknown listing n → IsUnwritten out
+      → Audits map registers first second out (Err (NotUnderstood registers n))
+  no_output :
+      (view : View) (listing text : List ℕ) (fewest : ℕ) (means : Bool) → IsAudited first second view listing fewest → IsAudit view fewest listing text means → Breaks text out
+      → Audits map registers first second out (Err Output)
+
 -- what a task comes to: what its command does not use stays as it was
 abbrev pub Performs : {R C W : Type 0} → Task → Reading R → Reading R → Placing C → Writing W → Result ℕ Trouble → Type 0
 Performs (tasks.Run platform trace measure) first second cert out done = Runs platform trace measure first second out done × IsUnwritten cert.sink
 Performs (tasks.Plan map file limit at_most format) first second cert out done = Plans map file limit at_most format first cert out done × IsUnread second
 Performs (tasks.Judge map trace limit) first second cert out done = Judges map trace limit first second out done × IsUnwritten cert.sink
 Performs (tasks.Check map file) first second cert out done = Checks map file first second out done × IsUnwritten cert.sink
+Performs (tasks.Audit map registers) first second cert out done = Audits map registers first second out done × IsUnwritten cert.sink
 Performs (tasks.Show map limit at_most) first second cert out done = Shows map limit at_most first out done × IsUnread second × IsUnwritten cert.sink
 
 -- what standard error is told: nothing where there is no trouble, else its line, which breaks off only where the device does

@@ -1,11 +1,13 @@
 //! The commands, each with what it reads and writes in its order.
 
+mod audit;
 mod check;
 mod judge;
 mod plan;
 mod run;
 mod show;
 
+pub use audit::do_audit;
 pub use check::do_check;
 pub use judge::do_judge;
 pub use plan::{Asked, do_plan};

@@ -7,7 +7,7 @@ ghost use Rattle.monitor_cli.specs.Commands.{placing, reading, writing, Ends, Pe
 ghost use Rattle.monitor_cli.specs.Troubles.{status_of, trouble_text};
 
 use crate::certificate_file::WholeSink;
-use crate::commands::{Asked, do_check, do_judge, do_plan, do_run, do_show};
+use crate::commands::{Asked, do_audit, do_check, do_judge, do_plan, do_run, do_show};
 use crate::trouble::Trouble;
 use byte_streams::{Sink, Source};
 use command_line::Task;
@@ -70,6 +70,9 @@ fn done<'a, R: Source, C: WholeSink, W: Sink>(
             do_judge(alloc, *map, *trace, *limit, first, second, out)
         }
         Task::Check { map, cert } => do_check(alloc, *map, *cert, first, second, out),
+        Task::Audit { map, registers } => {
+            do_audit(alloc, *map, *registers, first, second, out)
+        }
         Task::Show {
             map,
             limit,

@@ -93,6 +93,11 @@ fn files_of<'a>(rt: &'a HostRuntime, task: &Task<'a>) -> (Input<'a>, Input<'a>, 
         ),
         Task::Judge { map, trace, .. } => (input(rt, *map, true), input(rt, *trace, true), none),
         Task::Check { map, cert } => (input(rt, *map, true), input(rt, *cert, false), none),
+        Task::Audit { map, registers } => (
+            input(rt, *map, true),
+            input(rt, *registers, true),
+            none,
+        ),
         Task::Show { map, .. } => (input(rt, *map, true), input(rt, none, false), none),
     }
 }

@@ -72,3 +72,25 @@ fn show_prints_the_table(rt: HostRuntime) -> Result<(), Fail> {
     assert_eq!(rt; ran.err.len(), 0);
     Ok(())
 }
+
+#[test]
+fn audit_says_whether_registers_mean_the_map(rt: HostRuntime) -> Result<(), Fail> {
+    let words = ["pmpmon", "audit", "m", "r"];
+    let rows: [(&[u8], u8, &[u8]); 2] = [
+        (
+            b"entries 3\n0 0x1b 0x00000000040001ff\n1 0x18 0x000000002003ffff\n2 0x1f 0x0000000020ffffff\npmpcfg0 0x00000000001f181b\npmpcfg2 0x0000000000000000\n",
+            0,
+            b"means the map: 3 entries where 3 are enough\n",
+        ),
+        (b"pmpaddr0 1\nwhat\n", 2, b""),
+    ];
+    for (registers, status, out) in rows {
+        let ran = run(rt.alloc(), &words, MAP, registers)?;
+        assert_eq!(rt; ran.status, status);
+        assert_eq!(rt; ran.out.as_slice(), out);
+    }
+    let none = run(rt.alloc(), &words, MAP, b"")?;
+    assert_eq!(rt; none.status, 1);
+    assert!(rt; !none.out.is_empty());
+    Ok(())
+}

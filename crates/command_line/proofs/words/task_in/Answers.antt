@@ -22,3 +22,6 @@ returns-then-eq-4-clause-word c = named c.check_in.result _ c.args.name.now (sam
 
 pub returns-then-eq-5-clause-word : goal.returns-then-eq-5-clause-word
 returns-then-eq-5-clause-word c = named c.show_in.result _ c.args.name.now (same_text _ _ _ c.eq-5.ensures c.if-eq-5.true) c.show_in.ensures.word
+
+pub returns-then-eq-6-clause-word : goal.returns-then-eq-6-clause-word
+returns-then-eq-6-clause-word c = named c.audit_in.result _ c.args.name.now (same_text _ _ _ c.eq-6.ensures c.if-eq-6.true) c.audit_in.ensures.word

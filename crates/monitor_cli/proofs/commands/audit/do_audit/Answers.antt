@@ -1,0 +1,33 @@
+use Rattle.std.proofs.Common.{Err, ap, refl, sym}
+use Rattle.std.proofs.lemmas.Result.{err_from_is_err_and}
+use Rattle.permission_map.specs.Runs.{view_of_runs}
+use Rattle.monitor_cli.specs.Commands.{IsAudited, audited, no_registers, not_understood}
+use Rattle.monitor_cli.specs.Commands as commands
+use Rattle.monitor_cli.proofs.commands.audit.do_audit.Goals as goal
+
+pub returns-in_err-map : goal.returns-in_err-map
+returns-in_err-map g c =
+    let p = err_from_is_err_and c.from_residual.result c.from_residual.ensures.1 in
+    rw (p.1, p.2) (commands.Audits.no_map _ c.in_err-map.ensures.refused refl refl)
+
+pub returns-in_err-listing : goal.returns-in_err-listing
+returns-in_err-listing g c =
+    let p = err_from_is_err_and c.from_residual-in_err-listing.result c.from_residual-in_err-listing.ensures.1 in
+    rw (p.1, p.2) (no_registers _ _ c.in_ok-map.ensures.made c.in_err-listing.ensures.refused refl)
+
+pub returns-in_err-plan : goal.returns-in_err-plan
+returns-in_err-plan g c =
+    let p = err_from_is_err_and c.from_residual-in_err-plan.result c.from_residual-in_err-plan.ensures.1 in
+    rw (p.1, p.2) (commands.Audits.no_memory _ _ c.in_ok-map.ensures.made c.in_ok-listing.ensures.whole refl)
+
+pub returns-in-Ok : goal.returns-in-Ok
+returns-in-Ok g c = ?
+
+pub returns-in-Err-Line : goal.returns-in-Err-Line
+returns-in-Err-Line g c = ?
+
+pub returns-in-Err-Memory : goal.returns-in-Err-Memory
+returns-in-Err-Memory g c = commands.Audits.no_memory _ _ c.in_ok-map.ensures.made c.in_ok-listing.ensures.whole (c.in-Err-Memory.ensures.untouched (ap (λ f. Err f) c.in-Err-Memory.field-0-is))
+
+pub returns : goal.returns
+returns g c = ?

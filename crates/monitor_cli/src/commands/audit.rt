@@ -1,0 +1,50 @@
+//! `audit`: registers against a map.
+
+ghost use Rattle.std.specs.Prelude.{◌≡◌, ◌-◌, ◌^◌, ◌<◌};
+ghost use Rattle.monitor_cli.specs.Commands.{reading, writing, audit_status, Audits};
+
+use crate::certifying::planned;
+use crate::inputs::{bytes_in, map_in};
+use crate::trouble::Trouble;
+use byte_streams::{Sink, Source};
+use register_audit::{AuditFault, audit};
+use std::alloc::Global;
+
+/// How many bytes a listing of registers may have.
+const REGISTER_BYTES: usize = 1 << 20;
+
+/// The status of an audit.
+fn status_of(means: bool) -> u8
+    ensures { result ≡ audit_status means }
+{
+    if means { 0 } else { 1 }
+}
+
+/// Audits registers against a map, and answers the status 0 where they mean it and 1 where they don't.
+pub fn do_audit<'a, R: Source, W: Sink>(
+    alloc: Global,
+    map: &'a str,
+    registers: &'a str,
+    first: &mut R,
+    second: &mut R,
+    out: &mut W,
+) -> Result<u8, Trouble<'a>>
+    requires first { R.failures first.old < 2 ^ 64 - 1 }
+    requires second { R.failures second.old < 2 ^ 64 - 1 }
+    requires out { W.failures out.old < 2 ^ 64 - 1 }
+    ensures { let source = reading R.remaining R.failures in Audits map.entry registers.entry (source first.old first.new) (source second.old second.new) (writing W.contents W.failures W.stalls out.old out.new) result }
+{
+    let map = map_in(alloc, map, first)?;
+    let listing = bytes_in(alloc, registers, second, REGISTER_BYTES)?;
+    let plan = planned(alloc, &map)?;
+    let fewest = plan.entries().len() as u64;
+    match audit(alloc, &map, fewest, listing.as_slice(), out) {
+        Ok(means) => Ok(status_of(means)),
+        Err(AuditFault::Line(line)) => Err(Trouble::NotUnderstood {
+            file: registers,
+            line,
+        }),
+        Err(AuditFault::Memory) => Err(Trouble::Memory),
+        Err(AuditFault::Device) => Err(Trouble::Output),
+    }
+}
