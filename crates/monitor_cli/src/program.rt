@@ -70,9 +70,7 @@ fn done<'a, R: Source, C: WholeSink, W: Sink>(
             do_judge(alloc, *map, *trace, *limit, first, second, out)
         }
         Task::Check { map, cert } => do_check(alloc, *map, *cert, first, second, out),
-        Task::Audit { map, registers } => {
-            do_audit(alloc, *map, *registers, first, second, out)
-        }
+        Task::Audit { map, registers } => { do_audit(alloc, *map, *registers, first, second, out) }
         Task::Show {
             map,
             limit,
