@@ -3,8 +3,8 @@ use Rattle.std.proofs.Common.{◌≡◌, ℕ, ⊎_elim, min, arith, ◌∙◌}
 use Rattle.std.proofs.lemmas.Bool.{cases_lt}
 use Rattle.pmp_encoding.specs.declared.perm.Perm.{Perm}
 use Rattle.pmp_encoding.specs.declared.perm.Perm.TheVariants.{NoAccess, Read, ReadWrite, Execute, ReadExecute, ReadWriteExecute}
-use Rattle.certificate_check.specs.declared.numbers.Numbers.{Numbers}
-use Rattle.certificate_check.specs.Numbers.{number_for}
+use Rattle.certificate_format.specs.Costs.{cost_of}
+use Rattle.certificate_format.specs.declared.costs.SixCosts.{SixCosts}
 
 -- what holds of each of the six holds of every permission
 pub six : (P : Perm → Type 0) → P NoAccess → P Read → P ReadWrite → P Execute → P ReadExecute → P ReadWriteExecute → (p : Perm) → P p
@@ -16,6 +16,6 @@ six P a b c d e f ReadExecute = e
 six P a b c d e f ReadWriteExecute = f
 
 -- the lesser of two of the numbers is one of them
-pub lesser : (numbers : Numbers) (x y m : ℕ) → m ≡ min x y → ((p : Perm) × (x ≡ number_for numbers p)) → ((p : Perm) × (y ≡ number_for numbers p)) → (p : Perm) × (m ≡ number_for numbers p)
+pub lesser : (numbers : SixCosts) (x y m : ℕ) → m ≡ min x y → ((p : Perm) × (x ≡ cost_of numbers p)) → ((p : Perm) × (y ≡ cost_of numbers p)) → (p : Perm) × (m ≡ cost_of numbers p)
 lesser numbers x y m is a b =
     ⊎_elim (λ less. (a.0, (let e : m ≡ x = omega arith in e ∙ a.1))) (λ over. (b.0, (let e : m ≡ y = omega arith in e ∙ b.1))) (cases_lt x y)

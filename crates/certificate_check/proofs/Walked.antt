@@ -8,15 +8,14 @@ use Rattle.pmp_encoding.specs.Perms.{bits_of}
 use Rattle.pmp_encoding.proofs.Multiples.{multiple_from_mod}
 use Rattle.pmp_match.specs.Meaning.{View}
 use Rattle.pmp_match.specs.Bounds.{BoundTree, Leaf, Branch, bound_of, IsSoundAt}
-use Rattle.certificate_format.specs.Costs.{SixCosts, cost_of, six_of}
+use Rattle.certificate_format.specs.Costs.{cost_of, six_of}
 use Rattle.certificate_format.specs.Spelling.{costs_bytes, node_bytes}
 use Rattle.certificate_format.specs.declared.reader.Tag.{Tag}
 use Rattle.certificate_format.specs.declared.reader.Tag.TheVariants as Tags
 use Rattle.certificate_format.specs.Tags.{tag_byte}
 use Rattle.certificate_check.specs.declared.refusal.CheckRefusal.{CheckRefusal}
 use Rattle.certificate_check.specs.declared.refusal.CheckRefusal.TheVariants.{CostTooHigh, CostOverflow}
-use Rattle.certificate_check.specs.declared.numbers.Numbers.{Numbers}
-use Rattle.certificate_check.specs.Numbers.{number_for}
+use Rattle.certificate_format.specs.declared.costs.SixCosts.{SixCosts}
 use Rattle.page_views.specs.Views.{IsUniform}
 use Rattle.certificate_check.specs.Nodes.{IsRightNode, IsAllowed, IsTooLarge, IsTooHigh, BranchFault, NodeFault, overflow, too_high, IsNodeRead, IsAnswer}
 
@@ -146,8 +145,8 @@ branch_fault view k half first bytes rest costs f g lower upper refusal is spell
 
 -- the answer to a right branch
 pub answered :
-    (tree : BoundTree) (rest left : List ℕ) (costs : Perm → ℕ) (result : Result Numbers CheckRefusal) → IsOk result
-    → IfOk result (λ numbers. (p : Perm) → number_for numbers p ≡ costs p) → ((p : Perm) → costs p ≡ bound_of tree p) → left ≡ rest → IsAnswer tree rest result left
+    (tree : BoundTree) (rest left : List ℕ) (costs : Perm → ℕ) (result : Result SixCosts CheckRefusal) → IsOk result
+    → IfOk result (λ numbers. (p : Perm) → cost_of numbers p ≡ costs p) → ((p : Perm) → costs p ≡ bound_of tree p) → left ≡ rest → IsAnswer tree rest result left
 answered tree rest left costs (Ok numbers) ok known is end = ((λ p. known p ∙ is p), end)
 answered tree rest left costs (Err refusal) ok known is end = absurd (cc)
 
@@ -159,16 +158,16 @@ spelled_in_turn bytes first second third left costs lower upper a b c d = cc
 
 -- what was read, where the costs are allowed
 pub branch_read :
-    (view : View) (k half first : ℕ) (bytes inner second third left : List ℕ) (costs : Perm → ℕ) (lower upper : Numbers) (result : Result Numbers CheckRefusal) → k ≡ suc half
+    (view : View) (k half first : ℕ) (bytes inner second third left : List ℕ) (costs : Perm → ℕ) (lower upper : SixCosts) (result : Result SixCosts CheckRefusal) → k ≡ suc half
     → bytes ≡ 1 ∷ inner → inner ≡ costs_bytes costs ++ second → ((p : Perm) → costs p < 2 ^ 32) → IsNodeRead view half first second third lower
-    → IsNodeRead view half (first + 2 ^ half) third left upper → OnOk result (IsAllowed costs (number_for lower) (number_for upper))
-    → IfOk result (λ numbers. (p : Perm) → number_for numbers p ≡ costs p) → IfOk result (λ numbers. IsNodeRead view k first bytes left numbers)
+    → IsNodeRead view half (first + 2 ^ half) third left upper → OnOk result (IsAllowed costs (cost_of lower) (cost_of upper))
+    → IfOk result (λ numbers. (p : Perm) → cost_of numbers p ≡ costs p) → IfOk result (λ numbers. IsNodeRead view k first bytes left numbers)
 branch_read view k half first bytes inner second third left costs lower upper (Err refusal) is a b small low high allowed known = tt
 branch_read view k half first bytes inner second third left costs lower upper (Ok numbers) is a b small low high allowed known =
-    let l : number_for lower ≡ bound_of low.tree = same_function _ _ low.numbers_of in
-    let u : number_for upper ≡ bound_of high.tree = same_function _ _ high.numbers_of in
+    let l : cost_of lower ≡ bound_of low.tree = same_function _ _ low.numbers_of in
+    let u : cost_of upper ≡ bound_of high.tree = same_function _ _ high.numbers_of in
     let fine : IsAllowed costs (bound_of low.tree) (bound_of high.tree) =
-    subst (λ (x : Perm → ℕ). IsAllowed costs (bound_of low.tree) x) u (subst (λ (x : Perm → ℕ). IsAllowed costs x (number_for upper)) l allowed) in
+    subst (λ (x : Perm → ℕ). IsAllowed costs (bound_of low.tree) x) u (subst (λ (x : Perm → ℕ). IsAllowed costs x (cost_of upper)) l allowed) in
     let flat = spelled_in_turn bytes inner second third left costs low.tree high.tree a b low.spelled high.spelled in
     record {
       tree = Branch costs low.tree high.tree;
@@ -179,13 +178,13 @@ branch_read view k half first bytes inner second third left costs lower upper (O
 
 -- the fault that stands in a branch whose halves were read
 pub branch_refused :
-    (view : View) (k half first : ℕ) (bytes inner second third left : List ℕ) (costs : Perm → ℕ) (lower upper : Numbers) (result : Result Numbers CheckRefusal) → k ≡ suc half
+    (view : View) (k half first : ℕ) (bytes inner second third left : List ℕ) (costs : Perm → ℕ) (lower upper : SixCosts) (result : Result SixCosts CheckRefusal) → k ≡ suc half
     → bytes ≡ 1 ∷ inner → inner ≡ costs_bytes costs ++ second → ((p : Perm) → costs p < 2 ^ 32) → IsNodeRead view half first second third lower
-    → IsNodeRead view half (first + 2 ^ half) third left upper → IfErr result (BranchFault costs (number_for lower) (number_for upper))
+    → IsNodeRead view half (first + 2 ^ half) third left upper → IfErr result (BranchFault costs (cost_of lower) (cost_of upper))
     → IfErr result (NodeFault view k first bytes)
 branch_refused view k half first bytes inner second third left costs lower upper (Ok numbers) is a b small low high fault = tt
 branch_refused view k half first bytes inner second third left costs lower upper (Err refusal) is a b small low high fault =
-    branch_fault view k half first bytes left costs (number_for lower) (number_for upper) low.tree high.tree refusal is
+    branch_fault view k half first bytes left costs (cost_of lower) (cost_of upper) low.tree high.tree refusal is
     (spelled_in_turn bytes inner second third left costs low.tree high.tree a b low.spelled high.spelled) small low.right high.right (same_function _ _ low.numbers_of)
     (same_function _ _ high.numbers_of) fault
 

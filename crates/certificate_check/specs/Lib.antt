@@ -3,7 +3,6 @@ pub mod Places
 pub mod InOrder
 pub mod Later
 pub mod Refusals
-pub mod Numbers
 pub mod Nodes
 pub mod Listed
 pub mod Certificates

@@ -4,13 +4,13 @@ use Rattle.pmp_encoding.specs.declared.perm.Perm.{Perm}
 use Rattle.pmp_encoding.specs.Perms.{bits_of}
 use Rattle.page_views.specs.Views.{View, IsUniform}
 use Rattle.pmp_match.specs.Bounds.{BoundTree, bound_of, IsSoundAt}
+use Rattle.certificate_format.specs.Costs.{cost_of}
 use Rattle.certificate_format.specs.Spelling.{costs_bytes, node_bytes, FitsNode, HasNoOverflow}
 use Rattle.certificate_format.specs.Faults.{ShortFault, TagFault, PermFault}
+use Rattle.certificate_format.specs.declared.costs.SixCosts.{SixCosts}
 use Rattle.certificate_format.specs.declared.fault.ReadFault.{ReadFault}
 use Rattle.certificate_check.specs.declared.refusal.CheckRefusal.{CheckRefusal}
 use Rattle.certificate_check.specs.declared.refusal.CheckRefusal.TheVariants.{TooDeep, LeafNotUniform, WrongLeaf, CostTooHigh, CostOverflow}
-use Rattle.certificate_check.specs.declared.numbers.Numbers.{Numbers}
-use Rattle.certificate_check.specs.Numbers.{number_for}
 use Rattle.certificate_check.specs.Refusals.{refusal_of}
 
 -- a sound bound of the 2 ^ k pages from `first` on that a certificate can spell and that has no overflow
@@ -20,8 +20,8 @@ pub record IsRightNode (view : View) (k first : ℕ) (tree : BoundTree) : Type 0
   pub sums : HasNoOverflow tree
 
 -- the numbers are those of the tree's root
-abbrev pub AreNumbersOf : BoundTree → Numbers → Type 0
-AreNumbersOf tree numbers = (p : Perm) → number_for numbers p ≡ bound_of tree p
+abbrev pub AreNumbersOf : BoundTree → SixCosts → Type 0
+AreNumbersOf tree numbers = (p : Perm) → cost_of numbers p ≡ bound_of tree p
 
 -- the costs of a split block are allowed by the halves' numbers, and one more than any sum of them has four bytes
 pub record IsAllowed (costs lower upper : Perm → ℕ) : Type 0 where
@@ -72,12 +72,12 @@ pub data NodeFault (view : View) : ℕ → ℕ → List ℕ → CheckRefusal →
       → IsRightNode view half (first + 2 ^ half) upper → IsTooHigh costs (bound_of lower) (bound_of upper) → NodeFault view k first bytes CostTooHigh
 
 -- a right node stood at the front of the bytes, with these numbers, and was read
-pub record IsNodeRead (view : View) (k first : ℕ) (bytes rest : List ℕ) (numbers : Numbers) : Type 0 where
+pub record IsNodeRead (view : View) (k first : ℕ) (bytes rest : List ℕ) (numbers : SixCosts) : Type 0 where
   pub tree : BoundTree
   pub right : IsRightNode view k first tree
   pub spelled : bytes ≡ node_bytes tree ++ rest
   pub numbers_of : AreNumbersOf tree numbers
 
 -- the answer to a right node at the front of the bytes: its numbers, and the rest is left
-abbrev pub IsAnswer : BoundTree → List ℕ → Result Numbers CheckRefusal → List ℕ → Type 0
+abbrev pub IsAnswer : BoundTree → List ℕ → Result SixCosts CheckRefusal → List ℕ → Type 0
 IsAnswer tree rest answer left = MatchResult answer (λ numbers. AreNumbersOf tree numbers × (left ≡ rest)) (λ _. ⊥)

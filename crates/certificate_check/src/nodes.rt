@@ -6,13 +6,12 @@ ghost use Rattle.permission_map.specs.Runs.{view_of_runs};
 ghost use Rattle.certificate_format.specs.Spelling.{costs_bytes, node_bytes};
 ghost use Rattle.certificate_format.specs.Costs.{cost_of};
 ghost use Rattle.certificate_check.specs.declared.refusal.CheckRefusal.{CheckRefusal};
-ghost use Rattle.certificate_check.specs.Numbers.{number_for};
 ghost use Rattle.page_views.specs.Views.{IsUniform};
 ghost use Rattle.certificate_check.specs.Nodes.{IsRightNode, AreNumbersOf, IsAllowed, BranchFault, NodeFault, IsNodeRead, IsAnswer};
 
-use crate::numbers::{Numbers, numbers_of_branch, numbers_of_leaf};
+use crate::numbers::{are_too_high, costs_of_leaf, sums_of};
 use crate::refusal::CheckRefusal;
-use certificate_format::{Costs, Reader, Tag};
+use certificate_format::{Reader, SixCosts, Tag};
 use page_views::pages_of;
 use permission_map::PermissionMap;
 
@@ -22,7 +21,7 @@ fn leaf(
     map: &PermissionMap,
     log2: u32,
     first: u64,
-) -> Result<Numbers, CheckRefusal>
+) -> Result<SixCosts, CheckRefusal>
     requires aligned { first % 2 ^ log2 ≡ 0 }
     requires inside { first + 2 ^ log2 ≤ 2 ^ 44 }
     ensures read { IfOk result (λ numbers. IsNodeRead (view_of_runs map.now) log2 first (0 ∷ reader.old) reader.new numbers) }
@@ -36,24 +35,23 @@ fn leaf(
     if perm != found {
         return Err(CheckRefusal::WrongLeaf);
     }
-    Ok(numbers_of_leaf(perm))
+    Ok(costs_of_leaf(perm))
 }
 
 /// The numbers of a split block, where they are what the halves allow.
-fn branch(costs: &Costs, lower: &Numbers, upper: &Numbers) -> Result<Numbers, CheckRefusal>
-    ensures numbers { IfOk result (λ numbers. (p : Perm) → number_for numbers p ≡ cost_of costs.now p) }
-    ensures allowed { OnOk result (IsAllowed (cost_of costs.now) (number_for lower.now) (number_for upper.now)) }
-    ensures given { IsAllowed (cost_of costs.now) (number_for lower.now) (number_for upper.now) → IsOk result }
-    ensures fault { IfErr result (BranchFault (cost_of costs.now) (number_for lower.now) (number_for upper.now)) }
+fn branch(costs: &SixCosts, lower: &SixCosts, upper: &SixCosts) -> Result<SixCosts, CheckRefusal>
+    ensures numbers { IfOk result (λ numbers. (p : Perm) → cost_of numbers p ≡ cost_of costs.now p) }
+    ensures allowed { OnOk result (IsAllowed (cost_of costs.now) (cost_of lower.now) (cost_of upper.now)) }
+    ensures given { IsAllowed (cost_of costs.now) (cost_of lower.now) (cost_of upper.now) → IsOk result }
+    ensures fault { IfErr result (BranchFault (cost_of costs.now) (cost_of lower.now) (cost_of upper.now)) }
 {
-    let Some(sums) = lower.plus(upper) else {
+    let Some(sums) = sums_of(lower, upper) else {
         return Err(CheckRefusal::CostOverflow);
     };
-    let numbers = numbers_of_branch(costs);
-    if numbers.are_too_high(&sums) {
+    if are_too_high(costs, &sums) {
         return Err(CheckRefusal::CostTooHigh);
     }
-    Ok(numbers)
+    Ok(*costs)
 }
 
 /// Reads the node of the block of 2^log2 pages from `first` on, and answers its numbers.
@@ -62,7 +60,7 @@ pub(crate) fn node(
     map: &PermissionMap,
     log2: u32,
     first: u64,
-) -> Result<Numbers, CheckRefusal>
+) -> Result<SixCosts, CheckRefusal>
     requires depth { log2 ≤ 44 }
     requires aligned { first % 2 ^ log2 ≡ 0 }
     requires inside { first + 2 ^ log2 ≤ 2 ^ 44 }

@@ -3,14 +3,7 @@ use Rattle.std.specs.Prelude.{ℕ, List, drop}
 use Rattle.byteorder.specs.Endian.{little_number}
 use Rattle.pmp_encoding.specs.declared.perm.Perm.{Perm}
 use Rattle.pmp_encoding.specs.declared.perm.Perm.TheVariants.{NoAccess, Read, ReadWrite, Execute, ReadExecute, ReadWriteExecute}
-
-pub record SixCosts : Type 0 where
-  pub no_access : ℕ
-  pub read : ℕ
-  pub read_write : ℕ
-  pub execute : ℕ
-  pub read_execute : ℕ
-  pub read_write_execute : ℕ
+use Rattle.certificate_format.specs.declared.costs.SixCosts.{SixCosts}
 
 abbrev pub cost_of : SixCosts → Perm → ℕ
 cost_of costs NoAccess = costs.no_access

@@ -17,6 +17,7 @@
 //! ```
 #![tactic(auto)]
 
+mod costs;
 mod fault;
 mod header;
 mod parts;
@@ -24,7 +25,8 @@ mod reader;
 #[cfg(test)]
 mod tests;
 
+pub use costs::SixCosts;
 pub use fault::ReadFault;
 pub use header::{Header, Version};
-pub use parts::{Costs, EntryBytes};
+pub use parts::EntryBytes;
 pub use reader::{Reader, Tag};

@@ -1,5 +1,4 @@
 use byteorder::{ByteOrder, LittleEndian};
-use pmp_encoding::Perm;
 use std::marker::Model;
 
 /// The nine bytes of an entry: a configuration byte, and an address register of eight bytes, the lowest first.
@@ -22,9 +21,7 @@ impl<'a> Model for EntryBytes<'a> {
 }
 
 ghost use Rattle.std.specs.Prelude.{◌≡◌, ◌^◌, ◌<◌, length};
-ghost use Rattle.pmp_encoding.specs.declared.perm.Perm.{Perm};
-ghost use Rattle.certificate_format.specs.Costs.{cost_of};
-ghost use Rattle.certificate_format.specs.Spelling.{pair_bytes, costs_bytes};
+ghost use Rattle.certificate_format.specs.Spelling.{pair_bytes};
 
 impl<'a> EntryBytes<'a> {
     pub(crate) fn of(bytes: &'a [u8]) -> EntryBytes<'a>
@@ -47,46 +44,5 @@ impl<'a> EntryBytes<'a> {
         ensures { result ≡ self.now.1 }
     {
         LittleEndian::read_u64(&self.bytes[1..])
-    }
-}
-
-/// The twenty-four bytes of a split block's six costs, in the order none, R, RW, X, RX, RWX.
-#[derive(Drop)]
-pub struct Costs<'a> {
-    bytes: &'a [u8],
-}
-
-impl<'a> Model for Costs<'a> {
-    ghost use Rattle.std.specs.Prelude.{◌≡◌, length};
-    ghost use Rattle.certificate_format.specs.Costs.{SixCosts, costs_in};
-
-    ghost Value = { SixCosts };
-
-    ghost view = { λ c. costs_in c.bytes.now };
-
-    ghost invariant = { λ c. length c.bytes.now ≡ 24 };
-}
-
-impl<'a> Costs<'a> {
-    pub(crate) fn of(bytes: &'a [u8]) -> Costs<'a>
-        requires { length bytes.now ≡ 24 }
-        ensures spelled { bytes.entry.now ≡ costs_bytes (cost_of result) }
-        ensures fits { (perm : Perm) → cost_of result perm < 2 ^ 32 }
-    {
-        Costs { bytes }
-    }
-
-    /// How many entries the block costs at least, where this permission stands round about it.
-    pub fn cost(&self, perm: Perm) -> u32
-        ensures { result ≡ cost_of self.now perm }
-    {
-        match perm {
-            Perm::NoAccess => LittleEndian::read_u32(self.bytes),
-            Perm::Read => LittleEndian::read_u32(&self.bytes[4..]),
-            Perm::ReadWrite => LittleEndian::read_u32(&self.bytes[8..]),
-            Perm::Execute => LittleEndian::read_u32(&self.bytes[12..]),
-            Perm::ReadExecute => LittleEndian::read_u32(&self.bytes[16..]),
-            Perm::ReadWriteExecute => LittleEndian::read_u32(&self.bytes[20..]),
-        }
     }
 }

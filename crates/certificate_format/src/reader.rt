@@ -9,9 +9,10 @@ ghost use Rattle.certificate_format.specs.Spelling.{magic, version_bytes, u32_by
 ghost use Rattle.certificate_format.specs.Tags.{tag_byte};
 ghost use Rattle.certificate_format.specs.Faults.{ShortFault, MagicFault, VersionFault, HeaderFault, TagFault, PermFault};
 
+use crate::costs::SixCosts;
 use crate::fault::ReadFault;
 use crate::header::{Header, Version};
-use crate::parts::{Costs, EntryBytes};
+use crate::parts::EntryBytes;
 use byteorder::{ByteOrder, LittleEndian};
 use pmp_encoding::{Limit, Perm};
 use std::marker::Model;
@@ -163,7 +164,7 @@ impl<'a> Reader<'a> {
     }
 
     /// The six costs of a branch. Answers `Truncated` where fewer than twenty-four bytes are left.
-    pub fn costs(&mut self) -> Result<Costs<'a>, ReadFault>
+    pub fn costs(&mut self) -> Result<SixCosts, ReadFault>
         ensures read { IfOk result (λ costs. self.old ≡ costs_bytes (cost_of costs) ++ self.new) }
         ensures fits { IfOk result (λ costs. (perm : Perm) → cost_of costs perm < 2 ^ 32) }
         ensures whole { (costs : Perm → ℕ) (rest : List ℕ) → ((perm : Perm) → costs perm < 2 ^ 32) → self.old ≡ costs_bytes costs ++ rest → (result ≡ Ok (six_of costs)) × (self.new ≡ rest) }
@@ -174,6 +175,6 @@ impl<'a> Reader<'a> {
             return Err(ReadFault::Truncated);
         };
         *self = Reader::new(rest);
-        Ok(Costs::of(bytes))
+        Ok(SixCosts::of(bytes))
     }
 }

@@ -16,6 +16,6 @@ mod laws;
 mod tests;
 mod writing;
 
-pub use certificate_format::{Costs, EntryBytes, Header, ReadFault, Reader, Tag, Version};
+pub use certificate_format::{EntryBytes, Header, ReadFault, Reader, SixCosts, Tag, Version};
 pub use laws::certificate_law;
 pub use writing::{write, write_map};

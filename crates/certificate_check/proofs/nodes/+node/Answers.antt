@@ -5,7 +5,6 @@ use Rattle.permission_map.specs.Runs.{view_of_runs}
 use Rattle.certificate_format.specs.Costs.{cost_of, six_of}
 use Rattle.certificate_format.specs.Spelling.{costs_bytes}
 use Rattle.certificate_format.specs.Tags.{tag_byte}
-use Rattle.certificate_check.specs.Numbers.{number_for}
 use Rattle.certificate_check.specs.Nodes.{IsRightNode, IsNodeRead, IsAnswer, NodeFault, in_tag, a_page, in_costs, in_lower, in_upper}
 use Rattle.certificate_check.proofs.Refused.{refused, refused_again}
 use Rattle.certificate_check.proofs.Walked.{branch_at, no_branch_at, leaf_at, tag_at, answered, branch_read, branch_refused, allowed_along, six_back, half_aligned, half_inside, upper_aligned}
@@ -131,7 +130,7 @@ returns-in_ok-upper-in-Branch-clause-given t c =
     let high : IsRightNode (view_of_runs c.args.map.now) (c.args.log2 - 1) (c.args.first + c.pages_of.result) at.upper = rw (c.pages_of.ensures) at.halves.high in
     let up = c.in_ok-upper-in-Branch.ensures.given at.upper rest high low.1 in
     let six : c.in_ok-costs-in-Branch.costs ≡ six_of at.costs = (let e = costs.0 in cc) in
-    let allowed = allowed_along at.costs (bound_of at.lower) (bound_of at.upper) (number_for c.in_ok-lower-in-Branch.lower) (number_for c.in_ok-upper-in-Branch.upper) c.in_ok-costs-in-Branch.costs six low.0 up.0 at.halves.allowed in
+    let allowed = allowed_along at.costs (bound_of at.lower) (bound_of at.upper) (cost_of c.in_ok-lower-in-Branch.lower) (cost_of c.in_ok-upper-in-Branch.upper) c.in_ok-costs-in-Branch.costs six low.0 up.0 at.halves.allowed in
     answered tree rest c.node-in-Branch.new.reader (cost_of c.in_ok-costs-in-Branch.costs) c.branch-costs-in-Branch.result (c.branch-costs-in-Branch.ensures.given allowed)
     c.branch-costs-in-Branch.ensures.numbers (λ p. ap (λ x. cost_of x p) six ∙ six_back at.costs p ∙ ap (λ x. bound_of x p) (sym at.tree_is)) up.1
 

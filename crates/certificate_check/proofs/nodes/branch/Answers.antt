@@ -15,8 +15,8 @@ returns-then-are_too_high-clause-given c =
     let p : Perm = high.0 in
     let q : Perm = high.1 in
     absurd
-    (⊎_elim (λ over. omega (arith, over, c.in-Some.ensures.sums p, c.numbers_of_branch-numbers.ensures p, allowed.same p))
-    (λ over. omega (arith, over, c.in-Some.ensures.sums q, c.numbers_of_branch-numbers.ensures p, allowed.any p q)) high.2)
+    (⊎_elim (λ over. omega (arith, over, c.in-Some.ensures.sums p, allowed.same p))
+    (λ over. omega (arith, over, c.in-Some.ensures.sums q, allowed.any p q)) high.2)
 
 pub returns-then-are_too_high-clause-fault : goal.returns-then-are_too_high-clause-fault
 returns-then-are_too_high-clause-fault c =
@@ -25,13 +25,13 @@ returns-then-are_too_high-clause-fault c =
     let q : Perm = high.1 in (
       p,
       q,
-      ⊎_elim (λ over. inl (omega (arith, over, c.in-Some.ensures.sums p, c.numbers_of_branch-numbers.ensures p)))
-          (λ over. inr (omega (arith, over, c.in-Some.ensures.sums q, c.numbers_of_branch-numbers.ensures p))) high.2,
+      ⊎_elim (λ over. inl (omega (arith, over, c.in-Some.ensures.sums p)))
+          (λ over. inr (omega (arith, over, c.in-Some.ensures.sums q))) high.2,
     )
 
 pub returns-clause-allowed : goal.returns-clause-allowed
 returns-clause-allowed c = record {
   sums = λ p. omega (arith, c.in-Some.ensures.sums p, c.in-Some.ensures.small p);
-  same = λ p. omega (arith, c.in-Some.ensures.sums p, c.numbers_of_branch-numbers.ensures p, c.are_too_high.ensures.same c.if-are_too_high.false p);
-  any = λ p q. omega (arith, c.in-Some.ensures.sums q, c.numbers_of_branch-numbers.ensures p, c.are_too_high.ensures.any c.if-are_too_high.false p q);
+  same = λ p. omega (arith, c.in-Some.ensures.sums p, c.are_too_high.ensures.same c.if-are_too_high.false p);
+  any = λ p q. omega (arith, c.in-Some.ensures.sums q, c.are_too_high.ensures.any c.if-are_too_high.false p q);
 }

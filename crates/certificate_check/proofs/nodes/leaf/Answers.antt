@@ -34,5 +34,5 @@ returns-clause-read c =
       tree = Leaf c.in_ok-perm.perm;
       right = record { fits = tt; sound = λ i h. c.in-Some.ensures.some i h ∙ sym same; sums = tt };
       spelled = ap (λ xs. 0 ∷ xs) c.in_ok-perm.ensures.read;
-      numbers_of = c.numbers_of_leaf.ensures;
+      numbers_of = c.costs_of_leaf.ensures;
     }
