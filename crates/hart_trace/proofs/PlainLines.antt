@@ -1,8 +1,9 @@
 -- Plain lines say what the grammar of traces says.
-use Rattle.std.proofs.Common.{◌≡◌, ◌⊎◌, inl, inr, ◌∙◌, ℕ, ◌+◌, ◌^◌, Bool, true, false, not, ◌&&◌, List, [], ◌∷◌, ◌++◌, length, Option, Some, None, cond, suc, refl, ap, sym, arith, append-nil}
+use Rattle.std.proofs.Common.{◌≡◌, ◌⊎◌, inl, inr, ◌∙◌, ℕ, ◌+◌, ◌^◌, Bool, true, false, not, ◌&&◌, List, [], ◌∷◌, ◌++◌, length, Option, Some, None, option_map, cond, suc, refl, ap, sym, arith, append-nil}
 use Rattle.std.specs.Prelude.{◌==◌, nat_lt, IfSome}
 use Rattle.std.specs.List.{list_all, position_or_len}
 use Rattle.std.proofs.lemmas.Bool.{and_parts, and_from}
+use Rattle.std.proofs.lemmas.Option.{same_Some}
 use Rattle.std.proofs.lemmas.Bool.Decides.{nat_tests}
 use Rattle.std.proofs.lemmas.Grind.{common_steps}
 use Rattle.pmp_match.specs.declared.access.Mode.{Mode}
@@ -14,7 +15,7 @@ use Rattle.text_lines.specs.Numbers.{BeginsNumeral, digit_of, is_numeral, numera
 use Rattle.text_lines.proofs.WordsOfText.{word_split}
 use Rattle.hart_trace.specs.declared.event.Event.{Event}
 use Rattle.hart_trace.specs.declared.event.Event.TheVariants as events
-use Rattle.hart_trace.specs.Events.{access_of, event_of, hart_of, meaning_of, mode_of, sized}
+use Rattle.hart_trace.specs.Events.{◌>>=◌, access_of, event_of, hart_of, meaning_of, mode_of, said_by, sized}
 use Rattle.hart_trace.specs.Plain.{Starts, is_letter, is_plain, keyword}
 
 -- a hexadecimal digit is a letter
@@ -147,3 +148,55 @@ pub cut : (text behind rest digits : List ℕ) (mode : Mode) (size address : ℕ
 cut text behind rest digits mode size address st h e =
     let whole : behind ≡ h.digits ++ 32 ∷ 48 ∷ 120 ∷ digits = h.parts ∙ ap (λ xs. h.digits ++ xs) e in
     (st.0, st.1, st.2 ∙ ap (λ xs. st.0 ∷ 32 ∷ st.1 ∷ 32 ∷ 48 ∷ 120 ∷ xs) whole, st.3, st.4, st.5, st.6)
+
+-- no word names a hart where there is none
+no_hart : (word : List ℕ) → hart_of 0 word ≡ None
+no_hart [] = refl
+no_hart (at ∷ []) = refl
+no_hart (at ∷ digit ∷ []) = grind (arith, nat_tests, common_steps)
+no_hart (at ∷ digit ∷ b ∷ word) = refl
+
+only_event : (event : Event) (found : Option Event) → option_map {U = Option (ℕ × Event)} Some (option_map {U = ℕ × Event} (λ e. (0, e)) found) ≡ Some (Some (0, event)) → found ≡ Some event
+only_event event None h = cc
+only_event event (Some e) h = ap (λ (p : ℕ × Event). Some p.1) (same_Some _ _ (same_Some _ _ h))
+
+said_event : (event : Event) (words : List (List ℕ)) → said_by 0 words ≡ Some (Some (0, event)) → event_of words ≡ Some event
+said_event event [] h = cc
+said_event event (word ∷ words) h = only_event event (event_of (word ∷ words)) (rw (no_hart word) at h)
+
+hart_letters : (harts digit hart : ℕ) → hart_of harts (64 ∷ digit ∷ []) ≡ Some hart → list_all is_letter (64 ∷ digit ∷ []) ≡ true
+hart_letters harts digit hart h = grind (arith, nat_tests, common_steps, h)
+
+one_plain : (b : ℕ) (line : List ℕ) → is_plain b ≡ true → content_of (b ∷ line) ≡ b ∷ content_of line
+one_plain b line h =
+    let no : (b == 35) ≡ false = grind (arith, nat_tests, common_steps, (and_parts (is_allowed b) (not (b == 35)) h).1) in
+    rw (no, one_more (position_or_len (λ c. c == 35) line)) refl
+
+-- the words behind a hart's name
+words_behind : (digit : ℕ) (rest : List ℕ) (words : List (List ℕ)) → list_all is_letter (64 ∷ digit ∷ []) ≡ true → words_of rest ≡ Some words → words_of (64 ∷ digit ∷ 32 ∷ rest) ≡ Some ((64 ∷ digit ∷ []) ∷ words)
+words_behind digit rest words letters e =
+    let name = (and_parts (is_letter digit) true (and_parts (is_letter 64) (is_letter digit && true) letters).1).0 in
+    let plain = (and_parts (is_plain digit) (not (is_blank digit)) name).0 in
+    let content : content_of (64 ∷ digit ∷ 32 ∷ rest) ≡ 64 ∷ digit ∷ 32 ∷ content_of rest =
+    one_plain 64 (digit ∷ 32 ∷ rest) refl ∙ ap (λ xs. 64 ∷ xs) (one_plain digit (32 ∷ rest) plain ∙ ap (λ xs. digit ∷ xs) (one_plain 32 rest refl)) in
+    rw content (by_test (list_all is_allowed (content_of rest)) refl e)
+  where
+    by_test : (t : Bool) → list_all is_allowed (content_of rest) ≡ t → cond t (Some (split_words (content_of rest))) None ≡ Some words → cond (list_all is_allowed (64 ∷ digit ∷ 32 ∷ content_of rest)) (Some (split_words (64 ∷ digit ∷ 32 ∷ content_of rest))) None ≡ Some ((64 ∷ digit ∷ []) ∷ words)
+    by_test true all h =
+        let same : split_words (content_of rest) ≡ words = cc in
+        let name = (and_parts (is_letter digit) true (and_parts (is_letter 64) (is_letter digit && true) letters).1).0 in
+        let allowed = (and_parts (is_allowed digit) (not (digit == 35)) (and_parts (is_plain digit) (not (is_blank digit)) name).0).0 in
+        let fits : list_all is_allowed (64 ∷ digit ∷ 32 ∷ content_of rest) ≡ true = and_from _ _ allowed all in
+        rw fits (ap Some (letters_split 64 (digit ∷ []) (content_of rest) letters ∙ ap (λ ws. (64 ∷ digit ∷ []) ∷ ws) same))
+    by_test false all h = cc
+
+-- what a plain line says happens on the hart that stands before it
+pub hart_says : (harts digit hart : ℕ) (rest : List ℕ) (event : Event) → hart_of harts (64 ∷ digit ∷ []) ≡ Some hart → meaning_of 0 rest ≡ Some (Some (0, event)) → meaning_of harts (64 ∷ digit ∷ 32 ∷ rest) ≡ Some (Some (hart, event))
+hart_says harts digit hart rest event named says = by_words (words_of rest) refl says
+  where
+    by_words : (found : Option (List (List ℕ))) → words_of rest ≡ found → found >>= said_by 0 ≡ Some (Some (0, event)) → meaning_of harts (64 ∷ digit ∷ 32 ∷ rest) ≡ Some (Some (hart, event))
+    by_words None e h = cc
+    by_words (Some words) e h =
+        let is : event_of words ≡ Some event = said_event event words h in
+        let split = words_behind digit rest words (hart_letters harts digit hart named) e in
+        rw (split, named, is) refl

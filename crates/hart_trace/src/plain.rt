@@ -7,7 +7,7 @@ ghost use Rattle.std.specs.List.{list_all};
 ghost use Rattle.text_lines.specs.Words.{split_words};
 ghost use Rattle.text_lines.specs.Numbers.{number_of};
 ghost use Rattle.hart_trace.specs.declared.event.Event.TheVariants as events;
-ghost use Rattle.hart_trace.specs.Events.{access_of, meaning_of, mode_of};
+ghost use Rattle.hart_trace.specs.Events.{access_of, hart_of, meaning_of, mode_of};
 ghost use Rattle.hart_trace.specs.Plain.{Starts, is_letter, is_plain, keyword};
 
 use crate::trace::sized;
@@ -113,4 +113,29 @@ pub fn plain_access(line: &[u8]) -> Option<(Access, u64)>
             Some((access, 0))
         }
     }
+}
+
+/// The hart that a line names, where `@H` and one space begin it, and what stands behind them.
+fn behind_hart(line: &[u8], harts: u8) -> Option<(u8, &[u8])>
+    ensures { IfSome result (λ named. (digit : ℕ) × (line.now ≡ 64 ∷ digit ∷ 32 ∷ named.1.now) × (hart_of harts (64 ∷ digit ∷ []) ≡ Some named.0)) }
+{
+    match line {
+        [b'@', digit @ b'0'..=b'9', b' ', rest @ ..] if *digit - b'0' < harts => {
+            Some((*digit - b'0', rest))
+        }
+        _ => None,
+    }
+}
+
+/// The access of a plain line, the value that a store writes, 0 else, and the hart that it happens on: the one that the
+/// line names, or hart 0. None says nothing of the line.
+pub(crate) fn plain_on_hart(line: &[u8], harts: u8) -> Option<(u8, Access, u64)>
+    ensures { IfSome result (λ found. meaning_of harts line.now ≡ Some (Some (found.0, events.Access found.1 found.2))) }
+{
+    if let Some((hart, rest)) = behind_hart(line, harts) {
+        let (access, value) = plain_access(rest)?;
+        return Some((hart, access, value));
+    }
+    let (access, value) = plain_access(line)?;
+    Some((0, access, value))
 }

@@ -7,7 +7,7 @@ ghost use Rattle.text_lines.specs.Words.{split_words, words_of};
 ghost use Rattle.hart_trace.specs.Events.{mode_of, sized, access_of, with_no_value, with_value, has_leading_zero, register_of, setting_of, numbers_of, call_of, interrupt_of, event_of, hart_of, on_hart, said_by, meaning_of};
 
 use crate::event::Event;
-use crate::plain::plain_access;
+use crate::plain::plain_on_hart;
 use arrayvec::ArrayVec;
 use pmp_match::{Access, Kind, Mode};
 use text_lines::{NotUnderstood, Words, number, numeral};
@@ -187,8 +187,8 @@ fn on_hart(hart: u8, words: Words<'_>) -> Result<Option<(u8, Event)>, NotUnderst
 pub fn parse_line(line: &[u8], harts: u8) -> Result<Option<(u8, Event)>, NotUnderstood>
     ensures { result_ok result ≡ meaning_of harts line.now }
 {
-    if let Some((access, value)) = plain_access(line) {
-        return Ok(Some((0, Event::Access(access, value))));
+    if let Some((hart, access, value)) = plain_on_hart(line, harts) {
+        return Ok(Some((hart, Event::Access(access, value))));
     }
     let words = Words::of(line)?;
     let mut behind = words;

@@ -18,4 +18,4 @@ returns-in-Some-hart_of c = named c.args.harts c.in-Some-hart_of.hart c.args.lin
 
 -- a plain line is understood as any other
 pub returns-in-Some : goal.returns-in-Some
-returns-in-Some c = sym (c.in-Some.ensures c.args.harts)
+returns-in-Some c = sym c.in-Some.ensures
