@@ -3,15 +3,15 @@ use Rattle.std.proofs.Common.{◌≡◌, ℕ, zero, suc, ◌+◌, ◌^◌, ◌<�
 use Rattle.std.proofs.lemmas.Bool.{le-leb, lt-leb, leb-true, leb-false, eq-eqb, ne_eqb, eqb-true, eqb-false}
 use Rattle.pmp_encoding.specs.declared.perm.Perm.{Perm}
 use Rattle.pmp_encoding.specs.declared.perm.Perm.TheVariants.{NoAccess, Read, ReadWrite, Execute, ReadExecute, ReadWriteExecute}
-use Rattle.pmp_encoding.specs.Perms.{perm_eq}
+use Rattle.pmp_encoding.specs.Perms.{index_of, perm_eq}
 use Rattle.pmp_encoding.specs.declared.region.Entry.{Entry}
 use Rattle.prefix_tree.specs.Trees.{PermTree, Uniform, Split}
 use Rattle.entry_planner.specs.declared.costs.HalfPerms.{HalfPerms}
 use Rattle.entry_planner.specs.Best.{is_best, least_cost}
 use Rattle.entry_planner.specs.Choice.{first_least, halves_cost, handed_on, IsChosenAt}
 use Rattle.entry_planner.specs.Costs.{least_of, cost}
-use Rattle.entry_planner.specs.PermSets.{has, place_of}
-use Rattle.entry_planner.specs.Placing.{IsCheap, IsPlacedAt}
+use Rattle.entry_planner.specs.PermSets.{has}
+use Rattle.entry_planner.proofs.Placements.{IsCheap, IsPlacedAt}
 use Rattle.entry_planner.specs.Plans.{half_perms}
 use Rattle.entry_planner.proofs.BestCosts.{cost_is, sum_at, sum_apart}
 use Rattle.entry_planner.proofs.CostLemmas.{least_le, least_is}
@@ -45,7 +45,7 @@ first_least_is f = go (f NoAccess == least_of f) (f Read == least_of f) (f ReadW
         last ReadWriteExecute h = h
 
 picked :
-    (q : Perm) (t : Perm → Bool) → t q ≡ true → ((r : Perm) → place_of r < place_of q → t r ≡ false)
+    (q : Perm) (t : Perm → Bool) → t q ≡ true → ((r : Perm) → index_of r < index_of q → t r ≡ false)
     → pick (t NoAccess) (t Read) (t ReadWrite) (t Execute) (t ReadExecute) ≡ q
 picked NoAccess t is before = ap (λ x. pick x (t Read) (t ReadWrite) (t Execute) (t ReadExecute)) is
 picked Read t is before =
@@ -73,7 +73,7 @@ picked ReadWriteExecute t is before =
     ∙ ap (λ x. pick false false false x (t ReadExecute)) (before Execute (omega arith))
     ∙ ap (λ x. pick false false false false x) (before ReadExecute (omega arith))
 
-first_least-first : (f : Perm → ℕ) (q : Perm) → f q ≡ least_of f → ((r : Perm) → place_of r < place_of q → f r ≡ least_of f → ⊥) → first_least f ≡ q
+first_least-first : (f : Perm → ℕ) (q : Perm) → f q ≡ least_of f → ((r : Perm) → index_of r < index_of q → f r ≡ least_of f → ⊥) → first_least f ≡ q
 first_least-first f q is before = picked q (λ r. f r == least_of f) (eq-eqb _ _ is) (λ r h. ne_eqb _ _ (before r h))
 
 -- ---- what is handed on is the cheapest
@@ -177,14 +177,14 @@ none_handed low high perms p are none =
 -- the first that is best for both, where the inherited one is best for neither
 pub first_handed :
     (low high : PermTree) (perms : HalfPerms) (p q : Perm) → perms ≡ half_perms low high → has perms.either.bits p ≡ false → has perms.both.bits q ≡ true
-    → ((r : Perm) → place_of r < place_of q → has perms.both.bits r ≡ false) → q ≡ handed_on low high p
+    → ((r : Perm) → index_of r < index_of q → has perms.both.bits r ≡ false) → q ≡ handed_on low high p
 first_handed low high perms p q are out inside before =
     let both = both_is low high perms q true are inside in
     let sum : cost low q + cost high q ≡ least_cost low + least_cost high = sum_at _ _ _ _ _ _ (cost_is low q) (cost_is high q) both in
     let least : least_of (halves_cost low high) ≡ least_cost low + least_cost high = omega (arith, least_together low high, least_le (halves_cost low high) q) in
     let dear : least_cost low + least_cost high + 2 ≤ cost low p + cost high p =
     sum_none _ _ _ _ _ _ (cost_is low p) (cost_is high p) (either_is low high perms p false are out) in
-    let not_before : (r : Perm) → place_of r < place_of q → halves_cost low high r ≡ least_of (halves_cost low high) → ⊥ =
+    let not_before : (r : Perm) → index_of r < index_of q → halves_cost low high r ≡ least_of (halves_cost low high) → ⊥ =
     λ r h is. (let more = sum_apart _ _ _ _ _ _ (cost_is low r) (cost_is high r) (both_is low high perms r false are (before r h)) in omega arith) in
     sym
     (ap (λ t. if t then p else first_least (halves_cost low high)) (lt-leb (halves_cost low high p) (1 + least_of (halves_cost low high)) (omega arith))

@@ -8,7 +8,8 @@ use Rattle.std.proofs.lemmas.Nat.Bits.{bit_at_and, bit_at_or, same_from_bits_bel
 use Rattle.pmp_encoding.specs.declared.perm.Perm.{Perm}
 use Rattle.pmp_encoding.specs.declared.perm.Perm.TheVariants.{NoAccess, Read, ReadWrite, Execute, ReadExecute, ReadWriteExecute}
 use Rattle.entry_planner.specs.Best.{any_of}
-use Rattle.entry_planner.specs.PermSets.{place_of, has, bit_of, set_of}
+use Rattle.pmp_encoding.specs.Perms.{index_of}
+use Rattle.entry_planner.specs.PermSets.{has, bit_of, set_of}
 
 bit_of-most : (b : Bool) → bit_of b ≤ 1
 bit_of-most true = omega arith
@@ -40,7 +41,7 @@ bit_4 a b c d e f h i j k l = omega arith
 bit_5 : (a b c d e f : ℕ) → a ≤ 1 → b ≤ 1 → c ≤ 1 → d ≤ 1 → e ≤ 1 → f ≤ 1 → six a b c d e f / 32 % 2 ≡ f
 bit_5 a b c d e f h i j k l m = omega arith
 
-pub bit_at-set_of : (f : Perm → Bool) (p : Perm) → bit_at (set_of f) (place_of p) ≡ bit_of (f p)
+pub bit_at-set_of : (f : Perm → Bool) (p : Perm) → bit_at (set_of f) (index_of p) ≡ bit_of (f p)
 bit_at-set_of f NoAccess = bit_0 _ _ _ _ _ _ (bit_of-most (f NoAccess))
 bit_at-set_of f Read = bit_1 _ _ _ _ _ _ (bit_of-most (f NoAccess)) (bit_of-most (f Read))
 bit_at-set_of f ReadWrite = bit_2 _ _ _ _ _ _ (bit_of-most (f NoAccess)) (bit_of-most (f Read)) (bit_of-most (f ReadWrite))
@@ -61,7 +62,7 @@ pub has-set_of : (f : Perm → Bool) (p : Perm) → has (set_of f) p ≡ f p
 has-set_of f p = ap (λ n. n == 1) (bit_at-set_of f p) ∙ bit_of-test (f p)
 
 -- a number of six bits is the number of a set that has the same bits
-perm_at_place : (i : ℕ) → i < 6 → (p : Perm) × (place_of p ≡ i)
+perm_at_place : (i : ℕ) → i < 6 → (p : Perm) × (index_of p ≡ i)
 perm_at_place zero h = (NoAccess, refl)
 perm_at_place (suc zero) h = (Read, refl)
 perm_at_place (suc (suc zero)) h = (ReadWrite, refl)
@@ -70,7 +71,7 @@ perm_at_place (suc (suc (suc (suc zero)))) h = (ReadExecute, refl)
 perm_at_place (suc (suc (suc (suc (suc zero))))) h = (ReadWriteExecute, refl)
 perm_at_place (suc (suc (suc (suc (suc (suc n)))))) h = absurd (omega arith)
 
-from_bits : (n : ℕ) (f : Perm → Bool) → n < 64 → ((p : Perm) → bit_at n (place_of p) ≡ bit_of (f p)) → n ≡ set_of f
+from_bits : (n : ℕ) (f : Perm → Bool) → n < 64 → ((p : Perm) → bit_at n (index_of p) ≡ bit_of (f p)) → n ≡ set_of f
 from_bits n f small same =
     same_from_bits_below 6 n (set_of f) small (set_of-most f)
     (λ i h.
@@ -92,12 +93,12 @@ max_is_or false false = refl
 pub bit_and-sets : (f g : Perm → Bool) → bit_and (set_of f) (set_of g) ≡ set_of (λ p. f p && g p)
 bit_and-sets f g =
     from_bits (bit_and (set_of f) (set_of g)) (λ p. f p && g p) (omega (arith, and_le_l (set_of f) (set_of g), set_of-most f))
-    (λ p. bit_at_and (set_of f) (set_of g) (place_of p) ∙ ap₂ min (bit_at-set_of f p) (bit_at-set_of g p) ∙ min_is_and (f p) (g p))
+    (λ p. bit_at_and (set_of f) (set_of g) (index_of p) ∙ ap₂ min (bit_at-set_of f p) (bit_at-set_of g p) ∙ min_is_and (f p) (g p))
 
 pub bit_or-sets : (f g : Perm → Bool) → bit_or (set_of f) (set_of g) ≡ set_of (λ p. f p || g p)
 bit_or-sets f g =
     from_bits (bit_or (set_of f) (set_of g)) (λ p. f p || g p) (or_lt 6 (set_of f) (set_of g) (set_of-most f) (set_of-most g))
-    (λ p. bit_at_or (set_of f) (set_of g) (place_of p) ∙ ap₂ max (bit_at-set_of f p) (bit_at-set_of g p) ∙ max_is_or (f p) (g p))
+    (λ p. bit_at_or (set_of f) (set_of g) (index_of p) ∙ ap₂ max (bit_at-set_of f p) (bit_at-set_of g p) ∙ max_is_or (f p) (g p))
 
 -- no permission is in the set where its number is 0
 positive : (n : ℕ) → 0 < n → (n == 0) ≡ false

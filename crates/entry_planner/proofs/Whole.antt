@@ -18,13 +18,13 @@ use Rattle.entry_planner.specs.Best.{is_best, least_cost}
 use Rattle.entry_planner.specs.Costs.{cost, bounds_of}
 use Rattle.entry_planner.specs.Choice.{AreChosen}
 use Rattle.entry_planner.specs.Order.{AreInOrder}
-use Rattle.entry_planner.specs.Placing.{IsPlaced}
 use Rattle.entry_planner.specs.Plans.{AreSmall, CostsAre, IsMade, Planned, block_cost, cost_in, cost_of, costed, costs_in}
 use Rattle.entry_planner.proofs.BestCosts.{cost_is}
 use Rattle.entry_planner.proofs.BlockCosts.{least_le_branches}
 use Rattle.entry_planner.proofs.Choices.{chosen_placed}
 use Rattle.entry_planner.proofs.CostLemmas.{bound_of-bounds_of, costs_sound, least_le}
 use Rattle.entry_planner.proofs.Placed.{IsPart, AreParts, All_weaker, placed_within, placed_count, placed_means}
+use Rattle.entry_planner.proofs.Placements.{IsPlaced}
 use Rattle.entry_planner.proofs.Sets.{has-set_of}
 use Rattle.entry_planner.proofs.Sorted.{sizes_rise}
 

@@ -3,19 +3,11 @@ use Rattle.std.specs.Prelude.{ℕ, ◌+◌, ◌*◌, Bool, ◌==◌, if◌then�
 use Rattle.std.specs.Int.{bit_at}
 use Rattle.pmp_encoding.specs.declared.perm.Perm.{Perm}
 use Rattle.pmp_encoding.specs.declared.perm.Perm.TheVariants.{NoAccess, Read, ReadWrite, Execute, ReadExecute, ReadWriteExecute}
+use Rattle.pmp_encoding.specs.Perms.{index_of}
 
--- the place of a permission in the fixed order
-abbrev pub place_of : Perm → ℕ
-place_of NoAccess = 0
-place_of Read = 1
-place_of ReadWrite = 2
-place_of Execute = 3
-place_of ReadExecute = 4
-place_of ReadWriteExecute = 5
-
--- whether the permission is in the set: its bit is set
+-- whether the permission is in the set: the bit at its place in the fixed order is set
 abbrev pub has : ℕ → Perm → Bool
-has bits p = bit_at bits (place_of p) == 1
+has bits p = bit_at bits (index_of p) == 1
 
 -- the number of the set of these permissions
 abbrev pub bit_of : Bool → ℕ

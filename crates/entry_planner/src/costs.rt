@@ -26,7 +26,7 @@ ghost use Rattle.prefix_tree.specs.Counts.{splits};
 ghost use Rattle.prefix_tree.specs.Trees.{PermTree, Uniform, Split};
 
 impl BlockCost {
-    /// What the block costs where a permission stands round about.
+    /// What the block costs where it inherits a permission.
     pub fn under(self, perm: Perm) -> u32
         requires { self.least + 1 < 2 ^ 32 }
         ensures { result ≡ cost_of self perm }

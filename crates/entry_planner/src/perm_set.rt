@@ -6,24 +6,10 @@ pub struct PermSet {
     pub bits: u8,
 }
 
-/// The place of a permission in the fixed order.
-fn place_of(perm: Perm) -> u32
-    ensures { result ≡ place_of perm }
-{
-    match perm {
-        Perm::NoAccess => 0,
-        Perm::Read => 1,
-        Perm::ReadWrite => 2,
-        Perm::Execute => 3,
-        Perm::ReadExecute => 4,
-        Perm::ReadWriteExecute => 5,
-    }
-}
-
 ghost use Rattle.std.specs.Prelude.{◌≡◌, ◌<◌, ℕ, bit_and, bit_or, false, true, IfSome, IfNone, ◌==◌};
 ghost use Rattle.pmp_encoding.specs.declared.perm.Perm.{Perm};
-ghost use Rattle.pmp_encoding.specs.Perms.{perm_eq};
-ghost use Rattle.entry_planner.specs.PermSets.{place_of, has, set_of};
+ghost use Rattle.pmp_encoding.specs.Perms.{index_of, perm_eq};
+ghost use Rattle.entry_planner.specs.PermSets.{has, set_of};
 
 impl PermSet {
     /// The set of one permission.
@@ -62,7 +48,7 @@ impl PermSet {
     pub fn contains(self, perm: Perm) -> bool
         ensures { result ≡ has self.bits perm }
     {
-        (self.bits >> place_of(perm)) & 1 == 1
+        (self.bits >> perm.index()) & 1 == 1
     }
 
     pub fn is_empty(self) -> bool
@@ -74,7 +60,7 @@ impl PermSet {
     /// The first permission of the set in the fixed order.
     pub fn first(self) -> Option<Perm>
         ensures some { IfSome result (λ p. has self.bits p ≡ true) }
-        ensures first { IfSome result (λ p. (q : Perm) → place_of q < place_of p → has self.bits q ≡ false) }
+        ensures first { IfSome result (λ p. (q : Perm) → index_of q < index_of p → has self.bits q ≡ false) }
         ensures none { IfNone result ((q : Perm) → has self.bits q ≡ false) }
     {
         if self.contains(Perm::NoAccess) {

@@ -54,9 +54,10 @@ impl Plan {
         self.costs.len()
     }
 
-    /// What the i-th split block costs where a permission stands round about it: the least number of entries that give
-    /// its pages their permissions there. The tree's split blocks count from 0 in preorder: a block, then those of its
-    /// lower half, then those of its upper half. A block of one permission costs 0 where that one stands, else 1.
+    /// What the i-th split block costs where it inherits a permission, that of the smallest entry round it: the least
+    /// number of entries that give its pages their permissions there. The tree's split blocks count from 0 in preorder:
+    /// a block, then those of its lower half, then those of its upper half. A block of one permission costs 0 where it
+    /// inherits that one, else 1.
     pub fn cost(&self, i: usize, perm: Perm) -> u32
         requires { i < length self.now.costs }
         ensures { result ≡ cost_in self.now.costs i perm }

@@ -1,7 +1,5 @@
 -- Each clause is what the whole tree's placing says.
-use Rattle.std.proofs.Common.{◌≡◌, subst, sym, arith}
-use Rattle.prefix_tree.specs.Trees.{PermTree, Fits, view_of_tree}
-use Rattle.prefix_tree.specs.Counts.{splits}
+use Rattle.prefix_tree.specs.Trees.{view_of_tree}
 use Rattle.prefix_tree.proofs.Meant.{own_means}
 use Rattle.entry_planner.proofs.Whole.{promised}
 use Rattle.entry_planner.proofs.planning.plan.Goals as goal

@@ -1,6 +1,5 @@
 -- The entries and the costs are those of the space.
-use Rattle.std.proofs.Common.{◌+◌, ◌<◌, ◌^◌, ap, arith}
-use Rattle.prefix_tree.specs.Counts.{splits}
+use Rattle.std.proofs.Common.{arith}
 use Rattle.entry_planner.proofs.BlockCosts.{least_small}
 use Rattle.entry_planner.proofs.Whole.{made, made_is, chosen_listed, are_small}
 use Rattle.entry_planner.proofs.planning.plan_of.Goals as goal
