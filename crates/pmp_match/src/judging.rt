@@ -31,12 +31,13 @@ fn is_machine(mode: Mode) -> bool
     mode == Mode::Machine
 }
 
-/// Whether some byte of the access is in the extent.
+/// Whether some byte of the access is in the extent. Both tests are made in any case: a branch between them would be
+/// guessed wrong too often.
 fn touches(extent: &Extent, access: &Access) -> bool
     requires { access.now.address < 2 ^ 56 }
     ensures { result ≡ touches extent.now access.now }
 {
-    extent.base < access.address + u64::from(access.size) && access.address < extent.end
+    (extent.base < access.address + u64::from(access.size)) & (access.address < extent.end)
 }
 
 /// Whether the extent, being the first with a byte of the access, lets it through.
@@ -50,12 +51,30 @@ fn grants(extent: &Extent, access: &Access) -> bool
         && (is_machine(access.mode) || holds(extent.perm, access.kind))
 }
 
+/// The extents without those at their front that have no byte of the access, four by four.
+fn behind_misses<'a>(extents: &'a [Extent], access: &Access) -> &'a [Extent]
+    requires { access.now.address < 2 ^ 56 }
+    ensures { lets_through result.now access.now ≡ lets_through extents.now access.now }
+{
+    let mut rest = extents;
+    while let [a, b, c, d, more @ ..] = rest {
+        let front = touches(a, access) | touches(b, access);
+        let back = touches(c, access) | touches(d, access);
+        if front | back {
+            return rest;
+        }
+        rest = more;
+    }
+    rest
+}
+
 /// Whether the first extent with a byte of the access lets it through; where there is none, machine mode may.
 fn lets_through(extents: &[Extent], access: &Access) -> bool
     requires { access.now.address < 2 ^ 56 }
     ensures { result ≡ lets_through extents.now access.now }
 {
-    for extent in extents {
+    let left = behind_misses(extents, access);
+    for extent in left {
         if touches(extent, access) {
             return grants(extent, access);
         }

@@ -5,4 +5,4 @@ use Rattle.pmp_match.proofs.judging.lets_through.Goals as goal
 pub returns-then-touches : goal.returns-then-touches
 returns-then-touches c =
     c.grants.ensures
-    ∙ decided_at c.args.extents.now c.loop-extent.extent-index _ c.args.access.now c.loop-extent-test.true (sym c.touches.ensures ∙ c.if-touches.true) ∙ c.loop-extent.invariant
+    ∙ decided_at _ c.loop-extent.extent-index _ c.args.access.now c.loop-extent-test.true (sym c.touches.ensures ∙ c.if-touches.true) ∙ c.loop-extent.invariant
