@@ -1,8 +1,7 @@
 //! Lines that change nothing of what stands after the whole file, and the line after which there are too many ranges.
 
 use crate::texts::{push, push_place};
-use map_text::Setting;
-use permission_map::{MapBuilder, MapFault, Memory, PermissionMap};
+use permission_map::{MapBuilder, MapFault, Memory, PermissionMap, Run};
 use std::alloc::{AllocError, Global};
 
 /// How many settings a file may have to be looked at for lines that change nothing.
@@ -12,7 +11,7 @@ const MOST: usize = 512;
 #[derive(Clone, Copy, PartialEq, Eq, Debug)]
 pub(crate) struct Numbered {
     pub(crate) line: u64,
-    pub(crate) setting: Setting,
+    pub(crate) setting: Run,
 }
 
 /// The map of all settings but one, where there are never too many ranges.

@@ -7,7 +7,6 @@ use Rattle.permission_map.specs.Overwriting.{AreOverwritten}
 use Rattle.text_lines.specs.Words.{words_of}
 use Rattle.text_lines.specs.Numbers.{number_of, permission_of}
 use Rattle.text_lines.specs.Lines.{AreLines, without_return}
-use Rattle.map_text.specs.declared.map_lines.Setting.{Setting}
 
 -- a number of bytes that is a whole number of pages, as pages
 abbrev pub pages_of : ℕ → Option ℕ
@@ -18,35 +17,35 @@ abbrev pub pages_in : List ℕ → Option ℕ
 pages_in word = option_and_then pages_of (number_of word)
 
 -- a permission on pages of the space
-abbrev pub setting_on : ℕ → ℕ → Perm → Option Setting
+abbrev pub setting_on : ℕ → ℕ → Perm → Option Run
 setting_on first count perm = if nat_le (first + count) (2 ^ 44) then Some (record { first = first; count = count; perm = perm }) else None
 
 -- what words set: a base and a size in bytes, and a permission
-abbrev pub setting_of : List (List ℕ) → Option Setting
+abbrev pub setting_of : List (List ℕ) → Option Run
 setting_of (base ∷ size ∷ perm ∷ []) =
     option_and_then (λ first. option_and_then (λ count. option_and_then (setting_on first count) (permission_of perm)) (pages_in size)) (pages_in base)
 setting_of _ = None
 
 -- what words say: nothing where there are none
-abbrev pub said_by : List (List ℕ) → Option (Option Setting)
+abbrev pub said_by : List (List ℕ) → Option (Option Run)
 said_by [] = Some None
 said_by (word ∷ words) = option_map (λ setting. Some setting) (setting_of (word ∷ words))
 
 -- what a line says, where it is understood
-abbrev pub line_says : List ℕ → Option (Option Setting)
+abbrev pub line_says : List ℕ → Option (Option Run)
 line_says line = option_and_then said_by (words_of line)
 
 -- what a line of at most 1023 bytes says, its CR counted
-abbrev pub raw_says : List ℕ → Option (Option Setting)
+abbrev pub raw_says : List ℕ → Option (Option Run)
 raw_says raw = if nat_le (length raw) 1023 then line_says (without_return raw) else None
 
 -- one setting leads from a map to a map of at most 4096 ranges
-pub record Sets (before : List Run) (setting : Setting) (after : List Run) : Type 0 where
+pub record Sets (before : List Run) (setting : Run) (after : List Run) : Type 0 where
   pub overwritten : AreOverwritten before setting.first setting.count setting.perm after
   pub most : length after ≤ 4096
 
 -- what a line says leads from a map to a map
-abbrev pub Leads : Option (Option Setting) → List Run → List Run → Type 0
+abbrev pub Leads : Option (Option Run) → List Run → List Run → Type 0
 Leads None before after = ⊥
 Leads (Some None) before after = after ≡ before
 Leads (Some (Some setting)) before after = Sets before setting after
@@ -57,7 +56,7 @@ pub data LeadTo : List Run → List (List ℕ) → List Run → Type 0 where
   line : {first before after : List Run} {lines : List (List ℕ)} → (raw : List ℕ) → LeadTo first lines before → Leads (raw_says raw) before after → LeadTo first (lines ++ raw ∷ []) after
 
 -- one setting would lead from a map to more than 4096 ranges
-pub record SetsTooMany (before : List Run) (setting : Setting) : Type 0 where
+pub record SetsTooMany (before : List Run) (setting : Run) : Type 0 where
   pub runs : List Run
   pub overwritten : AreOverwritten before setting.first setting.count setting.perm runs
   pub many : 4096 < length runs
@@ -69,7 +68,7 @@ pub record Makes (bytes : List ℕ) (map : List Run) : Type 0 where
   pub made : LeadTo [] lines map
 
 -- line n of a file, the first at fault, with the map that the lines before it make
-pub record FaultAt (bytes : List ℕ) (n : ℕ) (fault : List Run → Option (Option Setting) → Type 0) : Type 0 where
+pub record FaultAt (bytes : List ℕ) (n : ℕ) (fault : List Run → Option (Option Run) → Type 0) : Type 0 where
   pub before : List (List ℕ)
   pub raw : List ℕ
   pub rest : List (List ℕ)
@@ -80,20 +79,20 @@ pub record FaultAt (bytes : List ℕ) (n : ℕ) (fault : List Run → Option (Op
   pub here : fault map (raw_says raw)
 
 -- a line that is not understood
-abbrev pub IsUnknown : List Run → Option (Option Setting) → Type 0
+abbrev pub IsUnknown : List Run → Option (Option Run) → Type 0
 IsUnknown map says = says ≡ None
 
 -- a line after which there would be too many ranges
-abbrev pub MakesTooMany : List Run → Option (Option Setting) → Type 0
-MakesTooMany map says = (setting : Setting) × (says ≡ Some (Some setting)) × SetsTooMany map setting
+abbrev pub MakesTooMany : List Run → Option (Option Run) → Type 0
+MakesTooMany map says = (setting : Run) × (says ≡ Some (Some setting)) × SetsTooMany map setting
 
 -- one setting would lead from a map to one of more ranges, at most 4096: memory can be refused for it
-pub record SetsMore (before : List Run) (setting : Setting) : Type 0 where
+pub record SetsMore (before : List Run) (setting : Run) : Type 0 where
   pub runs : List Run
   pub overwritten : AreOverwritten before setting.first setting.count setting.perm runs
   pub more : length before < length runs
   pub most : length runs ≤ 4096
 
 -- a line after which there would be more ranges
-abbrev pub MakesMore : List Run → Option (Option Setting) → Type 0
-MakesMore map says = (setting : Setting) × (says ≡ Some (Some setting)) × SetsMore map setting
+abbrev pub MakesMore : List Run → Option (Option Run) → Type 0
+MakesMore map says = (setting : Run) × (says ≡ Some (Some setting)) × SetsMore map setting

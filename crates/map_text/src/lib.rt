@@ -13,4 +13,4 @@ mod map_file;
 mod map_lines;
 
 pub use map_file::{MapFileFault, map_of, next_line};
-pub use map_lines::{Setting, raw_says};
+pub use map_lines::raw_says;

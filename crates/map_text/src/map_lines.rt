@@ -4,31 +4,19 @@ ghost use Rattle.std.specs.Prelude.{◌≡◌, ◌+◌, ◌^◌, ◌≤◌, [], 
 ghost use Rattle.std.specs.Result.{result_ok};
 ghost use Rattle.map_text.specs.MapFile.{line_says, pages_in, pages_of, raw_says, setting_of, setting_on};
 
+use page_views::{PAGE_SIZE, SPACE_PAGES};
+use permission_map::Run;
 use pmp_encoding::Perm;
 use text_lines::{LONGEST, NotUnderstood, Words, number, permission, without_return};
-
-/// What one line of a map sets: a permission on pages.
-#[derive(Clone, Copy, Debug, PartialEq, Eq)]
-pub struct Setting {
-    /// The number of the first page.
-    pub first: u64,
-    /// How many pages.
-    pub count: u64,
-    /// The permission that they get.
-    pub perm: Perm,
-}
-
-/// How many pages the space has.
-const SPACE: u64 = 1 << 44;
 
 /// Bytes in whole pages, as pages.
 fn pages_of(bytes: u64) -> Option<u64>
     ensures { result ≡ pages_of bytes }
 {
-    if bytes % 4096 != 0 {
+    if bytes % PAGE_SIZE != 0 {
         return None;
     }
-    Some(bytes / 4096)
+    Some(bytes / PAGE_SIZE)
 }
 
 /// The pages that a word counts in bytes.
@@ -40,18 +28,18 @@ fn pages_in(word: &[u8]) -> Option<u64>
 }
 
 /// The permission on those pages, where they lie in the space.
-fn setting_on(first: u64, count: u64, perm: Perm) -> Option<Setting>
+fn setting_on(first: u64, count: u64, perm: Perm) -> Option<Run>
     ensures value { result ≡ setting_on first count perm }
     ensures inside { IfSome result (λ setting. setting.first + setting.count ≤ 2 ^ 44) }
 {
-    if first > SPACE || count > SPACE - first {
+    if first > SPACE_PAGES || count > SPACE_PAGES - first {
         return None;
     }
-    Some(Setting { first, count, perm })
+    Some(Run { first, count, perm })
 }
 
 /// What three words set.
-fn setting_of(base: &[u8], size: &[u8], perm: &[u8]) -> Option<Setting>
+fn setting_of(base: &[u8], size: &[u8], perm: &[u8]) -> Option<Run>
     ensures value { result ≡ setting_of (base.now ∷ size.now ∷ perm.now ∷ []) }
     ensures inside { IfSome result (λ setting. setting.first + setting.count ≤ 2 ^ 44) }
 {
@@ -62,7 +50,7 @@ fn setting_of(base: &[u8], size: &[u8], perm: &[u8]) -> Option<Setting>
 }
 
 /// What a line says that comes without its LF and its CR: nothing where it has no words.
-pub(crate) fn line_says(line: &[u8]) -> Result<Option<Setting>, NotUnderstood>
+pub(crate) fn line_says(line: &[u8]) -> Result<Option<Run>, NotUnderstood>
     ensures value { result_ok result ≡ line_says line.now }
     ensures inside { IfOk result (λ said. IfSome said (λ setting. setting.first + setting.count ≤ 2 ^ 44)) }
 {
@@ -86,7 +74,7 @@ pub(crate) fn line_says(line: &[u8]) -> Result<Option<Setting>, NotUnderstood>
 }
 
 /// What a line says that has at most 1023 bytes, its CR counted.
-pub fn raw_says(raw: &[u8]) -> Result<Option<Setting>, NotUnderstood>
+pub fn raw_says(raw: &[u8]) -> Result<Option<Run>, NotUnderstood>
     ensures value { result_ok result ≡ raw_says raw.now }
     ensures inside { IfOk result (λ said. IfSome said (λ setting. setting.first + setting.count ≤ 2 ^ 44)) }
 {

@@ -27,7 +27,7 @@ pub use certificate_file::{CertificateFile, WholeSink};
 pub use certifying::{bank_of, certified, planned, write_certified};
 pub use command_line::{Format, Task, command_of, takes_place};
 pub use devices::{FileToRead, InputToRead, RetryInterrupted};
-pub use map_text::{MapFileFault, Setting, map_of, raw_says};
+pub use map_text::{MapFileFault, map_of, raw_says};
 pub use platform_file::{TextFault, platform_of};
 pub use printed_lines::{
     accepted_line, accepted_of_line, count_line, digest_text, entry_line, measure_line, print_plan,
