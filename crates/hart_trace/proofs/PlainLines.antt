@@ -2,7 +2,7 @@
 use Rattle.std.proofs.Common.{◌≡◌, ◌⊎◌, inl, inr, ◌∙◌, ℕ, ◌+◌, ◌^◌, Bool, true, false, not, ◌&&◌, List, [], ◌∷◌, ◌++◌, length, Option, Some, None, option_map, cond, suc, refl, ap, sym, arith, append-nil}
 use Rattle.std.specs.Prelude.{◌==◌, nat_lt, IfSome}
 use Rattle.std.specs.List.{list_all, position_or_len}
-use Rattle.std.proofs.lemmas.Bool.{and_parts, and_from}
+use Rattle.std.proofs.lemmas.Bool.{and_parts, and_from, cond-true}
 use Rattle.std.proofs.lemmas.Option.{same_Some}
 use Rattle.std.proofs.lemmas.Bool.Decides.{nat_tests}
 use Rattle.std.proofs.lemmas.Grind.{common_steps}
@@ -16,7 +16,7 @@ use Rattle.text_lines.proofs.WordsOfText.{word_split}
 use Rattle.hart_trace.specs.declared.event.Event.{Event}
 use Rattle.hart_trace.specs.declared.event.Event.TheVariants as events
 use Rattle.hart_trace.specs.Events.{◌>>=◌, access_of, event_of, hart_of, meaning_of, mode_of, said_by, sized}
-use Rattle.hart_trace.specs.Plain.{Starts, is_letter, is_plain, keyword}
+use Rattle.hart_trace.specs.Plain.{Starts, is_letter, is_mark, is_plain, keyword}
 
 -- a hexadecimal digit is a letter
 hex_letter : (b : ℕ) → nat_lt (digit_of b) 16 ≡ true → is_letter b ≡ true
@@ -55,27 +55,39 @@ letters_split b word rest h = word_split is_blank (b ∷ word) (32 ∷ rest) (om
 letters_last : (b : ℕ) (word : List ℕ) → list_all is_letter (b ∷ word) ≡ true → split_words (b ∷ word) ≡ (b ∷ word) ∷ []
 letters_last b word h = ap split_words (sym (append-nil (b ∷ word))) ∙ word_split is_blank (b ∷ word) [] (omega arith, letters_word (b ∷ word) h) tt
 
+-- the letter of a hexadecimal number
+mark_letter : (x : ℕ) → is_mark x ≡ true → is_letter x ≡ true
+mark_letter x h = grind (arith, nat_tests, common_steps, h)
+
+mark_number : (x : ℕ) (digits : List ℕ) (value : ℕ) → is_mark x ≡ true → Some value ≡ numeral_of 16 digits → number_of (48 ∷ x ∷ digits) ≡ Some value
+mark_number x digits value h e = cond-true (is_mark x) (numeral_of 16 digits) (numeral_of 10 (48 ∷ x ∷ digits)) h ∙ sym e
+
 -- an address that may have words behind it
-address_word : (digits : List ℕ) → list_all is_letter digits ≡ true → list_all is_letter (48 ∷ 120 ∷ digits) ≡ true
-address_word digits h = h
+address_word : (x : ℕ) (digits : List ℕ) → is_letter x ≡ true → list_all is_letter digits ≡ true → list_all is_letter (48 ∷ x ∷ digits) ≡ true
+address_word x digits hx h = and_from _ _ hx h
 
 -- the words of an access, from its mode on
-start_words : (m s : ℕ) (behind : List ℕ) → is_letter m ≡ true → is_letter s ≡ true → split_words (m ∷ 32 ∷ s ∷ 32 ∷ 48 ∷ 120 ∷ behind) ≡ (m ∷ []) ∷ (s ∷ []) ∷ split_words (48 ∷ 120 ∷ behind)
-start_words m s behind hm hs = letters_split m [] (s ∷ 32 ∷ 48 ∷ 120 ∷ behind) (and_from _ _ hm refl) ∙ ap (λ ws. (m ∷ []) ∷ ws) (letters_split s [] (48 ∷ 120 ∷ behind) (and_from _ _ hs refl))
+start_words : (m s x : ℕ) (behind : List ℕ) → is_letter m ≡ true → is_letter s ≡ true → split_words (m ∷ 32 ∷ s ∷ 32 ∷ 48 ∷ x ∷ behind) ≡ (m ∷ []) ∷ (s ∷ []) ∷ split_words (48 ∷ x ∷ behind)
+start_words m s x behind hm hs = letters_split m [] (s ∷ 32 ∷ 48 ∷ x ∷ behind) (and_from _ _ hm refl) ∙ ap (λ ws. (m ∷ []) ∷ ws) (letters_split s [] (48 ∷ x ∷ behind) (and_from _ _ hs refl))
 
 -- the access that these words say
-access_said : (kind : Kind) (m s : List ℕ) (digits : List ℕ) (words : List (List ℕ)) (mode : Mode) (size address : ℕ) (access : Access) → mode_of m ≡ Some mode → number_of s ≡ Some size → numeral_of 16 digits ≡ Some address → Some access ≡ sized mode kind size address (has_size kind size) refl → access_of kind (m ∷ s ∷ (48 ∷ 120 ∷ digits) ∷ words) ≡ Some (access, words)
-access_said kind m s digits words mode size address access em es ea is = rw (em, es, ea, ← is) refl
+access_said : (kind : Kind) (m s a : List ℕ) (words : List (List ℕ)) (mode : Mode) (size address : ℕ) (access : Access) → mode_of m ≡ Some mode → number_of s ≡ Some size → number_of a ≡ Some address → Some access ≡ sized mode kind size address (has_size kind size) refl → access_of kind (m ∷ s ∷ a ∷ words) ≡ Some (access, words)
+access_said kind m s a words mode size address access em es ea is = rw (em, es, ea, ← is) refl
 
-start_plain : (m s : ℕ) (behind : List ℕ) → is_letter m ≡ true → is_letter s ≡ true → list_all is_plain behind ≡ true → list_all is_plain (m ∷ 32 ∷ s ∷ 32 ∷ 48 ∷ 120 ∷ behind) ≡ true
-start_plain m s behind hm hs h = and_from _ _ (and_parts (is_plain m) (not (is_blank m)) hm).0 (and_from _ _ (and_parts (is_plain s) (not (is_blank s)) hs).0 h)
+start_plain : (m s x : ℕ) (behind : List ℕ) → is_letter m ≡ true → is_letter s ≡ true → is_letter x ≡ true → list_all is_plain behind ≡ true → list_all is_plain (m ∷ 32 ∷ s ∷ 32 ∷ 48 ∷ x ∷ behind) ≡ true
+start_plain m s x behind hm hs hx h =
+    let mode = (and_parts (is_plain m) (not (is_blank m)) hm).0 in
+    let size = (and_parts (is_plain s) (not (is_blank s)) hs).0 in
+    let mark = (and_parts (is_plain x) (not (is_blank x)) hx).0 in
+    and_from _ _ mode (and_from _ _ size (and_from _ _ mark h))
 
 -- a fetch or a load
 pub look_words : (kind : Kind) (text behind : List ℕ) (mode : Mode) (size address : ℕ) (access : Access) → Starts text mode size behind → Some address ≡ numeral_of 16 behind → Some access ≡ sized mode kind size address (has_size kind size) refl → access_of kind (split_words text) ≡ Some (access, [])
 look_words kind text behind mode size address access st ea is =
     let letters = numeral_letters behind address (sym ea) in
-    ap (access_of kind) (ap split_words st.2 ∙ start_words st.0 st.1 behind st.5 st.6 ∙ ap (λ ws. (st.0 ∷ []) ∷ (st.1 ∷ []) ∷ ws) (letters_last 48 (120 ∷ behind) (address_word behind letters)))
-    ∙ access_said kind (st.0 ∷ []) (st.1 ∷ []) behind [] mode size address access st.3 st.4 (sym ea) is
+    let word = address_word st.2 behind (mark_letter st.2 st.8) letters in
+    ap (access_of kind) (ap split_words st.3 ∙ start_words st.0 st.1 st.2 behind st.6 st.7 ∙ ap (λ ws. (st.0 ∷ []) ∷ (st.1 ∷ []) ∷ ws) (letters_last 48 (st.2 ∷ behind) word))
+    ∙ access_said kind (st.0 ∷ []) (st.1 ∷ []) (48 ∷ st.2 ∷ behind) [] mode size address access st.4 st.5 (mark_number st.2 behind address st.8 ea) is
 
 pub look_if : (kind : Kind) (text behind : List ℕ) (mode : Mode) (size address : ℕ) (r : Option Access) → Starts text mode size behind → Some address ≡ numeral_of 16 behind → r ≡ sized mode kind size address (has_size kind size) refl → IfSome r (λ access. access_of kind (split_words text) ≡ Some (access, []))
 look_if kind text behind mode size address None st ea is = tt
@@ -88,24 +100,24 @@ if_some (Some a) b = b
 pub look_plain : (text behind : List ℕ) (mode : Mode) (size address : ℕ) → Starts text mode size behind → Some address ≡ numeral_of 16 behind → list_all is_plain text ≡ true
 look_plain text behind mode size address st ea =
     let letters = numeral_letters behind address (sym ea) in
-    ap (list_all is_plain) st.2 ∙ start_plain st.0 st.1 behind st.5 st.6 (ap (list_all is_plain) (sym (append-nil behind)) ∙ letters_plain behind [] letters refl)
+    ap (list_all is_plain) st.3 ∙ start_plain st.0 st.1 st.2 behind st.6 st.7 (mark_letter st.2 st.8) (ap (list_all is_plain) (sym (append-nil behind)) ∙ letters_plain behind [] letters refl)
 
 -- a store, its address before the blank
 pub store_words : (text address digits : List ℕ) (mode : Mode) (size at : ℕ) (value : ℕ) (access : Access) → Starts text mode size (address ++ 32 ∷ 48 ∷ 120 ∷ digits) → Some at ≡ numeral_of 16 address → Some value ≡ numeral_of 16 digits → Some access ≡ sized mode Kind.Store size at (has_size Kind.Store size) refl → access_of Kind.Store (split_words text) ≡ Some (access, (48 ∷ 120 ∷ digits) ∷ [])
 store_words text address digits mode size at value access st ea ev is =
     let letters = numeral_letters address at (sym ea) in
     let also = numeral_letters digits value (sym ev) in
-    let words : split_words (48 ∷ 120 ∷ (address ++ 32 ∷ 48 ∷ 120 ∷ digits)) ≡ (48 ∷ 120 ∷ address) ∷ (48 ∷ 120 ∷ digits) ∷ [] =
-    letters_split 48 (120 ∷ address) (48 ∷ 120 ∷ digits) (address_word address letters) ∙ ap (λ ws. (48 ∷ 120 ∷ address) ∷ ws) (letters_last 48 (120 ∷ digits) (address_word digits also)) in
-    ap (access_of Kind.Store) (ap split_words st.2 ∙ start_words st.0 st.1 (address ++ 32 ∷ 48 ∷ 120 ∷ digits) st.5 st.6 ∙ ap (λ ws. (st.0 ∷ []) ∷ (st.1 ∷ []) ∷ ws) words)
-    ∙ access_said Kind.Store (st.0 ∷ []) (st.1 ∷ []) address ((48 ∷ 120 ∷ digits) ∷ []) mode size at access st.3 st.4 (sym ea) is
+    let words : split_words (48 ∷ st.2 ∷ (address ++ 32 ∷ 48 ∷ 120 ∷ digits)) ≡ (48 ∷ st.2 ∷ address) ∷ (48 ∷ 120 ∷ digits) ∷ [] =
+    letters_split 48 (st.2 ∷ address) (48 ∷ 120 ∷ digits) (address_word st.2 address (mark_letter st.2 st.8) letters) ∙ ap (λ ws. (48 ∷ st.2 ∷ address) ∷ ws) (letters_last 48 (120 ∷ digits) (address_word 120 digits refl also)) in
+    ap (access_of Kind.Store) (ap split_words st.3 ∙ start_words st.0 st.1 st.2 (address ++ 32 ∷ 48 ∷ 120 ∷ digits) st.6 st.7 ∙ ap (λ ws. (st.0 ∷ []) ∷ (st.1 ∷ []) ∷ ws) words)
+    ∙ access_said Kind.Store (st.0 ∷ []) (st.1 ∷ []) (48 ∷ st.2 ∷ address) ((48 ∷ 120 ∷ digits) ∷ []) mode size at access st.4 st.5 (mark_number st.2 address at st.8 ea) is
 
 pub store_plain : (text address digits : List ℕ) (mode : Mode) (size at : ℕ) (value : ℕ) → Starts text mode size (address ++ 32 ∷ 48 ∷ 120 ∷ digits) → Some at ≡ numeral_of 16 address → Some value ≡ numeral_of 16 digits → list_all is_plain text ≡ true
 store_plain text address digits mode size at value st ea ev =
     let letters = numeral_letters address at (sym ea) in
     let also = numeral_letters digits value (sym ev) in
     let last : list_all is_plain digits ≡ true = ap (list_all is_plain) (sym (append-nil digits)) ∙ letters_plain digits [] also refl in
-    ap (list_all is_plain) st.2 ∙ start_plain st.0 st.1 (address ++ 32 ∷ 48 ∷ 120 ∷ digits) st.5 st.6 (letters_plain address (32 ∷ 48 ∷ 120 ∷ digits) letters last)
+    ap (list_all is_plain) st.3 ∙ start_plain st.0 st.1 st.2 (address ++ 32 ∷ 48 ∷ 120 ∷ digits) st.6 st.7 (mark_letter st.2 st.8) (letters_plain address (32 ∷ 48 ∷ 120 ∷ digits) letters last)
 
 one_more : (n : ℕ) → 1 + n ≡ suc n
 one_more n = omega arith
@@ -147,7 +159,7 @@ store_says rest access word value harts plain e f = line_says 115 (116 ∷ 111 �
 pub cut : (text behind rest digits : List ℕ) (mode : Mode) (size address : ℕ) → Starts text mode size behind → (h : BeginsNumeral 16 behind address rest) → rest ≡ 32 ∷ 48 ∷ 120 ∷ digits → Starts text mode size (h.digits ++ 32 ∷ 48 ∷ 120 ∷ digits)
 cut text behind rest digits mode size address st h e =
     let whole : behind ≡ h.digits ++ 32 ∷ 48 ∷ 120 ∷ digits = h.parts ∙ ap (λ xs. h.digits ++ xs) e in
-    (st.0, st.1, st.2 ∙ ap (λ xs. st.0 ∷ 32 ∷ st.1 ∷ 32 ∷ 48 ∷ 120 ∷ xs) whole, st.3, st.4, st.5, st.6)
+    (st.0, st.1, st.2, st.3 ∙ ap (λ xs. st.0 ∷ 32 ∷ st.1 ∷ 32 ∷ 48 ∷ st.2 ∷ xs) whole, st.4, st.5, st.6, st.7, st.8)
 
 -- no word names a hart where there is none
 no_hart : (word : List ℕ) → hart_of 0 word ≡ None

@@ -1,5 +1,5 @@
 -- The plainest spelling of an access.
-use Rattle.std.specs.Prelude.{◌≡◌, ℕ, Bool, true, not, ◌&&◌, ◌==◌, List, [], ◌∷◌, Some, codes}
+use Rattle.std.specs.Prelude.{◌≡◌, ℕ, Bool, true, not, ◌&&◌, ◌||◌, ◌==◌, List, [], ◌∷◌, Some, codes}
 use Rattle.pmp_match.specs.declared.access.Mode.{Mode}
 use Rattle.pmp_match.specs.declared.access.Kind.{Kind}
 use Rattle.pmp_match.specs.declared.access.Kind.TheVariants.{Fetch, Load, Store}
@@ -15,9 +15,13 @@ is_plain b = is_allowed b && not (b == 35)
 abbrev pub is_letter : ℕ → Bool
 is_letter b = is_plain b && not (is_blank b)
 
--- a letter for the mode, one for the size, and `0x` before what follows
+-- behind a 0 it says that the number is hexadecimal: `x` or `X`
+abbrev pub is_mark : ℕ → Bool
+is_mark b = b == 120 || b == 88
+
+-- a letter for the mode, one for the size, and `0x` or `0X` before what follows
 abbrev pub Starts : List ℕ → Mode → ℕ → List ℕ → Type 0
-Starts text mode size behind = (m s : ℕ) × (text ≡ m ∷ 32 ∷ s ∷ 32 ∷ 48 ∷ 120 ∷ behind) × (mode_of (m ∷ []) ≡ Some mode) × (number_of (s ∷ []) ≡ Some size) × (is_letter m ≡ true) × (is_letter s ≡ true)
+Starts text mode size behind = (m s x : ℕ) × (text ≡ m ∷ 32 ∷ s ∷ 32 ∷ 48 ∷ x ∷ behind) × (mode_of (m ∷ []) ≡ Some mode) × (number_of (s ∷ []) ≡ Some size) × (is_letter m ≡ true) × (is_letter s ≡ true) × (is_mark x ≡ true)
 
 -- the keyword of each kind of access
 abbrev pub keyword : Kind → List ℕ

@@ -1,6 +1,6 @@
-//! The accesses of a trace in their plainest spelling, as `load s 8 0x80000ff8`: one space between two words, the size a
-//! digit, the numbers hexadecimal, nothing else. Most lines of a long trace are such, and they are read in one pass, where
-//! the parser of all lines goes over each line several times. What is not plain is left to it.
+//! The accesses of a trace in their plainest spelling, as `load s 8 0x80000ff8`, with or without `@H` before it: one space
+//! between two words, the size a digit, the numbers hexadecimal, nothing else. Most lines of a long trace are such, and they
+//! are read in one pass, where the parser of all lines goes over each line several times. What is not plain is left to it.
 
 ghost use Rattle.std.specs.Prelude.{◌≡◌, ℕ, List, ◌∷◌, ◌++◌, [], Some, None, IfSome, true};
 ghost use Rattle.std.specs.List.{list_all};
@@ -38,11 +38,11 @@ fn plain_size(byte: u8) -> Option<u64>
     }
 }
 
-/// The mode and size of an access, and what stands behind the `0x` of its address.
+/// The mode and size of an access, and what stands behind the `0x` or `0X` of its address.
 fn plain_start(rest: &[u8]) -> Option<(Mode, u64, &[u8])>
     ensures { IfSome result (λ start. Starts rest.now start.0 start.1 start.2.now) }
 {
-    let [mode, b' ', size, b' ', b'0', b'x', digits @ ..] = rest else {
+    let [mode, b' ', size, b' ', b'0', b'x' | b'X', digits @ ..] = rest else {
         return None;
     };
     let mode = plain_mode(*mode)?;
