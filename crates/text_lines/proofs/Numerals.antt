@@ -1,5 +1,5 @@
 -- The value of digits, from the first on.
-use Rattle.std.proofs.Common.{◌≡◌, ℕ, ◌+◌, ◌*◌, ◌^◌, ◌<◌, ◌≤◌, ◌∙◌, true, false, zero, suc, List, [], ◌∷◌, ◌++◌, append-nil, length, length-take-le, get_or, take, drop, refl, ap, sym, ltb, fold, take-append-drop, take_all, mul-le-mul_right, Some, None, arith}
+use Rattle.std.proofs.Common.{◌≡◌, ℕ, ◌+◌, ◌*◌, ◌^◌, ◌<◌, ◌≤◌, ◌∙◌, true, zero, suc, List, [], ◌∷◌, length, length-take-le, get_or, take, drop, refl, ap, sym, ltb, fold, take-append-drop, take_all, mul-le-mul_right, Some, None, arith}
 use Rattle.std.proofs.lemmas.Bool.{and_right, and_from, lt-ltb, le-ltb, cond-true}
 use Rattle.std.proofs.lemmas.List.{drop_all}
 use Rattle.std.proofs.lemmas.Grind.{common_steps, fold-append}

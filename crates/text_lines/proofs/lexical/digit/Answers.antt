@@ -1,4 +1,3 @@
-use Rattle.std.proofs.Common.{◌∙◌, ap, arith}
 use Rattle.text_lines.proofs.Digits.{DIGITS_at, digit_most}
 use Rattle.text_lines.proofs.lexical.digit.Goals as goal
 
