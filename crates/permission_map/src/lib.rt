@@ -6,7 +6,7 @@
 //!
 //! - `set_range` changes the permission of the range's pages and of no other page, or answers a [`MapFault`] and changes
 //!   nothing;
-//! - `get` and `uniform` answer by the view;
+//! - `get`, `uniform` and `next_run` answer by the view;
 //! - the runs are maximal and in order, and the view determines them (`same_runs_law`);
 //! - one range adds at most two runs (`runs_law`).
 //!

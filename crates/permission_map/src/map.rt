@@ -1,4 +1,4 @@
-ghost use Rattle.std.specs.Prelude.{◌≡◌, ◌≤◌, ◌<◌, ◌+◌, ◌%◌, ◌^◌, ◌↔◌, ℕ, List, [], length, Err, OnOk, OnErr, IfOk, IfSome, IfNone};
+ghost use Rattle.std.specs.Prelude.{◌≡◌, ◌≤◌, ◌<◌, ◌+◌, ◌%◌, ◌^◌, ◌↔◌, ℕ, List, [], length, Err, OnOk, OnErr, IfOk, IfSome, IfNone, MatchOption};
 ghost use Rattle.pmp_encoding.specs.declared.perm.Perm.{Perm};
 ghost use Rattle.pmp_encoding.specs.declared.perm.Perm.TheVariants.{NoAccess};
 ghost use Rattle.page_views.specs.Views.{IsUniform};
@@ -6,6 +6,7 @@ ghost use Rattle.permission_map.specs.declared.runs.Run.{Run};
 ghost use Rattle.permission_map.specs.declared.fault.MapFault as MapFault;
 ghost use Rattle.permission_map.specs.Runs.{AreRuns, view_of_runs};
 ghost use Rattle.permission_map.specs.Overwriting.{AreOverwritten};
+ghost use Rattle.permission_map.specs.Searching.{IsNext};
 
 use crate::fault::MapFault;
 use crate::overwriting::overwrite;
@@ -68,12 +69,19 @@ impl PermissionMap {
         self.runs.as_slice()
     }
 
+    /// The run that has the page, or else the first one behind it; nothing where no page from this one on has a permission.
+    pub fn next_run(&self, page: u64) -> Option<Run>
+        ensures { MatchOption result ((q : ℕ) → page ≤ q → view_of_runs self.now q ≡ NoAccess) (λ run. IsNext self.now page run) }
+    {
+        next(&self.runs, page)
+    }
+
     /// The permission of a page, by its number below `2 ^ 44`.
     pub fn get(&self, page: u64) -> Perm
         requires { page < 2 ^ 44 }
         ensures { result ≡ view_of_runs self.now page }
     {
-        match next(&self.runs, page) {
+        match self.next_run(page) {
             Some(run) if run.first <= page => run.perm,
             _ => Perm::NoAccess,
         }
@@ -88,7 +96,7 @@ impl PermissionMap {
         ensures none { IfNone result ((perm : Perm) → ¬ IsUniform (view_of_runs self.now) log2 first perm) }
     {
         let end = first + pages_of(log2);
-        let Some(run) = next(&self.runs, first) else {
+        let Some(run) = self.next_run(first) else {
             return Some(Perm::NoAccess);
         };
         if run.first >= end {
