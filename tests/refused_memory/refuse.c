@@ -5,6 +5,7 @@
  *   REFUSE=memory   a call of malloc, calloc, realloc, aligned_alloc or posix_memalign
  *   REFUSE=read     a read of a descriptor fails (EIO)
  *   REFUSE=write    a write of a descriptor fails (EIO)
+ *   REFUSE=move     a rename of a file fails (EIO), and so does a sync
  *   REFUSE=signal   a read or write of a descriptor is interrupted before it begins (EINTR)
  *   REFUSE=short    each write takes one byte
  *   REFUSE_AT=K     the K-th such call, from 1 (not for short)
@@ -29,7 +30,7 @@ extern void *__libc_calloc(size_t, size_t);
 extern void *__libc_realloc(void *, size_t);
 extern void *__libc_memalign(size_t, size_t);
 
-enum kind { NONE, MEMORY, READ, WRITE, SIGNAL, SHORT };
+enum kind { NONE, MEMORY, READ, WRITE, MOVE, SIGNAL, SHORT };
 
 static enum kind kind = NONE;
 static unsigned long at = 0;
@@ -53,6 +54,8 @@ __attribute__((constructor)) static void begin(void)
         kind = READ;
     else if (!strcmp(what, "write"))
         kind = WRITE;
+    else if (!strcmp(what, "move"))
+        kind = MOVE;
     else if (!strcmp(what, "signal"))
         kind = SIGNAL;
     else if (!strcmp(what, "short"))
@@ -130,6 +133,24 @@ ssize_t read(int fd, void *buf, size_t count)
         return -1;
     }
     return syscall(SYS_read, fd, buf, count);
+}
+
+int rename(const char *from, const char *to)
+{
+    if (refused(MOVE)) {
+        errno = EIO;
+        return -1;
+    }
+    return (int)syscall(SYS_renameat2, AT_FDCWD, from, AT_FDCWD, to, 0);
+}
+
+int fsync(int fd)
+{
+    if (refused(MOVE)) {
+        errno = EIO;
+        return -1;
+    }
+    return (int)syscall(SYS_fsync, fd);
 }
 
 static ssize_t put(int fd, const void *buf, size_t count)
