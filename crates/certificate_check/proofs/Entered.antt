@@ -86,7 +86,7 @@ span_at_each listed (e ∷ es) (before, rest, split, here, later) pages (suc i) 
     subst (λ (xs : List ℕ). IsSpanAt xs (suc i) (spans_of es i)) (sym split)
     (later_at before rest i (spans_of es i) (entry_long before e here) (span_at_each rest es later pages.1 i (omega arith)))
 
-count_listed : (listed : List ℕ) (es : List Entry) → SpellsEntries listed es → count_in listed ≡ length es
+pub count_listed : (listed : List ℕ) (es : List Entry) → SpellsEntries listed es → count_in listed ≡ length es
 count_listed listed es h = omega (arith, listed_long listed es h)
 
 pub reads_listed : (listed : List ℕ) (es : List Entry) → SpellsEntries listed es → AreNoSubPages es → ReadsAs listed (spans_of es)

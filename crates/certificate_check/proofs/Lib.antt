@@ -10,5 +10,6 @@ pub mod Six
 pub mod Refused
 pub mod Walked
 pub mod InTurn
+pub mod Few
 pub mod Entered
 pub mod Judged

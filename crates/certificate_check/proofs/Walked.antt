@@ -1,11 +1,9 @@
 -- The parts of a right node.
-use Rattle.std.proofs.Common.{◌≡◌, ℕ, zero, suc, ◌+◌, ◌%◌, ◌*◌, ◌^◌, ◌<◌, ◌≤◌, List, ◌∷◌, ◌++◌, append_assoc, arith, sym, subst, ap, refl, ◌∙◌, Result, Ok, Err, pow-suc}
-use Rattle.std.proofs.Math.Nat.{add-mul-mod_self_right, mul-mod_left}
+use Rattle.std.proofs.Common.{◌≡◌, ℕ, zero, suc, ◌+◌, ◌%◌, ◌*◌, ◌^◌, ◌<◌, ◌≤◌, List, ◌∷◌, ◌++◌, append_assoc, pow_pos, ◌-◌, ◌≢◌, arith, sym, subst, ap, refl, ◌∙◌, Result, Ok, Err, pow-suc}
 use Rattle.std.specs.Result.{IfErr, IfOk, OnOk, IsOk}
 use Rattle.pmp_encoding.specs.declared.perm.Perm.{Perm}
 use Rattle.pmp_encoding.specs.declared.perm.Perm.TheVariants.{NoAccess, Read, ReadWrite, Execute, ReadExecute, ReadWriteExecute}
 use Rattle.pmp_encoding.specs.Perms.{bits_of}
-use Rattle.pmp_encoding.proofs.Multiples.{multiple_from_mod}
 use Rattle.pmp_match.specs.Meaning.{View}
 use Rattle.pmp_match.specs.Bounds.{BoundTree, Leaf, Branch, bound_of, IsSoundAt}
 use Rattle.certificate_format.specs.Costs.{cost_of, six_of}
@@ -17,6 +15,7 @@ use Rattle.certificate_check.specs.declared.refusal.CheckRefusal.{CheckRefusal}
 use Rattle.certificate_check.specs.declared.refusal.CheckRefusal.TheVariants.{CostTooHigh, CostOverflow}
 use Rattle.certificate_format.specs.declared.costs.SixCosts.{SixCosts}
 use Rattle.page_views.specs.Views.{IsUniform}
+use Rattle.certificate_check.specs.Later.{AgreeFrom}
 use Rattle.certificate_check.specs.Nodes.{IsRightNode, IsAllowed, IsTooLarge, IsTooHigh, BranchFault, NodeFault, overflow, too_high, IsNodeRead, IsAnswer}
 
 -- functions that agree everywhere are one
@@ -202,17 +201,37 @@ allowed_along costs f g f' g' six is l u allowed =
     (subst (λ (x : Perm → ℕ). IsAllowed costs x g') (sym (same_function _ _ l)) (subst (λ (x : Perm → ℕ). IsAllowed costs f x) (sym (same_function _ _ u)) allowed))
 
 -- halves of an aligned block
-pub half_aligned : (first half k : ℕ) → k ≡ suc half → first % 2 ^ k ≡ 0 → first % 2 ^ half ≡ 0
-half_aligned first half k is aligned =
-    let whole = multiple_from_mod (2 ^ k) first aligned in
-    let size : 2 ^ k ≡ 2 ^ half * 2 = ap (λ n. 2 ^ n) is ∙ pow-suc 2 half in
-    let e : first ≡ whole.0 * 2 * 2 ^ half = omega (arith, whole.1, ap (λ x. whole.0 * x) size) in
-    ap (λ x. x % 2 ^ half) e ∙ mul-mod_left (whole.0 * 2) (2 ^ half)
-
 pub half_inside : (first half k most : ℕ) → k ≡ suc half → first + 2 ^ k ≤ most → first + 2 ^ half + 2 ^ half ≤ most
 half_inside first half k most is inside = let double : 2 ^ suc half ≡ 2 ^ half * 2 = pow-suc 2 half in let e : 2 ^ k ≡ 2 ^ suc half = ap (λ n. 2 ^ n) is in omega arith
 
-pub upper_aligned : (first half : ℕ) → first % 2 ^ half ≡ 0 → (first + 2 ^ half) % 2 ^ half ≡ 0
-upper_aligned first half aligned =
-    let e : first + 2 ^ half ≡ first + 1 * 2 ^ half = omega arith in
-    ap (λ x. x % 2 ^ half) e ∙ add-mul-mod_self_right first 1 (2 ^ half) ∙ aligned
+-- where the runs from a middle on are left, the views agree from there
+pub agree_on :
+    (first middle : ℕ) (old later view : View) → AgreeFrom first old view → first ≤ middle → AgreeFrom middle later old → AgreeFrom middle later view
+agree_on first middle old later view same low kept at after = kept at after ∙ same at (omega arith)
+
+-- behind both halves
+pub agree_far :
+    (first half k middle : ℕ) (old lower upper : View) → k ≡ suc half → middle ≡ first + 2 ^ half → AgreeFrom (first + 2 ^ half) lower old
+    → AgreeFrom (middle + 2 ^ half) upper lower → AgreeFrom (first + 2 ^ k) upper old
+agree_far first half k middle old lower upper is mid a b at after =
+    let double : 2 ^ suc half ≡ 2 ^ half * 2 = pow-suc 2 half in
+    let e : 2 ^ k ≡ 2 ^ suc half = ap (λ n. 2 ^ n) is in
+    b at (omega arith) ∙ a at (omega arith)
+
+pub on_ok : {P : Type 0} (result : Result SixCosts CheckRefusal) → P → OnOk result P
+on_ok (Ok costs) p = p
+on_ok (Err refusal) p = tt
+
+-- pages that have one permission where the views agree
+pub one_permission :
+    (old view : View) (k first end : ℕ) (perm : Perm) → AgreeFrom first old view → end ≡ first + 2 ^ k → ((at : ℕ) → first ≤ at → at < end → old at ≡ perm) → IsUniform view k first perm
+one_permission old view k first end perm same is all i less = sym (same (first + i) (omega arith)) ∙ all (first + i) (omega arith) (omega arith)
+
+-- pages of two permissions have not one
+pub two_permissions :
+    (old view : View) (k first at : ℕ) → AgreeFrom first old view → first ≤ at → at < first + 2 ^ k → old at ≢ old first → (other : Perm) → IsUniform view k first other → ⊥
+two_permissions old view k first at same low high differ other uniform =
+    let there : first + (at - first) ≡ at = omega arith in
+    let here : first + 0 ≡ first = omega arith in
+    differ
+    (same at low ∙ ap view (sym there) ∙ uniform (at - first) (omega arith) ∙ sym (uniform 0 (pow_pos k)) ∙ ap view here ∙ sym (same first (omega arith)))

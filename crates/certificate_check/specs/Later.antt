@@ -1,6 +1,7 @@
--- The last runs of a map.
-use Rattle.std.specs.Prelude.{ℕ, ◌<◌, List, [], ◌∷◌}
+-- The last runs of a map, and views that agree from a page on.
+use Rattle.std.specs.Prelude.{◌≡◌, ℕ, ◌<◌, ◌≤◌, List, [], ◌∷◌}
 use Rattle.pmp_encoding.specs.declared.perm.Perm.{Perm}
+use Rattle.page_views.specs.Views.{View}
 use Rattle.permission_map.specs.declared.runs.Run.{Run}
 use Rattle.permission_map.specs.Runs.{AreRunsAfter, end_of}
 
@@ -12,3 +13,7 @@ AreLaterRuns runs = (at : ℕ) × (before : Perm) × AreRunsAfter at before runs
 abbrev pub StartsBehind : ℕ → List Run → Type 0
 StartsBehind page [] = Unit {0}
 StartsBehind page (run ∷ runs) = page < end_of run
+
+-- the views have the same permission at each page from this one on
+abbrev pub AgreeFrom : ℕ → View → View → Type 0
+AgreeFrom page view other = (at : ℕ) → page ≤ at → view at ≡ other at

@@ -5,7 +5,7 @@ ghost use Rattle.permission_map.specs.Runs.{view_of_runs};
 ghost use Rattle.certificate_check.specs.Certificates.{IsRight, HoldsFewest, RefusalStands};
 
 use crate::listing::listed;
-use crate::nodes::node;
+use crate::nodes::root;
 use crate::refusal::CheckRefusal;
 use crate::sweep::means;
 use certificate_format::Reader;
@@ -20,7 +20,7 @@ fn read_whole(map: &PermissionMap, bytes: &[u8]) -> Result<u32, CheckRefusal>
     let mut reader = Reader::new(bytes);
     let header = reader.header()?;
     let list = listed(&mut reader, header.count)?;
-    let root = node(&mut reader, map, 44, 0)?;
+    let root = root(&mut reader, map)?;
     if header.count > root.no_access {
         return Err(CheckRefusal::EntriesTooMany);
     }

@@ -2,6 +2,7 @@ ghost use Rattle.std.specs.Prelude.{◌≡◌, ℕ, ◌<◌, ◌≤◌, ◌^◌,
 ghost use Rattle.pmp_encoding.specs.declared.region.Entry.{Entry};
 ghost use Rattle.certificate_format.specs.Spelling.{pair_bytes, SpellsEntry, SpellsEntries, AreNoSubPages};
 ghost use Rattle.certificate_check.specs.declared.refusal.CheckRefusal.{CheckRefusal};
+ghost use Rattle.certificate_check.specs.Spans.{count_in};
 ghost use Rattle.certificate_check.specs.Listed.{IsListed, EntryFault, ListFault, IsListAnswer};
 
 use crate::entries::Entries;
@@ -40,6 +41,7 @@ pub(crate) fn entries(reader: &mut Reader, count: u32) -> Result<(), CheckRefusa
 /// Reads that many entries of at least a page, and answers their bytes.
 pub(crate) fn listed<'a>(reader: &mut Reader<'a>, count: u32) -> Result<Entries<'a>, CheckRefusal>
     ensures read { IfOk result (λ list. (es : List Entry) × IsListed reader.old reader.new es × (length es ≡ count) × SpellsEntries list es) }
+    ensures count { IfOk result (λ list. count_in list ≡ count) }
     ensures given { (es : List Entry) (rest : List ℕ) → IsListed reader.old rest es → length es ≡ count → IsListAnswer es rest result reader.new }
     ensures fault { IfErr result (ListFault reader.old count) }
 {

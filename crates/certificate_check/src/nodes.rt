@@ -1,4 +1,4 @@
-ghost use Rattle.std.specs.Prelude.{◌≡◌, ℕ, ◌+◌, ◌-◌, ◌%◌, ◌<◌, ◌≤◌, ◌^◌, ◌∷◌, ◌++◌, List, IfOk, OnOk, IsOk, IfErr, suc};
+ghost use Rattle.std.specs.Prelude.{◌≡◌, ℕ, ◌+◌, ◌-◌, ◌<◌, ◌≤◌, ◌^◌, ◌∷◌, ◌++◌, List, IfOk, OnOk, IsOk, IfErr, suc};
 ghost use Rattle.pmp_encoding.specs.declared.perm.Perm.{Perm};
 ghost use Rattle.pmp_encoding.specs.Perms.{bits_of};
 ghost use Rattle.pmp_match.specs.Bounds.{BoundTree, Leaf, Branch};
@@ -6,11 +6,13 @@ ghost use Rattle.permission_map.specs.Runs.{view_of_runs};
 ghost use Rattle.certificate_format.specs.Spelling.{costs_bytes, node_bytes};
 ghost use Rattle.certificate_format.specs.Costs.{cost_of};
 ghost use Rattle.certificate_check.specs.declared.refusal.CheckRefusal.{CheckRefusal};
-ghost use Rattle.page_views.specs.Views.{IsUniform};
+ghost use Rattle.page_views.specs.Views.{View, IsUniform};
+ghost use Rattle.certificate_check.specs.Later.{AgreeFrom};
 ghost use Rattle.certificate_check.specs.Nodes.{IsRightNode, AreNumbersOf, IsAllowed, BranchFault, NodeFault, IsNodeRead, IsAnswer};
 
 use crate::numbers::{are_too_high, costs_of_leaf, sums_of};
 use crate::refusal::CheckRefusal;
+use crate::runs::RunsAhead;
 use certificate_format::{Reader, SixCosts, Tag};
 use page_views::pages_of;
 use permission_map::PermissionMap;
@@ -18,18 +20,20 @@ use permission_map::PermissionMap;
 /// Reads what follows the tag of a leaf of the 2^log2 pages from `first` on.
 fn leaf(
     reader: &mut Reader,
-    map: &PermissionMap,
+    runs: &mut RunsAhead,
     log2: u32,
     first: u64,
 ) -> Result<SixCosts, CheckRefusal>
-    requires aligned { first % 2 ^ log2 ≡ 0 }
+    requires depth { log2 ≤ 44 }
     requires inside { first + 2 ^ log2 ≤ 2 ^ 44 }
-    ensures read { IfOk result (λ numbers. IsNodeRead (view_of_runs map.now) log2 first (0 ∷ reader.old) reader.new numbers) }
-    ensures given { (perm : Perm) (rest : List ℕ) → IsUniform (view_of_runs map.now) log2 first perm → reader.old ≡ bits_of perm ∷ rest → IsAnswer (Leaf perm) rest result reader.new }
-    ensures fault { IfErr result (NodeFault (view_of_runs map.now) log2 first (0 ∷ reader.old)) }
+    ensures read { (view : View) → AgreeFrom first (view_of_runs runs.old) view → IfOk result (λ numbers. IsNodeRead view log2 first (0 ∷ reader.old) reader.new numbers) }
+    ensures given { (view : View) → AgreeFrom first (view_of_runs runs.old) view → (perm : Perm) (rest : List ℕ) → IsUniform view log2 first perm → reader.old ≡ bits_of perm ∷ rest → IsAnswer (Leaf perm) rest result reader.new }
+    ensures fault { (view : View) → AgreeFrom first (view_of_runs runs.old) view → IfErr result (NodeFault view log2 first (0 ∷ reader.old)) }
+    ensures same { OnOk result (AgreeFrom first (view_of_runs runs.new) (view_of_runs runs.old)) }
 {
     let perm = reader.perm()?;
-    let Some(found) = map.uniform(first, log2) else {
+    let end = first + pages_of(log2);
+    let Some(found) = runs.uniform(first, end) else {
         return Err(CheckRefusal::LeafNotUniform);
     };
     if perm != found {
@@ -54,22 +58,23 @@ fn branch(costs: &SixCosts, lower: &SixCosts, upper: &SixCosts) -> Result<SixCos
     Ok(*costs)
 }
 
-/// Reads the node of the block of 2^log2 pages from `first` on, and answers its numbers.
-pub(crate) fn node(
+/// Reads the node of the block of 2^log2 pages from `first` on, and answers its numbers. Behind it the runs go on from
+/// the block's end.
+fn node(
     reader: &mut Reader,
-    map: &PermissionMap,
+    runs: &mut RunsAhead,
     log2: u32,
     first: u64,
 ) -> Result<SixCosts, CheckRefusal>
     requires depth { log2 ≤ 44 }
-    requires aligned { first % 2 ^ log2 ≡ 0 }
     requires inside { first + 2 ^ log2 ≤ 2 ^ 44 }
-    ensures read { IfOk result (λ numbers. IsNodeRead (view_of_runs map.now) log2 first reader.old reader.new numbers) }
-    ensures given { (tree : BoundTree) (rest : List ℕ) → IsRightNode (view_of_runs map.now) log2 first tree → reader.old ≡ node_bytes tree ++ rest → IsAnswer tree rest result reader.new }
-    ensures fault { IfErr result (NodeFault (view_of_runs map.now) log2 first reader.old) }
+    ensures read { (view : View) → AgreeFrom first (view_of_runs runs.old) view → IfOk result (λ numbers. IsNodeRead view log2 first reader.old reader.new numbers) }
+    ensures given { (view : View) → AgreeFrom first (view_of_runs runs.old) view → (tree : BoundTree) (rest : List ℕ) → IsRightNode view log2 first tree → reader.old ≡ node_bytes tree ++ rest → IsAnswer tree rest result reader.new }
+    ensures fault { (view : View) → AgreeFrom first (view_of_runs runs.old) view → IfErr result (NodeFault view log2 first reader.old) }
+    ensures same { OnOk result (AgreeFrom (first + 2 ^ log2) (view_of_runs runs.new) (view_of_runs runs.old)) }
 {
     match reader.tag()? {
-        Tag::Leaf => leaf(reader, map, log2, first),
+        Tag::Leaf => leaf(reader, runs, log2, first),
         Tag::Branch => {
             if log2 == 0 {
                 return Err(CheckRefusal::TooDeep);
@@ -77,9 +82,21 @@ pub(crate) fn node(
             let costs = reader.costs()?;
             let half = log2 - 1;
             let middle = first + pages_of(half);
-            let lower = node(reader, map, half, first)?;
-            let upper = node(reader, map, half, middle)?;
+            let lower = node(reader, runs, half, first)?;
+            let upper = node(reader, runs, half, middle)?;
             branch(&costs, &lower, &upper)
         }
     }
+}
+
+/// Reads the root's node, and answers its numbers: how many entries the map needs at least. With the most runs that a
+/// map can have those are fewer than 2^19.
+pub(crate) fn root(reader: &mut Reader, map: &PermissionMap) -> Result<SixCosts, CheckRefusal>
+    ensures read { IfOk result (λ numbers. IsNodeRead (view_of_runs map.now) 44 0 reader.old reader.new numbers) }
+    ensures given { (tree : BoundTree) (rest : List ℕ) → IsRightNode (view_of_runs map.now) 44 0 tree → reader.old ≡ node_bytes tree ++ rest → IsAnswer tree rest result reader.new }
+    ensures fault { IfErr result (NodeFault (view_of_runs map.now) 44 0 reader.old) }
+    ensures few { IfOk result (λ numbers. numbers.no_access < 2 ^ 19) }
+{
+    let mut runs = RunsAhead::of(map);
+    node(reader, &mut runs, 44, 0)
 }

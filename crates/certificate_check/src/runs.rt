@@ -1,11 +1,12 @@
-ghost use Rattle.std.specs.Prelude.{◌≡◌, ℕ, ◌+◌, ◌<◌, ◌≤◌, ◌^◌};
+ghost use Rattle.std.specs.Prelude.{◌≡◌, ◌≢◌, ℕ, ◌+◌, ◌<◌, ◌≤◌, ◌^◌, IfSome, IfNone, length};
 ghost use Rattle.permission_map.specs.Runs.{view_of_runs};
-ghost use Rattle.certificate_check.specs.Later.{AreLaterRuns, StartsBehind};
+ghost use Rattle.certificate_check.specs.Later.{AreLaterRuns, StartsBehind, AgreeFrom};
 
 use crate::piece::Piece;
 use page_views::SPACE_PAGES;
-use permission_map::Run;
+use permission_map::{PermissionMap, Run};
 use pmp_encoding::Perm;
+use std::marker::Model;
 
 /// The runs without those that end at or before the page.
 pub(crate) fn runs_from<'a>(runs: &'a [Run], page: u64) -> &'a [Run]
@@ -32,6 +33,7 @@ pub(crate) fn piece_of_runs(runs: &[Run], page: u64) -> Piece
     ensures some { page < result.end }
     ensures inside { result.end ≤ 2 ^ 44 }
     ensures value { (at : ℕ) → page ≤ at → at < result.end → view_of_runs runs.now at ≡ result.perm }
+    ensures whole { result.end < 2 ^ 44 → view_of_runs runs.now result.end ≢ result.perm }
 {
     match runs {
         [] => Piece {
@@ -51,5 +53,51 @@ pub(crate) fn piece_of_runs(runs: &[Run], page: u64) -> Piece
                 }
             }
         }
+    }
+}
+
+/// The runs of a map that are still to come, where its pages are gone over in their order.
+#[derive(Drop)]
+pub(crate) struct RunsAhead<'a> {
+    runs: &'a [Run],
+}
+
+impl<'a> Model for RunsAhead<'a> {
+    ghost use Rattle.std.specs.Prelude.{List};
+    ghost use Rattle.permission_map.specs.declared.runs.Run.{Run};
+    ghost use Rattle.certificate_check.specs.Later.{AreLaterRuns};
+
+    ghost Value = { List Run };
+
+    ghost view = { λ r. r.runs.now };
+
+    ghost invariant = { λ r. AreLaterRuns r.runs.now };
+}
+
+impl<'a> RunsAhead<'a> {
+    /// All of the map's runs.
+    pub(crate) fn of(map: &'a PermissionMap) -> RunsAhead<'a>
+        ensures value { result ≡ map.now }
+        ensures most { length result ≤ 4096 }
+    {
+        RunsAhead { runs: map.ranges() }
+    }
+
+    /// The permission that all pages from `first` to before `end` have, or nothing where they have more than one. Runs
+    /// that end at or before `first` are behind.
+    pub(crate) fn uniform(&mut self, first: u64, end: u64) -> Option<Perm>
+        requires some { first < end }
+        requires inside { end ≤ 2 ^ 44 }
+        ensures same { AgreeFrom first (view_of_runs self.new) (view_of_runs self.old) }
+        ensures some { IfSome result (λ perm. (at : ℕ) → first ≤ at → at < end → view_of_runs self.old at ≡ perm) }
+        ensures none { IfNone result ((at : ℕ) × (first ≤ at) × (at < end) × (view_of_runs self.old at ≢ view_of_runs self.old first)) }
+    {
+        let runs = runs_from(self.runs, first);
+        let piece = piece_of_runs(runs, first);
+        *self = RunsAhead { runs };
+        if piece.end < end {
+            return None;
+        }
+        Some(piece.perm)
     }
 }

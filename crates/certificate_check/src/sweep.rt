@@ -66,7 +66,8 @@ fn agreed<'a>(slots: &[Begun; SIZES], runs: &'a [Run], from: u64, to: u64) -> Op
 
 /// Whether entries in any order give the runs' permission at each page of the space. They begin by rising first page.
 fn agrees_in_any_order(entries: &Entries, runs: &[Run]) -> bool
-    requires { AreLaterRuns runs.now }
+    requires few { count_in entries.now < 2 ^ 19 }
+    requires later { AreLaterRuns runs.now }
     ensures { (spans : ℕ → Span) → ReadsAs entries.now spans → IsTrue result ↔ ((page : ℕ) → page < 2 ^ 44 → Decides spans (count_in entries.now) page (view_of_runs runs.now page)) }
 {
     let mut keys = Keys::new();
@@ -92,7 +93,8 @@ fn agrees_in_any_order(entries: &Entries, runs: &[Run]) -> bool
 
 /// Whether the first entry that covers a page has the runs' permission, at each page of the space.
 pub(crate) fn agrees(entries: &Entries, runs: &[Run]) -> bool
-    requires { AreLaterRuns runs.now }
+    requires few { count_in entries.now < 2 ^ 19 }
+    requires later { AreLaterRuns runs.now }
     ensures { (spans : ℕ → Span) → ReadsAs entries.now spans → IsTrue result ↔ ((page : ℕ) → page < 2 ^ 44 → Decides spans (count_in entries.now) page (view_of_runs runs.now page)) }
 {
     match chains_of(entries) {
@@ -103,6 +105,7 @@ pub(crate) fn agrees(entries: &Entries, runs: &[Run]) -> bool
 
 /// Whether the entries mean the map.
 pub(crate) fn means(entries: &Entries, map: &PermissionMap) -> bool
+    requires { count_in entries.now < 2 ^ 19 }
     ensures { (es : List Entry) → SpellsEntries entries.now es → AreNoSubPages es → IsTrue result ↔ Means es (view_of_runs map.now) }
 {
     agrees(entries, map.ranges())

@@ -1,3 +1,5 @@
+ghost use Rattle.std.specs.Prelude.{◌<◌, ◌^◌};
+
 mod ways;
 
 use crate::listing::listed;
@@ -225,7 +227,9 @@ fn falling_pages(alloc: Global) -> Result<Vec<u8>, AllocError> {
 }
 
 /// Whether that many entries of these bytes mean the map.
-fn list_means(bytes: &[u8], count: u32, map: &PermissionMap) -> Result<bool, CheckRefusal> {
+fn list_means(bytes: &[u8], count: u32, map: &PermissionMap) -> Result<bool, CheckRefusal>
+    requires { count < 2 ^ 19 }
+{
     let mut reader = Reader::new(bytes);
     let list = listed(&mut reader, count)?;
     Ok(means(&list, map))

@@ -76,8 +76,8 @@ returns-then-header-root-clause-fault c =
     let headed : c.args.bytes.now ≡ header_bytes c.in_ok-header.header ++ c.header.new.self = sym c.new-reader.ensures ∙ c.in_ok-header.ensures.read in
     let list = c.in_ok-list.ensures.read in
     let root = c.in_ok-root.ensures.read in
-    let whole = whole_read (view_of_runs c.args.map.now) c.args.bytes.now c.header.new.self c.listed.new.reader c.node.new.reader c.in_ok-header.header list.0 root.tree headed c.in_ok-header.ensures.fits list.2 list.1 root.right root.spelled in
-    too_many list.0 root.tree c.node.new.reader whole (let number = root.numbers_of NoAccess in let over = c.if-header-root.true in omega (arith, number, over, list.2))
+    let whole = whole_read (view_of_runs c.args.map.now) c.args.bytes.now c.header.new.self c.listed.new.reader c.root.new.reader c.in_ok-header.header list.0 root.tree headed c.in_ok-header.ensures.fits list.2 list.1 root.right root.spelled in
+    too_many list.0 root.tree c.root.new.reader whole (let number = root.numbers_of NoAccess in let over = c.if-header-root.true in omega (arith, number, over, list.2))
 
 pub returns-then-not-means-clause-given : goal.returns-then-not-means-clause-given
 returns-then-not-means-clause-given c =
@@ -97,9 +97,9 @@ returns-then-not-means-clause-fault c =
     let headed : c.args.bytes.now ≡ header_bytes c.in_ok-header.header ++ c.header.new.self = sym c.new-reader.ensures ∙ c.in_ok-header.ensures.read in
     let list = c.in_ok-list.ensures.read in
     let root = c.in_ok-root.ensures.read in
-    let whole = whole_read (view_of_runs c.args.map.now) c.args.bytes.now c.header.new.self c.listed.new.reader c.node.new.reader c.in_ok-header.header list.0 root.tree headed c.in_ok-header.ensures.fits list.2 list.1 root.right root.spelled in
+    let whole = whole_read (view_of_runs c.args.map.now) c.args.bytes.now c.header.new.self c.listed.new.reader c.root.new.reader c.in_ok-header.header list.0 root.tree headed c.in_ok-header.ensures.fits list.2 list.1 root.right root.spelled in
     let says = c.means.ensures list.0 list.3 list.1.pages in
-    another_meaning list.0 root.tree c.node.new.reader whole
+    another_meaning list.0 root.tree c.root.new.reader whole
     (let number = root.numbers_of NoAccess in let over = c.if-header-root.false in omega (arith, number, over, list.2))
     (λ m. let t = says.1 m in let no = c.if-not-means.true in cc (t, no))
 
@@ -120,9 +120,9 @@ returns-then-not-is_empty-clause-fault c =
     let headed : c.args.bytes.now ≡ header_bytes c.in_ok-header.header ++ c.header.new.self = sym c.new-reader.ensures ∙ c.in_ok-header.ensures.read in
     let list = c.in_ok-list.ensures.read in
     let root = c.in_ok-root.ensures.read in
-    let whole = whole_read (view_of_runs c.args.map.now) c.args.bytes.now c.header.new.self c.listed.new.reader c.node.new.reader c.in_ok-header.header list.0 root.tree headed c.in_ok-header.ensures.fits list.2 list.1 root.right root.spelled in
+    let whole = whole_read (view_of_runs c.args.map.now) c.args.bytes.now c.header.new.self c.listed.new.reader c.root.new.reader c.in_ok-header.header list.0 root.tree headed c.in_ok-header.ensures.fits list.2 list.1 root.right root.spelled in
     let says = c.means.ensures list.0 list.3 list.1.pages in
-    trailing list.0 root.tree c.node.new.reader whole
+    trailing list.0 root.tree c.root.new.reader whole
     (let number = root.numbers_of NoAccess in let over = c.if-header-root.false in omega (arith, number, over, list.2))
     (says.0 c.if-not-means.false) (λ none. eqb-false _ _ (sym c.is_empty.ensures ∙ c.if-not-is_empty.true) (ap (λ (xs : List ℕ). length xs) (c.rest.ensures ∙ none)))
 
@@ -131,11 +131,11 @@ returns-clause-right c =
     let headed : c.args.bytes.now ≡ header_bytes c.in_ok-header.header ++ c.header.new.self = sym c.new-reader.ensures ∙ c.in_ok-header.ensures.read in
     let list = c.in_ok-list.ensures.read in
     let root = c.in_ok-root.ensures.read in
-    let whole = whole_read (view_of_runs c.args.map.now) c.args.bytes.now c.header.new.self c.listed.new.reader c.node.new.reader c.in_ok-header.header list.0 root.tree headed c.in_ok-header.ensures.fits list.2 list.1 root.right root.spelled in
+    let whole = whole_read (view_of_runs c.args.map.now) c.args.bytes.now c.header.new.self c.listed.new.reader c.root.new.reader c.in_ok-header.header list.0 root.tree headed c.in_ok-header.ensures.fits list.2 list.1 root.right root.spelled in
     let says = c.means.ensures list.0 list.3 list.1.pages in
     let none : length c.rest.result.now ≡ 0 = eqb-true _ _ (sym c.is_empty.ensures ∙ c.if-not-is_empty.false) in
-    let end : c.node.new.reader ≡ [] = sym c.rest.ensures ∙ empty_list c.rest.result.now none in
-    right_from_whole (view_of_runs c.args.map.now) c.args.bytes.now c.node.new.reader list.0 root.tree c.in_ok-header.header.count whole end list.2
+    let end : c.root.new.reader ≡ [] = sym c.rest.ensures ∙ empty_list c.rest.result.now none in
+    right_from_whole (view_of_runs c.args.map.now) c.args.bytes.now c.root.new.reader list.0 root.tree c.in_ok-header.header.count whole end list.2
     (let number = root.numbers_of NoAccess in let over = c.if-header-root.false in omega (arith, number, over, list.2)) (says.0 c.if-not-means.false)
 
 pub returns-clause-given : goal.returns-clause-given

@@ -5,45 +5,49 @@ use Rattle.permission_map.specs.Runs.{view_of_runs}
 use Rattle.certificate_format.specs.Costs.{cost_of, six_of}
 use Rattle.certificate_format.specs.Spelling.{costs_bytes}
 use Rattle.certificate_format.specs.Tags.{tag_byte}
+use Rattle.certificate_check.specs.Later.{AgreeFrom}
 use Rattle.certificate_check.specs.Nodes.{IsRightNode, IsNodeRead, IsAnswer, NodeFault, in_tag, a_page, in_costs, in_lower, in_upper}
 use Rattle.certificate_check.proofs.Refused.{refused, refused_again}
-use Rattle.certificate_check.proofs.Walked.{branch_at, no_branch_at, leaf_at, tag_at, answered, branch_read, branch_refused, allowed_along, six_back, half_aligned, half_inside, upper_aligned}
+use Rattle.certificate_check.proofs.Walked.{branch_at, no_branch_at, leaf_at, tag_at, answered, branch_read, branch_refused, allowed_along, six_back, half_inside, agree_on, agree_far, on_ok}
 use Rattle.certificate_check.proofs.nodes.+node.Goals as goal
 
 pub returns-in_err-tag-clause-given : goal.returns-in_err-tag-clause-given
 returns-in_err-tag-clause-given t c =
-    λ tree rest right spelled.
+    λ view same tree rest right spelled.
     let tag = tag_at tree rest _ spelled in
     absurd (let e = (c.in_err-tag.ensures.whole tag.0 tag.1 tag.2).0 in cc)
 
 pub returns-in_err-tag-clause-fault : goal.returns-in_err-tag-clause-fault
 returns-in_err-tag-clause-fault t c =
-    refused c.from_residual.result c.in_err-tag.field-0.0 (NodeFault (view_of_runs c.args.map.now) c.args.log2 c.args.first c.args.reader.now) c.from_residual.ensures.1
+    λ view same.
+    refused c.from_residual.result c.in_err-tag.field-0.0 (NodeFault view c.args.log2 c.args.first c.args.reader.now) c.from_residual.ensures.1
     (in_tag c.in_err-tag.field-0.0 ((c.in_err-tag.ensures.fault c.in_err-tag.field-0.0).0 refl))
 
 pub returns-then-log2-eq0-clause-given : goal.returns-then-log2-eq0-clause-given
 returns-then-log2-eq0-clause-given t c =
-    λ tree rest right spelled.
+    λ view same tree rest right spelled.
     let tag : c.args.reader.now ≡ 1 ∷ c.tag.new.self = c.in_ok-tag.ensures.read ∙ ap (λ x. tag_byte x ∷ c.tag.new.self) c.in-Branch.is in
-    no_branch_at (view_of_runs c.args.map.now) c.args.log2 c.args.first tree rest _ _ c.if-log2-eq0.true tag right spelled
+    no_branch_at view c.args.log2 c.args.first tree rest _ _ c.if-log2-eq0.true tag right spelled
 
 pub returns-then-log2-eq0-clause-fault : goal.returns-then-log2-eq0-clause-fault
 returns-then-log2-eq0-clause-fault t c =
+    λ view same.
     let tag : c.args.reader.now ≡ 1 ∷ c.tag.new.self = c.in_ok-tag.ensures.read ∙ ap (λ x. tag_byte x ∷ c.tag.new.self) c.in-Branch.is in
     a_page c.tag.new.self tag c.if-log2-eq0.true
 
 pub returns-in_err-costs-in-Branch-clause-given : goal.returns-in_err-costs-in-Branch-clause-given
 returns-in_err-costs-in-Branch-clause-given t c =
-    λ tree rest right spelled.
+    λ view same tree rest right spelled.
     let tag : c.args.reader.now ≡ 1 ∷ c.tag.new.self = c.in_ok-tag.ensures.read ∙ ap (λ x. tag_byte x ∷ c.tag.new.self) c.in-Branch.is in
     let half : c.args.log2 ≡ suc (c.args.log2 - 1) = omega arith in
-    let at = branch_at (view_of_runs c.args.map.now) c.args.log2 (c.args.log2 - 1) c.args.first tree rest _ _ half tag right spelled in
+    let at = branch_at view c.args.log2 (c.args.log2 - 1) c.args.first tree rest _ _ half tag right spelled in
     absurd (let e = (c.in_err-costs-in-Branch.ensures.whole at.costs _ at.halves.small at.left_is).0 in cc)
 
 pub returns-in_err-costs-in-Branch-clause-fault : goal.returns-in_err-costs-in-Branch-clause-fault
 returns-in_err-costs-in-Branch-clause-fault t c =
+    λ view same.
     let tag : c.args.reader.now ≡ 1 ∷ c.tag.new.self = c.in_ok-tag.ensures.read ∙ ap (λ x. tag_byte x ∷ c.tag.new.self) c.in-Branch.is in
-    refused c.from_residual-in_err-costs-in-Branch.result c.in_err-costs-in-Branch.field-0.0 (NodeFault (view_of_runs c.args.map.now) c.args.log2 c.args.first c.args.reader.now)
+    refused c.from_residual-in_err-costs-in-Branch.result c.in_err-costs-in-Branch.field-0.0 (NodeFault view c.args.log2 c.args.first c.args.reader.now)
     c.from_residual-in_err-costs-in-Branch.ensures.1
     (in_costs c.tag.new.self c.in_err-costs-in-Branch.field-0.0 tag ((c.in_err-costs-in-Branch.ensures.fault c.in_err-costs-in-Branch.field-0.0).0 refl))
 
@@ -52,83 +56,93 @@ node-requires t c =
     let half : c.args.log2 ≡ suc (c.args.log2 - 1) = omega arith in
     let most = c.requires.depth in
     let inside = half_inside c.args.first (c.args.log2 - 1) c.args.log2 (2 ^ 44) half c.requires.inside in
-    (omega arith, (omega arith, (half_aligned c.args.first (c.args.log2 - 1) c.args.log2 half c.requires.aligned, omega arith)))
+    (omega arith, (omega arith, omega arith))
 
 pub returns-in_err-lower-in-Branch-clause-given : goal.returns-in_err-lower-in-Branch-clause-given
 returns-in_err-lower-in-Branch-clause-given t c =
-    λ tree rest right spelled.
+    λ view same tree rest right spelled.
     let tag : c.args.reader.now ≡ 1 ∷ c.tag.new.self = c.in_ok-tag.ensures.read ∙ ap (λ x. tag_byte x ∷ c.tag.new.self) c.in-Branch.is in
     let half : c.args.log2 ≡ suc (c.args.log2 - 1) = omega arith in
-    let at = branch_at (view_of_runs c.args.map.now) c.args.log2 (c.args.log2 - 1) c.args.first tree rest _ _ half tag right spelled in
+    let at = branch_at view c.args.log2 (c.args.log2 - 1) c.args.first tree rest _ _ half tag right spelled in
     let costs = c.in_ok-costs-in-Branch.ensures.whole at.costs _ at.halves.small at.left_is in
-    absurd (c.in_err-lower-in-Branch.ensures.given at.lower _ at.halves.low costs.1)
+    absurd (c.in_err-lower-in-Branch.ensures.given view same at.lower _ at.halves.low costs.1)
 
 pub returns-in_err-lower-in-Branch-clause-fault : goal.returns-in_err-lower-in-Branch-clause-fault
 returns-in_err-lower-in-Branch-clause-fault t c =
+    λ view same.
     let tag : c.args.reader.now ≡ 1 ∷ c.tag.new.self = c.in_ok-tag.ensures.read ∙ ap (λ x. tag_byte x ∷ c.tag.new.self) c.in-Branch.is in
     let half : c.args.log2 ≡ suc (c.args.log2 - 1) = omega arith in
-    refused_again c.from_residual-in_err-lower-in-Branch.result c.in_err-lower-in-Branch.field-0.0 (NodeFault (view_of_runs c.args.map.now) c.args.log2 c.args.first c.args.reader.now)
+    refused_again c.from_residual-in_err-lower-in-Branch.result c.in_err-lower-in-Branch.field-0.0 (NodeFault view c.args.log2 c.args.first c.args.reader.now)
     c.from_residual-in_err-lower-in-Branch.ensures.1
     (in_lower (c.args.log2 - 1) (cost_of c.in_ok-costs-in-Branch.costs) c.costs.new.self c.in_err-lower-in-Branch.field-0.0 half
-    (tag ∙ ap (λ xs. 1 ∷ xs) c.in_ok-costs-in-Branch.ensures.read) c.in_err-lower-in-Branch.ensures.fault)
+    (tag ∙ ap (λ xs. 1 ∷ xs) c.in_ok-costs-in-Branch.ensures.read) (c.in_err-lower-in-Branch.ensures.fault view same))
 
 pub node-requires-in-Branch : goal.node-requires-in-Branch
 node-requires-in-Branch t c =
     let half : c.args.log2 ≡ suc (c.args.log2 - 1) = omega arith in
     let most = c.requires.depth in
     let inside = half_inside c.args.first (c.args.log2 - 1) c.args.log2 (2 ^ 44) half c.requires.inside in
-    let aligned = upper_aligned c.args.first (c.args.log2 - 1) (half_aligned c.args.first (c.args.log2 - 1) c.args.log2 half c.requires.aligned) in
-    (omega arith, (omega arith, (rw (c.pages_of.ensures) aligned, omega (arith, c.pages_of.ensures))))
+    (omega arith, (omega arith, omega (arith, c.pages_of.ensures)))
 
 pub returns-in_err-upper-in-Branch-clause-given : goal.returns-in_err-upper-in-Branch-clause-given
 returns-in_err-upper-in-Branch-clause-given t c =
-    λ tree rest right spelled.
+    λ view same tree rest right spelled.
+    let on : AgreeFrom (c.args.first + c.pages_of.result) (view_of_runs c.node.new.runs) view =
+    agree_on c.args.first (c.args.first + c.pages_of.result) (view_of_runs c.args.runs.now) (view_of_runs c.node.new.runs) view same (omega arith) (rw (c.pages_of.ensures) c.in_ok-lower-in-Branch.ensures.same) in
     let tag : c.args.reader.now ≡ 1 ∷ c.tag.new.self = c.in_ok-tag.ensures.read ∙ ap (λ x. tag_byte x ∷ c.tag.new.self) c.in-Branch.is in
     let half : c.args.log2 ≡ suc (c.args.log2 - 1) = omega arith in
-    let at = branch_at (view_of_runs c.args.map.now) c.args.log2 (c.args.log2 - 1) c.args.first tree rest _ _ half tag right spelled in
+    let at = branch_at view c.args.log2 (c.args.log2 - 1) c.args.first tree rest _ _ half tag right spelled in
     let costs = c.in_ok-costs-in-Branch.ensures.whole at.costs _ at.halves.small at.left_is in
-    let low = c.in_ok-lower-in-Branch.ensures.given at.lower _ at.halves.low costs.1 in
-    let high : IsRightNode (view_of_runs c.args.map.now) (c.args.log2 - 1) (c.args.first + c.pages_of.result) at.upper = rw (c.pages_of.ensures) at.halves.high in
-    absurd (c.in_err-upper-in-Branch.ensures.given at.upper rest high low.1)
+    let low = c.in_ok-lower-in-Branch.ensures.given view same at.lower _ at.halves.low costs.1 in
+    let high : IsRightNode view (c.args.log2 - 1) (c.args.first + c.pages_of.result) at.upper = rw (c.pages_of.ensures) at.halves.high in
+    absurd (c.in_err-upper-in-Branch.ensures.given view on at.upper rest high low.1)
 
 pub returns-in_err-upper-in-Branch-clause-fault : goal.returns-in_err-upper-in-Branch-clause-fault
 returns-in_err-upper-in-Branch-clause-fault t c =
+    λ view same.
+    let on : AgreeFrom (c.args.first + c.pages_of.result) (view_of_runs c.node.new.runs) view =
+    agree_on c.args.first (c.args.first + c.pages_of.result) (view_of_runs c.args.runs.now) (view_of_runs c.node.new.runs) view same (omega arith) (rw (c.pages_of.ensures) c.in_ok-lower-in-Branch.ensures.same) in
     let tag : c.args.reader.now ≡ 1 ∷ c.tag.new.self = c.in_ok-tag.ensures.read ∙ ap (λ x. tag_byte x ∷ c.tag.new.self) c.in-Branch.is in
     let half : c.args.log2 ≡ suc (c.args.log2 - 1) = omega arith in
-    let lower = c.in_ok-lower-in-Branch.ensures.read in
-    refused_again c.from_residual-in_err-upper-in-Branch.result c.in_err-upper-in-Branch.field-0.0 (NodeFault (view_of_runs c.args.map.now) c.args.log2 c.args.first c.args.reader.now)
+    let lower = c.in_ok-lower-in-Branch.ensures.read view same in
+    refused_again c.from_residual-in_err-upper-in-Branch.result c.in_err-upper-in-Branch.field-0.0 (NodeFault view c.args.log2 c.args.first c.args.reader.now)
     c.from_residual-in_err-upper-in-Branch.ensures.1
     (in_upper (c.args.log2 - 1) (cost_of c.in_ok-costs-in-Branch.costs) lower.tree c.node.new.reader c.in_err-upper-in-Branch.field-0.0 half
     (tag ∙ ap (λ xs. 1 ∷ xs) (c.in_ok-costs-in-Branch.ensures.read ∙ ap (λ xs. costs_bytes (cost_of c.in_ok-costs-in-Branch.costs) ++ xs) lower.spelled)) lower.right
-    (rw (sym c.pages_of.ensures) c.in_err-upper-in-Branch.ensures.fault))
+    (rw (sym c.pages_of.ensures) (c.in_err-upper-in-Branch.ensures.fault view on)))
 
 pub returns-in-Leaf-clause-given : goal.returns-in-Leaf-clause-given
 returns-in-Leaf-clause-given t c =
-    λ tree rest right spelled.
+    λ view same tree rest right spelled.
     let tag : c.args.reader.now ≡ 0 ∷ c.tag.new.self = c.in_ok-tag.ensures.read ∙ ap (λ x. tag_byte x ∷ c.tag.new.self) c.in-Leaf.is in
-    let at = leaf_at (view_of_runs c.args.map.now) c.args.log2 c.args.first tree rest _ _ tag right spelled in
-    subst (λ (x : BoundTree). IsAnswer x rest c.leaf.result c.leaf.new.reader) (sym at.tree_is) (c.leaf.ensures.given at.perm rest at.uniform at.left_is)
+    let at = leaf_at view c.args.log2 c.args.first tree rest _ _ tag right spelled in
+    subst (λ (x : BoundTree). IsAnswer x rest c.leaf.result c.leaf.new.reader) (sym at.tree_is) (c.leaf.ensures.given view same at.perm rest at.uniform at.left_is)
 
 pub returns-in_ok-upper-in-Branch-clause-read : goal.returns-in_ok-upper-in-Branch-clause-read
 returns-in_ok-upper-in-Branch-clause-read t c =
+    λ view same.
+    let on : AgreeFrom (c.args.first + c.pages_of.result) (view_of_runs c.node.new.runs) view =
+    agree_on c.args.first (c.args.first + c.pages_of.result) (view_of_runs c.args.runs.now) (view_of_runs c.node.new.runs) view same (omega arith) (rw (c.pages_of.ensures) c.in_ok-lower-in-Branch.ensures.same) in
     let tag : c.args.reader.now ≡ 1 ∷ c.tag.new.self = c.in_ok-tag.ensures.read ∙ ap (λ x. tag_byte x ∷ c.tag.new.self) c.in-Branch.is in
     let half : c.args.log2 ≡ suc (c.args.log2 - 1) = omega arith in
-    let lower = c.in_ok-lower-in-Branch.ensures.read in
-    let upper : IsNodeRead (view_of_runs c.args.map.now) (c.args.log2 - 1) (c.args.first + 2 ^ (c.args.log2 - 1)) c.node.new.reader c.node-in-Branch.new.reader c.in_ok-upper-in-Branch.upper = rw (sym c.pages_of.ensures) c.in_ok-upper-in-Branch.ensures.read in
-    branch_read (view_of_runs c.args.map.now) c.args.log2 (c.args.log2 - 1) c.args.first c.args.reader.now c.tag.new.self c.costs.new.self c.node.new.reader c.node-in-Branch.new.reader
+    let lower = c.in_ok-lower-in-Branch.ensures.read view same in
+    let upper : IsNodeRead view (c.args.log2 - 1) (c.args.first + 2 ^ (c.args.log2 - 1)) c.node.new.reader c.node-in-Branch.new.reader c.in_ok-upper-in-Branch.upper = rw (sym c.pages_of.ensures) (c.in_ok-upper-in-Branch.ensures.read view on) in
+    branch_read view c.args.log2 (c.args.log2 - 1) c.args.first c.args.reader.now c.tag.new.self c.costs.new.self c.node.new.reader c.node-in-Branch.new.reader
     (cost_of c.in_ok-costs-in-Branch.costs) c.in_ok-lower-in-Branch.lower c.in_ok-upper-in-Branch.upper c.branch-costs-in-Branch.result half tag c.in_ok-costs-in-Branch.ensures.read
     c.in_ok-costs-in-Branch.ensures.fits lower upper c.branch-costs-in-Branch.ensures.allowed c.branch-costs-in-Branch.ensures.numbers
 
 pub returns-in_ok-upper-in-Branch-clause-given : goal.returns-in_ok-upper-in-Branch-clause-given
 returns-in_ok-upper-in-Branch-clause-given t c =
-    λ tree rest right spelled.
+    λ view same tree rest right spelled.
+    let on : AgreeFrom (c.args.first + c.pages_of.result) (view_of_runs c.node.new.runs) view =
+    agree_on c.args.first (c.args.first + c.pages_of.result) (view_of_runs c.args.runs.now) (view_of_runs c.node.new.runs) view same (omega arith) (rw (c.pages_of.ensures) c.in_ok-lower-in-Branch.ensures.same) in
     let tag : c.args.reader.now ≡ 1 ∷ c.tag.new.self = c.in_ok-tag.ensures.read ∙ ap (λ x. tag_byte x ∷ c.tag.new.self) c.in-Branch.is in
     let half : c.args.log2 ≡ suc (c.args.log2 - 1) = omega arith in
-    let at = branch_at (view_of_runs c.args.map.now) c.args.log2 (c.args.log2 - 1) c.args.first tree rest _ _ half tag right spelled in
+    let at = branch_at view c.args.log2 (c.args.log2 - 1) c.args.first tree rest _ _ half tag right spelled in
     let costs = c.in_ok-costs-in-Branch.ensures.whole at.costs _ at.halves.small at.left_is in
-    let low = c.in_ok-lower-in-Branch.ensures.given at.lower _ at.halves.low costs.1 in
-    let high : IsRightNode (view_of_runs c.args.map.now) (c.args.log2 - 1) (c.args.first + c.pages_of.result) at.upper = rw (c.pages_of.ensures) at.halves.high in
-    let up = c.in_ok-upper-in-Branch.ensures.given at.upper rest high low.1 in
+    let low = c.in_ok-lower-in-Branch.ensures.given view same at.lower _ at.halves.low costs.1 in
+    let high : IsRightNode view (c.args.log2 - 1) (c.args.first + c.pages_of.result) at.upper = rw (c.pages_of.ensures) at.halves.high in
+    let up = c.in_ok-upper-in-Branch.ensures.given view on at.upper rest high low.1 in
     let six : c.in_ok-costs-in-Branch.costs ≡ six_of at.costs = (let e = costs.0 in cc) in
     let allowed = allowed_along at.costs (bound_of at.lower) (bound_of at.upper) (cost_of c.in_ok-lower-in-Branch.lower) (cost_of c.in_ok-upper-in-Branch.upper) c.in_ok-costs-in-Branch.costs six low.0 up.0 at.halves.allowed in
     answered tree rest c.node-in-Branch.new.reader (cost_of c.in_ok-costs-in-Branch.costs) c.branch-costs-in-Branch.result (c.branch-costs-in-Branch.ensures.given allowed)
@@ -136,10 +150,20 @@ returns-in_ok-upper-in-Branch-clause-given t c =
 
 pub returns-in_ok-upper-in-Branch-clause-fault : goal.returns-in_ok-upper-in-Branch-clause-fault
 returns-in_ok-upper-in-Branch-clause-fault t c =
+    λ view same.
+    let on : AgreeFrom (c.args.first + c.pages_of.result) (view_of_runs c.node.new.runs) view =
+    agree_on c.args.first (c.args.first + c.pages_of.result) (view_of_runs c.args.runs.now) (view_of_runs c.node.new.runs) view same (omega arith) (rw (c.pages_of.ensures) c.in_ok-lower-in-Branch.ensures.same) in
     let tag : c.args.reader.now ≡ 1 ∷ c.tag.new.self = c.in_ok-tag.ensures.read ∙ ap (λ x. tag_byte x ∷ c.tag.new.self) c.in-Branch.is in
     let half : c.args.log2 ≡ suc (c.args.log2 - 1) = omega arith in
-    let lower = c.in_ok-lower-in-Branch.ensures.read in
-    let upper : IsNodeRead (view_of_runs c.args.map.now) (c.args.log2 - 1) (c.args.first + 2 ^ (c.args.log2 - 1)) c.node.new.reader c.node-in-Branch.new.reader c.in_ok-upper-in-Branch.upper = rw (sym c.pages_of.ensures) c.in_ok-upper-in-Branch.ensures.read in
-    branch_refused (view_of_runs c.args.map.now) c.args.log2 (c.args.log2 - 1) c.args.first c.args.reader.now c.tag.new.self c.costs.new.self c.node.new.reader c.node-in-Branch.new.reader
+    let lower = c.in_ok-lower-in-Branch.ensures.read view same in
+    let upper : IsNodeRead view (c.args.log2 - 1) (c.args.first + 2 ^ (c.args.log2 - 1)) c.node.new.reader c.node-in-Branch.new.reader c.in_ok-upper-in-Branch.upper = rw (sym c.pages_of.ensures) (c.in_ok-upper-in-Branch.ensures.read view on) in
+    branch_refused view c.args.log2 (c.args.log2 - 1) c.args.first c.args.reader.now c.tag.new.self c.costs.new.self c.node.new.reader c.node-in-Branch.new.reader
     (cost_of c.in_ok-costs-in-Branch.costs) c.in_ok-lower-in-Branch.lower c.in_ok-upper-in-Branch.upper c.branch-costs-in-Branch.result half tag c.in_ok-costs-in-Branch.ensures.read
     c.in_ok-costs-in-Branch.ensures.fits lower upper c.branch-costs-in-Branch.ensures.fault
+
+pub returns-in_ok-upper-in-Branch-clause-same : goal.returns-in_ok-upper-in-Branch-clause-same
+returns-in_ok-upper-in-Branch-clause-same t c =
+    let half : c.args.log2 ≡ suc (c.args.log2 - 1) = omega arith in
+    on_ok c.branch-costs-in-Branch.result
+    (agree_far c.args.first (c.args.log2 - 1) c.args.log2 (c.args.first + c.pages_of.result) (view_of_runs c.args.runs.now) (view_of_runs c.node.new.runs)
+    (view_of_runs c.node-in-Branch.new.runs) half (ap (λ n. c.args.first + n) c.pages_of.ensures) c.in_ok-lower-in-Branch.ensures.same c.in_ok-upper-in-Branch.ensures.same)

@@ -16,9 +16,8 @@ pub loop-low-init : goal.loop-low-init
 loop-low-init c = record {
   inside = omega arith;
   keys = omega arith;
-  few = λ some. absurd (omega arith);
   order = omega arith;
-  later = c.requires;
+  later = c.requires.later;
   same = λ at h. refl;
   begun = λ spans reads. begun_none spans _ 0 45 _ refl;
   given = λ spans reads at less. absurd (omega arith);
@@ -54,7 +53,6 @@ loop-low-preserved c =
     record {
       inside = inv.inside;
       keys = c.gather-low.ensures.inside;
-      few = λ some. c.gather-low.ensures.count;
       order = (let o = inv.order in omega (arith, o, all));
       later = inv.later;
       same = inv.same;
@@ -75,12 +73,12 @@ loop-key-preserved c =
     let within : AreWithin low high ks = rw (c.deref-key-items.ensures.0) (λ k d less. let n = c.gather-low.ensures.numbers k d less in (n.1, n.2)) in
     let sorted : IsNonDecreasing ks = rw (c.deref-key-items.ensures.0) c.gather-low.ensures.sorted in
     let key : get_or ks x 0 ≡ get_or ks x high = same_element ks x 0 high c.loop-key-test.true in
-    let first : page ≡ get_or ks x high / 2 ^ 64 = c.first_of-first.ensures ∙ ap (λ n. n / 2 ^ 64) key in
-    let number : c.number_of-number.result ≡ get_or ks x high % 2 ^ 64 = c.number_of-number.ensures ∙ ap (λ n. n % 2 ^ 64) key in
+    let first : page ≡ get_or ks x high / 2 ^ 19 = c.first_of-first.ensures ∙ ap (λ n. n / 2 ^ 19) key in
+    let number : c.number_of-number.result ≡ get_or ks x high % 2 ^ 19 = c.number_of-number.ensures ∙ ap (λ n. n % 2 ^ 19) key in
     let below : get_or ks x high < high = (within x high c.loop-key-test.true).1 in
     let next : get_or ks x high ≤ get_or ks (x + 1) high = key_order low high x ks within sorted c.loop-key-test.true in
     let some : c.loop-key.page ≤ page = (let o = inv.order in omega (arith, o, first)) in
-    let few = c.gather-low.ensures.count in
+    let few = c.requires.few in
     record {
       inside = (let h = c.gather-low.ensures.inside in omega (arith, h, first, below));
       order = omega (arith, first, next);
@@ -117,10 +115,10 @@ returns-in_default c =
     let count : ℕ = count_in c.args.entries.now in
     let within : AreWithin c.loop-low.low high ks = rw (c.deref-key-items.ensures.0) (λ k d less. let n = c.gather-low.ensures.numbers k d less in (n.1, n.2)) in
     let key : get_or ks x 0 ≡ get_or ks x high = same_element ks x 0 high c.loop-key-test.true in
-    let first : page ≡ get_or ks x high / 2 ^ 64 = c.first_of-first.ensures ∙ ap (λ n. n / 2 ^ 64) key in
+    let first : page ≡ get_or ks x high / 2 ^ 19 = c.first_of-first.ensures ∙ ap (λ n. n / 2 ^ 19) key in
     let below : get_or ks x high < high = (within x high c.loop-key-test.true).1 in
     let inside : page ≤ 2 ^ 44 = (let h = c.gather-low.ensures.inside in omega (arith, h, first, below)) in
-    let few = c.gather-low.ensures.count in
+    let few = c.requires.few in
     let none : NoneBegins spans count (get_or ks x high) page = λ j less later. begins_later spans j (get_or ks x high) page (omega (arith, less, few)) first later in
     let differs = c.in_default.ensures.differs spans count (get_or ks x high) (blocks_read c.args.entries.now spans reads) (inv.begun spans reads) none in
     ((λ t. absurd (cc)), (λ all. absurd (differs.3 (subst (λ (p : Perm). Decides spans count differs.0 p) (sym (inv.same differs.0 differs.1)) (all differs.0 (let d = differs.2 in omega (arith, d, inside)))))))
@@ -132,7 +130,7 @@ returns c =
     let count : ℕ = count_in c.args.entries.now in
     let blocks = blocks_read c.args.entries.now spans reads in
     let past = c.loop-low-test.false in
-    let few : count < 2 ^ 64 = inv.few (omega (arith, past)) in
+    let few = c.requires.few in
     let none : NoneBegins spans count c.loop-low.low (2 ^ 44) = λ j less later. absurd (let inside = blocks.inside j less in omega (arith, inside, later, past, less, few)) in
     by_option c.agreed-2.result c.is_some.result ((page : ℕ) → page < 2 ^ 44 → Decides spans count page (view_of_runs c.args.runs.now page))
     ((page : ℕ) → page < 2 ^ 44 → Decides spans count page (view_of_runs c.args.runs.now page)) c.is_some.ensures c.agreed-2.ensures.given

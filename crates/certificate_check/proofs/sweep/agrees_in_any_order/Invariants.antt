@@ -9,9 +9,8 @@ use Rattle.certificate_check.proofs.sweep.agrees_in_any_order.Given as goal
 abbrev pub invariant-loop-low : goal.invariant-loop-low
 invariant-loop-low l = record {
   inside : l.page ≤ 2 ^ 44;
-  keys : l.low ≤ 2 ^ 108;
-  few : 0 < l.low → count_in l.entries < 2 ^ 64;
-  order : l.page * 2 ^ 64 ≤ l.low;
+  keys : l.low ≤ 2 ^ 63;
+  order : l.page * 2 ^ 19 ≤ l.low;
   later : AreLaterRuns l.rest;
   same : (at : ℕ) → l.page ≤ at → view_of_runs l.rest at ≡ view_of_runs l.runs at;
   begun : (spans : ℕ → Span) → ReadsAs l.entries spans → AreBegun spans (count_in l.entries) l.low l.page l.slots;
@@ -19,12 +18,12 @@ invariant-loop-low l = record {
 }
 
 abbrev pub decreases-loop-low : goal.decreases-loop-low
-decreases-loop-low l = 2 ^ 108 - l.low
+decreases-loop-low l = 2 ^ 63 - l.low
 
 abbrev pub invariant-loop-key : goal.invariant-loop-key
 invariant-loop-key l = record {
   inside : l.page ≤ 2 ^ 44;
-  order : l.page * 2 ^ 64 ≤ slice_index_or l.key-items l.key-index l.low;
+  order : l.page * 2 ^ 19 ≤ slice_index_or l.key-items l.key-index l.low;
   later : AreLaterRuns l.rest;
   same : (at : ℕ) → l.page ≤ at → view_of_runs l.rest at ≡ view_of_runs l.runs at;
   begun : (spans : ℕ → Span) → ReadsAs l.entries spans → AreBegun spans (count_in l.entries) (slice_index_or l.key-items l.key-index l.low) l.page l.slots;
