@@ -39,6 +39,3 @@ pub use trace_judge::{answer_line, judge_trace};
 pub use trouble::Trouble;
 pub use verdicts::verdict;
 pub use whole::{WholeFault, read_whole};
-
-#[cfg(test)]
-mod tests;

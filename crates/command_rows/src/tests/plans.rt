@@ -1,6 +1,7 @@
 //! `plan` on files in memory.
 
-use super::runs::run;
+use super::maps::pages;
+use super::runs::{refuses, run};
 use std::alloc::Global;
 use std::test::Fail;
 
@@ -56,16 +57,6 @@ fn a_plan_for_sixty_four_entries_has_eight_words(rt: HostRuntime) -> Result<(), 
     Ok(())
 }
 
-/// A map of single pages of one permission, each two pages behind the last.
-fn pages(alloc: Global, count: u64) -> Result<Vec<u8>, Fail> {
-    let mut map = Vec::new(alloc);
-    for i in 0..count {
-        let line = format!(in alloc; "{} 4096 rwx\n", i.saturating_mul(12288))?;
-        map.extend_from_slice(line.as_bytes())?;
-    }
-    Ok(map)
-}
-
 #[test]
 fn a_plan_that_fits_no_bank_is_printed_without_words(rt: HostRuntime) -> Result<(), Fail> {
     let map = pages(rt.alloc(), 17)?;
@@ -93,18 +84,22 @@ fn a_plan_that_fits_no_bank_is_printed_without_words(rt: HostRuntime) -> Result<
     Ok(())
 }
 
+/// How long the certificate of a map is.
+fn certificate_len(alloc: Global, map: &[u8]) -> Result<usize, Fail> {
+    let made = run(alloc, &["pmpmon", "plan", "map.txt", "map.pmpc"], map, b"")?;
+    Ok(made.cert.len())
+}
+
 #[test]
 fn a_plan_writes_its_certificate(rt: HostRuntime) -> Result<(), Fail> {
-    let words = ["pmpmon", "plan", "map.txt", "map.pmpc"];
-    let page = run(rt.alloc(), &words, b"0x80000000 0x1000 rwx", b"")?;
-    assert_eq!(rt; page.cert.len(), 1208);
-    let seven = run(rt.alloc(), &words, b"0x80208000 0x7000 rx", b"")?;
-    assert_eq!(rt; seven.cert.len(), 1217);
-    let empty = run(rt.alloc(), &words, b"", b"")?;
     assert_eq!(rt;
-        empty.cert.as_slice(),
-        [0x50, 0x4D, 0x50, 0x43, 1, 0, 0, 0, 0, 0, 0].as_slice()
+        certificate_len(rt.alloc(), b"0x80000000 0x1000 rwx")?,
+        1208
     );
+    assert_eq!(rt; certificate_len(rt.alloc(), b"0x80208000 0x7000 rx")?, 1217);
+    let words = ["pmpmon", "plan", "map.txt", "map.pmpc"];
+    let empty = run(rt.alloc(), &words, b"", b"")?;
+    assert_eq!(rt; empty.cert.as_slice(), b"PMPC\x01\0\0\0\0\0\0".as_slice());
     let plain = run(rt.alloc(), &["pmpmon", "plan", "map.txt"], b"", b"")?;
     assert_eq!(rt; plain.cert.len(), 0);
     Ok(())
@@ -113,67 +108,59 @@ fn a_plan_writes_its_certificate(rt: HostRuntime) -> Result<(), Fail> {
 #[test]
 fn a_map_at_fault_is_named_with_its_first_line_at_fault(rt: HostRuntime) -> Result<(), Fail> {
     let long = [b'#'; 1024];
-    let rows: [(&[u8], &[u8]); 12] = [
+    let rows: [(&[u8], &str); 12] = [
         (
             b"0x80000000 0x1000\n",
-            b"pmpmon: map.txt: line 1 is not understood\n",
+            "pmpmon: map.txt: line 1 is not understood\n",
         ),
         (
             b"\n# none\n0 0x1000 w\n0 0x1000\n",
-            b"pmpmon: map.txt: line 3 is not understood\n",
+            "pmpmon: map.txt: line 3 is not understood\n",
         ),
         (
             b"0 0x1000 RW\n",
-            b"pmpmon: map.txt: line 1 is not understood\n",
+            "pmpmon: map.txt: line 1 is not understood\n",
         ),
         (
             b"0 0x1001 r\n",
-            b"pmpmon: map.txt: line 1 is not understood\n",
+            "pmpmon: map.txt: line 1 is not understood\n",
         ),
         (
             b"0x800 0 r\n",
-            b"pmpmon: map.txt: line 1 is not understood\n",
+            "pmpmon: map.txt: line 1 is not understood\n",
         ),
         (
             b"0x100000000000000 0 r\n0x100000000000000 0x1000 r\n",
-            b"pmpmon: map.txt: line 2 is not understood\n",
+            "pmpmon: map.txt: line 2 is not understood\n",
         ),
         (
             b"0x1000 0xfffffffffffff000 r\n",
-            b"pmpmon: map.txt: line 1 is not understood\n",
+            "pmpmon: map.txt: line 1 is not understood\n",
         ),
         (
             b"0 18446744073709551616 r\n",
-            b"pmpmon: map.txt: line 1 is not understood\n",
+            "pmpmon: map.txt: line 1 is not understood\n",
         ),
         (
             b"0 0x1000 r more\n",
-            b"pmpmon: map.txt: line 1 is not understood\n",
+            "pmpmon: map.txt: line 1 is not understood\n",
         ),
         (
             b"0 0x1000 r\r\r\n",
-            b"pmpmon: map.txt: line 1 is not understood\n",
+            "pmpmon: map.txt: line 1 is not understood\n",
         ),
         (
             b"0 0x1000 r\x0b\n",
-            b"pmpmon: map.txt: line 1 is not understood\n",
+            "pmpmon: map.txt: line 1 is not understood\n",
         ),
         (
             long.as_slice(),
-            b"pmpmon: map.txt: line 1 is not understood\n",
+            "pmpmon: map.txt: line 1 is not understood\n",
         ),
     ];
-    for (map, err) in rows {
-        let ran = run(
-            rt.alloc(),
-            &["pmpmon", "plan", "map.txt", "map.pmpc"],
-            map,
-            b"",
-        )?;
-        assert_eq!(rt; ran.err.as_slice(), err);
-        assert_eq!(rt; ran.status, 2);
-        assert_eq!(rt; ran.out.len(), 0);
-        assert_eq!(rt; ran.cert.len(), 0);
+    for (map, said) in rows {
+        let words = ["pmpmon", "plan", "map.txt", "map.pmpc"];
+        refuses(&rt, rt.alloc(), &words, map, b"", said)?;
     }
     Ok(())
 }

@@ -1,7 +1,10 @@
 mod certificates;
+mod devices;
 mod failing;
+mod inputs;
 mod judged;
 mod machine;
+mod maps;
 mod options;
 mod plans;
 mod runs;

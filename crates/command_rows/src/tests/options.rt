@@ -1,6 +1,6 @@
 //! `--at-most`, `--format` and `show` on files in memory.
 
-use super::runs::run;
+use super::runs::{denies, prints, refuses, run};
 use std::test::Fail;
 
 const MAP: &[u8] = b"0x80000000 0x8000000 rwx\n0x80000000 0x200000 none\n0x10000000 0x1000 rw\n";
@@ -22,12 +22,20 @@ fn a_plan_of_more_than_was_asked_for_is_refused(rt: HostRuntime) -> Result<(), F
         &["pmpmon", "show", "m", "--at-most", "2"],
     ];
     for words in lines {
-        let ran = run(rt.alloc(), words, MAP, b"")?;
-        assert_eq!(rt; ran.status, 2);
-        assert_eq!(rt; ran.err.as_slice(), b"pmpmon: needs 3 entries\n".as_slice());
-        assert_eq!(rt; ran.out.len(), 0);
-        assert_eq!(rt; ran.cert.len(), 0);
+        refuses(
+            &rt,
+            rt.alloc(),
+            words,
+            MAP,
+            b"",
+            "pmpmon: needs 3 entries\n",
+        )?;
     }
+    Ok(())
+}
+
+#[test]
+fn a_plan_of_as_many_as_were_asked_for_is_printed(rt: HostRuntime) -> Result<(), Fail> {
     let plain = run(rt.alloc(), &["pmpmon", "plan", "m"], MAP, b"")?;
     let most = run(
         rt.alloc(),
@@ -64,33 +72,21 @@ fn a_plan_has_other_formats(rt: HostRuntime) -> Result<(), Fail> {
 
 #[test]
 fn show_prints_the_table(rt: HostRuntime) -> Result<(), Fail> {
-    let ran = run(rt.alloc(), &["pmpmon", "show", "m"], MAP, b"")?;
-    let out: &[u8] =
-        b"from               to                 size    perm by\n0x0000000010000000 0x0000000010000fff   4 KiB  rw-  0\n0x0000000080000000 0x00000000801fffff   2 MiB  ---  1 (before 2)\n0x0000000080200000 0x0000000087ffffff 126 MiB  rwx  2\nall else                                       ---  no entry\n3 entries: fewest possible; fits 16\n";
-    assert_eq!(rt; ran.status, 0);
-    assert_eq!(rt; ran.out.as_slice(), out);
-    assert_eq!(rt; ran.err.len(), 0);
-    Ok(())
+    let out =
+        "from               to                 size    perm by\n0x0000000010000000 0x0000000010000fff   4 KiB  rw-  0\n0x0000000080000000 0x00000000801fffff   2 MiB  ---  1 (before 2)\n0x0000000080200000 0x0000000087ffffff 126 MiB  rwx  2\nall else                                       ---  no entry\n3 entries: fewest possible; fits 16\n";
+    prints(&rt, rt.alloc(), &["pmpmon", "show", "m"], MAP, b"", out)
 }
 
 #[test]
 fn audit_says_whether_registers_mean_the_map(rt: HostRuntime) -> Result<(), Fail> {
     let words = ["pmpmon", "audit", "m", "r"];
-    let rows: [(&[u8], u8, &[u8]); 2] = [
-        (
-            b"entries 3\n0 0x1b 0x00000000040001ff\n1 0x18 0x000000002003ffff\n2 0x1f 0x0000000020ffffff\npmpcfg0 0x00000000001f181b\npmpcfg2 0x0000000000000000\n",
-            0,
-            b"means the map: 3 entries where 3 are enough\n",
-        ),
-        (b"pmpaddr0 1\nwhat\n", 2, b""),
-    ];
-    for (registers, status, out) in rows {
-        let ran = run(rt.alloc(), &words, MAP, registers)?;
-        assert_eq!(rt; ran.status, status);
-        assert_eq!(rt; ran.out.as_slice(), out);
-    }
-    let none = run(rt.alloc(), &words, MAP, b"")?;
-    assert_eq!(rt; none.status, 1);
-    assert!(rt; !none.out.is_empty());
-    Ok(())
+    let right =
+        b"entries 3\n0 0x1b 0x00000000040001ff\n1 0x18 0x000000002003ffff\n2 0x1f 0x0000000020ffffff\npmpcfg0 0x00000000001f181b\npmpcfg2 0x0000000000000000\n";
+    let means = "means the map: 3 entries where 3 are enough\n";
+    prints(&rt, rt.alloc(), &words, MAP, right, means)?;
+    let differs = "differs 0x0000000010000000 0x0000000010000fff: map rw-, no entry ---\n";
+    denies(&rt, rt.alloc(), &words, MAP, b"", differs)?;
+    let wrong = b"pmpaddr0 1\nwhat\n";
+    let said = "pmpmon: r: line 2 is not understood\n";
+    refuses(&rt, rt.alloc(), &words, MAP, wrong, said)
 }

@@ -1,0 +1,118 @@
+//! A command line, run on devices that give and take few bytes at a time, and fail where they are told to.
+
+ghost use Rattle.std.specs.Prelude.{None};
+
+use byte_streams::fakes::{PieceSink, PieceSource};
+use byte_streams::{DeviceFault, Sink};
+use monitor_cli::{WholeSink, command_of, perform};
+use std::alloc::Global;
+use std::test::Fail;
+
+/// A sink whose k-th call fails, the one that puts its bytes in their place among them.
+#[derive(Drop)]
+struct PlacedSink {
+    sink: PieceSink,
+    is_placed: bool,
+}
+
+impl Sink for PlacedSink {
+    ghost contents = { λ _. None };
+
+    ghost failures = { λ s. s.sink.failures };
+
+    ghost stalls = { λ s. s.sink.stalls };
+
+    fn write(&mut self, buf: &[u8]) -> Result<usize, DeviceFault> {
+        self.sink.write(buf)
+    }
+}
+
+impl WholeSink for PlacedSink {
+    ghost stands = { λ _. None };
+
+    fn put_in_place(&mut self) -> Result<(), DeviceFault> {
+        // A write of no bytes is counted, and fails in its turn, as any other.
+        self.sink.write(b"")?;
+        self.is_placed = true;
+        Ok(())
+    }
+}
+
+/// How many bytes the inputs give at a time, and which call of each device fails, counted from 1.
+#[derive(Clone, Copy)]
+pub struct Failing {
+    pub piece: usize,
+    pub first: Option<u64>,
+    pub second: Option<u64>,
+    pub cert: Option<u64>,
+    pub out: Option<u64>,
+    pub err: Option<u64>,
+}
+
+impl Failing {
+    /// Inputs of so many bytes at a time, where no call fails.
+    pub fn none(piece: usize) -> Failing {
+        Failing {
+            piece,
+            first: None,
+            second: None,
+            cert: None,
+            out: None,
+            err: None,
+        }
+    }
+}
+
+/// What a command left behind, and what became of its devices.
+#[derive(Drop)]
+pub struct Tried {
+    pub status: u8,
+    pub out: Vec<u8>,
+    pub err: Vec<u8>,
+    /// The certificate was put in its place.
+    pub is_placed: bool,
+    /// A device failed.
+    pub has_failed: bool,
+    /// How often the second input was read.
+    pub second_reads: u64,
+}
+
+/// Runs a command line on two inputs and on devices that fail.
+pub fn try_on(
+    alloc: Global,
+    words: &[&str],
+    first: &[u8],
+    second: &[u8],
+    failing: Failing,
+) -> Result<Tried, Fail> {
+    let task = command_of(alloc, words)?;
+    let mut first = PieceSource::new(first, failing.piece, failing.first);
+    let mut second = PieceSource::new(second, failing.piece, failing.second);
+    let mut cert = PlacedSink {
+        sink: PieceSink::new(400, failing.cert),
+        is_placed: false,
+    };
+    let mut out = PieceSink::new(3, failing.out);
+    let mut err = PieceSink::new(3, failing.err);
+    let status = perform(
+        alloc,
+        &task,
+        &mut first,
+        &mut second,
+        &mut cert,
+        &mut out,
+        &mut err,
+    );
+    Ok(Tried {
+        status,
+        out: Vec::from_slice(alloc, out.written())?,
+        err: Vec::from_slice(alloc, err.written())?,
+        is_placed: cert.is_placed,
+        has_failed: first.failures > 0
+            || second.failures > 0
+            || cert.sink.failures > 0
+            || out.failures > 0
+            || err.failures > 0,
+        second_reads: second.reads(),
+    })
+}

@@ -1,0 +1,251 @@
+//! `run` on files in memory.
+
+use super::devices::{Failing, try_on};
+use super::runs::{prints, refuses, run, stops};
+use std::alloc::Global;
+use std::process::Abort;
+use std::test::Fail;
+
+const PLATFORM: &[u8] =
+    b"[monitor]\nbase = 0x80000000\nsize = 0x200000\n\n[[ram]]\nbase = 0x80000000\nsize = 0x8000000\n\n[[device]]\nbase = 0x10000000\nsize = 0x1000\nperm = \"rw\"\n";
+
+const RUN: [&str; 4] = ["pmpmon", "run", "p.toml", "trace.txt"];
+
+const MEASURE: [&str; 5] = ["pmpmon", "run", "p.toml", "trace.txt", "--measure"];
+
+#[test]
+fn traces_have_their_reports(rt: HostRuntime) -> Result<(), Fail> {
+    let rows: [(&[u8], &str); 5] = [
+        (
+            b"store s 8 0x80200000 0x1122334455667788\necall 0x08454E43 0 0x80200000 1 0 0 0 0\nload s 8 0x80200000\necall 0x08454E43 2 1\necall 0x08454E43 2 1\nload u 8 0x80200000\nirq\necall 0x08454E43 4 1\necall 0x08454E43 5 7\necall 0x08454E43 4 1\necall 0x08454E43 1 1\necall 0x08454E43 1 1\nload s 8 0x80200000\n",
+            "1 ok\n2 call 0 0x0000000000000001 0 4\n3 fault 5\n4 call 0 0x0000000000000000 1 1\n5 call -101 0x0000000000000000 1 1\n6 ok 0x1122334455667788\n7 irq 0 4\n8 call 0 0x0000000000000000 1 1\n9 call 0 0x0000000000000007 0 4\n10 call -111 0x0000000000000000 0 4\n11 call 0 0x0000000000000000 0 3\n12 call -110 0x0000000000000000 0 3\n13 ok 0x0000000000000000\n",
+        ),
+        (b"irq", "1 irq 0 3\n"),
+        (b"# start\n\n irq # tick\n", "1 irq 0 3\n"),
+        (
+            b"ecall 0x08454E43 7\necall 0x10 0\n",
+            "1 call -2 0x0000000000000000 0 3\n2 call -2 0x0000000000000000 0 3\n",
+        ),
+        (b"", ""),
+    ];
+    for (trace, report) in rows {
+        for words in [RUN.as_slice(), MEASURE.as_slice()] {
+            prints(&rt, rt.alloc(), words, PLATFORM, trace, report)?;
+        }
+    }
+    Ok(())
+}
+
+#[test]
+fn a_line_that_is_not_understood_ends_a_run(rt: HostRuntime) -> Result<(), Fail> {
+    let rows: [(&[u8], &str, &str); 4] = [
+        (
+            b"load s 3 0x80200000",
+            "",
+            "pmpmon: trace.txt: line 1 is not understood\n",
+        ),
+        (
+            b"irq\nfoo\n",
+            "1 irq 0 3\n",
+            "pmpmon: trace.txt: line 2 is not understood\n",
+        ),
+        (
+            b"@0 irq\n@1 irq\n",
+            "1 irq 0 3\n",
+            "pmpmon: trace.txt: line 2 is not understood\n",
+        ),
+        (
+            b"ecall 0x08454E43 0 0x80200000 1 0 0 0 0\nirq\n@0\n",
+            "1 call 0 0x0000000000000001 0 4\n2 irq 0 4\n",
+            "pmpmon: trace.txt: line 3 is not understood\n",
+        ),
+    ];
+    for (trace, report, said) in rows {
+        stops(&rt, rt.alloc(), &MEASURE, PLATFORM, trace, report, said)?;
+    }
+    Ok(())
+}
+
+/// The value of a hexadecimal digit.
+fn digit(byte: u8) -> u64 {
+    match byte {
+        b'0'..=b'9' => u64::from(byte.saturating_sub(b'0')),
+        _ => u64::from(byte.saturating_sub(b'a').saturating_add(10)),
+    }
+}
+
+/// The word that sixteen digits are, as bytes from the lowest on where `is_little`, and else as a number.
+fn word(digits: &[u8], is_little: bool) -> u64 {
+    let mut value: u64 = 0;
+    for i in 0..8usize {
+        let at = if is_little {
+            7usize.saturating_sub(i)
+        } else {
+            i
+        };
+        let high = digits.get(at.saturating_mul(2)).copied().unwrap_or(b'0');
+        let low = digits
+            .get(at.saturating_mul(2).saturating_add(1))
+            .copied()
+            .unwrap_or(b'0');
+        value = value
+            .wrapping_mul(256)
+            .wrapping_add(digit(high).wrapping_mul(16).wrapping_add(digit(low)));
+    }
+    value
+}
+
+/// The digits of the words that the calls behind the first answered, and those of the line that is behind all answers.
+fn digits(alloc: Global, plain: &[u8], measured: &[u8]) -> Result<(Vec<u64>, Vec<u64>), Fail> {
+    let answer: &[u8] = b"2 call 0 0x";
+    let line = measured.get(plain.len()..).unwrap_or(&[]);
+    let mut said = Vec::new(alloc);
+    let mut told = Vec::new(alloc);
+    for k in 0..4usize {
+        let from = 32usize.saturating_add(k.saturating_mul(32));
+        let call = plain.get(from.saturating_add(answer.len())..);
+        said.push(word(call.unwrap_or(&[]), false))?;
+        let at = 10usize.saturating_add(k.saturating_mul(16));
+        told.push(word(line.get(at..).unwrap_or(&[]), true))?;
+    }
+    Ok((said, told))
+}
+
+#[test]
+fn measurements_are_those_that_the_call_answers(rt: HostRuntime) -> Result<(), Fail> {
+    let trace =
+        b"ecall 0x08454E43 0 0x80200000 1 0 0 0 0\necall 0x08454E43 6 1 0\necall 0x08454E43 6 1 1\necall 0x08454E43 6 1 2\necall 0x08454E43 6 1 3\n";
+    let plain = run(rt.alloc(), &RUN, PLATFORM, trace)?;
+    let measured = run(rt.alloc(), &MEASURE, PLATFORM, trace)?;
+    let (said, told) = digits(rt.alloc(), plain.out.as_slice(), measured.out.as_slice())?;
+    assert_eq!(rt; said.as_slice(), told.as_slice());
+    assert!(rt; !said.contains(&0));
+    assert!(rt; measured.out.as_slice().starts_with(plain.out.as_slice()));
+    let line = measured
+        .out
+        .as_slice()
+        .get(plain.out.len()..)
+        .unwrap_or(&[]);
+    assert_eq!(rt; line.len(), 75);
+    assert!(rt; line.starts_with(b"measure 1 "));
+    assert!(rt; line.ends_with(b"\n"));
+    Ok(())
+}
+
+#[test]
+fn harts_are_those_of_the_platform(rt: HostRuntime) -> Result<(), Fail> {
+    let mut two = Vec::from_slice(rt.alloc(), b"harts = 2\n")?;
+    two.extend_from_slice(PLATFORM)?;
+    let trace =
+        b"ecall 0x08454E43 0 0x80200000 1 0 0 0 0\n@1 load s 8 0x80200000\n@0 ecall 0x08454E43 2 1\n@1 ecall 0x08454E43 2 1\n@1 ecall 0x08454E43 1 1\n@1 ecall 0x08454E43 0 0x80202000 1 0 0 0 0\n@0 load u 8 0x80200000\n@0 load u 8 0x80202000\n@0 irq\n@1 ecall 0x08454E43 4 1\n@0 ecall 0x08454E43 5 7\n@1 ecall 0x08454E43 5 7\n@0 ecall 0x08454E43 1 1\n@1 load s 8 0x80200000\n@2 irq\n";
+    let report =
+        "1 call 0 0x0000000000000001 0 4\n2 fault 5\n3 call 0 0x0000000000000000 1 1\n4 call -111 0x0000000000000000 0 4\n5 call -111 0x0000000000000000 0 4\n6 call 0 0x0000000000000002 0 5\n7 ok 0x0000000000000000\n8 fault 5\n9 irq 0 5\n10 call 0 0x0000000000000000 1 1\n11 call -101 0x0000000000000000 0 5\n12 call 0 0x0000000000000007 0 5\n13 call 0 0x0000000000000000 0 4\n14 ok 0x0000000000000000\n";
+    let said = "pmpmon: trace.txt: line 15 is not understood\n";
+    stops(&rt, rt.alloc(), &RUN, two.as_slice(), trace, report, said)
+}
+
+/// Fourteen enclaves of a page, each two pages behind the last.
+fn scattered(alloc: Global) -> Result<Vec<u8>, Fail> {
+    let mut trace = Vec::new(alloc);
+    for i in 0..14u64 {
+        let base = i.saturating_mul(0x2000).saturating_add(0x80200000);
+        let line = format!(in alloc; "ecall 0x08454E43 0 {} 1 0 0 0 0\n", base)?;
+        trace.extend_from_slice(line.as_bytes())?;
+    }
+    Ok(trace)
+}
+
+#[test]
+fn entries_are_those_of_the_platform(rt: HostRuntime) -> Result<(), Fail> {
+    let trace = scattered(rt.alloc())?;
+    let sixteen = run(rt.alloc(), &RUN, PLATFORM, trace.as_slice())?;
+    assert!(rt;
+        sixteen.out.as_slice().ends_with(
+            b"13 call 0 0x000000000000000d 0 16\n14 call -108 0x0000000000000000 0 16\n"
+        )
+    );
+    let mut many = Vec::from_slice(rt.alloc(), b"entries = 64\n")?;
+    many.extend_from_slice(PLATFORM)?;
+    let ran = run(rt.alloc(), &RUN, many.as_slice(), trace.as_slice())?;
+    assert!(rt;
+        ran.out
+            .as_slice()
+            .ends_with(b"14 call 0 0x000000000000000e 0 17\n")
+    );
+    Ok(())
+}
+
+/// A platform whose RAM is seventeen pages with gaps between them, and one page far from them.
+fn of_seventeen(alloc: Global) -> Result<Vec<u8>, Fail> {
+    let mut far = Vec::from_slice(alloc, b"monitor = { base = 0, size = 4096 }\nram = [")?;
+    for i in 0..17u64 {
+        let range = format!(in alloc; "{{ base = {}, size = 4096 }},", i.saturating_mul(12288))?;
+        far.extend_from_slice(range.as_bytes())?;
+    }
+    far.extend_from_slice(b"{ base = 409600, size = 4096 }]\n")?;
+    Ok(far)
+}
+
+#[test]
+fn a_platform_at_fault_is_told_before_the_trace_is_opened(rt: HostRuntime) -> Result<(), Fail> {
+    let rows: [&[u8]; 3] = [
+        b"",
+        b"\xFF",
+        b"harts = 257\nmonitor = { base = 0, size = 4096 }\nram = [{ base = 0, size = 8192 }]\n",
+    ];
+    for platform in rows {
+        let said = "pmpmon: p.toml: not a platform\n";
+        refuses(&rt, rt.alloc(), &RUN, platform, b"what\n", said)?;
+    }
+    let mut large = vec![in rt.alloc(); b'#'; 1 << 20]?;
+    large.push(b'\n')?;
+    let said = "pmpmon: p.toml: too large\n";
+    refuses(&rt, rt.alloc(), &RUN, large.as_slice(), b"what\n", said)?;
+    let far = of_seventeen(rt.alloc())?;
+    let said = "pmpmon: needs 17 entries\n";
+    refuses(&rt, rt.alloc(), &RUN, far.as_slice(), b"what\n", said)
+}
+
+/// A run whose trace or report fails at a call ends behind what it took.
+fn ends_behind(
+    rt: &impl Abort,
+    alloc: Global,
+    trace: &[u8],
+    calls: (Option<u64>, Option<u64>),
+    report: &str,
+    said: &str,
+) -> Result<(), Fail> {
+    let mut failing = Failing::none(1);
+    failing.second = calls.0;
+    failing.out = calls.1;
+    let tried = try_on(alloc, &RUN, PLATFORM, trace, failing)?;
+    assert_eq!(rt; tried.status, 3);
+    assert_eq!(rt; tried.out.as_slice(), report.as_bytes());
+    assert_eq!(rt; tried.err.as_slice(), said.as_bytes());
+    Ok(())
+}
+
+#[test]
+fn a_failing_device_ends_a_run_behind_what_it_took(rt: HostRuntime) -> Result<(), Fail> {
+    let two = b"irq\nirq\n";
+    let output = "pmpmon: standard output: cannot write\n";
+    let trace = "pmpmon: trace.txt: cannot read\n";
+    ends_behind(
+        &rt,
+        rt.alloc(),
+        two,
+        (None, Some(6)),
+        "1 irq 0 3\n2 i",
+        output,
+    )?;
+    ends_behind(&rt, rt.alloc(), two, (None, Some(1)), "", output)?;
+    ends_behind(
+        &rt,
+        rt.alloc(),
+        b"irq\nir",
+        (Some(7), None),
+        "1 irq 0 3\n",
+        trace,
+    )?;
+    ends_behind(&rt, rt.alloc(), b"irq", (Some(4), None), "", trace)
+}
