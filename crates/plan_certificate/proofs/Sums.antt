@@ -11,7 +11,9 @@ use Rattle.prefix_tree.specs.Counts.{splits}
 use Rattle.entry_planner.specs.declared.costs.BlockCost.{BlockCost}
 use Rattle.entry_planner.specs.Plans.{costed}
 use Rattle.certificate_format.specs.declared.header.Version.{Version}
-use Rattle.certificate_format.specs.Spelling.{Spells, AreNoSubPages, HasNoOverflow, IsCertificate}
+use Rattle.certificate_format.specs.Spelling.{FitsNode, Spells, AreNoSubPages, HasNoOverflow, IsCertificate}
+use Rattle.plan_certificate.specs.Written.{certificate_bytes}
+use Rattle.plan_certificate.proofs.Spelled.{certificate_spelled}
 
 leaves_in : BoundTree → ℕ
 leaves_in (Leaf q) = 1
@@ -38,6 +40,16 @@ sums_fit view (suc k) first (Branch bounds lower upper) sound few = (
   sums_fit view k (first + 2 ^ k) upper sound.1 (omega arith),
 )
 
+costs_fit : (view : View) (k first : ℕ) (tree : BoundTree) → IsSoundAt view k first tree → leaves_in tree + 1 < 2 ^ 32 → FitsNode k tree
+unfolding leaves_in
+costs_fit view k first (Leaf q) sound few = tt
+costs_fit view zero first (Branch bounds lower upper) sound few = absurd sound
+costs_fit view (suc k) first (Branch bounds lower upper) sound few = (
+  (λ p. omega (arith, sound.2 p, bound_most view k first lower sound.0 p, bound_most view k (first + 2 ^ k) upper sound.1 p)),
+  costs_fit view k first lower sound.0 (omega arith),
+  costs_fit view k (first + 2 ^ k) upper sound.1 (omega arith),
+)
+
 leaves_in-costed : (costs : List BlockCost) (i : ℕ) (tree : PermTree) → leaves_in (costed costs i tree) ≡ splits tree + 1
 unfolding leaves_in
 leaves_in-costed costs i (Uniform q) = refl
@@ -57,3 +69,13 @@ plan_certified view tree costs entries version bytes small sound root pages spel
   sums = sums_fit view 44 0 (costed costs 0 tree) sound (omega (arith, leaves_in-costed costs 0 tree));
   few = omega arith;
 }
+
+-- the certificate of a plan spells it
+pub plan_spelled :
+    (view : View) (tree : PermTree) (costs : List BlockCost) (entries : List Entry) (version : Version) → splits tree ≤ 44 * 8192
+    → IsSoundBound view (costed costs 0 tree) → bound_of (costed costs 0 tree) NoAccess ≡ length entries
+    → Spells (certificate_bytes version entries (costed costs 0 tree)) version entries (costed costs 0 tree)
+plan_spelled view tree costs entries version small sound root =
+    let leaves = leaves_in-costed costs 0 tree in
+    let counted : length entries < 2 ^ 32 = omega (arith, root, leaves, bound_most view 44 0 (costed costs 0 tree) sound NoAccess) in
+    certificate_spelled version entries (costed costs 0 tree) counted (costs_fit view 44 0 (costed costs 0 tree) sound (omega (arith, leaves)))

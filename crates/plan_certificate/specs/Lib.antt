@@ -1,2 +1,3 @@
 pub mod Spelling
 pub mod Written
+pub mod Sending

@@ -6,6 +6,8 @@ use Rattle.pmp_encoding.specs.declared.limit.Limit.TheVariants.{Sixteen, SixtyFo
 use Rattle.pmp_encoding.specs.declared.region.Entry.{Entry}
 use Rattle.pmp_encoding.specs.Encoding.{cfg_of, address_of}
 use Rattle.pmp_match.specs.Bounds.{BoundTree}
+use Rattle.prefix_tree.specs.Trees.{PermTree}
+use Rattle.entry_planner.specs.Plans.{Planned, costed}
 use Rattle.certificate_format.specs.declared.header.Version.{Version}
 use Rattle.certificate_format.specs.declared.header.Version.TheVariants.{One, Two}
 use Rattle.certificate_format.specs.Spelling.{pair_bytes, header_bytes, node_bytes}
@@ -22,3 +24,7 @@ entry_bytes e = pair_bytes (cfg_of e, address_of e)
 abbrev pub certificate_bytes : Version → List Entry → BoundTree → List ℕ
 certificate_bytes version entries tree =
     header_bytes (record { version = version; count = length entries }) ++ (flat_map entry_bytes entries ++ node_bytes tree)
+
+-- the certificate of a plan of a tree, for a hart of that limit
+abbrev pub certificate_for : Limit → Planned → PermTree → List ℕ
+certificate_for limit plan tree = certificate_bytes (version_for limit) plan.entries (costed plan.costs 0 tree)

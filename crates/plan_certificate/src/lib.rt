@@ -1,7 +1,7 @@
 //! Writes the certificate of a tree and its plan.
 //!
 //! For the layer above: the bytes that [`write`] gives spell the plan's entries and the tree with the plan's costs,
-//! and nothing else. Of a plan's promises they are a certificate ([`certificate_law`]). What certificates are, and
+//! and nothing else; [`send_map`] sends the same bytes piece by piece and takes no memory. Of a plan's promises they are a certificate ([`certificate_law`]). What certificates are, and
 //! the cursor that reads them, stand in `certificate_format`, whose names this crate hands on.
 //!
 //! ```rust
@@ -12,10 +12,11 @@
 #![tactic(auto)]
 
 mod laws;
+mod sending;
 #[cfg(test)]
 mod tests;
 mod writing;
 
 pub use certificate_format::{EntryBytes, Header, ReadFault, Reader, SixCosts, Tag, Version};
 pub use laws::certificate_law;
-pub use writing::{write, write_map};
+pub use writing::{send_map, write, write_map};

@@ -1,4 +1,5 @@
-use crate::{Header, ReadFault, Reader, Tag, write, write_map};
+use crate::{Header, ReadFault, Reader, Tag, send_map, write, write_map};
+use byte_streams::fakes::PieceSink;
 use entry_planner::{plan, plan_map};
 use permission_map::PermissionMap;
 use pmp_encoding::{Limit, Perm};
@@ -127,5 +128,20 @@ fn seven_pages_take_two_entries(rt: HostRuntime) -> Result<(), Fail> {
     assert_eq!(rt; costs.cost(Perm::NoAccess), 2);
     let (_, left) = read_whole(bytes.as_slice())?;
     assert_eq!(rt; left, 0);
+    Ok(())
+}
+
+#[test]
+fn a_certificate_that_is_sent_is_the_one_that_is_held(rt: HostRuntime) -> Result<(), Fail> {
+    let mut map = PermissionMap::new(rt.alloc());
+    map.set_range(0x80208, 7, Perm::ReadExecute)?;
+    let plan = plan_map(rt.alloc(), &map)?;
+    let bytes = write_map(rt.alloc(), &map, &plan, Limit::SixtyFour)?;
+    let mut sink = PieceSink::new(100, None);
+    assert!(rt; send_map(&map, &plan, Limit::SixtyFour, &mut sink).is_ok());
+    assert!(rt; sink.written() == bytes.as_slice());
+    let mut failing = PieceSink::new(100, Some(3));
+    assert!(rt; send_map(&map, &plan, Limit::SixtyFour, &mut failing).is_err());
+    assert_eq!(rt; failing.written().len(), 200);
     Ok(())
 }

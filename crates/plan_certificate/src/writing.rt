@@ -1,107 +1,21 @@
-ghost use Rattle.std.specs.Prelude.{◌≡◌, ◌+◌, ◌*◌, ◌≤◌, ◌<◌, ◌^◌, ◌++◌, ℕ, IfOk, OnOk, length};
-ghost use Rattle.std.specs.List.{flat_map};
+ghost use Rattle.std.specs.Prelude.{◌≡◌, ◌-◌, ◌*◌, ◌≤◌, ◌<◌, ◌^◌, ℕ, IfOk, IfErr, length, take};
+ghost use Rattle.std.specs.Io.KnownBytes.{Appends};
+ghost use Rattle.byte_streams.specs.Streams.{WriteFails};
 ghost use Rattle.prefix_tree.specs.Trees.{Fits};
 ghost use Rattle.prefix_tree.specs.Counts.{splits};
 ghost use Rattle.prefix_tree.specs.TreeOf.{tree_of};
 ghost use Rattle.permission_map.specs.Runs.{view_of_runs};
-ghost use Rattle.entry_planner.specs.Plans.{cost_in, costed};
-ghost use Rattle.certificate_format.specs.Spelling.{u32_bytes, u64_bytes, header_bytes, costs_bytes, node_bytes, FitsNode, Spells};
-ghost use Rattle.plan_certificate.specs.Written.{version_for, entry_bytes, certificate_bytes};
+ghost use Rattle.entry_planner.specs.Plans.{costed};
+ghost use Rattle.certificate_format.specs.Spelling.{Spells};
+ghost use Rattle.plan_certificate.specs.Written.{version_for, certificate_bytes, certificate_for};
 
-use certificate_format::{Header, Version};
+use crate::sending::send;
+use byte_streams::{Counted, DeviceFault, Sink};
 use entry_planner::Plan;
 use permission_map::{Memory, PermissionMap};
-use pmp_encoding::{Entry, Limit, Perm};
+use pmp_encoding::Limit;
 use prefix_tree::{Halving, MapBlock, Tree};
-use std::alloc::Global;
-
-#[tactic(auto, unfolding(crate::specs::Spelling::u32_bytes))]
-fn push_u32(out: &mut Vec<u8>, number: u32) -> Result<(), Memory>
-    ensures { OnOk result (out.new.items ≡ out.old.items ++ u32_bytes number) }
-{
-    out.extend_from_slice(number.to_le_bytes().as_slice())
-}
-
-#[tactic(auto, unfolding(crate::specs::Spelling::u64_bytes))]
-fn push_u64(out: &mut Vec<u8>, number: u64) -> Result<(), Memory>
-    ensures { OnOk result (out.new.items ≡ out.old.items ++ u64_bytes number) }
-{
-    out.extend_from_slice(number.to_le_bytes().as_slice())
-}
-
-fn version_for(limit: Limit) -> Version
-    ensures { result ≡ version_for limit }
-{
-    match limit {
-        Limit::Sixteen => Version::One,
-        Limit::SixtyFour => Version::Two(limit),
-    }
-}
-
-fn push_header(out: &mut Vec<u8>, header: Header) -> Result<(), Memory>
-    ensures { OnOk result (out.new.items ≡ out.old.items ++ header_bytes header) }
-{
-    out.extend_from_slice(b"PMPC".as_slice())?;
-    match header.version {
-        Version::One => out.push(1)?,
-        Version::Two(limit) => {
-            out.push(2)?;
-            out.push(limit.number() as u8)?;
-        }
-    }
-    push_u32(out, header.count)
-}
-
-fn push_entries(out: &mut Vec<u8>, entries: &[Entry]) -> Result<(), Memory>
-    ensures { OnOk result (out.new.items ≡ out.old.items ++ flat_map entry_bytes entries.now) }
-{
-    for entry in entries {
-        let (cfg, address) = entry.encode();
-        out.push(cfg)?;
-        push_u64(out, address)?;
-    }
-    Ok(())
-}
-
-/// The costs of the i-th split block.
-fn push_costs(out: &mut Vec<u8>, plan: &Plan, i: usize) -> Result<(), Memory>
-    requires { i < length plan.now.costs }
-    ensures bytes { OnOk result (out.new.items ≡ out.old.items ++ costs_bytes (cost_in plan.now.costs i)) }
-    ensures fits { OnOk result ((perm : Perm) → cost_in plan.now.costs i perm < 2 ^ 32) }
-{
-    push_u32(out, plan.cost(i, Perm::NoAccess))?;
-    push_u32(out, plan.cost(i, Perm::Read))?;
-    push_u32(out, plan.cost(i, Perm::ReadWrite))?;
-    push_u32(out, plan.cost(i, Perm::Execute))?;
-    push_u32(out, plan.cost(i, Perm::ReadExecute))?;
-    push_u32(out, plan.cost(i, Perm::ReadWriteExecute))
-}
-
-/// The node of a block whose split blocks count from the i-th on, and the number of the first one behind it.
-fn push_node<H: Halving>(
-    out: &mut Vec<u8>,
-    block: &H,
-    plan: &Plan,
-    i: usize,
-) -> Result<usize, Memory>
-    requires counted { i + splits (H.shape block.now) ≤ length plan.now.costs }
-    requires small { length plan.now.costs < 2 ^ 64 }
-    ensures next { IfOk result (λ next. next ≡ i + splits (H.shape block.now)) }
-    ensures bytes { OnOk result (out.new.items ≡ out.old.items ++ node_bytes (costed plan.now.costs i (H.shape block.now))) }
-    ensures fits { OnOk result ((k : ℕ) → Fits k (H.shape block.now) → FitsNode k (costed plan.now.costs i (H.shape block.now))) }
-{
-    if let Some(perm) = block.one_perm() {
-        out.push(0)?;
-        out.push(perm.bits())?;
-        return Ok(i);
-    }
-    let (lower, upper) = block.halves();
-    out.push(1)?;
-    push_costs(out, plan, i)?;
-    let next = push_node(out, &lower, plan, i + 1)?;
-    let next = push_node(out, &upper, plan, next)?;
-    Ok(next)
-}
+use std::alloc::{AllocError, Global};
 
 /// The certificate of the space, of which the plan has so many split blocks.
 fn write_of<H: Halving>(
@@ -116,17 +30,12 @@ fn write_of<H: Halving>(
     ensures bytes { IfOk result (λ v. v.items ≡ certificate_bytes (version_for limit) plan.now.entries (costed plan.now.costs 0 (H.shape root.now))) }
     ensures spells { IfOk result (λ v. Spells v.items (version_for limit) plan.now.entries (costed plan.now.costs 0 (H.shape root.now))) }
 {
-    let branches = plan.branches();
-    let count = plan.needed();
-    let header = Header {
-        version: version_for(limit),
-        count,
+    let room = 12 + 9 * plan.needed() as usize + 27 * plan.branches();
+    let mut sink = Counted::new(Vec::with_capacity(alloc, room)?);
+    let Ok(()) = send(root, plan, limit, &mut sink) else {
+        return Err(AllocError);
     };
-    let mut out = Vec::with_capacity(alloc, 12 + 9 * count as usize + 27 * branches)?;
-    push_header(&mut out, header)?;
-    push_entries(&mut out, plan.entries())?;
-    push_node(&mut out, root, plan, 0)?;
-    Ok(out)
+    Ok(sink.into_inner())
 }
 
 /// The certificate of a tree and its plan, for harts of so many entries: sixteen are written in the first form,
@@ -156,4 +65,25 @@ pub fn write_map(
 {
     let bytes = write_of(alloc, &MapBlock::of(map), plan, limit)?;
     Ok(bytes)
+}
+
+/// Sends the certificate that [`write_map`] makes to a sink, piece by piece, so that it is never held whole.
+pub fn send_map<W: Sink>(
+    map: &PermissionMap,
+    plan: &Plan,
+    limit: Limit,
+    sink: &mut W,
+) -> Result<(), DeviceFault>
+    requires failures { W.failures sink.old < 2 ^ 64 - 1 }
+    requires splits { splits (tree_of (view_of_runs map.now)) ≡ length plan.now.costs }
+    ensures whole { IfOk result (λ _. Appends (W.contents sink.old) (W.contents sink.new) (certificate_for limit plan.now (tree_of (view_of_runs map.now)))) }
+    ensures well { IfOk result (λ _. W.failures sink.new ≡ W.failures sink.old) }
+    ensures unstalled { IfOk result (λ _. W.stalls sink.new ≡ W.stalls sink.old) }
+    ensures part { IfErr result (λ _. let bytes = certificate_for limit plan.now (tree_of (view_of_runs map.now)) in (n : ℕ) × (n < length bytes) × Appends (W.contents sink.old) (W.contents sink.new) (take n bytes)) }
+    ensures failed { IfErr result (λ _. WriteFails (W.failures sink.old) (W.failures sink.new) (W.stalls sink.old) (W.stalls sink.new)) }
+{
+    let Ok(()) = send(&MapBlock::of(map), plan, limit, sink) else {
+        return Err(DeviceFault);
+    };
+    Ok(())
 }

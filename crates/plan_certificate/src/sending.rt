@@ -1,0 +1,216 @@
+ghost use Rattle.std.specs.Prelude.{◌≡◌, ◌+◌, ◌-◌, ◌≤◌, ◌<◌, ◌^◌, ◌∷◌, ◌++◌, ℕ, [], IfOk, IfErr, OnOk, length};
+ghost use Rattle.std.specs.List.{flat_map};
+ghost use Rattle.std.specs.Io.KnownBytes.{Appends};
+ghost use Rattle.pmp_encoding.specs.declared.perm.Perm.{Perm};
+ghost use Rattle.prefix_tree.specs.Counts.{splits};
+ghost use Rattle.prefix_tree.specs.Trees.{Fits};
+ghost use Rattle.entry_planner.specs.Plans.{cost_in, costed};
+ghost use Rattle.certificate_format.specs.Costs.{cost_of, six_of};
+ghost use Rattle.certificate_format.specs.Spelling.{costs_bytes, header_bytes, version_bytes, node_bytes, FitsNode};
+ghost use Rattle.plan_certificate.specs.Sending.{taken, IsPut, IsCut};
+ghost use Rattle.plan_certificate.specs.Written.{version_for, entry_bytes, certificate_for};
+
+use arrayvec::ArrayVec;
+use byte_streams::{DeviceFault, Sink, write_whole};
+use byteorder::{ByteOrder, LittleEndian};
+use certificate_format::{Header, SixCosts, Version};
+use entry_planner::Plan;
+use pmp_encoding::{Entry, Limit, Perm};
+use prefix_tree::Halving;
+
+/// How many bytes go to a sink at a time.
+const PIECE: usize = 32768;
+
+fn version_for(limit: Limit) -> Version
+    ensures { result ≡ version_for limit }
+{
+    match limit {
+        Limit::Sixteen => Version::One,
+        Limit::SixtyFour => Version::Two(limit),
+    }
+}
+
+/// Puts bytes behind those that are held, for which there is room.
+fn hold(piece: &mut ArrayVec<u8, PIECE>, bytes: &[u8])
+    requires { length piece.old.items + length bytes.now ≤ 32768 }
+    ensures { piece.new.items ≡ piece.old.items ++ bytes.now }
+{
+    let Ok(()) = piece.try_extend_from_slice(bytes) else {
+        unreachable!();
+    };
+}
+
+/// Puts the form behind what is held.
+fn hold_version(piece: &mut ArrayVec<u8, PIECE>, version: Version)
+    requires { length piece.old.items ≤ 32766 }
+    ensures { piece.new.items ≡ piece.old.items ++ version_bytes version }
+{
+    match version {
+        Version::One => hold(piece, [1].as_slice()),
+        Version::Two(limit) => hold(piece, [2, limit.number() as u8].as_slice()),
+    }
+}
+
+/// The header's bytes.
+#[tactic(auto, unfolding(crate::specs::Spelling::u32_bytes))]
+fn header_piece(header: Header) -> ArrayVec<u8, PIECE>
+    ensures { result.items ≡ header_bytes header }
+{
+    let mut piece = ArrayVec::new();
+    hold(&mut piece, b"PMPC".as_slice());
+    hold_version(&mut piece, header.version);
+    hold(&mut piece, header.count.to_le_bytes().as_slice());
+    piece
+}
+
+/// An entry's configuration byte and address register.
+#[tactic(auto, unfolding(crate::specs::Spelling::u64_bytes))]
+fn pair_of(entry: &Entry) -> [u8; 9]
+    ensures { result ≡ entry_bytes entry.now }
+{
+    let (cfg, address) = entry.encode();
+    let mut bytes = [cfg; 9];
+    LittleEndian::write_u64(&mut bytes[1..], address);
+    bytes
+}
+
+/// The costs of the i-th split block.
+fn costs_of(plan: &Plan, i: usize) -> SixCosts
+    requires { i < length plan.now.costs }
+    ensures costs { result ≡ six_of (cost_in plan.now.costs i) }
+    ensures fits { (perm : Perm) → cost_in plan.now.costs i perm < 2 ^ 32 }
+{
+    SixCosts {
+        no_access: plan.cost(i, Perm::NoAccess),
+        read: plan.cost(i, Perm::Read),
+        read_write: plan.cost(i, Perm::ReadWrite),
+        execute: plan.cost(i, Perm::Execute),
+        read_execute: plan.cost(i, Perm::ReadExecute),
+        read_write_execute: plan.cost(i, Perm::ReadWriteExecute),
+    }
+}
+
+/// A branch's tag and its costs.
+#[tactic(auto, unfolding(crate::specs::Spelling::u32_bytes))]
+fn front_of(costs: SixCosts) -> [u8; 25]
+    ensures { result ≡ 1 ∷ costs_bytes (cost_of costs) }
+{
+    let mut bytes = [1; 25];
+    LittleEndian::write_u32(&mut bytes[1..5], costs.no_access);
+    LittleEndian::write_u32(&mut bytes[5..9], costs.read);
+    LittleEndian::write_u32(&mut bytes[9..13], costs.read_write);
+    LittleEndian::write_u32(&mut bytes[13..17], costs.execute);
+    LittleEndian::write_u32(&mut bytes[17..21], costs.read_execute);
+    LittleEndian::write_u32(&mut bytes[21..25], costs.read_write_execute);
+    bytes
+}
+
+/// Puts bytes behind those that are held, which go to the sink first where there is no room.
+fn put<W: Sink>(
+    piece: &mut ArrayVec<u8, PIECE>,
+    bytes: &[u8],
+    sink: &mut W,
+) -> Result<(), DeviceFault>
+    requires failures { W.failures sink.old < 2 ^ 64 - 1 }
+    requires small { length bytes.now ≤ 32768 }
+    ensures put { IfOk result (λ _. IsPut piece.old.items piece.new.items (taken W.contents W.failures W.stalls sink.old) (taken W.contents W.failures W.stalls sink.new) bytes.now) }
+    ensures cut { IfErr result (λ _. IsCut piece.old.items (taken W.contents W.failures W.stalls sink.old) (taken W.contents W.failures W.stalls sink.new) bytes.now) }
+{
+    if piece.remaining_capacity() < bytes.len() {
+        let Ok(()) = write_whole(sink, piece.as_slice()) else {
+            return Err(DeviceFault);
+        };
+        piece.clear();
+        hold(piece, bytes);
+        return Ok(());
+    }
+    hold(piece, bytes);
+    Ok(())
+}
+
+/// Puts the entries.
+fn put_entries<W: Sink>(
+    piece: &mut ArrayVec<u8, PIECE>,
+    entries: &[Entry],
+    sink: &mut W,
+) -> Result<(), DeviceFault>
+    requires failures { W.failures sink.old < 2 ^ 64 - 1 }
+    ensures put { IfOk result (λ _. IsPut piece.old.items piece.new.items (taken W.contents W.failures W.stalls sink.old) (taken W.contents W.failures W.stalls sink.new) (flat_map entry_bytes entries.now)) }
+    ensures cut { IfErr result (λ _. IsCut piece.old.items (taken W.contents W.failures W.stalls sink.old) (taken W.contents W.failures W.stalls sink.new) (flat_map entry_bytes entries.now)) }
+{
+    for entry in entries {
+        let Ok(()) = put(piece, pair_of(entry).as_slice(), sink) else {
+            return Err(DeviceFault);
+        };
+    }
+    Ok(())
+}
+
+/// Puts the node of a block whose split blocks count from the i-th on, and answers the number of the first one behind it.
+fn put_node<H: Halving, W: Sink>(
+    piece: &mut ArrayVec<u8, PIECE>,
+    block: &H,
+    plan: &Plan,
+    i: usize,
+    sink: &mut W,
+) -> Result<usize, DeviceFault>
+    requires failures { W.failures sink.old < 2 ^ 64 - 1 }
+    requires counted { i + splits (H.shape block.now) ≤ length plan.now.costs }
+    requires small { length plan.now.costs < 2 ^ 64 }
+    ensures next { IfOk result (λ next. next ≡ i + splits (H.shape block.now)) }
+    ensures put { IfOk result (λ _. IsPut piece.old.items piece.new.items (taken W.contents W.failures W.stalls sink.old) (taken W.contents W.failures W.stalls sink.new) (node_bytes (costed plan.now.costs i (H.shape block.now)))) }
+    ensures cut { IfErr result (λ _. IsCut piece.old.items (taken W.contents W.failures W.stalls sink.old) (taken W.contents W.failures W.stalls sink.new) (node_bytes (costed plan.now.costs i (H.shape block.now)))) }
+    ensures fits { OnOk result ((k : ℕ) → Fits k (H.shape block.now) → FitsNode k (costed plan.now.costs i (H.shape block.now))) }
+{
+    if let Some(perm) = block.one_perm() {
+        let Ok(()) = put(piece, [0, perm.bits()].as_slice(), sink) else {
+            return Err(DeviceFault);
+        };
+        return Ok(i);
+    }
+    let (lower, upper) = block.halves();
+    let front = front_of(costs_of(plan, i));
+    let Ok(()) = put(piece, front.as_slice(), sink) else {
+        return Err(DeviceFault);
+    };
+    let Ok(middle) = put_node(piece, &lower, plan, i + 1, sink) else {
+        return Err(DeviceFault);
+    };
+    let Ok(next) = put_node(piece, &upper, plan, middle, sink) else {
+        return Err(DeviceFault);
+    };
+    Ok(next)
+}
+
+/// Sends the certificate of the space, of which the plan has so many split blocks, to a sink.
+pub(crate) fn send<H: Halving, W: Sink>(
+    root: &H,
+    plan: &Plan,
+    limit: Limit,
+    sink: &mut W,
+) -> Result<(), DeviceFault>
+    requires failures { W.failures sink.old < 2 ^ 64 - 1 }
+    requires splits { splits (H.shape root.now) ≡ length plan.now.costs }
+    requires small { length plan.now.costs < 2 ^ 64 }
+    ensures whole { IfOk result (λ _. Appends (W.contents sink.old) (W.contents sink.new) (certificate_for limit plan.now (H.shape root.now))) }
+    ensures well { IfOk result (λ _. W.failures sink.new ≡ W.failures sink.old) }
+    ensures unstalled { IfOk result (λ _. W.stalls sink.new ≡ W.stalls sink.old) }
+    ensures cut { IfErr result (λ _. IsCut [] (taken W.contents W.failures W.stalls sink.old) (taken W.contents W.failures W.stalls sink.new) (certificate_for limit plan.now (H.shape root.now))) }
+    ensures fits { OnOk result ((k : ℕ) → Fits k (H.shape root.now) → FitsNode k (costed plan.now.costs 0 (H.shape root.now))) }
+{
+    let header = Header {
+        version: version_for(limit),
+        count: plan.needed(),
+    };
+    let mut piece = header_piece(header);
+    let Ok(()) = put_entries(&mut piece, plan.entries(), sink) else {
+        return Err(DeviceFault);
+    };
+    let Ok(_) = put_node(&mut piece, root, plan, 0, sink) else {
+        return Err(DeviceFault);
+    };
+    let Ok(()) = write_whole(sink, piece.as_slice()) else {
+        return Err(DeviceFault);
+    };
+    Ok(())
+}
