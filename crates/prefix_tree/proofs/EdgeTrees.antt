@@ -1,12 +1,12 @@
 -- Blocks with one edge.
-use Rattle.std.proofs.Common.{◌≡◌, ℕ, zero, suc, ◌+◌, ◌-◌, ◌*◌, ◌^◌, ◌<◌, ◌≤◌, ⊎_elim, List, [], ◌∷◌, length, slice_index_or, None, Some, cond, sym, ap, ap₂, ◌∙◌, arith, pow_pos, pow-suc}
+use Rattle.std.proofs.Common.{◌≡◌, ◌≢◌, ℕ, zero, suc, ◌+◌, ◌-◌, ◌*◌, ◌^◌, ◌<◌, ◌≤◌, ⊎_elim, List, [], ◌∷◌, length, slice_index_or, None, Some, cond, refl, sym, ap, ap₂, ◌∙◌, arith, pow_pos, pow-suc}
 use Rattle.std.proofs.lemmas.Bool.{cases_lt, lt-ltb, le-ltb}
 use Rattle.pmp_encoding.specs.declared.perm.Perm.TheVariants.{NoAccess}
 use Rattle.permission_map.specs.declared.runs.Run.{Run}
 use Rattle.permission_map.specs.Runs.{end_of, view_of_runs}
 use Rattle.permission_map.proofs.Rising.{view_in, view_above, view_past}
 use Rattle.prefix_tree.specs.declared.edge_blocks.Edge.{Edge}
-use Rattle.prefix_tree.specs.Trees.{Uniform, Split, TreeMeansAt}
+use Rattle.prefix_tree.specs.Trees.{PermTree, Uniform, Split, TreeMeansAt}
 use Rattle.prefix_tree.specs.Joined.{one_perm}
 use Rattle.prefix_tree.specs.Slices.{AreBlockRuns}
 use Rattle.prefix_tree.specs.TreeOf.{tree_at}
@@ -45,6 +45,10 @@ edge_high edge (suc h) is = omega arith
 halved : (edge : Edge) (h k : ℕ) → h ≡ suc k → IsEdgeIn edge h → edge_tree edge h ≡ Split (edge_tree edge k) (tree_at (edge_view edge) k (0 + 2 ^ k))
 halved edge h k e is = tree_at-halves (edge_view edge) h k 0 e (edge_cuts edge h is)
 
+pub edge_split : (edge : Edge) (h : ℕ) → IsEdgeIn edge h → (low : PermTree) × (high : PermTree) × (edge_tree edge h ≡ Split low high)
+edge_split edge zero is = absurd (omega (arith, is.begins, is.ends))
+edge_split edge (suc k) is = (edge_tree edge k, tree_at (edge_view edge) k (0 + 2 ^ k), halved edge (suc k) k refl is)
+
 -- the edge lies in the lower half
 pub edge_lower : (edge : Edge) (h k : ℕ) → h ≡ suc k → IsEdgeIn edge h → edge.place < 2 ^ k → edge_tree edge h ≡ Split (edge_tree edge k) (Uniform edge.behind)
 edge_lower edge h k e is low = halved edge h k e is ∙ ap (Split (edge_tree edge k)) (all_behind edge k (0 + 2 ^ k) (omega arith))
@@ -75,6 +79,41 @@ in_upper edge h k e is high =
 pub edge_middle : (edge : Edge) (h k : ℕ) → h ≡ suc k → IsEdgeIn edge h → edge.place ≡ 2 ^ k → edge_tree edge h ≡ Split (Uniform edge.before) (Uniform edge.behind)
 edge_middle edge h k e is at =
     halved edge h k e is ∙ ap₂ Split (all_before edge k 0 (omega arith)) (all_behind edge k (0 + 2 ^ k) (omega arith))
+
+-- ---- from below: the edge so many pages from the first of a block
+
+abbrev pub at_place : Edge → ℕ → Edge
+at_place edge n = record { place = n; before = edge.before; behind = edge.behind }
+
+pub none_inside : (edge : Edge) (k : ℕ) → edge_tree (at_place edge 0) k ≡ Uniform edge.behind
+none_inside edge k = all_behind (at_place edge 0) k 0 (omega arith)
+
+-- the block is the lower half of the next
+pub lower_next :
+    (edge : Edge) (k n : ℕ) → k < 44 → edge.before ≢ edge.behind → 0 < n → n < 2 ^ k
+    → edge_tree (at_place edge n) (suc k) ≡ Split (edge_tree (at_place edge n) k) (Uniform edge.behind)
+lower_next edge k n low apart some below =
+    let double : 2 ^ suc k ≡ 2 ^ k * 2 = pow-suc 2 k in
+    let is : IsEdgeIn (at_place edge n) (suc k) = record { low = omega arith; begins = some; ends = omega arith; apart = apart } in
+    edge_lower (at_place edge n) (suc k) k refl is below
+
+-- the upper
+pub upper_next :
+    (edge : Edge) (k n : ℕ) → k < 44 → edge.before ≢ edge.behind → n < 2 ^ k
+    → edge_tree (at_place edge (n + 2 ^ k)) (suc k) ≡ Split (Uniform edge.before) (edge_tree (at_place edge n) k)
+upper_next edge k n low apart below = go n below
+  where
+    is : (m : ℕ) → m < 2 ^ k → IsEdgeIn (at_place edge (m + 2 ^ k)) (suc k)
+    is m h =
+        let double : 2 ^ suc k ≡ 2 ^ k * 2 = pow-suc 2 k in
+        record { low = omega arith; begins = omega (arith, pow_pos k); ends = omega arith; apart = apart }
+
+    go : (m : ℕ) → m < 2 ^ k → edge_tree (at_place edge (m + 2 ^ k)) (suc k) ≡ Split (Uniform edge.before) (edge_tree (at_place edge m) k)
+    go zero h =
+        edge_middle (at_place edge (0 + 2 ^ k)) (suc k) k refl (is 0 h) (omega arith) ∙ ap (Split (Uniform edge.before)) (sym (none_inside edge k))
+    go (suc m) h =
+        let back : suc m + 2 ^ k - 2 ^ k ≡ suc m = omega arith in
+        edge_upper (at_place edge (suc m + 2 ^ k)) (suc k) k refl (is (suc m) h) (omega arith) ∙ ap (λ p. Split (Uniform edge.before) (edge_tree (at_place edge p) k)) back
 
 -- ---- the one run of a block, and the edge that it has there
 
