@@ -5,7 +5,8 @@ use Rattle.pmp_encoding.specs.declared.region.Entry.{Entry}
 use Rattle.pmp_encoding.specs.Limits.{limit_number}
 use Rattle.text_lines.specs.Written.{hex}
 use Rattle.stretches.specs.declared.stretch.Stretch.{Stretch}
-use Rattle.map_table.specs.Fields.{column, letters_of, size_text}
+use Rattle.printed_lines.specs.Fields.{letters_of, size_text}
+use Rattle.map_table.specs.Fields.{column}
 
 -- a stretch with a byte, and with the number of an entry of the list or of none
 pub record IsRow (entries : List Entry) (s : Stretch) : Type 0 where

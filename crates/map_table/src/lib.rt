@@ -19,5 +19,4 @@ mod table;
 #[cfg(test)]
 mod tests;
 
-pub use fields::{letters, push_size};
 pub use table::{TableFault, print_map};

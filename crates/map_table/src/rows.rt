@@ -4,11 +4,12 @@ ghost use Rattle.std.specs.Prelude.{◌≡◌, ◌+◌, ◌++◌, ◌<◌, ◌�
 ghost use Rattle.arrayvec.specs.ArrayVec.{array_vec_len};
 ghost use Rattle.map_table.specs.Rows.{IsRow, before_text, count_text, fitting_text, has_rest, named_text, number_text, overridden_from, range_text, rest_of, row_by, rows_text};
 
-use crate::fields::{letters, push_column};
+use crate::fields::push_column;
 use crate::overridden::overridden;
 use arrayvec::ArrayVec;
 use permission_map::Memory;
 use pmp_encoding::{Entry, Limit};
+use printed_lines::letters;
 use stretches::Stretch;
 use text_lines::{Line, push_decimal, push_hex, push_text};
 

@@ -1,14 +1,11 @@
-//! The table of the README's map and of others, as text, and sizes in words.
+//! The table of the README's map and of others, as text.
 
 use crate::table::table_of;
-use crate::{letters, push_size};
-use arrayvec::ArrayVec;
 use permission_map::PermissionMap;
 use pmp_encoding::{Entry, Limit, Perm, Region};
 use std::alloc::Global;
 use std::process::Abort;
 use std::test::Fail;
-use text_lines::Line;
 
 /// The entry of that block.
 fn entry(rt: &impl Abort, base: u64, log2: u32, perm: Perm) -> Entry {
@@ -115,35 +112,4 @@ fn more_entries_than_a_hart_has(rt: HostRuntime) -> Result<(), Fail> {
     let last = b"17 entries: fewest possible; does not fit 16\n";
     assert!(rt; text.as_slice().ends_with(last.as_slice()));
     Ok(())
-}
-
-#[test]
-fn sizes_in_the_largest_unit_that_counts_them_whole(rt: HostRuntime) {
-    for (size, text) in [
-        (4, "4 B"),
-        (4096, "4 KiB"),
-        (0x7e0_0000, "126 MiB"),
-        (0x7fff_f000, "2097148 KiB"),
-        (1 << 30, "1 GiB"),
-        (3 << 40, "3 TiB"),
-        (1 << 56, "64 PiB"),
-    ] {
-        let mut line: Line = ArrayVec::new();
-        push_size(&mut line, size);
-        assert_eq!(rt; line.as_slice(), text.as_bytes());
-    }
-}
-
-#[test]
-fn letters_of_the_six_permissions(rt: HostRuntime) {
-    for (perm, text) in [
-        (Perm::NoAccess, "---"),
-        (Perm::Read, "r--"),
-        (Perm::ReadWrite, "rw-"),
-        (Perm::Execute, "--x"),
-        (Perm::ReadExecute, "r-x"),
-        (Perm::ReadWriteExecute, "rwx"),
-    ] {
-        assert_eq!(rt; letters(perm), text);
-    }
 }

@@ -1,7 +1,7 @@
 //! The lines that the program prints, each in a buffer of a fixed length, and the printing of a plan.
 //!
 //! For the layer above: each function that ends in `_line` answers the text that its clause names, and takes no memory;
-//! [`print_plan`] writes the lines of a list of entries to a sink.
+//! [`print_plan`] writes the lines of a list of entries to a sink. Sizes and permissions are put in words here.
 //!
 //! ```rust
 //! print_plan(plan.entries(), Limit::Sixteen, &mut out)?;
@@ -9,9 +9,13 @@
 #![tactic(auto)]
 
 mod digests;
+mod fields;
 mod printing;
+#[cfg(test)]
+mod tests;
 mod texts;
 
 pub use digests::{digest_text, measure_line};
+pub use fields::{letters, perm_name, push_size};
 pub use printing::print_plan;
 pub use texts::{accepted_line, accepted_of_line, count_line, entry_line, refused_line, word_line};

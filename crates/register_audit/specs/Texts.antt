@@ -3,7 +3,7 @@ use Rattle.std.specs.Prelude.{ℕ, ◌+◌, ◌-◌, ◌==◌, if◌then◌else�
 use Rattle.pmp_encoding.specs.declared.fault.EncodingFault.{EncodingFault}
 use Rattle.pmp_encoding.specs.declared.fault.EncodingFault.TheVariants.{ReservedPerm, Tor, Locked, ReservedBits, AddressBits, NoSuchCsr}
 use Rattle.text_lines.specs.Written.{hex}
-use Rattle.map_table.specs.Fields.{letters_of}
+use Rattle.printed_lines.specs.Fields.{letters_of}
 use Rattle.register_text.specs.declared.registers.Registers.{Registers}
 use Rattle.register_audit.specs.declared.verdict.Verdict.{Verdict}
 use Rattle.register_audit.specs.declared.verdict.Verdict.TheVariants as verdicts

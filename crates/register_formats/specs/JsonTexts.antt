@@ -8,7 +8,7 @@ use Rattle.pmp_encoding.specs.Banks.{IsBankOf, word_at}
 use Rattle.pmp_encoding.specs.Encoding.{address_of, cfg_of}
 use Rattle.pmp_encoding.specs.Limits.{limit_number}
 use Rattle.text_lines.specs.Written.{hex}
-use Rattle.register_formats.specs.Names.{perm_name}
+use Rattle.printed_lines.specs.Fields.{perm_name}
 use Rattle.register_formats.specs.Rows.{rows_text}
 
 -- a byte of a name in a string: a quote and a backslash behind a backslash, a control character by its number

@@ -1,33 +1,9 @@
--- Permissions, sizes and entries as people read them.
-use Rattle.std.specs.Prelude.{ℕ, ◌^◌, ◌%◌, ◌++◌, nat_lt, if◌then◌else◌, List, Option, Some, None, codes, decimal}
-use Rattle.pmp_encoding.specs.declared.perm.Perm.{Perm}
-use Rattle.pmp_encoding.specs.declared.perm.Perm.TheVariants.{NoAccess, Read, ReadWrite, Execute, ReadExecute, ReadWriteExecute}
+-- Entries as people read them.
+use Rattle.std.specs.Prelude.{ℕ, ◌^◌, ◌++◌, List, Option, Some, None, codes, decimal}
 use Rattle.pmp_encoding.specs.declared.region.Entry.{Entry}
 use Rattle.pmp_encoding.specs.Encoding.{address_of}
 use Rattle.text_lines.specs.Written.{hex}
-
--- a permission, as maps name it
-abbrev pub perm_name : Perm → List ℕ
-perm_name NoAccess = codes "none"
-perm_name Read = codes "r"
-perm_name ReadWrite = codes "rw"
-perm_name Execute = codes "x"
-perm_name ReadExecute = codes "rx"
-perm_name ReadWriteExecute = codes "rwx"
-
--- the largest unit that has no more than 2 ^ log2 bytes
-abbrev pub unit_name : ℕ → List ℕ
-unit_name log2 =
-    if nat_lt log2 10 then codes " B"
-    else if nat_lt log2 20 then codes " KiB"
-    else if nat_lt log2 30 then codes " MiB"
-    else if nat_lt log2 40 then codes " GiB"
-    else if nat_lt log2 50 then codes " TiB"
-    else codes " PiB"
-
--- 2 ^ log2 bytes: `512 B`, `4 KiB`, `64 PiB`
-abbrev pub size_name : ℕ → List ℕ
-size_name log2 = decimal (2 ^ (log2 % 10)) ++ unit_name log2
+use Rattle.printed_lines.specs.Fields.{perm_name, size_text}
 
 -- where an entry begins
 abbrev pub base_text : Entry → List ℕ
@@ -35,7 +11,7 @@ base_text e = codes "0x" ++ hex 16 e.region.base
 
 -- its size and its permission
 abbrev pub size_and_perm_text : Entry → List ℕ
-size_and_perm_text e = size_name e.region.log2 ++ codes ", " ++ perm_name e.perm
+size_and_perm_text e = size_text (2 ^ e.region.log2) ++ codes ", " ++ perm_name e.perm
 
 -- all three: `0x0000000080000000, 2 MiB, none`
 abbrev pub region_text : Entry → List ℕ

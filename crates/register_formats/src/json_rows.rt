@@ -3,10 +3,11 @@
 ghost use Rattle.std.specs.Prelude.{◌≡◌, ◌≤◌, ◌<◌, ◌^◌, length};
 ghost use Rattle.register_formats.specs.JsonTexts.{json_before, json_byte, json_entries_begin, json_region, json_registers};
 
-use crate::names::{entry_at, perm_name, power_of_two};
+use crate::names::{entry_at, power_of_two};
 use crate::rows::{Row, Rows};
 use arrayvec::ArrayVec;
 use pmp_encoding::{Bank, Entry, Limit};
+use printed_lines::perm_name;
 use text_lines::{Line, push_decimal, push_hex, push_text};
 
 /// The limit, and what stands before the entries.
@@ -103,7 +104,7 @@ fn region_of(entry: &Entry) -> Line
     push_text(&mut line, b"\", \"size\": ");
     push_decimal(&mut line, power_of_two(entry.region.log2()));
     push_text(&mut line, b", \"perm\": \"");
-    push_text(&mut line, perm_name(entry.perm));
+    push_text(&mut line, perm_name(entry.perm).as_bytes());
     push_text(&mut line, b"\"}");
     line
 }

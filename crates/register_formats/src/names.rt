@@ -1,49 +1,12 @@
-//! Permissions, sizes and entries as people read them.
+//! Entries as people read them.
 
-ghost use Rattle.std.specs.Prelude.{◌≡◌, ◌≤◌, ◌<◌, ◌+◌, ◌%◌, ◌^◌, ◌++◌, decimal, length, slice_get};
+ghost use Rattle.std.specs.Prelude.{◌≡◌, ◌≤◌, ◌<◌, ◌+◌, ◌^◌, ◌++◌, slice_get};
 ghost use Rattle.arrayvec.specs.ArrayVec.{array_vec_len};
-ghost use Rattle.register_formats.specs.Names.{address_or_zero, base_text, note_text, perm_name, region_or_off, region_text, size_and_perm_text, size_name, unit_name};
+ghost use Rattle.register_formats.specs.Names.{address_or_zero, base_text, note_text, region_or_off, region_text, size_and_perm_text};
 
-use pmp_encoding::{Entry, Perm};
+use pmp_encoding::Entry;
+use printed_lines::{perm_name, push_size};
 use text_lines::{Line, push_decimal, push_hex, push_text};
-
-/// A permission, as maps name it.
-pub(crate) fn perm_name(perm: Perm) -> &'static [u8]
-    ensures name { result.now ≡ perm_name perm }
-    ensures most { length result.now ≤ 4 }
-{
-    match perm {
-        Perm::NoAccess => b"none",
-        Perm::Read => b"r",
-        Perm::ReadWrite => b"rw",
-        Perm::Execute => b"x",
-        Perm::ReadExecute => b"rx",
-        Perm::ReadWriteExecute => b"rwx",
-    }
-}
-
-/// The largest unit that has no more than 2^log2 bytes.
-fn unit_name(log2: u32) -> &'static [u8]
-    ensures name { result.now ≡ unit_name log2 }
-    ensures most { length result.now ≤ 4 }
-{
-    if log2 < 10 {
-        return b" B";
-    }
-    if log2 < 20 {
-        return b" KiB";
-    }
-    if log2 < 30 {
-        return b" MiB";
-    }
-    if log2 < 40 {
-        return b" GiB";
-    }
-    if log2 < 50 {
-        return b" TiB";
-    }
-    b" PiB"
-}
 
 /// A power of two.
 pub(crate) fn power_of_two(log2: u32) -> u64
@@ -51,16 +14,6 @@ pub(crate) fn power_of_two(log2: u32) -> u64
     ensures { result ≡ 2 ^ log2 }
 {
     1 << log2
-}
-
-/// Appends a size.
-fn push_size(line: &mut Line, log2: u32)
-    requires { array_vec_len line.old + 24 ≤ 128 }
-    ensures items { line.new.items ≡ line.old.items ++ size_name log2 }
-    ensures len { array_vec_len line.new ≤ array_vec_len line.old + 24 }
-{
-    push_decimal(line, power_of_two(log2 % 10));
-    push_text(line, unit_name(log2));
 }
 
 /// Appends where an entry begins.
@@ -79,9 +32,9 @@ fn push_size_and_perm(line: &mut Line, entry: &Entry)
     ensures items { line.new.items ≡ line.old.items ++ size_and_perm_text entry.now }
     ensures len { array_vec_len line.new ≤ array_vec_len line.old + 30 }
 {
-    push_size(line, entry.region.log2());
+    push_size(line, power_of_two(entry.region.log2()));
     push_text(line, b", ");
-    push_text(line, perm_name(entry.perm));
+    push_text(line, perm_name(entry.perm).as_bytes());
 }
 
 /// Appends where an entry begins, its size and its permission.

@@ -1,0 +1,36 @@
+-- Sizes and permissions in words.
+use Rattle.std.specs.Prelude.{ℕ, ◌/◌, ◌%◌, ◌^◌, ◌==◌, if◌then◌else◌, List, ◌++◌, codes, decimal}
+use Rattle.pmp_encoding.specs.declared.perm.Perm.{Perm}
+use Rattle.pmp_encoding.specs.declared.perm.Perm.TheVariants.{NoAccess, Read, ReadWrite, Execute, ReadExecute, ReadWriteExecute}
+
+-- the name of a permission, as the lines of maps have it
+abbrev pub perm_name : Perm → List ℕ
+perm_name NoAccess = codes "none"
+perm_name Read = codes "r"
+perm_name ReadWrite = codes "rw"
+perm_name Execute = codes "x"
+perm_name ReadExecute = codes "rx"
+perm_name ReadWriteExecute = codes "rwx"
+
+-- the letters of a permission, and a hyphen for each that it lacks
+abbrev pub letters_of : Perm → List ℕ
+letters_of NoAccess = codes "---"
+letters_of Read = codes "r--"
+letters_of ReadWrite = codes "rw-"
+letters_of Execute = codes "--x"
+letters_of ReadExecute = codes "r-x"
+letters_of ReadWriteExecute = codes "rwx"
+
+-- how many units a size has, and the name of the unit
+abbrev pub counted_in : ℕ → ℕ → List ℕ → List ℕ
+counted_in size unit name = decimal (size / unit) ++ name
+
+-- a number of bytes in the largest unit that counts it whole
+abbrev pub size_text : ℕ → List ℕ
+size_text size =
+    if size % 2 ^ 50 == 0 then counted_in size (2 ^ 50) (codes " PiB")
+    else if size % 2 ^ 40 == 0 then counted_in size (2 ^ 40) (codes " TiB")
+    else if size % 2 ^ 30 == 0 then counted_in size (2 ^ 30) (codes " GiB")
+    else if size % 2 ^ 20 == 0 then counted_in size (2 ^ 20) (codes " MiB")
+    else if size % 2 ^ 10 == 0 then counted_in size (2 ^ 10) (codes " KiB")
+    else counted_in size 1 (codes " B")
