@@ -1,7 +1,7 @@
 -- The number and the set of a split block, from those of its halves.
-use Rattle.std.proofs.Common.{◌≡◌, ℕ, ◌+◌, ◌^◌, ◌<◌, ◌≤◌, List, [], ◌∷◌, ◌++◌, length, Bool, true, false, not, ◌==◌, ◌&&◌, ◌||◌, if◌then◌else◌, refl, sym, ap, ◌∙◌, arith, bit_and, bit_or, slice_set, append_assoc}
+use Rattle.std.proofs.Common.{◌≡◌, ℕ, ◌+◌, ◌^◌, ◌<◌, ◌≤◌, List, [], ◌∷◌, ◌++◌, Bool, true, false, not, ◌==◌, ◌&&◌, ◌||◌, if◌then◌else◌, refl, sym, ap, ◌∙◌, arith, bit_and, bit_or, append_assoc, reverse}
 use Rattle.std.proofs.Math.Path.{ap₂}
-use Rattle.std.proofs.Math.Seq.{set-append_seam}
+use Rattle.std.proofs.lemmas.List.{append-nil, reverse-append}
 use Rattle.entry_planner.specs.declared.costs.BlockCost.{BlockCost}
 use Rattle.entry_planner.specs.declared.costs.HalfPerms.{HalfPerms}
 use Rattle.entry_planner.specs.declared.perm_set.PermSet.{PermSet}
@@ -68,31 +68,36 @@ halves_fit tree low high lower upper split fit l u =
     let b : upper.least ≡ least_cost high = ap (λ c. c.least) u in
     omega (arith, least_le_branches low, least_le_branches high)
 
--- a place that was kept is filled once what comes after it is there
-pub filled :
-    {X : Type 0} (old : List X) (unknown x : X) (a b items : List X) (at : ℕ) → items ≡ ((old ++ unknown ∷ []) ++ a) ++ b → at ≡ length old
-    → slice_set items at x ≡ old ++ x ∷ (a ++ b)
-filled old unknown x a b items at are place =
-    let flat : items ≡ old ++ unknown ∷ (a ++ b) = are ∙ append_assoc (old ++ unknown ∷ []) a b ∙ append_assoc old (unknown ∷ []) (a ++ b) in
-    ap₂ (λ l i. slice_set l i x) flat place ∙ set-append_seam old unknown (a ++ b) x
+-- lists that begin with the last in preorder: a block comes behind those of its halves
+pub added_first : {X : Type 0} (old inside : List X) (x : X) → (old ++ reverse inside) ++ x ∷ [] ≡ old ++ reverse (x ∷ inside)
+added_first old inside x = append_assoc old (reverse inside) (x ∷ []) ∙ ap (λ l. old ++ l) (sym (reverse-append (x ∷ []) inside))
+
+pub added_low : {X : Type 0} (old low : List X) (x : X) → (old ++ reverse low) ++ x ∷ [] ≡ old ++ reverse (x ∷ (low ++ []))
+added_low old low x = added_first old low x ∙ ap (λ l. old ++ reverse (x ∷ l)) (sym (append-nil low))
+
+pub added_both : {X : Type 0} (old low high : List X) (x : X) → ((old ++ reverse high) ++ reverse low) ++ x ∷ [] ≡ old ++ reverse (x ∷ (low ++ high))
+added_both old low high x =
+    ap (λ l. l ++ x ∷ []) (append_assoc old (reverse high) (reverse low) ∙ ap (λ l. old ++ l) (sym (reverse-append low high)))
+    ∙ added_first old (low ++ high) x
 
 -- so for the costs of a split block, and for its halves' permissions
 pub costs_added :
-    (tree low high : PermTree) (old pushed mid items : List BlockCost) (unknown x : BlockCost) (at : ℕ) → tree ≡ Split low high → pushed ≡ old ++ unknown ∷ []
-    → mid ≡ pushed ++ costs_in low → items ≡ mid ++ costs_in high → at ≡ length old → x ≡ block_cost (Split low high) → slice_set items at x ≡ old ++ costs_in tree
-costs_added tree low high old pushed mid items unknown x at split p m i place is =
-    filled old unknown x (costs_in low) (costs_in high) items at (i ∙ ap (λ l. l ++ costs_in high) (m ∙ ap (λ l. l ++ costs_in low) p)) place
-    ∙ ap (λ y. old ++ y ∷ (costs_in low ++ costs_in high)) is
-    ∙ ap (λ t. old ++ costs_in t) (sym split)
+    (tree low high : PermTree) (old mid items all : List BlockCost) → tree ≡ Split low high → mid ≡ old ++ reverse (costs_in high) → items ≡ mid ++ reverse (costs_in low)
+    → all ≡ items ++ block_cost (Split low high) ∷ [] → all ≡ old ++ reverse (costs_in tree)
+costs_added tree low high old mid items all split m i a =
+    a
+    ∙ ap (λ l. l ++ block_cost (Split low high) ∷ []) (i ∙ ap (λ l. l ++ reverse (costs_in low)) m)
+    ∙ added_both old (costs_in low) (costs_in high) (block_cost (Split low high))
+    ∙ ap (λ t. old ++ reverse (costs_in t)) (sym split)
 
 pub half_perms_added :
-    (tree low high : PermTree) (old pushed mid items : List HalfPerms) (unknown x : HalfPerms) (at : ℕ) → tree ≡ Split low high → pushed ≡ old ++ unknown ∷ []
-    → mid ≡ pushed ++ half_perms_in low → items ≡ mid ++ half_perms_in high → at ≡ length old → x ≡ half_perms low high
-    → slice_set items at x ≡ old ++ half_perms_in tree
-half_perms_added tree low high old pushed mid items unknown x at split p m i place is =
-    filled old unknown x (half_perms_in low) (half_perms_in high) items at (i ∙ ap (λ l. l ++ half_perms_in high) (m ∙ ap (λ l. l ++ half_perms_in low) p)) place
-    ∙ ap (λ y. old ++ y ∷ (half_perms_in low ++ half_perms_in high)) is
-    ∙ ap (λ t. old ++ half_perms_in t) (sym split)
+    (tree low high : PermTree) (old mid items all : List HalfPerms) → tree ≡ Split low high → mid ≡ old ++ reverse (half_perms_in high)
+    → items ≡ mid ++ reverse (half_perms_in low) → all ≡ items ++ half_perms low high ∷ [] → all ≡ old ++ reverse (half_perms_in tree)
+half_perms_added tree low high old mid items all split m i a =
+    a
+    ∙ ap (λ l. l ++ half_perms low high ∷ []) (i ∙ ap (λ l. l ++ reverse (half_perms_in low)) m)
+    ∙ added_both old (half_perms_in low) (half_perms_in high) (half_perms low high)
+    ∙ ap (λ t. old ++ reverse (half_perms_in t)) (sym split)
 
 -- the two numbers together
 pub together_is :

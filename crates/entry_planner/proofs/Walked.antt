@@ -1,7 +1,7 @@
 -- What a walk down a split block adds, from what it adds in the halves.
-use Rattle.std.proofs.Common.{◌≡◌, ℕ, suc, ◌+◌, ◌-◌, ◌^◌, List, ◌++◌, length, take, drop, get_or, Some, refl, sym, ap, subst, ◌∙◌, arith, append_assoc}
+use Rattle.std.proofs.Common.{◌≡◌, ℕ, suc, ◌+◌, ◌-◌, ◌^◌, ◌≤◌, List, [], ◌∷◌, ◌++◌, length, take, get_or, Some, reverse, refl, sym, ap, subst, ◌∙◌, arith, append_assoc, length-append}
 use Rattle.std.proofs.lemmas.Grind.{common_steps}
-use Rattle.std.proofs.lemmas.List.{append_cancel_left}
+use Rattle.std.proofs.lemmas.List.{append_cancel_right}
 use Rattle.pmp_encoding.specs.declared.perm.Perm.{Perm}
 use Rattle.pmp_encoding.specs.declared.region.Entry.{Entry}
 use Rattle.prefix_tree.specs.Trees.{PermTree, Uniform, Split, Fits}
@@ -10,6 +10,7 @@ use Rattle.entry_planner.specs.declared.costs.HalfPerms.{HalfPerms}
 use Rattle.entry_planner.specs.Choice.{IsChosenAt, handed_on}
 use Rattle.entry_planner.specs.Placing.{ArePages, IsOwn}
 use Rattle.entry_planner.specs.Plans.{half_perms, half_perms_in}
+use Rattle.entry_planner.proofs.BlockCosts.{added_both}
 use Rattle.entry_planner.proofs.BlockPages.{lower_pages, upper_pages}
 
 -- ---- the halves are a size smaller
@@ -35,34 +36,66 @@ upper_are_pages k j first height pages =
 
 -- ---- what the list of the halves' permissions has
 
-abbrev BeginsWith : List HalfPerms → PermTree → Type 0
-BeginsWith halves tree = (rest : List HalfPerms) × (halves ≡ half_perms_in tree ++ rest)
+abbrev EndsWith : List HalfPerms → PermTree → Type 0
+EndsWith halves tree = (rest : List HalfPerms) × (halves ≡ rest ++ reverse (half_perms_in tree))
 
-pub first_is : (halves : List HalfPerms) (tree low high : PermTree) (d : HalfPerms) → tree ≡ Split low high → BeginsWith halves tree → get_or halves 0 d ≡ half_perms low high
-first_is halves tree low high d split begins = ap (λ l. get_or l 0 d) begins.1 ∙ ap (λ t. get_or (half_perms_in t ++ begins.0) 0 d) split
+-- the block's own come last
+last_apart : {X : Type 0} (xs ys : List X) (x d : X) → xs ≡ ys ++ x ∷ [] → (get_or xs (length xs - 1) d ≡ x) × (take (length xs - 1) xs ≡ ys)
+last_apart xs ys x d is = rw is (last ys, before ys)
+  where
+    last : (l : List _) → get_or (l ++ x ∷ []) (length (l ++ x ∷ []) - 1) d ≡ x
+    last l = grind (arith, common_steps)
+
+    before : (l : List _) → take (length (l ++ x ∷ []) - 1) (l ++ x ∷ []) ≡ l
+    before l = grind (arith, common_steps)
+
+halves_apart :
+    (tree low high : PermTree) (rest : List HalfPerms) → tree ≡ Split low high
+    → rest ++ reverse (half_perms_in tree) ≡ ((rest ++ reverse (half_perms_in high)) ++ reverse (half_perms_in low)) ++ half_perms low high ∷ []
+halves_apart tree low high rest split =
+    ap (λ t. rest ++ reverse (half_perms_in t)) split ∙ sym (added_both rest (half_perms_in low) (half_perms_in high) (half_perms low high))
+
+pub some_left : (halves : List HalfPerms) (tree low high : PermTree) → tree ≡ Split low high → EndsWith halves tree → 1 ≤ length halves
+some_left halves tree low high split ends =
+    let before = (ends.0 ++ reverse (half_perms_in high)) ++ reverse (half_perms_in low) in
+    omega (arith, ap length (ends.1 ∙ halves_apart tree low high ends.0 split), length-append before (half_perms low high ∷ []))
+
+pub last_is :
+    (halves : List HalfPerms) (tree low high : PermTree) (d : HalfPerms) → tree ≡ Split low high → EndsWith halves tree
+    → get_or halves (length halves - 1) d ≡ half_perms low high
+last_is halves tree low high d split ends =
+    (last_apart halves ((ends.0 ++ reverse (half_perms_in high)) ++ reverse (half_perms_in low)) (half_perms low high) d (ends.1 ∙ halves_apart tree low high ends.0 split)).0
 
 others_are :
-    (halves : List HalfPerms) (tree low high : PermTree) → tree ≡ Split low high → (begins : BeginsWith halves tree)
-    → take (length halves - 1) (drop 1 halves) ≡ half_perms_in low ++ (half_perms_in high ++ begins.0)
-others_are halves tree low high split begins =
-    whole halves
-    ∙ ap (drop 1) begins.1
-    ∙ ap (λ t. drop 1 (half_perms_in t ++ begins.0)) split
-    ∙ append_assoc (half_perms_in low) (half_perms_in high) begins.0
-  where
-    whole : (l : List HalfPerms) → take (length l - 1) (drop 1 l) ≡ drop 1 l
-    whole l = grind (arith, common_steps)
+    (halves : List HalfPerms) (tree low high : PermTree) → tree ≡ Split low high → (ends : EndsWith halves tree)
+    → take (length halves - 1) halves ≡ (ends.0 ++ reverse (half_perms_in high)) ++ reverse (half_perms_in low)
+others_are halves tree low high split ends =
+    (last_apart halves ((ends.0 ++ reverse (half_perms_in high)) ++ reverse (half_perms_in low)) (half_perms low high) (half_perms low high) (ends.1 ∙ halves_apart tree low high ends.0 split)).1
 
-pub lower_begins :
-    (halves : List HalfPerms) (tree low high : PermTree) → tree ≡ Split low high → BeginsWith halves tree
-    → BeginsWith (take (length halves - 1) (drop 1 halves)) low
-lower_begins halves tree low high split begins = (half_perms_in high ++ begins.0, others_are halves tree low high split begins)
+pub lower_ends :
+    (halves : List HalfPerms) (tree low high : PermTree) → tree ≡ Split low high → EndsWith halves tree → EndsWith (take (length halves - 1) halves) low
+lower_ends halves tree low high split ends = (ends.0 ++ reverse (half_perms_in high), others_are halves tree low high split ends)
 
-pub upper_begins :
-    (halves rest : List HalfPerms) (tree low high : PermTree) → tree ≡ Split low high → BeginsWith halves tree
-    → take (length halves - 1) (drop 1 halves) ≡ half_perms_in low ++ rest → BeginsWith rest high
-upper_begins halves rest tree low high split begins same =
-    (begins.0, append_cancel_left (half_perms_in low) rest (half_perms_in high ++ begins.0) (sym same ∙ others_are halves tree low high split begins))
+-- what is left once those of the lower half are taken
+left : (halves rest : List HalfPerms) (tree low high : PermTree) → tree ≡ Split low high → (ends : EndsWith halves tree)
+    → take (length halves - 1) halves ≡ rest ++ reverse (half_perms_in low) → rest ≡ ends.0 ++ reverse (half_perms_in high)
+left halves rest tree low high split ends same =
+    append_cancel_right rest (ends.0 ++ reverse (half_perms_in high)) (reverse (half_perms_in low)) (sym same ∙ others_are halves tree low high split ends)
+
+pub upper_ends :
+    (halves rest : List HalfPerms) (tree low high : PermTree) → tree ≡ Split low high → EndsWith halves tree
+    → take (length halves - 1) halves ≡ rest ++ reverse (half_perms_in low) → EndsWith rest high
+upper_ends halves rest tree low high split ends same = (ends.0, left halves rest tree low high split ends same)
+
+-- and once those of the upper half are taken, too
+pub rest_is :
+    (halves rest before : List HalfPerms) (tree low high : PermTree) → tree ≡ Split low high → EndsWith halves tree
+    → take (length halves - 1) halves ≡ rest ++ reverse (half_perms_in low) → rest ≡ before ++ reverse (half_perms_in high)
+    → halves ≡ before ++ reverse (half_perms_in tree)
+rest_is halves rest before tree low high split ends lower upper =
+    let same : before ≡ ends.0 =
+    append_cancel_right before ends.0 (reverse (half_perms_in high)) (sym upper ∙ left halves rest tree low high split ends lower) in
+    ends.1 ∙ ap (λ l. l ++ reverse (half_perms_in tree)) (sym same)
 
 -- ---- the entries that are added
 

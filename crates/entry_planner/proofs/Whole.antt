@@ -1,8 +1,8 @@
 -- The entries that are placed in the whole space, in order, are fewest, and the costs are the bound that shows it.
-use Rattle.std.proofs.Common.{◌≡◌, ℕ, zero, suc, ◌+◌, ◌^◌, ◌<◌, ◌≤◌, List, [], ◌∷◌, ◌++◌, length, All, Bool, true, false, if◌then◌else◌, IsPermutation, refl, sym, ap, subst, ◌∙◌, arith, append_assoc, length-append}
+use Rattle.std.proofs.Common.{◌≡◌, ℕ, zero, suc, ◌+◌, ◌^◌, ◌<◌, ◌≤◌, List, [], ◌∷◌, ◌++◌, length, All, Bool, true, false, if◌then◌else◌, IsPermutation, reverse, refl, sym, ap, subst, ◌∙◌, arith, append_assoc, length-append}
 use Rattle.std.specs.List.{AllByRecursion}
 use Rattle.std.proofs.Math.Path.{ap₂}
-use Rattle.std.proofs.lemmas.List.{append-nil}
+use Rattle.std.proofs.lemmas.List.{append-nil, reverse-reverse}
 use Rattle.std.proofs.lemmas.List.Elements.{All-from_recursion}
 use Rattle.std.proofs.lemmas.List.Sorted.{All-permutation, length_permutation}
 use Rattle.pmp_encoding.specs.declared.perm.Perm.{Perm}
@@ -187,9 +187,9 @@ whole_root tree entries costs are listed =
 -- ---- the plan
 
 pub made :
-    (tree : PermTree) (entries : List Entry) (none costs : List BlockCost) → AreChosen tree entries → AreInOrder entries → none ≡ [] → costs ≡ none ++ costs_in tree
-    → IsMade tree (record { entries = entries; costs = costs })
-made tree entries none costs chosen order empty are = record { chosen = chosen; order = order; costs = are ∙ ap (λ l. l ++ costs_in tree) empty }
+    (tree : PermTree) (entries : List Entry) (none costs : List BlockCost) → AreChosen tree entries → AreInOrder entries → none ≡ [] → costs ≡ none ++ reverse (costs_in tree)
+    → IsMade tree (record { entries = entries; costs = reverse costs })
+made tree entries none costs chosen order empty are = record { chosen = chosen; order = order; costs = ap reverse (are ∙ ap (λ l. l ++ reverse (costs_in tree)) empty) ∙ reverse-reverse (costs_in tree) }
 
 pub made_is : (tree : PermTree) (made plan : Planned) → plan ≡ made → IsMade tree made → IsMade tree plan
 made_is tree made plan is own = let M : Planned → Type 0 = IsMade tree in subst M (sym is) own

@@ -1,7 +1,7 @@
 use crate::costs::HalfPerms;
 use page_views::pages_of;
 use pmp_encoding::{Entry, Perm, Region};
-use prefix_tree::Halving;
+use prefix_tree::{Edge, EdgeBlock, Halving};
 use std::alloc::AllocError;
 
 /// An aligned block of 2^log2 pages.
@@ -11,8 +11,9 @@ pub struct Pages {
     pub log2: u32,
 }
 
-ghost use Rattle.std.specs.Prelude.{◌≡◌, ◌+◌, ◌-◌, ◌*◌, ◌≤◌, ◌<◌, ◌^◌, ◌++◌, List, IfOk, OnOk};
+ghost use Rattle.std.specs.Prelude.{◌≡◌, ◌+◌, ◌-◌, ◌*◌, ◌≤◌, ◌<◌, ◌^◌, ◌++◌, List, IfOk, OnOk, reverse};
 ghost use Rattle.pmp_encoding.specs.declared.region.Entry.{Entry};
+ghost use Rattle.prefix_tree.specs.EdgeTrees.{IsEdgeIn, edge_tree};
 ghost use Rattle.prefix_tree.specs.Trees.{PermTree, Fits};
 ghost use Rattle.entry_planner.specs.declared.costs.HalfPerms.{HalfPerms};
 ghost use Rattle.entry_planner.specs.Choice.{IsChosenAt, handed_on};
@@ -90,8 +91,46 @@ fn turn(
     Ok(())
 }
 
+/// Adds the entries of a block with one edge, as [`place`] does.
+fn place_edge<'a>(
+    edge: Edge,
+    pages: Pages,
+    inherited: Perm,
+    halves: &'a [HalfPerms],
+    entries: &mut Vec<Entry>,
+) -> Result<&'a [HalfPerms], AllocError>
+    requires inside { IsEdgeIn edge pages.log2 }
+    requires pages { ArePages pages.log2 pages.first }
+    requires halves { (rest : List HalfPerms) × (halves.now ≡ rest ++ reverse (half_perms_in (edge_tree edge pages.log2))) }
+    ensures rest { IfOk result (λ rest. halves.now ≡ rest.now ++ reverse (half_perms_in (edge_tree edge pages.log2))) }
+    ensures placed { OnOk result ((placed : List Entry) × (entries.new.items ≡ entries.old.items ++ placed) × IsChosenAt pages.log2 pages.first inherited (edge_tree edge pages.log2) placed) }
+{
+    let [rest @ .., perms] = halves else {
+        unreachable!();
+    };
+    let perm = chosen(*perms, inherited);
+    let lower = pages.lower();
+    let upper = pages.upper();
+    let middle = pages_of(lower.log2);
+    if edge.place < middle {
+        let rest = place_edge(edge, lower, perm, rest, entries)?;
+        turn(upper, perm, edge.behind, entries)?;
+        turn(pages, inherited, perm, entries)?;
+        return Ok(rest);
+    }
+    turn(lower, perm, edge.before, entries)?;
+    if edge.place == middle {
+        turn(upper, perm, edge.behind, entries)?;
+        turn(pages, inherited, perm, entries)?;
+        return Ok(rest);
+    }
+    let rest = place_edge(edge.later(middle), upper, perm, rest, entries)?;
+    turn(pages, inherited, perm, entries)?;
+    Ok(rest)
+}
+
 /// Adds the entries of a block that inherits a permission. The halves' permissions of its split blocks
-/// come first in the list; what comes after them is handed back.
+/// come last in the list, the first in preorder last; what comes before them is handed back.
 pub fn place<'a, H: Halving>(
     block: &H,
     pages: Pages,
@@ -101,16 +140,22 @@ pub fn place<'a, H: Halving>(
 ) -> Result<&'a [HalfPerms], AllocError>
     requires fits { Fits pages.log2 (H.shape block.now) }
     requires pages { ArePages pages.log2 pages.first }
-    requires halves { (rest : List HalfPerms) × (halves.now ≡ half_perms_in (H.shape block.now) ++ rest) }
-    ensures rest { IfOk result (λ rest. halves.now ≡ half_perms_in (H.shape block.now) ++ rest.now) }
+    requires halves { (rest : List HalfPerms) × (halves.now ≡ rest ++ reverse (half_perms_in (H.shape block.now))) }
+    ensures rest { IfOk result (λ rest. halves.now ≡ rest.now ++ reverse (half_perms_in (H.shape block.now))) }
     ensures placed { OnOk result ((placed : List Entry) × (entries.new.items ≡ entries.old.items ++ placed) × IsChosenAt pages.log2 pages.first inherited (H.shape block.now) placed) }
 {
     if let Some(perm) = block.one_perm() {
         turn(pages, inherited, perm, entries)?;
         return Ok(halves);
     }
+    if let Some(EdgeBlock { edge, height }) = block.edge() {
+        if height == pages.log2 {
+            let rest = place_edge(edge, pages, inherited, halves, entries)?;
+            return Ok(rest);
+        }
+    }
     let (lower, upper) = block.halves();
-    let [perms, rest @ ..] = halves else {
+    let [rest @ .., perms] = halves else {
         unreachable!();
     };
     let perm = chosen(*perms, inherited);

@@ -7,27 +7,29 @@ use std::marker::Model;
 #[derive(Drop)]
 pub struct Plan {
     entries: Vec<Entry>,
+    /// The last in preorder comes first.
     costs: Vec<BlockCost>,
 }
 
 impl Model for Plan {
+    ghost use Rattle.std.specs.Prelude.{reverse};
     ghost use Rattle.entry_planner.specs.Plans.{Planned, AreSmall};
 
     ghost Value = { Planned };
 
-    ghost view = { λ p. record { entries = p.entries.items; costs = p.costs.items } };
+    ghost view = { λ p. record { entries = p.entries.items; costs = reverse p.costs.items } };
 
-    ghost invariant = { λ p. AreSmall (record { entries = p.entries.items; costs = p.costs.items }) };
+    ghost invariant = { λ p. AreSmall (record { entries = p.entries.items; costs = reverse p.costs.items }) };
 }
 
-ghost use Rattle.std.specs.Prelude.{◌≡◌, ◌<◌, length};
+ghost use Rattle.std.specs.Prelude.{◌≡◌, ◌<◌, length, reverse};
 ghost use Rattle.entry_planner.specs.Plans.{AreSmall, cost_in};
 
 impl Plan {
-    /// A plan of these entries and costs.
+    /// A plan of these entries and costs, the last in preorder first.
     pub(crate) fn new(entries: Vec<Entry>, costs: Vec<BlockCost>) -> Plan
-        requires { AreSmall (record { entries = entries.items; costs = costs.items }) }
-        ensures { result ≡ record { entries = entries.items; costs = costs.items } }
+        requires { AreSmall (record { entries = entries.items; costs = reverse costs.items }) }
+        ensures { result ≡ record { entries = entries.items; costs = reverse costs.items } }
     {
         Plan { entries, costs }
     }
@@ -62,6 +64,7 @@ impl Plan {
         requires { i < length self.now.costs }
         ensures { result ≡ cost_in self.now.costs i perm }
     {
-        self.costs[i].under(perm)
+        let last = self.branches() - 1;
+        self.costs[last - i].under(perm)
     }
 }

@@ -1,4 +1,4 @@
-ghost use Rattle.std.specs.Prelude.{◌≡◌, ◌≤◌, ◌*◌, List, length, All, IfOk};
+ghost use Rattle.std.specs.Prelude.{◌≡◌, ◌≤◌, ◌*◌, List, length, All, IfOk, reverse};
 ghost use Rattle.pmp_encoding.specs.declared.perm.Perm.TheVariants.{NoAccess};
 ghost use Rattle.pmp_encoding.specs.declared.region.Entry.{Entry};
 ghost use Rattle.pmp_match.specs.Bounds.{IsSoundBound, bound_of};
@@ -28,7 +28,7 @@ fn entries_of<H: Halving>(
     halves: &[HalfPerms],
 ) -> Result<Vec<Entry>, Memory>
     requires fits { Fits 44 (H.shape root.now) }
-    requires halves { halves.now ≡ half_perms_in (H.shape root.now) }
+    requires halves { halves.now ≡ reverse (half_perms_in (H.shape root.now)) }
     ensures chosen { IfOk result (λ v. AreChosen (H.shape root.now) v.items) }
     ensures order { IfOk result (λ v. AreInOrder v.items) }
 {

@@ -1,7 +1,7 @@
--- The halves' permissions of the split blocks come in preorder, and the entries are those that are placed.
+-- The halves' permissions of the split blocks come last, and the entries are those that are placed.
 use Rattle.std.proofs.Common.{ap, arith}
 use Rattle.prefix_tree.specs.Counts.{splits}
-use Rattle.entry_planner.proofs.Walked.{halves_fit_in, first_is, lower_begins, upper_begins, split_chosen, uniform_chosen}
+use Rattle.entry_planner.proofs.Walked.{halves_fit_in, last_is, lower_ends, upper_ends, rest_is, split_chosen, uniform_chosen}
 use Rattle.entry_planner.proofs.placing.+place.Goals as goal
 
 pub place-requires : goal.place-requires
@@ -11,7 +11,7 @@ place-requires g t c = λ κs lives. (
     lives,
     (
       (halves_fit_in _ _ _ _ _ c.halves-lower.ensures c.lower.ensures.log2 c.requires.fits).0,
-      (c.lower.ensures.pages, lower_begins _ _ _ _ c.halves-lower.ensures c.requires.halves),
+      (c.lower.ensures.pages, lower_ends _ _ _ _ c.halves-lower.ensures c.requires.halves),
     ),
   ),
 )
@@ -23,7 +23,7 @@ place-requires-2 g t c = λ κs lives. (
     lives,
     (
       (halves_fit_in _ _ _ _ _ c.halves-lower.ensures c.upper.ensures.log2 c.requires.fits).1,
-      (c.upper.ensures.pages, upper_begins _ _ _ _ _ c.halves-lower.ensures c.requires.halves c.in_ok-rest.ensures.rest),
+      (c.upper.ensures.pages, upper_ends _ _ _ _ _ c.halves-lower.ensures c.requires.halves c.in_ok-rest-2.ensures.rest),
     ),
   ),
 )
@@ -31,8 +31,11 @@ place-requires-2 g t c = λ κs lives. (
 pub returns-in-Some-clause-placed : goal.returns-in-Some-clause-placed
 returns-in-Some-clause-placed g t c = uniform_chosen _ _ _ _ _ _ _ c.in-Some.ensures c.in_ok-turn.ensures
 
+pub returns-clause-rest : goal.returns-clause-rest
+returns-clause-rest g t c = rest_is _ _ _ _ _ _ c.halves-lower.ensures c.requires.halves c.in_ok-rest-2.ensures.rest c.in_ok-rest-3.ensures.rest
+
 pub returns-clause-placed : goal.returns-clause-placed
 returns-clause-placed g t c =
-    let handed = c.chosen-perm.ensures (g.H.Halving.shape c.halves-lower.result.0) (g.H.Halving.shape c.halves-lower.result.1) (first_is _ _ _ _ _ c.halves-lower.ensures c.requires.halves) in
+    let handed = c.chosen-perm.ensures (g.H.Halving.shape c.halves-lower.result.0) (g.H.Halving.shape c.halves-lower.result.1) (last_is _ _ _ _ _ c.halves-lower.ensures c.requires.halves) in
     split_chosen _ _ _ _ _ _ _ _ _ _ _ _ _ _ _ c.halves-lower.ensures c.lower.ensures.log2 c.upper.ensures.log2 c.lower.ensures.first c.upper.ensures.first handed
-    c.in_ok-rest.ensures.placed c.in_ok-rest-2.ensures.placed c.in_ok-turn-2.ensures
+    c.in_ok-rest-2.ensures.placed c.in_ok-rest-3.ensures.placed c.in_ok-turn-2.ensures
