@@ -2,3 +2,4 @@ pub mod Names
 mod Ends
 pub mod Refusals
 mod Parts
+mod PlanCertificates

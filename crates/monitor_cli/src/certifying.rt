@@ -9,7 +9,9 @@ ghost use Rattle.pmp_match.specs.Meaning.{Means};
 ghost use Rattle.permission_map.specs.Runs.{view_of_runs};
 ghost use Rattle.certificate_check.specs.Certificates.{IsRight};
 ghost use Rattle.certificate_format.specs.Spelling.{Spells};
-ghost use Rattle.plan_certificate.specs.Written.{version_for};
+ghost use Rattle.prefix_tree.specs.Counts.{splits};
+ghost use Rattle.prefix_tree.specs.TreeOf.{tree_of};
+ghost use Rattle.plan_certificate.specs.Written.{version_for, certificate_for};
 ghost use Rattle.pmp_match.specs.Bounds.{BoundTree};
 ghost use Rattle.monitor_cli.specs.Commands.{placing, writing, Breaks, IsBeyond, IsCertificateOf, IsCertified, IsLoaded, IsNotPlaced, IsPlanned, IsUnplanned, IsWithin, NeedsMore};
 ghost use Rattle.monitor_cli.specs.Tasks.{IsFewest};
@@ -19,7 +21,7 @@ use crate::trouble::Trouble;
 use byte_streams::{DeviceFault, Sink, write_whole};
 use entry_planner::{Plan, plan_map};
 use permission_map::{Memory, PermissionMap};
-use plan_certificate::write_map;
+use plan_certificate::{send_map, write_map};
 use pmp_encoding::{Bank, Entry, Limit};
 use std::alloc::Global;
 
@@ -112,13 +114,20 @@ fn within<'a>(entries: &[Entry], most: Option<u64>) -> Result<(), Trouble<'a>>
     }
 }
 
-/// Writes a certificate and puts it in its place.
-fn put<'a, C: WholeSink>(bytes: &[u8], file: &'a str, sink: &mut C) -> Result<(), Trouble<'a>>
-    requires { C.failures sink.old < 2 ^ 64 - 1 }
-    ensures put { IfOk result (λ _. Appends (C.contents sink.old) (C.contents sink.new) bytes.now × (C.stands sink.new ≡ C.contents sink.new)) }
-    ensures broken { IfErr result (λ trouble. (trouble ≡ Trouble.CannotWrite file.entry) × IsNotPlaced bytes.now (placing C.contents C.failures C.stalls C.stands sink.old sink.new)) }
+/// Writes the certificate of a map's plan and puts it in its place.
+fn put<'a, C: WholeSink>(
+    map: &PermissionMap,
+    plan: &Plan,
+    limit: Limit,
+    file: &'a str,
+    sink: &mut C,
+) -> Result<(), Trouble<'a>>
+    requires failures { C.failures sink.old < 2 ^ 64 - 1 }
+    requires splits { splits (tree_of (view_of_runs map.now)) ≡ length plan.now.costs }
+    ensures put { IfOk result (λ _. Appends (C.contents sink.old) (C.contents sink.new) (certificate_for limit plan.now (tree_of (view_of_runs map.now))) × (C.stands sink.new ≡ C.contents sink.new)) }
+    ensures broken { IfErr result (λ trouble. (trouble ≡ Trouble.CannotWrite file.entry) × IsNotPlaced (certificate_for limit plan.now (tree_of (view_of_runs map.now))) (placing C.contents C.failures C.stalls C.stands sink.old sink.new)) }
 {
-    let Ok(()) = write_whole(sink, bytes) else {
+    let Ok(()) = send_map(map, plan, limit, sink) else {
         return Err(Trouble::CannotWrite { file });
     };
     match sink.put_in_place() {
@@ -144,9 +153,9 @@ pub fn plan_and_certify<'a, C: WholeSink>(
     let Some(file) = cert else {
         return planned_within(alloc, map, most);
     };
-    let (plan, bytes) = certified(alloc, map, limit)?;
+    let plan = plan_map(alloc, map)?;
     within(plan.entries(), most)?;
-    put(bytes.as_slice(), file, sink)?;
+    put(map, &plan, limit, file, sink)?;
     Ok(plan)
 }
 

@@ -1,6 +1,10 @@
 use Rattle.std.proofs.Common.{refl}
 use Rattle.std.proofs.lemmas.Result.{err_from_is_err_and}
+use Rattle.permission_map.specs.Runs.{view_of_runs}
+use Rattle.prefix_tree.specs.TreeOf.{tree_of}
+use Rattle.plan_certificate.specs.Written.{certificate_for}
 use Rattle.monitor_cli.specs.Commands.{beyond, starved, uncertified}
+use Rattle.monitor_cli.proofs.PlanCertificates.{certificate_is}
 use Rattle.monitor_cli.proofs.Ends.{unplanned}
 use Rattle.monitor_cli.proofs.certifying.plan_and_certify.Goals as goal
 
@@ -26,15 +30,28 @@ returns-in_err-within-clause-refused g c =
 pub returns-in_err-put-clause-refused : goal.returns-in_err-put-clause-refused
 returns-in_err-put-clause-refused g c =
     let p = err_from_is_err_and c.from_residual-in_err-put.result c.from_residual-in_err-put.ensures.1 in
-    let b = rw c.as_slice.ensures.value at c.in_err-put.ensures.broken in
-    let spells = c.in_ok-plan.ensures.spells in
+    let b = c.in_err-put.ensures.broken in
+    let view = view_of_runs c.args.map.now in
+    let made = c.in_ok-plan.ensures in
     rw (p.1, p.2) (uncertified (record {
       name = c.in-Some.file;
       named = c.in-Some.is;
       told = b.0;
       entries = c.in_ok-plan.plan.entries;
-      fewest = record { means = c.in_ok-plan.ensures.means; least = c.in_ok-plan.ensures.least };
-      bytes = c.in_ok-plan.bytes.items;
-      certificate = record { tree = spells.0; spells = spells.1; right = c.in_ok-plan.ensures.accepted };
+      fewest = record { means = made.means; least = made.least };
+      bytes = certificate_for c.args.limit c.in_ok-plan.plan (tree_of view);
+      certificate = certificate_is view c.args.limit c.in_ok-plan.plan made.branches made.most made.bound made.root made.pages made.means;
       broken = b.1;
     }))
+
+pub returns-clause-certified : goal.returns-clause-certified
+returns-clause-certified g c =
+    let view = view_of_runs c.args.map.now in
+    let made = c.in_ok-plan.ensures in
+    let put = c.in_ok-put.ensures.put in
+    rw c.in-Some.is (
+      certificate_for c.args.limit c.in_ok-plan.plan (tree_of view),
+      certificate_is view c.args.limit c.in_ok-plan.plan made.branches made.most made.bound made.root made.pages made.means,
+      put.0,
+      put.1,
+    )
