@@ -1,8 +1,11 @@
 //! The findings of a map file.
 
-ghost use Rattle.std.specs.Prelude.{◌<◌, ◌≤◌, length};
+ghost use Rattle.std.specs.Prelude.{◌≡◌, ◌==◌, ◌∷◌, ◌-◌, ◌^◌, ◌<◌, ◌≤◌, IfOk, length};
+ghost use Rattle.std.specs.List.{position_or_len};
+ghost use Rattle.map_text.specs.Lines.{raw_lines};
+ghost use Rattle.map_lint.specs.Findings.{IsLintText};
 
-use crate::idle::{Numbered, push_idle, push_too_many};
+use crate::idle::{Numbered, push_tail};
 use crate::reasons::push_reason;
 use crate::texts::{push, push_place};
 use map_text::raw_says;
@@ -11,7 +14,8 @@ use std::alloc::Global;
 
 /// How many bytes stand before the first LF.
 fn line_len(bytes: &[u8]) -> usize
-    ensures { result ≤ length bytes.now }
+    ensures within { result ≤ length bytes.now }
+    ensures len { result ≡ position_or_len (λ b. b == 10) bytes.now }
 {
     for (i, byte) in bytes.iter().enumerate() {
         if *byte == b'\n' {
@@ -24,7 +28,8 @@ fn line_len(bytes: &[u8]) -> usize
 /// The first line, and what stands behind its LF.
 fn split_line(bytes: &[u8]) -> (&[u8], &[u8])
     requires { 0 < length bytes.now }
-    ensures { length result.1.now < length bytes.now }
+    ensures lines { raw_lines bytes.now ≡ result.0.now ∷ raw_lines result.1.now }
+    ensures shorter { length result.1.now < length bytes.now }
 {
     let len = line_len(bytes);
     if len == bytes.len() {
@@ -40,14 +45,17 @@ pub(crate) fn findings(
     name: &str,
     bytes: &[u8],
     is_map: bool,
-) -> Result<Vec<u8>, Memory> {
+) -> Result<Vec<u8>, Memory>
+    requires { length bytes.now < 2 ^ 64 - 1 }
+    ensures { IfOk result (λ text. IsLintText name.now bytes.now is_map text.items) }
+{
     let mut text = Vec::new(alloc);
     let mut settings = Vec::new(alloc);
     let mut rest = bytes;
     let mut line: u64 = 0;
     while !rest.is_empty() {
         let (raw, behind) = split_line(rest);
-        line = line.saturating_add(1);
+        line += 1;
         match raw_says(raw) {
             Ok(None) => {}
             Ok(Some(setting)) => settings.push(Numbered { line, setting })?,
@@ -59,10 +67,6 @@ pub(crate) fn findings(
         }
         rest = behind;
     }
-    if is_map {
-        push_idle(alloc, &mut text, name, settings.as_slice())?;
-    } else {
-        push_too_many(alloc, &mut text, name, settings.as_slice())?;
-    }
+    push_tail(alloc, &mut text, name, settings.as_slice(), is_map)?;
     Ok(text)
 }

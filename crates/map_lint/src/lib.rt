@@ -8,6 +8,7 @@
 //! ```
 #![tactic(auto)]
 
+mod columns;
 mod findings;
 mod idle;
 mod linting;

@@ -1,10 +1,12 @@
 //! The lint of a map file.
 
-ghost use Rattle.std.specs.Prelude.{◌≡◌, ◌-◌, ◌^◌, ◌<◌, Err, Ok, List, OnOk, length, true, false};
+ghost use Rattle.std.specs.Prelude.{◌≡◌, ◌-◌, ◌^◌, ◌<◌, Bool, Err, IfOk, Ok, ℕ, List, OnOk, length, take, true, false};
+ghost use Rattle.std.specs.Io.KnownBytes.{Appends};
 ghost use Rattle.byte_streams.specs.Streams.{WriteFails};
 ghost use Rattle.permission_map.specs.declared.runs.Run.{Run};
 ghost use Rattle.map_text.specs.MapFile.{Makes};
 ghost use Rattle.map_lint.specs.declared.linting.LintFault as LintFault;
+ghost use Rattle.map_lint.specs.Findings.{IsLintText};
 ghost use Rattle.map_lint.specs.Lints.{IsAtFault};
 
 use crate::findings::findings;
@@ -48,9 +50,11 @@ pub fn lint<W: Sink>(
     requires short { length bytes.now < 2 ^ 64 - 1 }
     ensures map { result ≡ Ok true → (map : List Run) × Makes bytes.now map }
     ensures fault { result ≡ Ok false → IsAtFault bytes.now }
+    ensures written { IfOk result (λ is_map. (text : List ℕ) × IsLintText name.now bytes.now is_map text × Appends (W.contents out.old) (W.contents out.new) text) }
     ensures well { OnOk result (W.failures out.new ≡ W.failures out.old) }
     ensures unstalled { OnOk result (W.stalls out.new ≡ W.stalls out.old) }
     ensures untouched { result ≡ Err LintFault.Memory → out.new ≡ out.old }
+    ensures part { result ≡ Err LintFault.Device → (is_map : Bool) × (text : List ℕ) × IsLintText name.now bytes.now is_map text × (n : ℕ) × (n < length text) × Appends (W.contents out.old) (W.contents out.new) (take n text) }
     ensures failed { result ≡ Err LintFault.Device → WriteFails (W.failures out.old) (W.failures out.new) (W.stalls out.old) (W.stalls out.new) }
 {
     let Ok(answer) = is_map(alloc, bytes) else {

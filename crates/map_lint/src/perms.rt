@@ -1,49 +1,84 @@
 //! Words that should be permissions.
 
-use crate::texts::{push, push_quoted};
-use permission_map::Memory;
-use pmp_encoding::Perm;
+ghost use Rattle.std.specs.Prelude.{◌≡◌, ◌++◌, ◌-◌, ◌^◌, ◌<◌, OnOk};
+ghost use Rattle.std.specs.List.{list_all, list_any};
+ghost use Rattle.map_lint.specs.Reasons.{is_letter, is_perm_letter, letters_mend, perm_fault, perm_mend, perm_text};
 
-/// The bits R, W and X of letters in any order and case, with hyphens between them; nothing for another word.
-fn bits_of(word: &[u8]) -> Option<u8> {
-    let mut bits = 0;
-    for byte in word {
-        match byte {
-            b'r' | b'R' => bits |= 1,
-            b'w' | b'W' => bits |= 2,
-            b'x' | b'X' => bits |= 4,
-            b'-' => {}
-            _ => return None,
-        }
-    }
-    Some(bits)
+use crate::texts::{push, push_column, push_quoted};
+use permission_map::Memory;
+
+/// Whether a byte is a lower-case letter, in either case.
+fn is_letter(letter: u8, byte: u8) -> bool
+    requires { byte < 2 ^ 8 }
+    ensures { result ≡ is_letter letter byte }
+{
+    byte == letter || u16::from(byte) + 32 == u16::from(letter)
 }
 
-fn written(perm: Perm) -> &'static str {
-    match perm {
-        Perm::NoAccess => "none",
-        Perm::Read => "r",
-        Perm::ReadWrite => "rw",
-        Perm::Execute => "x",
-        Perm::ReadExecute => "rx",
-        Perm::ReadWriteExecute => "rwx",
+/// Whether a byte is r, w or x in either case, or a hyphen.
+fn is_perm_letter(byte: u8) -> bool
+    ensures { result ≡ is_perm_letter byte }
+{
+    is_letter(b'r', byte) || is_letter(b'w', byte) || is_letter(b'x', byte) || byte == b'-'
+}
+
+/// Whether a letter stands in a word, in either case.
+fn has_letter(letter: u8, word: &[u8]) -> bool
+    ensures { result ≡ list_any (is_letter letter) word.now }
+{
+    word.iter().any(|byte| is_letter(letter, *byte))
+}
+
+/// What to write for letters with or without r, w and x.
+fn mend_of(has_r: bool, has_w: bool, has_x: bool) -> &'static str
+    ensures { result.now ≡ perm_mend has_r has_w has_x }
+{
+    match (has_r, has_w, has_x) {
+        (false, true, false) => " is reserved: W without R; write rw",
+        (false, true, true) => " is reserved: W without R; write rwx",
+        (false, false, false) => " is not written so; write none",
+        (false, false, true) => " is not written so; write x",
+        (true, false, false) => " is not written so; write r",
+        (true, false, true) => " is not written so; write rx",
+        (true, true, false) => " is not written so; write rw",
+        (true, true, true) => " is not written so; write rwx",
     }
+}
+
+/// What to write for a word of such letters.
+fn letters_mend(word: &[u8]) -> &'static str
+    ensures { result.now ≡ letters_mend word.now }
+{
+    mend_of(
+        has_letter(b'r', word),
+        has_letter(b'w', word),
+        has_letter(b'x', word),
+    )
+}
+
+fn are_perm_letters(word: &[u8]) -> bool
+    ensures { result ≡ list_all is_perm_letter word.now }
+{
+    word.iter().all(|byte| is_perm_letter(*byte))
+}
+
+/// What is wrong with a word that is no permission.
+fn fault_of(word: &[u8]) -> &'static str
+    ensures { result.now ≡ perm_fault word.now }
+{
+    if are_perm_letters(word) {
+        return letters_mend(word);
+    }
+    " is no permission; write none, r, rw, x, rx or rwx"
 }
 
 /// Appends what is wrong with a word that is no permission.
-pub(crate) fn push_perm(text: &mut Vec<u8>, word: &[u8]) -> Result<(), Memory> {
+pub(crate) fn push_perm(text: &mut Vec<u8>, before: usize, word: &[u8]) -> Result<(), Memory>
+    requires { before < 2 ^ 64 - 1 }
+    ensures { OnOk result (text.new.items ≡ text.old.items ++ perm_text before word.now) }
+{
+    push_column(text, before)?;
     push(text, "PERM ")?;
     push_quoted(text, word)?;
-    match bits_of(word) {
-        Some(2) => push(text, " is reserved: W without R; write rw"),
-        Some(6) => push(text, " is reserved: W without R; write rwx"),
-        Some(bits) => {
-            push(text, " is not written so; write ")?;
-            match Perm::from_bits(bits) {
-                Some(perm) => push(text, written(perm)),
-                None => push(text, "none, r, rw, x, rx or rwx"),
-            }
-        }
-        None => push(text, " is no permission; write none, r, rw, x, rx or rwx"),
-    }
+    push(text, fault_of(word))
 }

@@ -1,168 +1,339 @@
 //! Why a line is not understood.
 
+ghost use Rattle.std.specs.Prelude.{◌≡◌, ◌++◌, ◌-◌, ◌^◌, ◌<◌, ◌≤◌, ◌==◌, OnOk, length, nat_lt};
+ghost use Rattle.std.specs.List.{list_all, position_or_len, prefix_len};
+ghost use Rattle.text_lines.specs.Words.{content_of, is_allowed};
+ghost use Rattle.text_lines.specs.Numbers.{digit_of, is_numeral};
+ghost use Rattle.map_lint.specs.Pieces.{column_text};
+ghost use Rattle.map_lint.specs.Reasons.{has_mark, line_text, looks_like_number, most_text, named_text, no_number, number_text, pages_mend, part_text, past_text, range_text, reason_of, short_reason, three_text, whole_text, words_text};
+
+use crate::columns::{Placed, word_from};
 use crate::perms::push_perm;
 use crate::texts::{push, push_address, push_column, push_quoted};
 use permission_map::Memory;
 use pmp_encoding::SPACE_SIZE;
-use text_lines::{LONGEST, Words, number, permission, without_return};
+use text_lines::{LONGEST, number, permission, without_return};
 
-/// A word of a line, and how many bytes stand before it.
-#[derive(Clone, Copy)]
-struct Placed<'a> {
-    before: usize,
-    word: &'a [u8],
+fn is_allowed(byte: u8) -> bool
+    ensures { result ≡ is_allowed byte }
+{
+    byte == b'\t' || (byte >= 32 && byte <= 126)
 }
 
-/// The next word of a line whose content has so many bytes.
-fn next_placed<'a>(words: &mut Words<'a>, all: usize) -> Option<Placed<'a>> {
-    let word = words.next_word()?;
-    let before = all
-        .saturating_sub(words.rest.len())
-        .saturating_sub(word.len());
-    Some(Placed { before, word })
-}
-
-/// How many bytes stand before the first that may not stand outside a comment.
-fn before_bad_byte(line: &[u8]) -> usize {
+/// How many bytes a line has before its comment.
+fn content_len(line: &[u8]) -> usize
+    ensures within { result ≤ length line.now }
+    ensures len { result ≡ position_or_len (λ b. b == 35) line.now }
+{
     for (i, byte) in line.iter().enumerate() {
-        if *byte != b'\t' && (*byte < 32 || *byte > 126) {
+        if *byte == b'#' {
             return i;
         }
     }
     line.len()
 }
 
-fn is_digit(byte: u8) -> bool {
+/// How many bytes stand before the first that may not stand outside a comment.
+fn allowed_len(line: &[u8]) -> usize
+    ensures within { result ≤ length line.now }
+    ensures len { result ≡ prefix_len is_allowed line.now }
+{
+    for (i, byte) in line.iter().enumerate() {
+        if !is_allowed(*byte) {
+            return i;
+        }
+    }
+    line.len()
+}
+
+fn is_digit(byte: u8) -> bool
+    ensures { result ≡ nat_lt (digit_of byte) 10 }
+{
     matches!(byte, b'0'..=b'9')
 }
 
-fn is_hex_digit(byte: u8) -> bool {
+fn is_hex_digit(byte: u8) -> bool
+    ensures { result ≡ nat_lt (digit_of byte) 16 }
+{
     matches!(byte, b'0'..=b'9' | b'a'..=b'f' | b'A'..=b'F')
 }
 
+fn are_digits(text: &[u8]) -> bool
+    ensures { result ≡ list_all (λ b. nat_lt (digit_of b) 10) text.now }
+{
+    text.iter().all(|byte| is_digit(*byte))
+}
+
+fn are_hex_digits(text: &[u8]) -> bool
+    ensures { result ≡ list_all (λ b. nat_lt (digit_of b) 16) text.now }
+{
+    text.iter().all(|byte| is_hex_digit(*byte))
+}
+
+/// Whether a text is one or more decimal digits.
+fn is_decimal(text: &[u8]) -> bool
+    ensures { result ≡ is_numeral 10 text.now }
+{
+    text.len() > 0 && are_digits(text)
+}
+
+/// Whether a text is one or more hexadecimal digits.
+fn is_hex(text: &[u8]) -> bool
+    ensures { result ≡ is_numeral 16 text.now }
+{
+    text.len() > 0 && are_hex_digits(text)
+}
+
 /// Whether a word has the form of a number, however large.
-fn looks_like_number(word: &[u8]) -> bool {
+fn looks_like_number(word: &[u8]) -> bool
+    ensures { result ≡ looks_like_number word.now }
+{
     match word {
-        [] => false,
-        [b'0', b'x' | b'X'] => false,
-        [b'0', b'x' | b'X', digits @ ..] => digits.iter().all(|byte| is_hex_digit(*byte)),
-        _ => word.iter().all(|byte| is_digit(*byte)),
+        [b'0', b'x' | b'X', digits @ ..] => is_hex(digits),
+        _ => is_decimal(word),
     }
+}
+
+/// What is wrong with a word that is no number.
+fn no_number(word: &[u8]) -> &'static str
+    ensures { result.now ≡ no_number (looks_like_number word.now) }
+{
+    if looks_like_number(word) {
+        " is too large; numbers are below 2^64"
+    } else {
+        " is no number; write decimal digits, or 0x and hexadecimal digits"
+    }
+}
+
+/// Appends the column of a word, and its name.
+fn push_named(text: &mut Vec<u8>, name: &str, before: usize) -> Result<(), Memory>
+    requires { before < 2 ^ 64 - 1 }
+    ensures { OnOk result (text.new.items ≡ text.old.items ++ named_text name.now before) }
+{
+    push_column(text, before)?;
+    push(text, name)?;
+    push(text, " ")
 }
 
 /// Appends what is wrong with a word that is no number.
-fn push_no_number(text: &mut Vec<u8>, name: &str, placed: Placed<'_>) -> Result<(), Memory> {
-    push_column(text, placed.before)?;
-    push(text, name)?;
-    push(text, " ")?;
+fn push_no_number(text: &mut Vec<u8>, name: &str, placed: Placed<'_>) -> Result<(), Memory>
+    requires { placed.before < 2 ^ 64 - 1 }
+    ensures { OnOk result (text.new.items ≡ text.old.items ++ number_text name.now placed.entry.before placed.entry.word.now) }
+{
+    push_named(text, name, placed.before)?;
     push_quoted(text, placed.word)?;
-    if looks_like_number(placed.word) {
-        return push(text, " is too large; numbers are below 2^64");
-    }
-    push(
-        text,
-        " is no number; write decimal digits, or 0x and hexadecimal digits",
-    )
+    push(text, no_number(placed.word))
 }
 
-/// Appends that a number of bytes is no number of whole pages.
+/// Appends that a number of bytes is no number of whole pages, and what would be one.
+fn push_whole(text: &mut Vec<u8>, mend: &str, whole: u64) -> Result<(), Memory>
+    ensures { OnOk result (text.new.items ≡ text.old.items ++ whole_text mend.now whole) }
+{
+    push(text, " is not a multiple of 4096; ")?;
+    push(text, mend)?;
+    push_address(text, whole)?;
+    Ok(())
+}
+
+/// Appends what is wrong with a word whose number of bytes is no number of whole pages.
 fn push_part(
     text: &mut Vec<u8>,
     name: &str,
     placed: Placed<'_>,
     mend: &str,
     whole: u64,
-) -> Result<(), Memory> {
-    push_column(text, placed.before)?;
-    push(text, name)?;
-    push(text, " ")?;
+) -> Result<(), Memory>
+    requires { placed.before < 2 ^ 64 - 1 }
+    ensures { OnOk result (text.new.items ≡ text.old.items ++ part_text name.now placed.entry.before placed.entry.word.now mend.now whole) }
+{
+    push_named(text, name, placed.before)?;
     text.extend_from_slice(placed.word)?;
-    push(text, " is not a multiple of 4096; ")?;
-    push(text, mend)?;
-    push_address(text, whole)
+    push_whole(text, mend, whole)?;
+    Ok(())
+}
+
+/// How a size that is no whole number of pages is mended.
+fn pages_mend(bytes: u64) -> &'static str
+    ensures { result.now ≡ pages_mend bytes }
+{
+    if bytes < 4096 {
+        "the whole page is "
+    } else {
+        "the whole pages are "
+    }
+}
+
+/// Appends how large a size may be at most.
+fn push_most(text: &mut Vec<u8>, first: u64) -> Result<(), Memory>
+    requires { first ≤ 2 ^ 56 }
+    ensures { OnOk result (text.new.items ≡ text.old.items ++ most_text first) }
+{
+    push(text, "BASE and SIZE end past 2^56; SIZE is at most ")?;
+    push_address(text, SPACE_SIZE - first)?;
+    Ok(())
+}
+
+/// Appends that a range ends behind the space.
+fn push_past_end(text: &mut Vec<u8>, size_at: usize, first: u64) -> Result<(), Memory>
+    requires at { size_at < 2 ^ 64 - 1 }
+    requires first { first ≤ 2 ^ 56 }
+    ensures { OnOk result (text.new.items ≡ text.old.items ++ (column_text size_at ++ most_text first)) }
+{
+    push_column(text, size_at)?;
+    push_most(text, first)?;
+    Ok(())
+}
+
+/// Appends that a range does not lie in the space.
+fn push_past(text: &mut Vec<u8>, base_at: usize, size_at: usize, first: u64) -> Result<(), Memory>
+    requires base { base_at < 2 ^ 64 - 1 }
+    requires size { size_at < 2 ^ 64 - 1 }
+    ensures { OnOk result (text.new.items ≡ text.old.items ++ past_text base_at size_at first) }
+{
+    if first > SPACE_SIZE {
+        push_column(text, base_at)?;
+        return push(
+            text,
+            "BASE is past 2^56; the space ends at 0x100000000000000",
+        );
+    }
+    push_past_end(text, size_at, first)
+}
+
+/// Appends what is wrong with two numbers and a word.
+#[tactic(auto, unfolding(crate::specs::Reasons::range_text))]
+fn push_range(
+    text: &mut Vec<u8>,
+    base: Placed<'_>,
+    size: Placed<'_>,
+    perm: Placed<'_>,
+    first: u64,
+    bytes: u64,
+) -> Result<(), Memory>
+    requires base { base.before < 2 ^ 64 - 1 }
+    requires size { size.before < 2 ^ 64 - 1 }
+    requires perm { perm.before < 2 ^ 64 - 1 }
+    ensures { OnOk result (text.new.items ≡ text.old.items ++ range_text base.entry.before base.entry.word.now size.entry.before size.entry.word.now perm.entry.before perm.entry.word.now first bytes) }
+{
+    let part = first % 4096;
+    if part != 0 {
+        return push_part(text, "BASE", base, "its page begins at ", first - part);
+    }
+    let part = bytes % 4096;
+    if part != 0 && bytes < SPACE_SIZE {
+        let whole = bytes - part + 4096;
+        return push_part(text, "SIZE", size, pages_mend(bytes), whole);
+    }
+    match permission(perm.word) {
+        None => push_perm(text, perm.before, perm.word),
+        Some(_) => push_past(text, base.before, size.before, first),
+    }
 }
 
 /// Appends what is wrong with three words.
+#[tactic(auto, unfolding(crate::specs::Reasons::three_text))]
 fn push_three(
     text: &mut Vec<u8>,
     base: Placed<'_>,
     size: Placed<'_>,
     perm: Placed<'_>,
-) -> Result<(), Memory> {
+) -> Result<(), Memory>
+    requires base { base.before < 2 ^ 64 - 1 }
+    requires size { size.before < 2 ^ 64 - 1 }
+    requires perm { perm.before < 2 ^ 64 - 1 }
+    ensures { OnOk result (text.new.items ≡ text.old.items ++ three_text base.entry.before base.entry.word.now size.entry.before size.entry.word.now perm.entry.before perm.entry.word.now) }
+{
     let Some(first) = number(base.word) else {
         return push_no_number(text, "BASE", base);
     };
     let Some(bytes) = number(size.word) else {
         return push_no_number(text, "SIZE", size);
     };
-    let part = first % 4096;
-    if part != 0 {
-        return push_part(text, "BASE", base, "its page begins at ", first - part);
-    }
-    let part = bytes % 4096;
-    if part != 0 {
-        let whole = (bytes - part).saturating_add(4096);
-        let mend = if bytes < 4096 {
-            "the whole page is "
-        } else {
-            "the whole pages are "
-        };
-        return push_part(text, "SIZE", size, mend, whole);
-    }
-    if permission(perm.word).is_none() {
-        push_column(text, perm.before)?;
-        return push_perm(text, perm.word);
-    }
-    if first > SPACE_SIZE {
-        push_column(text, base.before)?;
-        return push(
-            text,
-            "BASE is past 2^56; the space ends at 0x100000000000000",
-        );
-    }
-    push_column(text, size.before)?;
-    push(text, "BASE and SIZE end past 2^56; SIZE is at most ")?;
-    push_address(text, SPACE_SIZE - first)
+    push_range(text, base, size, perm, first, bytes)
 }
 
-/// Appends what is wrong with the words of a line.
-fn push_words(text: &mut Vec<u8>, line: Words<'_>) -> Result<(), Memory> {
-    let mut words = line;
-    let all = words.rest.len();
-    let Some(base) = next_placed(&mut words, all) else {
-        return push(text, "1: not understood");
-    };
-    let Some(size) = next_placed(&mut words, all) else {
-        push_column(text, base.before.saturating_add(base.word.len()))?;
+/// Appends what is wrong with the words of a line without its comment.
+#[tactic(auto, unfolding(crate::specs::Reasons::words_text))]
+fn push_words(text: &mut Vec<u8>, line: &[u8]) -> Result<(), Memory>
+    requires { length line.now < 2 ^ 64 - 1 }
+    ensures { OnOk result (text.new.items ≡ text.old.items ++ words_text line.now) }
+{
+    let base = word_from(line, 0);
+    let size = word_from(line, base.end);
+    if size.word.is_empty() {
+        push_column(text, base.end)?;
         return push(text, "SIZE and PERM are wanting; a line is BASE SIZE PERM");
-    };
-    let Some(perm) = next_placed(&mut words, all) else {
-        push_column(text, size.before.saturating_add(size.word.len()))?;
+    }
+    let perm = word_from(line, size.end);
+    if perm.word.is_empty() {
+        push_column(text, size.end)?;
         return push(text, "PERM is wanting; write none, r, rw, x, rx or rwx");
-    };
-    if let Some(more) = next_placed(&mut words, all) {
+    }
+    let more = word_from(line, perm.end);
+    if !more.word.is_empty() {
         push_column(text, more.before)?;
         return push(text, "a fourth word; a comment begins with #");
     }
     push_three(text, base, size, perm)
 }
 
+fn are_allowed(text: &[u8]) -> bool
+    ensures { result ≡ list_all is_allowed text.now }
+{
+    text.iter().all(|byte| is_allowed(*byte))
+}
+
+/// The line without its comment.
+fn content_of(line: &[u8]) -> &[u8]
+    ensures { result.now ≡ content_of line.now }
+{
+    &line[..content_len(line)]
+}
+
+/// Appends what is wrong with a line that comes without its LF and its CR.
+#[tactic(auto, unfolding(crate::specs::Reasons::line_text))]
+fn push_line(text: &mut Vec<u8>, line: &[u8]) -> Result<(), Memory>
+    requires { length line.now < 2 ^ 64 - 1 }
+    ensures { OnOk result (text.new.items ≡ text.old.items ++ line_text line.now) }
+{
+    let content = content_of(line);
+    if are_allowed(content) {
+        return push_words(text, content);
+    }
+    push_column(text, allowed_len(line))?;
+    push(
+        text,
+        "a byte that is no visible ASCII character; write it behind a #",
+    )
+}
+
+/// Whether a line begins with a byte order mark.
+fn has_mark(raw: &[u8]) -> bool
+    ensures { result ≡ has_mark raw.now }
+{
+    matches!(raw, [0xEF, 0xBB, 0xBF, ..])
+}
+
+/// Appends why a line of at most 1023 bytes is not understood.
+#[tactic(auto, unfolding(crate::specs::Reasons::short_reason))]
+fn push_short(text: &mut Vec<u8>, raw: &[u8]) -> Result<(), Memory>
+    requires { length raw.now ≤ 1023 }
+    ensures { OnOk result (text.new.items ≡ text.old.items ++ short_reason raw.now) }
+{
+    if has_mark(raw) {
+        return push(text, "1: a byte order mark; save the file without one");
+    }
+    push_line(text, without_return(raw))
+}
+
 /// Appends the column and the reason for which a line is not understood, and what would mend it.
-pub(crate) fn push_reason(text: &mut Vec<u8>, raw: &[u8]) -> Result<(), Memory> {
+#[tactic(auto, unfolding(crate::specs::Reasons::reason_of))]
+pub(crate) fn push_reason(text: &mut Vec<u8>, raw: &[u8]) -> Result<(), Memory>
+    ensures { OnOk result (text.new.items ≡ text.old.items ++ reason_of raw.now) }
+{
     if raw.len() > LONGEST {
         push_column(text, LONGEST)?;
         return push(text, "the line is too long; it has at most 1023 bytes");
     }
-    if let [0xEF, 0xBB, 0xBF, ..] = raw {
-        return push(text, "1: a byte order mark; save the file without one");
-    }
-    let line = without_return(raw);
-    let Ok(words) = Words::of(line) else {
-        push_column(text, before_bad_byte(line))?;
-        return push(
-            text,
-            "a byte that is no visible ASCII character; write it behind a #",
-        );
-    };
-    push_words(text, words)
+    push_short(text, raw)
 }

@@ -1,6 +1,7 @@
 //! Texts that findings are put together from.
 
-ghost use Rattle.std.specs.Prelude.{◌≤◌};
+ghost use Rattle.std.specs.Prelude.{◌≡◌, ◌++◌, ◌-◌, ◌^◌, ◌<◌, ◌≤◌, OnOk, decimal, length, take};
+ghost use Rattle.map_lint.specs.Pieces.{address_text, column_text, place_text, quoted, without_zeros};
 
 use arrayvec::ArrayVec;
 use permission_map::Memory;
@@ -9,53 +10,78 @@ use text_lines::{Line, push_decimal, push_hex};
 /// How many bytes of a word are quoted.
 const QUOTED: usize = 32;
 
-pub(crate) fn push(text: &mut Vec<u8>, bytes: &str) -> Result<(), Memory> {
+/// Appends a text.
+pub(crate) fn push(text: &mut Vec<u8>, bytes: &str) -> Result<(), Memory>
+    ensures { OnOk result (text.new.items ≡ text.old.items ++ bytes.now) }
+{
     text.extend_from_slice(bytes.as_bytes())?;
     Ok(())
 }
 
-pub(crate) fn push_number(text: &mut Vec<u8>, number: u64) -> Result<(), Memory> {
+/// Appends a number in decimal.
+pub(crate) fn push_number(text: &mut Vec<u8>, number: u64) -> Result<(), Memory>
+    ensures { OnOk result (text.new.items ≡ text.old.items ++ decimal number) }
+{
     let mut line: Line = ArrayVec::new();
     push_decimal(&mut line, number);
     text.extend_from_slice(line.as_slice())?;
     Ok(())
 }
 
-/// How many hexadecimal digits a number has.
-fn digits_of(number: u64) -> u8
-    ensures { result ≤ 16 }
+/// Digits without the zeros before the first other digit, or before the last.
+fn without_zeros(digits: &[u8]) -> &[u8]
+    ensures { result.now ≡ without_zeros digits.now }
 {
-    let bits = 64 - number.leading_zeros().min(60);
-    ((bits + 3) / 4) as u8
+    match digits {
+        [b'0', rest @ ..] => {
+            if rest.is_empty() {
+                digits
+            } else {
+                without_zeros(rest)
+            }
+        }
+        _ => digits,
+    }
 }
 
 /// Appends a number as `0x1000`.
-pub(crate) fn push_address(text: &mut Vec<u8>, number: u64) -> Result<(), Memory> {
+#[tactic(auto, unfolding(crate::specs::Pieces::address_text))]
+pub(crate) fn push_address(text: &mut Vec<u8>, number: u64) -> Result<(), Memory>
+    ensures { OnOk result (text.new.items ≡ text.old.items ++ address_text number) }
+{
     let mut line: Line = ArrayVec::new();
-    push_hex(&mut line, number, digits_of(number));
+    push_hex(&mut line, number, 16);
     push(text, "0x")?;
-    text.extend_from_slice(line.as_slice())?;
+    text.extend_from_slice(without_zeros(line.as_slice()))?;
     Ok(())
 }
 
-fn beginning(word: &[u8]) -> &[u8] {
-    let len = word.len().min(QUOTED);
-    &word[..len]
+/// The first bytes of a word.
+fn beginning(word: &[u8]) -> &[u8]
+    requires { 32 ≤ length word.now }
+    ensures { result.now ≡ take 32 word.now }
+{
+    &word[..QUOTED]
 }
 
 /// Appends a word in quotes: its beginning, where it is long.
-pub(crate) fn push_quoted(text: &mut Vec<u8>, word: &[u8]) -> Result<(), Memory> {
-    push(text, "'")?;
-    let shown = beginning(word);
-    text.extend_from_slice(shown)?;
-    if shown.len() < word.len() {
+pub(crate) fn push_quoted(text: &mut Vec<u8>, word: &[u8]) -> Result<(), Memory>
+    ensures { OnOk result (text.new.items ≡ text.old.items ++ quoted word.now) }
+{
+    if word.len() > QUOTED {
+        push(text, "'")?;
+        text.extend_from_slice(beginning(word))?;
         return push(text, "..'");
     }
+    push(text, "'")?;
+    text.extend_from_slice(word)?;
     push(text, "'")
 }
 
 /// Appends `FILE:LINE:`.
-pub(crate) fn push_place(text: &mut Vec<u8>, name: &str, line: u64) -> Result<(), Memory> {
+pub(crate) fn push_place(text: &mut Vec<u8>, name: &str, line: u64) -> Result<(), Memory>
+    ensures { OnOk result (text.new.items ≡ text.old.items ++ place_text name.now line) }
+{
     push(text, name)?;
     push(text, ":")?;
     push_number(text, line)?;
@@ -63,7 +89,10 @@ pub(crate) fn push_place(text: &mut Vec<u8>, name: &str, line: u64) -> Result<()
 }
 
 /// Appends `COLUMN: `, counted from 1.
-pub(crate) fn push_column(text: &mut Vec<u8>, before: usize) -> Result<(), Memory> {
-    push_number(text, (before as u64).saturating_add(1))?;
+pub(crate) fn push_column(text: &mut Vec<u8>, before: usize) -> Result<(), Memory>
+    requires { before < 2 ^ 64 - 1 }
+    ensures { OnOk result (text.new.items ≡ text.old.items ++ column_text before) }
+{
+    push_number(text, before as u64 + 1)?;
     push(text, ": ")
 }

@@ -1,0 +1,130 @@
+-- Why a line of a map file is not understood, with its column and what would mend it.
+use Rattle.std.specs.Prelude.{ℕ, ◌+◌, ◌-◌, ◌%◌, ◌^◌, ◌==◌, ◌||◌, ◌&&◌, not, nat_lt, if◌then◌else◌, Bool, true, false, List, [], ◌∷◌, ◌++◌, length, Option, Some, None, codes}
+use Rattle.std.specs.List.{list_all, list_any, prefix_len}
+use Rattle.pmp_encoding.specs.declared.perm.Perm.{Perm}
+use Rattle.text_lines.specs.Lines.{without_return}
+use Rattle.text_lines.specs.Numbers.{is_numeral, number_of, permission_of}
+use Rattle.text_lines.specs.Words.{content_of, is_allowed}
+use Rattle.map_lint.specs.Columns.{begin_from, end_from, word_from}
+use Rattle.map_lint.specs.Pieces.{address_text, column_text, quoted}
+
+-- whether a word has the form of a number, however large
+abbrev pub looks_like_number : List ℕ → Bool
+looks_like_number [] = false
+looks_like_number (first ∷ []) = is_numeral 10 (first ∷ [])
+looks_like_number (first ∷ second ∷ digits) = if first == 48 && (second == 120 || second == 88) then is_numeral 16 digits else is_numeral 10 (first ∷ second ∷ digits)
+
+-- what is wrong with a word that is no number
+abbrev pub no_number : Bool → List ℕ
+no_number true = codes " is too large; numbers are below 2^64"
+no_number false = codes " is no number; write decimal digits, or 0x and hexadecimal digits"
+
+-- the column of a word, and its name
+abbrev pub named_text : List ℕ → ℕ → List ℕ
+named_text name before = column_text before ++ (name ++ codes " ")
+
+abbrev pub number_text : List ℕ → ℕ → List ℕ → List ℕ
+number_text name before word = named_text name before ++ (quoted word ++ no_number (looks_like_number word))
+
+-- a number of bytes that is no whole number of pages
+abbrev pub whole_text : List ℕ → ℕ → List ℕ
+whole_text mend whole = codes " is not a multiple of 4096; " ++ (mend ++ address_text whole)
+
+abbrev pub part_text : List ℕ → ℕ → List ℕ → List ℕ → ℕ → List ℕ
+part_text name before word mend whole = named_text name before ++ (word ++ whole_text mend whole)
+
+-- a letter in either case
+abbrev pub is_letter : ℕ → ℕ → Bool
+is_letter letter b = b == letter || b + 32 == letter
+
+-- r, w, x in either case, or a hyphen
+abbrev pub is_perm_letter : ℕ → Bool
+is_perm_letter b = is_letter 114 b || is_letter 119 b || is_letter 120 b || b == 45
+
+-- what to write for letters with or without r, w and x
+abbrev pub perm_mend : Bool → Bool → Bool → List ℕ
+perm_mend false true false = codes " is reserved: W without R; write rw"
+perm_mend false true true = codes " is reserved: W without R; write rwx"
+perm_mend false false false = codes " is not written so; write none"
+perm_mend false false true = codes " is not written so; write x"
+perm_mend true false false = codes " is not written so; write r"
+perm_mend true false true = codes " is not written so; write rx"
+perm_mend true true false = codes " is not written so; write rw"
+perm_mend true true true = codes " is not written so; write rwx"
+
+abbrev pub letters_mend : List ℕ → List ℕ
+letters_mend word = perm_mend (list_any (is_letter 114) word) (list_any (is_letter 119) word) (list_any (is_letter 120) word)
+
+-- what is wrong with a word that is no permission
+abbrev pub perm_fault : List ℕ → List ℕ
+perm_fault word = if list_all is_perm_letter word then letters_mend word else codes " is no permission; write none, r, rw, x, rx or rwx"
+
+-- a word that is no permission
+abbrev pub perm_text : ℕ → List ℕ → List ℕ
+perm_text before word = column_text before ++ (codes "PERM " ++ (quoted word ++ perm_fault word))
+
+-- what a size that is no whole number of pages is mended by
+abbrev pub pages_mend : ℕ → List ℕ
+pages_mend bytes = if nat_lt bytes 4096 then codes "the whole page is " else codes "the whole pages are "
+
+-- how large a size may be at most
+abbrev pub most_text : ℕ → List ℕ
+most_text first = codes "BASE and SIZE end past 2^56; SIZE is at most " ++ address_text (2 ^ 56 - first)
+
+-- a range that does not lie in the space
+abbrev pub past_text : ℕ → ℕ → ℕ → List ℕ
+past_text base_at size_at first =
+    if nat_lt (2 ^ 56) first
+    then column_text base_at ++ codes "BASE is past 2^56; the space ends at 0x100000000000000"
+    else column_text size_at ++ most_text first
+
+-- a permission on whole pages: the word is none, or the pages do not lie in the space
+abbrev pub pages_text : ℕ → ℕ → ℕ → List ℕ → ℕ → Option Perm → List ℕ
+pages_text base_at size_at perm_at perm first None = perm_text perm_at perm
+pages_text base_at size_at perm_at perm first (Some named) = past_text base_at size_at first
+
+-- two numbers and a word: the first of the faults that they can have
+unfoldable pub range_text : ℕ → List ℕ → ℕ → List ℕ → ℕ → List ℕ → ℕ → ℕ → List ℕ
+range_text base_at base size_at size perm_at perm first bytes =
+    if not (first % 4096 == 0) then part_text (codes "BASE") base_at base (codes "its page begins at ") (first - first % 4096)
+    else if not (bytes % 4096 == 0) && nat_lt bytes (2 ^ 56) then part_text (codes "SIZE") size_at size (pages_mend bytes) (bytes - bytes % 4096 + 4096)
+    else pages_text base_at size_at perm_at perm first (permission_of perm)
+
+-- three words, by the numbers that the first two are
+abbrev pub three_by : ℕ → List ℕ → ℕ → List ℕ → ℕ → List ℕ → Option ℕ → Option ℕ → List ℕ
+three_by base_at base size_at size perm_at perm None bytes = number_text (codes "BASE") base_at base
+three_by base_at base size_at size perm_at perm (Some first) None = number_text (codes "SIZE") size_at size
+three_by base_at base size_at size perm_at perm (Some first) (Some bytes) = range_text base_at base size_at size perm_at perm first bytes
+
+unfoldable pub three_text : ℕ → List ℕ → ℕ → List ℕ → ℕ → List ℕ → List ℕ
+three_text base_at base size_at size perm_at perm = three_by base_at base size_at size perm_at perm (number_of base) (number_of size)
+
+-- the words of a line without its comment, by where the first three of them end
+abbrev pub words_by : List ℕ → ℕ → ℕ → ℕ → List ℕ
+words_by text first second third =
+    if length (word_from text first) == 0 then column_text first ++ codes "SIZE and PERM are wanting; a line is BASE SIZE PERM"
+    else if length (word_from text second) == 0 then column_text second ++ codes "PERM is wanting; write none, r, rw, x, rx or rwx"
+    else if not (length (word_from text third) == 0) then column_text (begin_from text third) ++ codes "a fourth word; a comment begins with #"
+    else three_text (begin_from text 0) (word_from text 0) (begin_from text first) (word_from text first) (begin_from text second) (word_from text second)
+
+unfoldable pub words_text : List ℕ → List ℕ
+words_text text = words_by text (end_from text 0) (end_from text (end_from text 0)) (end_from text (end_from text (end_from text 0)))
+
+-- a line without its LF and its CR
+unfoldable pub line_text : List ℕ → List ℕ
+line_text line =
+    if list_all is_allowed (content_of line) then words_text (content_of line)
+    else column_text (prefix_len is_allowed line) ++ codes "a byte that is no visible ASCII character; write it behind a #"
+
+-- the three bytes of a byte order mark at the front
+abbrev pub has_mark : List ℕ → Bool
+has_mark (first ∷ second ∷ third ∷ rest) = first == 239 && (second == 187 && third == 191)
+has_mark _ = false
+
+-- a line of at most 1023 bytes
+unfoldable pub short_reason : List ℕ → List ℕ
+short_reason raw = if has_mark raw then codes "1: a byte order mark; save the file without one" else line_text (without_return raw)
+
+-- a line without its LF: its column, the reason and what would mend it
+unfoldable pub reason_of : List ℕ → List ℕ
+reason_of raw = if nat_lt 1023 (length raw) then column_text 1023 ++ codes "the line is too long; it has at most 1023 bytes" else short_reason raw

@@ -1,0 +1,53 @@
+//! The words of a line, each with how many bytes of the line stand before it.
+
+ghost use Rattle.std.specs.Prelude.{◌≡◌, ◌≤◌, length};
+ghost use Rattle.std.specs.List.{prefix_len};
+ghost use Rattle.text_lines.specs.Words.{is_blank};
+ghost use Rattle.map_lint.specs.Columns.{begin_from, end_from, word_from};
+
+use text_lines::word_len;
+
+/// A word of a line, and how many bytes stand before it and before its end; without bytes where there is none.
+#[derive(Clone, Copy)]
+pub(crate) struct Placed<'a> {
+    pub(crate) before: usize,
+    pub(crate) word: &'a [u8],
+    pub(crate) end: usize,
+}
+
+fn is_blank(byte: u8) -> bool
+    ensures { result ≡ is_blank byte }
+{
+    byte == b' ' || byte == b'\t'
+}
+
+/// How many blanks a text begins with.
+fn blanks_len(text: &[u8]) -> usize
+    ensures within { result ≤ length text.now }
+    ensures len { result ≡ prefix_len is_blank text.now }
+{
+    for (i, byte) in text.iter().enumerate() {
+        if !is_blank(*byte) {
+            return i;
+        }
+    }
+    text.len()
+}
+
+/// The first word that begins at a place or behind it.
+pub(crate) fn word_from(text: &[u8], at: usize) -> Placed<'_>
+    requires { at ≤ length text.now }
+    ensures before { result.before ≡ begin_from text.now at }
+    ensures word { result.word.now ≡ word_from text.now at }
+    ensures end { result.end ≡ end_from text.now at }
+    ensures within { result.end ≤ length text.now }
+    ensures order { result.before ≤ result.end }
+{
+    let before = at + blanks_len(&text[at..]);
+    let end = before + word_len(&text[before..]);
+    Placed {
+        before,
+        word: &text[before..end],
+        end,
+    }
+}
