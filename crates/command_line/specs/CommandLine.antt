@@ -8,7 +8,7 @@ use Rattle.text_lines.specs.Numbers.{number_of}
 use Rattle.command_line.specs.declared.task.Format.{Format}
 use Rattle.command_line.specs.declared.task.Format.TheVariants as formats
 use Rattle.command_line.specs.declared.task.Task.{Task}
-use Rattle.command_line.specs.declared.task.Task.TheVariants.{Run, Plan, Judge, Check, Show, Audit}
+use Rattle.command_line.specs.declared.task.Task.TheVariants.{Run, Plan, Judge, Check, Show, Audit, Lint}
 
 -- a file that is named by its place among the words
 abbrev pub file_rule : Text → Bool → Rule
@@ -65,6 +65,9 @@ show_app = with_rule (with_rule (with_rule (new_app (codes "show")) (file_rule (
 abbrev pub audit_app : App
 audit_app = with_rule (with_rule (new_app (codes "audit")) (file_rule (codes "MAP") true)) (file_rule (codes "REGISTERS") true)
 
+abbrev pub lint_app : App
+lint_app = with_rule (new_app (codes "lint")) (file_rule (codes "MAP") true)
+
 -- the program before its subcommands, which tells its version: one of them has to be named
 abbrev pub bare_app : App
 bare_app = record { top = record (new_app (codes "pmpmon")).top { subcommand_required = true; has_version = true }; subs = [] }
@@ -76,8 +79,12 @@ running_app = with_subcommand bare_app run_app.top
 abbrev pub planning_app : App
 planning_app = with_subcommand (with_subcommand (with_subcommand running_app plan_app.top) judge_app.top) check_app.top
 
+-- with those that look at a map
+abbrev pub looking_app : App
+looking_app = with_subcommand (with_subcommand planning_app show_app.top) audit_app.top
+
 abbrev pub program_app : App
-program_app = with_subcommand (with_subcommand planning_app show_app.top) audit_app.top
+program_app = with_subcommand looking_app lint_app.top
 
 -- the word that names a limit
 abbrev pub limit_word : Limit → Text
@@ -108,6 +115,7 @@ word_of (Judge map trace limit) = codes "judge"
 word_of (Check map cert) = codes "check"
 word_of (Show map limit at_most) = codes "show"
 word_of (Audit map registers) = codes "audit"
+word_of (Lint map) = codes "lint"
 
 -- the task has the values of its words
 abbrev pub HasValues : List Row → Task → Type 0
@@ -136,6 +144,7 @@ HasValues rows (Show map limit at_most) =
 HasValues rows (Audit map registers) =
     (first_of (codes "MAP") rows ≡ Some map.now)
     × (first_of (codes "REGISTERS") rows ≡ Some registers.now)
+HasValues rows (Lint map) = first_of (codes "MAP") rows ≡ Some map.now
 
 -- the task is the subcommand that was entered, with the values of its words
 abbrev pub IsTask : Option (Text × List Row) → Task → Type 0

@@ -3,7 +3,7 @@
 ghost use Rattle.std.specs.Prelude.{◌≡◌, IfOk, false};
 ghost use Rattle.clap.specs.Words.{app_of, new_app, rule_of};
 ghost use Rattle.clap.specs.declared.builder.command.Command.TheViews.{out-Command};
-ghost use Rattle.command_line.specs.CommandLine.{at_most_rule, audit_app, bare_app, check_app, entries_rule, file_rule, format_rule, judge_app, measure_rule, plan_app, plan_files_app, planning_app, program_app, run_app, running_app, show_app};
+ghost use Rattle.command_line.specs.CommandLine.{at_most_rule, audit_app, bare_app, check_app, entries_rule, file_rule, format_rule, judge_app, lint_app, looking_app, measure_rule, plan_app, plan_files_app, planning_app, program_app, run_app, running_app, show_app};
 
 use clap::{Arg, ArgAction, Command};
 use std::alloc::{AllocError, Global};
@@ -16,7 +16,7 @@ const ABOUT: &str =
     "Runs traces on a modelled RISC-V hart whose monitor isolates enclaves by PMP, with the fewest entries, and plans, certifies and checks such entries";
 
 const EXAMPLE: &str =
-    "Example, with a file map.txt that holds the line\n\n  0x80000000 0x1000 rwx\n\n  pmpmon plan map.txt map.pmpc      prints one entry, and writes its certificate\n  pmpmon check map.txt map.pmpc     prints 'accepted 1'\n\nMAP, TRACE and REGISTERS can be '-', standard input.\n\nStatus: 0 done, 1 refused by the checker or by audit, 2 bad input, 3 input or output failed, 4 memory";
+    "Example, with a file map.txt that holds the line\n\n  0x80000000 0x1000 rwx\n\n  pmpmon plan map.txt map.pmpc      prints one entry, and writes its certificate\n  pmpmon check map.txt map.pmpc     prints 'accepted 1'\n\nMAP, TRACE and REGISTERS can be '-', standard input.\n\nStatus: 0 done, 1 refused by the checker, by audit or by lint, 2 bad input, 3 input or output failed, 4 memory";
 
 const RUN_HELP: &str =
     "A platform file is TOML: [monitor] and one [[ram]] or more, each with base and size in bytes, whole pages of 4096;\n[[device]] with a perm too; and, above them, harts = 1 to 4 (1) and entries = 16 or 64 (16).\n\nA trace has a line for each event, with M s or u, and SIZE 1, 2, 4 or 8 (for a fetch 2 or 4):\n\n  fetch M SIZE ADDR\n  load M SIZE ADDR\n  store M SIZE ADDR VALUE\n  reg xN VALUE\n  ecall W1 .. Wk         up to 8 words, put in a7, a6, a0 to a5\n  irq                    the timer's interrupt\n\n@H before an event names its hart, from 0. # begins a comment. The monitor's calls are\n\n  ecall 0x08454E43 0 BASE TEXT DATA SHARED_BASE SHARED ENTRY    create (pages; ENTRY is an offset in bytes)\n  ecall 0x08454E43 1 ID     destroy         ecall 0x08454E43 2 ID     run\n  ecall 0x08454E43 3        stop            ecall 0x08454E43 4 ID     resume\n  ecall 0x08454E43 5 VALUE  exit            ecall 0x08454E43 6 ID K   word K of the measurement\n\nEach event N is answered by 'N ok', 'N ok VALUE' (a load), 'N fault CAUSE', 'N call STATUS VALUE WORLD USED' or\n'N irq WORLD USED': WORLD is 0 for the host or an enclave's id, and USED how many PMP entries are loaded.\n\nExample:\n  pmpmon run platform.toml trace.txt --measure";
@@ -26,6 +26,9 @@ const PLAN_HELP: &str =
 
 const AUDIT_HELP: &str =
     "REGISTERS is what 'plan' prints, or lines 'pmpaddrN VALUE' and 'pmpcfgK VALUE' in any order; a later line overrides an\nearlier one, and what no line sets is zero.\n\nPrints 'means the map: 5 entries where 3 are enough'; or, with status 1, the first stretch that differs, what the map and\nthe registers say there and which entry says it, or the first pair that no entry has.\n\nExample:\n  pmpmon audit map.txt registers.txt";
+
+const LINT_HELP: &str =
+    "Prints a line for each line of the file that is at fault: 'MAP:LINE:COLUMN:', what is wrong with it, and what would mend\nit; in a map without fault, a warning for each line that changes nothing of the whole map.\n\nStatus 0 where the file is a map, with warnings too, and 1 where it is none.\n\nExample:\n  pmpmon lint map.txt";
 
 const SHOW_HELP: &str =
     "Prints the map as a table: each stretch of bytes with one permission that one entry decides, its size, its\npermission (r, w, x, a hyphen for each that it lacks), the entry, and the entries that it overrides there; then all\nelse; then how many entries the map needs, and whether a hart of --entries has as many.\n\nExample:\n  pmpmon show map.txt --entries 64";
@@ -199,6 +202,16 @@ fn audit_command<'a>(alloc: Global) -> Result<Command<'a>, AllocError>
     Ok(audit)
 }
 
+fn lint_command<'a>(alloc: Global) -> Result<Command<'a>, AllocError>
+    ensures app { IfOk result (λ c. app_of c ≡ lint_app) }
+    ensures local { IfOk result (λ c. (out-Command c).has_globals ≡ false) }
+{
+    let map = file_arg(alloc, "MAP", "The map file", true);
+    let about = "Say what is wrong with a map file, line by line, and what would mend it";
+    let lint = named(alloc, "lint", about, LINT_HELP).arg(map)?;
+    Ok(lint)
+}
+
 /// The program without its subcommands, one of which has to be named.
 fn bare_program<'a>(alloc: Global) -> Command<'a>
     ensures app { app_of result ≡ bare_app }
@@ -235,15 +248,26 @@ fn planning_program<'a>(alloc: Global) -> Result<Command<'a>, AllocError>
     Ok(program)
 }
 
-/// The program with its subcommands.
-pub fn program<'a>(alloc: Global) -> Result<Command<'a>, AllocError>
-    ensures app { IfOk result (λ c. app_of c ≡ program_app) }
+/// The program with the commands that look at a map too.
+fn looking_program<'a>(alloc: Global) -> Result<Command<'a>, AllocError>
+    ensures app { IfOk result (λ c. app_of c ≡ looking_app) }
     ensures local { IfOk result (λ c. (out-Command c).has_globals ≡ false) }
 {
     let planning = planning_program(alloc)?;
     let show = show_command(alloc)?;
     let audit = audit_command(alloc)?;
     let program = planning.subcommand(show)?.subcommand(audit)?;
+    Ok(program)
+}
+
+/// The program with its subcommands.
+pub fn program<'a>(alloc: Global) -> Result<Command<'a>, AllocError>
+    ensures app { IfOk result (λ c. app_of c ≡ program_app) }
+    ensures local { IfOk result (λ c. (out-Command c).has_globals ≡ false) }
+{
+    let looking = looking_program(alloc)?;
+    let lint = lint_command(alloc)?;
+    let program = looking.subcommand(lint)?;
     Ok(program)
 }
 
@@ -266,6 +290,9 @@ pub fn subcommand_named<'a>(alloc: Global, name: &str) -> Result<Command<'a>, Al
     }
     if name == "audit" {
         return audit_command(alloc)?.bin_name("pmpmon audit");
+    }
+    if name == "lint" {
+        return lint_command(alloc)?.bin_name("pmpmon lint");
     }
     program(alloc)
 }

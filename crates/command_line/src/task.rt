@@ -63,6 +63,11 @@ pub enum Task<'a> {
         /// The listing of the registers.
         registers: &'a str,
     },
+    /// Say what is wrong with a map file, line by line.
+    Lint {
+        /// The map file.
+        map: &'a str,
+    },
     /// Print a map as a table of its stretches, each with the entry that decides it.
     Show {
         /// The map file.

@@ -124,6 +124,13 @@ fn audit_takes_a_map_and_registers(rt: HostRuntime) -> Result<(), Fail> {
 }
 
 #[test]
+fn lint_takes_a_map(rt: HostRuntime) -> Result<(), Fail> {
+    let task = command_of(rt.alloc(), &["pmpmon", "lint", "-"])?;
+    assert_eq!(rt; task, Task::Lint { map: "-" });
+    Ok(())
+}
+
+#[test]
 fn check_takes_a_map_and_a_certificate(rt: HostRuntime) -> Result<(), Fail> {
     let task = command_of(rt.alloc(), &["pmpmon", "check", "map.txt", "map.pmpc"])?;
     assert_eq!(rt;
@@ -138,7 +145,10 @@ fn check_takes_a_map_and_a_certificate(rt: HostRuntime) -> Result<(), Fail> {
 
 #[test]
 fn other_words_are_faults_of_the_command_line(rt: HostRuntime) {
-    let lines: [&[&str]; 24] = [
+    let lines: [&[&str]; 27] = [
+        &["pmpmon", "lint"],
+        &["pmpmon", "lint", "map.txt", "more"],
+        &["pmpmon", "lint", "map.txt", "--entries", "16"],
         &["pmpmon", "audit", "map.txt"],
         &["pmpmon", "audit", "-", "-"],
         &["pmpmon"],

@@ -204,6 +204,15 @@ fn audit_in<'a>(found: &ArgMatches<'a>) -> Result<Task<'a>, Fault<'a>>
     Ok(Task::Audit { map, registers })
 }
 
+fn lint_in<'a>(found: &ArgMatches<'a>) -> Result<Task<'a>, Fault<'a>>
+    ensures word { IfOk result (λ task. word_of task ≡ codes "lint") }
+    ensures values { IfOk result (HasValues (rows_of (found_of found.now))) }
+    ensures sound { IfOk result IsSound }
+{
+    let map = value_in(found, "MAP")?;
+    Ok(Task::Lint { map })
+}
+
 /// The task of a subcommand with its arguments.
 fn task_in<'a>(name: &str, found: &ArgMatches<'a>) -> Result<Task<'a>, Fault<'a>>
     ensures word { IfOk result (λ task. word_of task ≡ name.now) }
@@ -227,6 +236,9 @@ fn task_in<'a>(name: &str, found: &ArgMatches<'a>) -> Result<Task<'a>, Fault<'a>
     }
     if name == "audit" {
         return audit_in(found);
+    }
+    if name == "lint" {
+        return lint_in(found);
     }
     Err(Fault::Missing)
 }

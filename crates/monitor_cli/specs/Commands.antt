@@ -16,6 +16,7 @@ use Rattle.text_lines.specs.declared.fault.RunFault.{RunFault}
 use Rattle.text_lines.specs.LineLoop.{CountsReads, CountsWrites, DoesAll}
 use Rattle.map_text.specs.declared.map_file.MapFileFault.{MapFileFault}
 use Rattle.map_text.specs.MapFile.{Makes}
+use Rattle.map_lint.specs.Lints.{IsAtFault}
 use Rattle.certificate_check.specs.Certificates.{IsRight}
 use Rattle.certificate_format.specs.Spelling.{Spells}
 use Rattle.plan_certificate.specs.Written.{version_for}
@@ -329,6 +330,25 @@ pub data Audits {R W : Type 0} (map registers : Bor (List ℕ)) (first second : 
       (view : View) (listing text : List ℕ) (fewest : ℕ) (means : Bool) → IsAudited first second view listing fewest → IsAudit view fewest listing text means → Breaks text out
       → Audits map registers first second out (Err Output)
 
+-- the status of a lint: 0 where the file is a map, and else 1
+abbrev pub lint_status : Bool → ℕ
+lint_status true = 0
+lint_status false = 1
+
+-- whether bytes are a map: their lines make one, or some line, the first at fault, makes none
+abbrev pub IsVerdictOfLines : List ℕ → Bool → Type 0
+IsVerdictOfLines bytes true = (runs : List Run) × Makes bytes runs
+IsVerdictOfLines bytes false = IsAtFault bytes
+
+-- `lint`: the file is read, and what is wrong with it is printed
+pub data Lints {R W : Type 0} (map : Bor (List ℕ)) (first : Reading R) (out : Writing W) : Result ℕ Trouble → Type 0 where
+  linted :
+      (bytes : List ℕ) (is_map : Bool) → HasBytes (2 ^ 20) first bytes → IsVerdictOfLines bytes is_map → out.failed ≡ out.failures → out.stalled ≡ out.stalls
+      → Lints map first out (Ok (lint_status is_map))
+  no_bytes : (trouble : Trouble) → HasNoBytes (2 ^ 20) map first trouble → IsUnwritten out → Lints map first out (Err trouble)
+  no_memory : (bytes : List ℕ) → HasBytes (2 ^ 20) first bytes → IsUnwritten out → Lints map first out (Err Memory)
+  no_output : (bytes : List ℕ) → HasBytes (2 ^ 20) first bytes → WriteFails out.failures out.failed out.stalls out.stalled → Lints map first out (Err Output)
+
 -- what a task comes to: what its command does not use stays as it was
 abbrev pub Performs : {R C W : Type 0} → Task → Reading R → Reading R → Placing C → Writing W → Result ℕ Trouble → Type 0
 Performs (tasks.Run platform trace measure) first second cert out done = Runs platform trace measure first second out done × IsUnwritten cert.sink
@@ -336,6 +356,7 @@ Performs (tasks.Plan map file limit at_most format) first second cert out done =
 Performs (tasks.Judge map trace limit) first second cert out done = Judges map trace limit first second out done × IsUnwritten cert.sink
 Performs (tasks.Check map file) first second cert out done = Checks map file first second out done × IsUnwritten cert.sink
 Performs (tasks.Audit map registers) first second cert out done = Audits map registers first second out done × IsUnwritten cert.sink
+Performs (tasks.Lint map) first second cert out done = Lints map first out done × IsUnread second × IsUnwritten cert.sink
 Performs (tasks.Show map limit at_most) first second cert out done = Shows map limit at_most first out done × IsUnread second × IsUnwritten cert.sink
 
 -- what standard error is told: nothing where there is no trouble, else its line, which breaks off only where the device does
@@ -344,8 +365,8 @@ pub data Tells {E : Type 0} (err : Writing E) : Result ℕ Trouble → Type 0 wh
   told : (trouble : Trouble) → Appends err.before err.after (trouble_text trouble) → Tells err (Err trouble)
   cut : (trouble : Trouble) → Breaks (trouble_text trouble) err → Tells err (Err trouble)
 
--- a task was done or came to trouble, which standard error is told of. The status is 0 where it was done, 1 where the checker
--- refused, 2 for bad input, 3 for a device, 4 for memory, and it does not depend on standard error
+-- a task was done or came to trouble, which standard error is told of. The status is 0 where it was done, 1 where the checker,
+-- `audit` or `lint` refused, 2 for bad input, 3 for a device, 4 for memory, and it does not depend on standard error
 pub record Ends {R C W E : Type 0} (task : Task) (first second : Reading R) (cert : Placing C) (out : Writing W) (err : Writing E) (status : ℕ) : Type 0 where
   pub done : Result ℕ Trouble
   pub performed : Performs task first second cert out done

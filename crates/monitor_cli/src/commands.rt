@@ -3,6 +3,7 @@
 mod audit;
 mod check;
 mod judge;
+mod lint;
 mod plan;
 mod run;
 mod show;
@@ -10,6 +11,7 @@ mod show;
 pub use audit::do_audit;
 pub use check::do_check;
 pub use judge::do_judge;
+pub use lint::do_lint;
 pub use plan::{Asked, do_plan};
 pub use run::do_run;
 pub use show::do_show;

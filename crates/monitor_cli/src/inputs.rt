@@ -13,7 +13,7 @@ use permission_map::PermissionMap;
 use std::alloc::Global;
 
 /// How many bytes a map file may have.
-const MAP_BYTES: usize = 1 << 20;
+pub const MAP_BYTES: usize = 1 << 20;
 
 /// How many bytes a platform file may have.
 const PLATFORM_BYTES: usize = 1 << 20;

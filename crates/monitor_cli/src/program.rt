@@ -7,7 +7,7 @@ ghost use Rattle.monitor_cli.specs.Commands.{placing, reading, writing, Ends, Pe
 ghost use Rattle.monitor_cli.specs.Troubles.{status_of, trouble_text};
 
 use crate::certificate_file::WholeSink;
-use crate::commands::{Asked, do_audit, do_check, do_judge, do_plan, do_run, do_show};
+use crate::commands::{Asked, do_audit, do_check, do_judge, do_lint, do_plan, do_run, do_show};
 use crate::trouble::Trouble;
 use byte_streams::{Sink, Source};
 use command_line::Task;
@@ -71,6 +71,7 @@ fn done<'a, R: Source, C: WholeSink, W: Sink>(
         }
         Task::Check { map, cert } => do_check(alloc, *map, *cert, first, second, out),
         Task::Audit { map, registers } => { do_audit(alloc, *map, *registers, first, second, out) }
+        Task::Lint { map } => do_lint(alloc, *map, first, out),
         Task::Show {
             map,
             limit,
@@ -81,7 +82,7 @@ fn done<'a, R: Source, C: WholeSink, W: Sink>(
 
 /// Does a task: reads its inputs, in their order, from `first` and `second`, writes a certificate to
 /// `cert`, what it prints to `out` and its one line of trouble to `err`, and answers the program's
-/// status: 0 done, 1 refused by the checker, 2 bad input, 3 a device failed, 4 memory. The status
+/// status: 0 done, 1 refused by the checker, by `audit` or by `lint`, 2 bad input, 3 a device failed, 4 memory. The status
 /// does not depend on `err`.
 pub fn perform<R: Source, C: WholeSink, W: Sink, E: Sink>(
     alloc: Global,

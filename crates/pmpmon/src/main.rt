@@ -98,7 +98,9 @@ fn files_of<'a>(rt: &'a HostRuntime, task: &Task<'a>) -> (Input<'a>, Input<'a>, 
             input(rt, *registers, true),
             none,
         ),
-        Task::Show { map, .. } => (input(rt, *map, true), input(rt, none, false), none),
+        Task::Show { map, .. } | Task::Lint { map } => {
+            (input(rt, *map, true), input(rt, none, false), none)
+        }
     }
 }
 

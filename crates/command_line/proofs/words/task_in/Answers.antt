@@ -25,3 +25,6 @@ returns-then-eq-5-clause-word c = named c.show_in.result _ c.args.name.now (same
 
 pub returns-then-eq-6-clause-word : goal.returns-then-eq-6-clause-word
 returns-then-eq-6-clause-word c = named c.audit_in.result _ c.args.name.now (same_text _ _ _ c.eq-6.ensures c.if-eq-6.true) c.audit_in.ensures.word
+
+pub returns-then-eq-7-clause-word : goal.returns-then-eq-7-clause-word
+returns-then-eq-7-clause-word c = named c.lint_in.result _ c.args.name.now (same_text _ _ _ c.eq-7.ensures c.if-eq-7.true) c.lint_in.ensures.word

@@ -1,0 +1,36 @@
+//! `lint`: what is wrong with a map file.
+
+ghost use Rattle.std.specs.Prelude.{◌≡◌, ◌-◌, ◌^◌, ◌<◌};
+ghost use Rattle.monitor_cli.specs.Commands.{lint_status, reading, writing, Lints};
+
+use crate::inputs::{MAP_BYTES, bytes_in};
+use crate::trouble::Trouble;
+use byte_streams::{Sink, Source};
+use map_lint::{LintFault, lint};
+use std::alloc::Global;
+
+/// The status of a lint.
+fn status_of(is_map: bool) -> u8
+    ensures { result ≡ lint_status is_map }
+{
+    if is_map { 0 } else { 1 }
+}
+
+/// Prints what is wrong with a map file, and answers the status 0 where it is a map and 1 where it is none.
+pub fn do_lint<'a, R: Source, W: Sink>(
+    alloc: Global,
+    map: &'a str,
+    first: &mut R,
+    out: &mut W,
+) -> Result<u8, Trouble<'a>>
+    requires first { R.failures first.old < 2 ^ 64 - 1 }
+    requires out { W.failures out.old < 2 ^ 64 - 1 }
+    ensures { Lints map.entry (reading R.remaining R.failures first.old first.new) (writing W.contents W.failures W.stalls out.old out.new) result }
+{
+    let bytes = bytes_in(alloc, map, first, MAP_BYTES)?;
+    match lint(alloc, map, bytes.as_slice(), out) {
+        Ok(is_map) => Ok(status_of(is_map)),
+        Err(LintFault::Memory) => Err(Trouble::Memory),
+        Err(LintFault::Device) => Err(Trouble::Output),
+    }
+}
