@@ -93,24 +93,12 @@ fn audit_says_whether_registers_mean_the_map(rt: HostRuntime) -> Result<(), Fail
 
 #[test]
 fn lint_says_what_is_wrong_with_a_map(rt: HostRuntime) -> Result<(), Fail> {
-    let rows: [(&[u8], u8, &[u8]); 3] = [
-        (MAP, 0, b""),
-        (
-            b"0 0x1000 r\n0 0x2000 rw\n",
-            0,
-            b"icicle.map:1:1: warning: the line changes nothing of the whole map; it can go\n",
-        ),
-        (
-            b"# a board\n0x80000000 0x400 rwx\n",
-            1,
-            b"icicle.map:2:12: SIZE 0x400 is not a multiple of 4096; the whole page is 0x1000\n",
-        ),
-    ];
-    for (map, status, out) in rows {
-        let ran = run(rt.alloc(), &["pmpmon", "lint", "icicle.map"], map, b"")?;
-        assert_eq!(rt; ran.status, status);
-        assert_eq!(rt; ran.out.as_slice(), out);
-        assert_eq!(rt; ran.err.len(), 0);
-    }
-    Ok(())
+    let words = ["pmpmon", "lint", "icicle.map"];
+    prints(&rt, rt.alloc(), &words, MAP, b"", "")?;
+    let idle = b"0 0x1000 r\n0 0x2000 rw\n";
+    let warning = "icicle.map:1:1: warning: the line changes nothing of the whole map; it can go\n";
+    prints(&rt, rt.alloc(), &words, idle, b"", warning)?;
+    let wrong = b"# a board\n0x80000000 0x400 rwx\n";
+    let said = "icicle.map:2:12: SIZE 0x400 is not a multiple of 4096; the whole page is 0x1000\n";
+    denies(&rt, rt.alloc(), &words, wrong, b"", said)
 }
