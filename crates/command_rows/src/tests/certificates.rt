@@ -138,6 +138,7 @@ fn a_certificate_may_be_larger_than_a_map(rt: HostRuntime) -> Result<(), Fail> {
     let plan = ["pmpmon", "plan", "map.txt", "map.pmpc"];
     let made = run(rt.alloc(), &plan, map.as_slice(), b"")?;
     let cert = made.cert.as_slice();
+    assert_eq!(rt; made.status, 0);
     assert!(rt; cert.len() > 3 << 20);
     prints(
         &rt,
