@@ -1,5 +1,5 @@
 -- Where a list of entries does not mean a view.
-use Rattle.std.specs.Prelude.{◌≡◌, ◌≢◌, ℕ, ◌-◌, ◌/◌, ◌%◌, ◌^◌, ◌<◌, true, refl, All, List, ◌∷◌, ◌++◌}
+use Rattle.std.specs.Prelude.{◌≡◌, ◌≢◌, ℕ, ◌-◌, ◌/◌, ◌%◌, ◌^◌, ◌<◌, true, refl, All, List, ◌∷◌, ◌++◌, Some, slice_get, take}
 use Rattle.pmp_encoding.specs.declared.perm.Perm.TheVariants.{NoAccess}
 use Rattle.pmp_encoding.specs.declared.region.Entry.{Entry}
 use Rattle.pmp_encoding.specs.Perms.{can_read}
@@ -38,9 +38,22 @@ pub record IsCut (view : View) (entries : List Entry) (at : ℕ) : Type 0 where
   pub may : can_read (view (at / 4096)) ≡ true
   pub denied : ¬ Allows entries (load_of_eight at)
 
+-- the eight bytes that hold an entry of four are kept by the list from being read, and the view lets them
+pub record IsCutBy (view : View) (entries : List Entry) (e : Entry) (at : ℕ) : Type 0 where
+  pub four : e.region.log2 ≡ 2
+  pub low : at ≡ e.region.base - e.region.base % 8
+  pub cut : IsCut view entries at
+
 -- an entry of four bytes does not keep the eight bytes that hold it from being read
 abbrev pub IsUncut : View → List Entry → Entry → Type 0
 IsUncut view entries e = e.region.log2 ≡ 2 → can_read (view ((e.region.base - e.region.base % 8) / 4096)) ≡ true → Allows entries (load_of_eight (e.region.base - e.region.base % 8))
+
+-- entry i of a list is the first by which eight bytes are cut
+pub record IsFirstCut (view : View) (entries : List Entry) (i at : ℕ) : Type 0 where
+  pub entry : Entry
+  pub is : slice_get entries i ≡ Some entry
+  pub by : IsCutBy view entries entry at
+  pub before : All (IsUncut view entries) (take i entries)
 
 -- a stretch on which the list gives another permission than the view, where it gives each byte below it the view's
 pub record IsFirstDifference (view : View) (entries : List Entry) (s : Stretch) : Type 0 where
@@ -52,4 +65,4 @@ pub record IsFirstDifference (view : View) (entries : List Entry) (s : Stretch) 
 abbrev pub IsFinding : View → List Entry → Finding → Type 0
 IsFinding view entries findings.Means = Means entries view
 IsFinding view entries (findings.Differs s) = IsFirstDifference view entries s
-IsFinding view entries (findings.Cuts entry at) = IsCut view entries at
+IsFinding view entries (findings.Cuts entry at) = IsFirstCut view entries entry at

@@ -19,7 +19,7 @@ pub enum Finding {
     Differs(Stretch),
     /// It gives each byte the map's permission, but cuts an access that the map lets through.
     Cuts {
-        /// The number of an entry that has four of the bytes.
+        /// The number of the first entry by which they are cut; it has four of the bytes.
         entry: usize,
         /// The lowest of the eight bytes.
         at: u64,

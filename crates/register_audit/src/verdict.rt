@@ -29,7 +29,7 @@ pub enum Verdict {
     },
     /// They give each byte the map's permission, but cut an access that the map lets through.
     Cuts {
-        /// The number of an entry that has four of the eight bytes.
+        /// The number among the registers of the first entry by which they are cut; it has four of the bytes.
         place: Option<usize>,
         /// The lowest of the bytes.
         at: u64,
