@@ -1,5 +1,10 @@
 //! Faults of words that `clap` takes, and the text for each.
 
+ghost use Rattle.std.specs.Prelude.{◌≡◌, IfOk};
+ghost use Rattle.clap.specs.Words.{kind_of};
+ghost use Rattle.clap.specs.declared.error.kind.ErrorKind.TheVariants.{ArgumentConflict};
+ghost use Rattle.command_line.specs.Faults.{fault_kind, fault_text};
+
 use crate::subcommands::subcommand_named;
 use clap::Error;
 use clap::error::ErrorKind;
@@ -23,7 +28,9 @@ pub enum Fault<'a> {
 }
 
 /// The kind of a fault, as `clap` has it.
-fn kind_of(fault: &Fault<'_>) -> ErrorKind {
+fn kind_of(fault: &Fault<'_>) -> ErrorKind
+    ensures { result ≡ fault_kind fault.now }
+{
     match fault {
         Fault::Missing => ErrorKind::MissingRequiredArgument,
         Fault::Entries(_) | Fault::Format(_) => ErrorKind::InvalidValue,
@@ -33,7 +40,9 @@ fn kind_of(fault: &Fault<'_>) -> ErrorKind {
 }
 
 /// What is said of a fault.
-fn text_of(alloc: Global, fault: &Fault<'_>) -> Result<String, AllocError> {
+fn text_of(alloc: Global, fault: &Fault<'_>) -> Result<String, AllocError>
+    ensures { IfOk result (λ text. text.bytes.items ≡ fault_text fault.now) }
+{
     match fault {
         Fault::Missing => format!(in alloc; "a required argument is missing"),
         Fault::Entries(word) => {
@@ -57,13 +66,17 @@ fn text_of(alloc: Global, fault: &Fault<'_>) -> Result<String, AllocError> {
 }
 
 /// The error of a fault, with the usage of the subcommand of that name.
-pub fn explained(alloc: Global, name: &str, fault: &Fault<'_>) -> Result<Error, AllocError> {
+pub fn explained(alloc: Global, name: &str, fault: &Fault<'_>) -> Result<Error, AllocError>
+    ensures { IfOk result (λ error. kind_of error ≡ fault_kind fault.now) }
+{
     let text = text_of(alloc, fault)?;
     let mut command = subcommand_named(alloc, name)?;
     command.error(kind_of(fault), text.as_str())
 }
 
 /// The error of a certificate that would take the place of its map, under another name of the same file.
-pub fn takes_place(alloc: Global, map: &str) -> Result<Error, AllocError> {
+pub fn takes_place(alloc: Global, map: &str) -> Result<Error, AllocError>
+    ensures { IfOk result (λ error. kind_of error ≡ ArgumentConflict) }
+{
     explained(alloc, "plan", &Fault::TakesPlace(map))
 }
