@@ -2,8 +2,8 @@
 use Rattle.std.proofs.Common.{◌≡◌, ℕ, ◌+◌, ◌-◌, ◌^◌, ◌<◌, ◌≤◌, ⊎_elim, List, [], ◌∷◌, ◌++◌, length, take, drop, get_or, count_by, All, nat_lt, cond, Option, None, Some, option_to_list, refl, sym, ap, subst, ◌∙◌, arith}
 use Rattle.std.specs.List.{AllByRecursion}
 use Rattle.std.proofs.lemmas.Bool.{cases_lt, cond-true, cond-false, lt-ltb, le-ltb}
-use Rattle.std.proofs.lemmas.List.{take-append-drop, get_or-drop, length-drop}
-use Rattle.std.proofs.lemmas.List.Elements.{recursion_from_All, All-get_or}
+use Rattle.std.proofs.lemmas.List.{take-append-drop, get_or_default, get_or-drop, length-drop}
+use Rattle.std.proofs.lemmas.List.Elements.{recursion_from_All}
 use Rattle.pmp_encoding.specs.declared.perm.Perm.{Perm}
 use Rattle.pmp_encoding.specs.declared.perm.Perm.TheVariants.{NoAccess}
 use Rattle.permission_map.specs.declared.points.Point.{Point}
@@ -11,10 +11,9 @@ use Rattle.permission_map.specs.Runs.{in_range}
 use Rattle.permission_map.specs.Views.{overwritten}
 use Rattle.permission_map.specs.Overwriting.{AreOverwritten}
 use Rattle.permission_map.specs.Points.{ArePoints, ArePointsAfter, IsBuilt, IsStop, IsTurn, allows, page_of, perm_of, runs_of, standing}
-use Rattle.permission_map.proofs.Parted.{at_back}
 use Rattle.permission_map.proofs.Overwritten.{changed_below, changed_in, changed_past}
 use Rattle.permission_map.proofs.PointLists.{count_by-append}
-use Rattle.permission_map.proofs.PointRuns.{runs_are, runs_count, view_from, view_is}
+use Rattle.permission_map.proofs.PointRuns.{pages_rise, runs_are, runs_count, view_from, view_is}
 
 abbrev Behind : ℕ → List Point → Type 0
 Behind page ps = AllByRecursion (λ q. page < page_of q) ps
@@ -220,18 +219,12 @@ replaced_count ps from to gone start stop parts =
 pub gone_few : (ps : List Point) (from to gone : ℕ) → count_by allows (take from ps) + (gone + count_by allows (drop to ps)) ≡ count_by allows ps → gone ≤ length (runs_of ps)
 gone_few ps from to gone parts = omega (arith, parts, runs_count ps)
 
-pub cuts_in_order :
-    (ps : List Point) (from to first end : ℕ) (d : Point) → from ≤ length ps → All (λ q. page_of q < first) (take from ps) → All (λ q. end < page_of q) (drop to ps) → first ≤ end → from ≤ to
-cuts_in_order ps from to first end d inside low high order =
-    ⊎_elim
-    (λ crossed.
-    let below : page_of (get_or ps (from - 1) d) < first = at_back (λ q. page_of q < first) ps from d (omega (arith, crossed)) inside low in
-    let place : to + (from - 1 - to) ≡ from - 1 = omega (arith, crossed) in
-    let above : end < page_of (get_or ps (from - 1) d) =
-    rw place at (rw (get_or-drop to ps (from - 1 - to) d) at (All-get_or (λ q. end < page_of q) (drop to ps) (from - 1 - to) d (omega (arith, length-drop to ps, crossed)) high)) in
-    absurd (omega (arith, below, above, order)))
-    (λ fine. fine)
-    (cases_lt to from)
+-- where a point is behind a page, so are those from it on
+pub behind_from : (ps : List Point) (i page : ℕ) (e : Point) → ArePoints ps → i < length ps → page < page_of (get_or ps i e) → All (λ q. page < page_of q) (drop i ps)
+behind_from ps i page e are less low = λ k d inside.
+    let rise : page_of (get_or ps i d) ≤ page_of (get_or ps (i + k) d) = pages_rise 0 NoAccess ps are i (i + k) d (omega arith) (omega (arith, length-drop i ps, inside)) in
+    let same : page_of (get_or ps i e) ≡ page_of (get_or ps i d) = ap page_of (get_or_default ps i e d less) in
+    rw (get_or-drop i ps k d) (omega (arith, rise, same, low))
 
 -- ---- as the code says it
 

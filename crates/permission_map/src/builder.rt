@@ -21,7 +21,7 @@ const MOST_POINTS: usize = 2 * MOST_RUNS + 3;
 
 /// A map on which many ranges are set one after another, as the lines of a map file do. It is seen as the runs of the
 /// [`PermissionMap`] that it becomes. It keeps the pages at which the permission changes: a range replaces the few that
-/// lie in it, and what stands behind them moves once for each that is put in. Room for all is taken with the first run.
+/// lie in it, and what stands behind them moves at most once. Room for all is taken with the first run.
 #[derive(Drop)]
 pub struct MapBuilder {
     alloc: Global,
@@ -102,7 +102,7 @@ fn overwrite(
     let end = first + count;
     let row = points.as_slice();
     let from = before(row, first);
-    let to = up_to(row, end);
+    let to = up_to(row, from, end);
     let start = turn(standing_behind(row, from), first, perm);
     let stop = stop(perm, end, standing_behind(row, to));
     let gone = begun_between(row, from, to);

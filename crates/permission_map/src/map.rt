@@ -108,10 +108,14 @@ impl PermissionMap {
         Some(run.perm)
     }
 
-    /// A copy of the map. It can fail for want of memory alone.
+    /// A copy of the map. It can fail for want of memory alone, and not where the map has no run.
     pub fn try_clone(&self) -> Result<PermissionMap, Memory>
-        ensures { IfOk result (λ copy. copy ≡ self.now) }
+        ensures copy { IfOk result (λ copy. copy ≡ self.now) }
+        ensures memory { OnErr result (0 < length self.now) }
     {
+        if self.runs.is_empty() {
+            return Ok(PermissionMap::new(*self.runs.allocator()));
+        }
         let runs = Vec::from_slice(*self.runs.allocator(), &self.runs)?;
         Ok(PermissionMap { runs })
     }

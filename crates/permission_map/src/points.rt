@@ -1,5 +1,6 @@
-ghost use Rattle.std.specs.Prelude.{◌≡◌, ◌≤◌, ◌<◌, ◌+◌, ◌^◌, ◌++◌, Some, All, length, take, drop, count_by, option_to_list, vec_len, vec_capacity};
+ghost use Rattle.std.specs.Prelude.{◌≡◌, ◌≤◌, ◌<◌, ◌+◌, ◌^◌, ◌∷◌, ◌++◌, Some, All, List, length, take, drop, count_by, option_to_list, vec_len, vec_capacity};
 ghost use Rattle.pmp_encoding.specs.declared.perm.Perm.TheVariants.{NoAccess};
+ghost use Rattle.permission_map.specs.declared.points.Point.{Point};
 ghost use Rattle.permission_map.specs.Points.{ArePoints, IsStop, IsTurn, allows, page_of, perm_of, standing};
 
 use page_views::SPACE_PAGES;
@@ -60,14 +61,25 @@ pub(crate) fn before(points: &[Point], page: u64) -> usize
     points.partition_point(|p| p.page() < page)
 }
 
-/// How many of the points come before the page or at it.
-pub(crate) fn up_to(points: &[Point], page: u64) -> usize
-    requires { ArePoints points.now }
+/// How many of the points come before the page or at it, where the first `from` do. Those behind them are passed one by
+/// one: all but the last go with the range that ends there.
+pub(crate) fn up_to(points: &[Point], from: usize, page: u64) -> usize
+    requires points { ArePoints points.now }
+    requires inside { from ≤ length points.now }
+    requires before { All (λ p. page_of p ≤ page) (take from points.now) }
+    ensures order { from ≤ result }
     ensures bound { result ≤ length points.now }
     ensures front { All (λ p. page_of p ≤ page) (take result points.now) }
     ensures rest { All (λ p. page < page_of p) (drop result points.now) }
 {
-    points.partition_point(|p| p.page() <= page)
+    let mut to = from;
+    while to < points.len() {
+        if points[to].page() > page {
+            return to;
+        }
+        to += 1;
+    }
+    to
 }
 
 /// The permission that stands behind the first `count` points.
@@ -153,6 +165,29 @@ fn put(points: &mut Vec<Point>, at: usize, end: usize, point: Point) -> usize
     end + 1
 }
 
+/// Moves the points from `tail` on before those from `at` on.
+fn move_tail_to(points: &mut [Point], at: usize, tail: usize)
+    requires order { at ≤ tail }
+    requires inside { tail ≤ length points.old }
+    ensures { (front back : List Point) → points.old ≡ front ++ back → length front ≡ tail → points.new ≡ take at front ++ (back ++ drop at front) }
+{
+    points[at..].rotate_left(tail - at);
+}
+
+/// Puts two points in at an index. What stands from there on moves once.
+fn put_both(points: &mut Vec<Point>, at: usize, start: Point, stop: Point)
+    requires inside { at ≤ vec_len points.old }
+    requires room { vec_len points.old + 2 ≤ vec_capacity points.old }
+    ensures items { points.new.items ≡ take at points.old.items ++ start ∷ stop ∷ drop at points.old.items }
+    ensures room { vec_capacity points.old ≤ vec_capacity points.new }
+{
+    let tail = points.len();
+    let Ok(()) = points.extend_from_slice(&[start, stop]) else {
+        unreachable!();
+    };
+    move_tail_to(points, at, tail);
+}
+
 /// Puts at most two points in the place of those with the indices from `from` to before `to`.
 pub(crate) fn replace(
     points: &mut Vec<Point>,
@@ -167,6 +202,11 @@ pub(crate) fn replace(
     ensures items { points.new.items ≡ take from points.old.items ++ (option_to_list start ++ (option_to_list stop ++ drop to points.old.items)) }
     ensures room { vec_capacity points.old ≤ vec_capacity points.new }
 {
+    if let (Some(start), Some(stop)) = (start, stop) {
+        if from == to {
+            return put_both(points, from, start, stop);
+        }
+    }
     let mut at = from;
     let mut end = to;
     if let Some(start) = start {

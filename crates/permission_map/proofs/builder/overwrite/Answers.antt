@@ -2,18 +2,13 @@ use Rattle.std.proofs.Common.{◌≡◌, ◌+◌, ◌<◌, ◌≤◌, length, re
 use Rattle.permission_map.specs.Points.{runs_of}
 use Rattle.permission_map.proofs.Answered.{none_wanted}
 use Rattle.permission_map.proofs.PointRuns.{empty_is, points_few, runs_are}
-use Rattle.permission_map.proofs.PointSets.{cuts_built, cuts_in_order, cuts_overwritten, gone_few, replaced, replaced_count, row_cuts, row_parts}
+use Rattle.permission_map.proofs.PointSets.{cuts_built, cuts_overwritten, gone_few, replaced, replaced_count, row_cuts, row_parts}
 use Rattle.permission_map.proofs.builder.overwrite.Goals as goal
 
 pub returns-then-count-eq0-clause-wanted : goal.returns-then-count-eq0-clause-wanted
 returns-then-count-eq0-clause-wanted c =
     let few : length (runs_of c.args.points.now.items) ≤ 4096 = omega (arith, c.requires.built.count, c.requires.built.few) in
     (runs_of c.args.points.now.items, none_wanted (runs_of c.args.points.now.items) c.args.first c.args.count c.args.perm (runs_are c.args.points.now.items c.requires.built.are_points) c.if-count-eq0.true, (refl, few))
-
-pub begun_between-gone-requires-clause-order : goal.begun_between-gone-requires-clause-order
-begun_between-gone-requires-clause-order c =
-    cuts_in_order c.as_slice-row.result.now c.before-from.result c.up_to-to.result c.args.first (c.args.first + c.args.count) (record { number = 0 }) c.before-from.ensures.bound
-    c.before-from.ensures.front c.up_to-to.ensures.rest (omega arith)
 
 pub overflow_sub-wanted : goal.overflow_sub-wanted
 overflow_sub-wanted c =
@@ -36,11 +31,6 @@ returns-then-wanted-gt-MOST_RUNS-clause-wanted c =
           c.requires.built.are_points (omega arith) c.requires.inside cuts,
       (refl, many),
     )
-
-pub replace-requires-clause-order : goal.replace-requires-clause-order
-replace-requires-clause-order c =
-    cuts_in_order c.as_slice-row.result.now c.before-from.result c.up_to-to.result c.args.first (c.args.first + c.args.count) (record { number = 0 }) c.before-from.ensures.bound
-    c.before-from.ensures.front c.up_to-to.ensures.rest (omega arith)
 
 pub returns-then-runs-wanted-eq0-clause-wanted : goal.returns-then-runs-wanted-eq0-clause-wanted
 returns-then-runs-wanted-eq0-clause-wanted c =

@@ -1,21 +1,7 @@
-use Rattle.std.proofs.Common.{◌≡◌, nat_le, rules, true, false}
-use Rattle.std.proofs.lemmas.Bool.{leb-true, leb-false}
-use Rattle.std.proofs.lemmas.List.Sorted.{IsPartitionPoint-from_clause, IsPartitionedBy-leb}
-use Rattle.pmp_encoding.specs.declared.perm.Perm.TheVariants.{NoAccess}
-use Rattle.permission_map.specs.declared.points.Point.{Point}
-use Rattle.permission_map.specs.Points.{page_of}
-use Rattle.permission_map.proofs.Searched.{point_front, point_rest}
-use Rattle.permission_map.proofs.PointRuns.{pages_rise}
+use Rattle.std.proofs.Common.{ℕ, ◌<◌, subst}
+use Rattle.permission_map.proofs.PointSets.{behind_from}
 use Rattle.permission_map.proofs.points.up_to.Goals as goal
 
-pub returns-clause-front : goal.returns-clause-front
-returns-clause-front c =
-    let parted = IsPartitionedBy-leb page_of c.args.points.now c.args.page (pages_rise 0 NoAccess c.args.points.now c.requires) in
-    let point = IsPartitionPoint-from_clause (λ (p : Point). nat_le (page_of p) c.args.page) _ _ c.partition_point.ensures.partitioned parted (λ a r q k. search rules) in
-    λ k d h. leb-true _ _ (point_front (λ p. nat_le (page_of p) c.args.page ≡ true) (λ p. nat_le (page_of p) c.args.page ≡ false) c.args.points.now c.partition_point.result c.partition_point.ensures.bound point k d h)
-
-pub returns-clause-rest : goal.returns-clause-rest
-returns-clause-rest c =
-    let parted = IsPartitionedBy-leb page_of c.args.points.now c.args.page (pages_rise 0 NoAccess c.args.points.now c.requires) in
-    let point = IsPartitionPoint-from_clause (λ (p : Point). nat_le (page_of p) c.args.page) _ _ c.partition_point.ensures.partitioned parted (λ a r q k. search rules) in
-    λ k d h. leb-false _ _ (point_rest (λ p. nat_le (page_of p) c.args.page ≡ true) (λ p. nat_le (page_of p) c.args.page ≡ false) c.args.points.now c.partition_point.result c.partition_point.ensures.bound point k d h)
+pub returns-then-page-clause-rest : goal.returns-then-page-clause-rest
+returns-then-page-clause-rest c =
+    behind_from c.args.points.now c.loop-to.to c.args.page _ c.requires.points c.loop-to-test.true (subst (λ (n : ℕ). c.args.page < n) c.page.ensures c.if-page.true)
