@@ -6,6 +6,7 @@ pub mod InputLines
 pub mod WordsOfText
 pub mod Looped
 pub mod Mapped
-mod FirstLf
+mod FirstByte
+pub mod PlainText
 mod HexDigits
 mod Digits

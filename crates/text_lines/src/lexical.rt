@@ -1,11 +1,12 @@
 //! The words of a line of a map or a trace, and the numbers among them.
 
-ghost use Rattle.std.specs.Prelude.{◌≡◌, ℕ, ◌+◌, ◌-◌, ◌^◌, ◌<◌, ◌≤◌, ◌==◌, [], ◌∷◌, None, Some, IfOk, IfErr, IfSome, IfNone, OnSome, option_map, slice_index, MatchOption, MatchResult, true, false, length};
+ghost use Rattle.std.specs.Prelude.{◌≡◌, ℕ, ◌+◌, ◌-◌, ◌^◌, ◌<◌, ◌≤◌, ◌==◌, [], ◌∷◌, None, Some, IfOk, IfErr, IfSome, IfNone, OnSome, option_map, slice_index, MatchOption, MatchResult, true, false, length, take, nat_lt};
 ghost use Rattle.std.specs.Result.{result_ok};
 ghost use Rattle.std.specs.List.{list_all, prefix_len, position_or_len};
-ghost use Rattle.text_lines.specs.Words.{is_blank, is_allowed, content_of, split_words, words_of};
-ghost use Rattle.text_lines.specs.Numbers.{BeginsNumeral, digit_of, value_of, numeral_of, number_of, permission_of};
+ghost use Rattle.text_lines.specs.Words.{is_blank, is_allowed, is_plain, content_of, split_words, words_of};
+ghost use Rattle.text_lines.specs.Numbers.{BeginsFour, BeginsNumeral, digit_of, value_of, numeral_of, number_of, permission_of};
 
+use memchr::memchr;
 use pmp_encoding::Perm;
 use thiserror::Error;
 
@@ -26,10 +27,33 @@ fn is_allowed(byte: u8) -> bool
     byte == b'\t' || (byte >= 32 && byte <= 126)
 }
 
+/// Whether a byte may stand outside a comment and begins none.
+fn is_plain(byte: u8) -> bool
+    ensures { result ≡ is_plain byte }
+{
+    is_allowed(byte) & (byte != b'#')
+}
+
+/// Each byte is looked at in any case, here and in the next function, so that many can be at once.
 fn all_allowed(text: &[u8]) -> bool
     ensures { result ≡ list_all is_allowed text.now }
 {
-    text.iter().all(|b| is_allowed(*b))
+    let mut all = true;
+    for b in text {
+        all = all & is_allowed(*b);
+    }
+    all
+}
+
+/// Whether a text has no comment, and each byte may stand in it.
+fn all_plain(text: &[u8]) -> bool
+    ensures { result ≡ list_all is_plain text.now }
+{
+    let mut all = true;
+    for b in text {
+        all = all & is_plain(*b);
+    }
+    all
 }
 
 /// How many bytes a line has before its comment.
@@ -37,12 +61,7 @@ fn content_len(line: &[u8]) -> usize
     ensures within { result ≤ length line.now }
     ensures len { result ≡ position_or_len (λ b. b == 35) line.now }
 {
-    for (i, b) in line.iter().enumerate() {
-        if *b == b'#' {
-            return i;
-        }
-    }
-    line.len()
+    memchr(b'#', line).unwrap_or(line.len())
 }
 
 /// How many blanks a text begins with.
@@ -95,16 +114,61 @@ fn digit(byte: u8) -> u8
     DIGITS[usize::from(byte)]
 }
 
+/// The value of the four hexadecimal digits that a text begins with, where it does.
+fn four_digits(text: &[u8]) -> Option<u64>
+    ensures four { IfSome result (λ value. BeginsFour text.now value) }
+    ensures small { IfSome result (λ value. value < 65536) }
+{
+    let [a, b, c, d, ..] = text else {
+        return None;
+    };
+    let first = digit(*a);
+    let second = digit(*b);
+    let third = digit(*c);
+    let fourth = digit(*d);
+    if (first | second | third | fourth) >= 16 {
+        return None;
+    }
+    let high = u64::from(first) * 4096 + u64::from(second) * 256;
+    Some(high + u64::from(third) * 16 + u64::from(fourth))
+}
+
+/// A value has room for four hexadecimal digits more below this one.
+const ROOM_FOR_FOUR: u64 = 1 << 48;
+
+/// The value of digits that a text begins with, taken four by four, and how many were taken; none of a base but 16. Other digits
+/// may follow.
+#[inline(always)]
+fn leading_fours(text: &[u8], base: u8) -> (u64, usize)
+    ensures within { result.1 ≤ length text.now }
+    ensures value { result.0 ≡ value_of base (take result.1 text.now) }
+    ensures digits { list_all (λ b. nat_lt (digit_of b) base) (take result.1 text.now) ≡ true }
+{
+    let mut value: u64 = 0;
+    let mut len = 0;
+    if base != 16 {
+        return (value, len);
+    }
+    'fours: while value < ROOM_FOR_FOUR {
+        let Some(four) = four_digits(&text[len..]) else {
+            break;
+        };
+        value = value * 65536 + four;
+        len += 4;
+    }
+    (value, len)
+}
+
 /// The value of the digits that a text begins with, of a base from 2 to 16, and what stands behind them. None where there are
 /// none, or their value is 2^64 or more.
+#[inline(always)]
 pub fn leading_numeral(text: &[u8], base: u8) -> Option<(u64, &[u8])>
     requires least { 2 ≤ base }
     requires most { base ≤ 16 }
     ensures digits { IfSome result (λ front. BeginsNumeral base text.now front.0 front.1.now) }
     ensures none { IfNone result (numeral_of base text.now ≡ None) }
 {
-    let mut value: u64 = 0;
-    let mut len = 0;
+    let (mut value, mut len) = leading_fours(text, base);
     while len < text.len() {
         let digit = digit(text[len]);
         if digit >= base {
@@ -171,6 +235,9 @@ impl<'a> Words<'a> {
     pub fn of(line: &'a [u8]) -> Result<Words<'a>, NotUnderstood>
         ensures { option_map (λ words. split_words words.rest.now) (result_ok result) ≡ words_of line.now }
     {
+        if all_plain(line) {
+            return Ok(Words { rest: line });
+        }
         let content = &line[..content_len(line)];
         if !all_allowed(content) {
             return Err(NotUnderstood);

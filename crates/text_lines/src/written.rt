@@ -56,6 +56,10 @@ pub fn push_decimal(line: &mut Line, n: u64)
     ensures items { line.new.items ≡ line.old.items ++ decimal n }
     ensures len { array_vec_len line.new ≤ array_vec_len line.old + 20 }
 {
+    if n < 10 {
+        line.push(b'0' + n as u8);
+        return;
+    }
     let mut buffer = Buffer::new();
     let text = buffer.format(n);
     push_text(line, text.as_bytes());
