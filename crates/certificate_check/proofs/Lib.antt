@@ -2,6 +2,7 @@ pub mod Spanned
 pub mod Swept
 pub mod Chained
 pub mod Blocks
+pub mod SizeBits
 pub mod Opened
 pub mod Gathered
 pub mod Placed

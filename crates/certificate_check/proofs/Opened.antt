@@ -5,10 +5,11 @@ use Rattle.std.proofs.lemmas.Grind.{common_steps}
 use Rattle.std.proofs.lemmas.List.{get_or-set_same, get_or-set_other}
 use Rattle.certificate_check.specs.declared.entries.Span.{Span}
 use Rattle.certificate_check.specs.declared.begun.Begun.{Begun}
+use Rattle.certificate_check.specs.declared.sizes.Sizes.{Sizes}
 use Rattle.certificate_check.specs.Spans.{Covers, Decides, first, none, AreBlocks}
 use Rattle.pmp_encoding.specs.declared.perm.Perm.TheVariants.{NoAccess}
 use Rattle.certificate_check.proofs.Gathered.{same_element}
-use Rattle.certificate_check.specs.InOrder.{key_of, StandsFor, IsEntryOf, AreBegun, NoneBegins}
+use Rattle.certificate_check.specs.InOrder.{key_of, StandsFor, IsEntryOf, AreBegun, HaveEndedBut, NoneBegins}
 
 -- one number is another, or it is not
 same_or_not : (a b : ℕ) → (a ≡ b) ⊎ (a ≢ b)
@@ -104,6 +105,9 @@ begun_later spans count below page later slots h are = record {
   kept = λ j d less early open'. are.kept j d less early (omega arith);
 }
 
+pub ended_later : (sizes : Sizes) (page later : ℕ) (slots : List Begun) → page ≤ later → HaveEndedBut sizes page slots → HaveEndedBut sizes later slots
+ended_later sizes page later slots h ended = λ k d less lacks. let e = ended k d less lacks in omega (arith, h, e)
+
 -- keys that are no entry's may pass
 pub begun_among :
     (spans : ℕ → Span) (count below later page : ℕ) (slots : List Begun) → ((j : ℕ) → j < count → key_of spans j < later → key_of spans j < below)
@@ -121,6 +125,12 @@ begun_none spans count page n p ended = record {
   begun = λ j less early. absurd (omega arith);
   kept = λ j d less early open'. absurd (omega arith);
 }
+
+read_none : (n k : ℕ) (p d : Begun) → k < n → get_or (replicate n p) k d ≡ p
+read_none n k p d less = grind (arith, common_steps)
+
+pub ended_none : (sizes : Sizes) (page : ℕ) (p : Begun) → p.span.end ≡ 0 → HaveEndedBut sizes page (replicate 45 p)
+ended_none sizes page p ended = λ k d less lacks. let e : (get_or (replicate 45 p) k d).span.end ≡ 0 = ap (λ (x : Begun). x.span.end) (read_none 45 k p d less) ∙ ended in omega (arith, e)
 
 -- the first in the list of those that have begun decides, up to where it ends or another begins
 pub open_decides :

@@ -1,5 +1,5 @@
 -- The parts of a right node.
-use Rattle.std.proofs.Common.{◌≡◌, ℕ, zero, suc, ◌+◌, ◌%◌, ◌*◌, ◌^◌, ◌<◌, ◌≤◌, List, ◌∷◌, ◌++◌, append_assoc, pow_pos, ◌-◌, ◌≢◌, arith, sym, subst, ap, refl, ◌∙◌, Result, Ok, Err, pow-suc}
+use Rattle.std.proofs.Common.{◌≡◌, ℕ, zero, suc, ◌+◌, ◌*◌, ◌^◌, ◌<◌, ◌≤◌, List, ◌∷◌, ◌++◌, append_assoc, pow_pos, ◌-◌, ◌≢◌, arith, sym, subst, ap, refl, ◌∙◌, Result, Ok, Err, pow-suc}
 use Rattle.std.specs.Result.{IfErr, IfOk, OnOk, IsOk}
 use Rattle.pmp_encoding.specs.declared.perm.Perm.{Perm}
 use Rattle.pmp_encoding.specs.declared.perm.Perm.TheVariants.{NoAccess, Read, ReadWrite, Execute, ReadExecute, ReadWriteExecute}

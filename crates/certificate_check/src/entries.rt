@@ -61,6 +61,19 @@ impl<'a> Entries<'a> {
         self.bytes.len() / 9
     }
 
+    /// The first page of one of them. The trailing ones of its address say how large it is, and what stands above them
+    /// where it begins.
+    pub(crate) fn first(&self, i: usize) -> u64
+        requires { i < count_in self.now }
+        ensures inside { result < 2 ^ 44 }
+        ensures value { (spans : ℕ → Span) → ReadsAs self.now spans → result ≡ (spans i).first }
+    {
+        let bytes = self.bytes;
+        let at = 9 * i;
+        let address = LittleEndian::read_u64(&bytes[at + 1..]);
+        (address & address.wrapping_add(1)) / 1024
+    }
+
     /// The pages of one of them.
     pub(crate) fn span(&self, i: usize) -> Span
         requires { i < count_in self.now }

@@ -33,6 +33,7 @@ mod numbers;
 mod piece;
 mod refusal;
 mod runs;
+mod sizes;
 mod sweep;
 #[cfg(test)]
 mod tests;

@@ -5,7 +5,7 @@ ghost use Rattle.certificate_format.specs.Spelling.{SpellsEntries, AreNoSubPages
 ghost use Rattle.permission_map.specs.Runs.{view_of_runs};
 ghost use Rattle.certificate_check.specs.declared.entries.Span.{Span};
 ghost use Rattle.certificate_check.specs.Spans.{ReadsAs, Decides, RiseTo, AreBlocks, AreChains, count_in};
-ghost use Rattle.certificate_check.specs.InOrder.{AreBegun, NoneBegins};
+ghost use Rattle.certificate_check.specs.InOrder.{AreBegun, HaveEndedBut, NoneBegins};
 ghost use Rattle.certificate_check.specs.Later.{AreLaterRuns};
 
 use crate::begun::{Begun, NONE, begin, piece_of_begun};
@@ -13,6 +13,7 @@ use crate::chains::{BEFORE, chains_of, piece_of_chains};
 use crate::entries::{Entries, SIZES};
 use crate::keys::{END, Keys, first_of, gather, number_of};
 use crate::runs::{piece_of_runs, runs_from};
+use crate::sizes::Sizes;
 use page_views::SPACE_PAGES;
 use permission_map::{PermissionMap, Run};
 
@@ -41,12 +42,22 @@ fn agrees_in_chains(entries: &Entries, ends: &[usize], runs: &[Run]) -> bool
 
 /// The later runs, where the entries that have begun give the runs' permissions on the pages from `from` to before
 /// `to`. No other entry begins there.
-fn agreed<'a>(slots: &[Begun; SIZES], runs: &'a [Run], from: u64, to: u64) -> Option<&'a [Run]>
+fn agreed<'a>(
+    slots: &[Begun; SIZES],
+    sizes: &mut Sizes,
+    runs: &'a [Run],
+    from: u64,
+    to: u64,
+) -> Option<&'a [Run]>
     requires order { from ≤ to }
+    requires few { sizes.old.bits < 2 ^ 45 }
+    requires ended { HaveEndedBut sizes.old from slots.now }
     requires inside { to ≤ 2 ^ 44 }
     requires later { AreLaterRuns runs.now }
     ensures later { IfSome result (λ rest. AreLaterRuns rest.now) }
     ensures same { IfSome result (λ rest. (at : ℕ) → to ≤ at → view_of_runs rest.now at ≡ view_of_runs runs.now at) }
+    ensures few { sizes.new.bits < 2 ^ 45 }
+    ensures ended { HaveEndedBut sizes.new to slots.now }
     ensures given { IfSome result (λ _. (spans : ℕ → Span) (count below : ℕ) → AreBlocks spans count → AreBegun spans count below from slots.now → NoneBegins spans count below to → (at : ℕ) → from ≤ at → at < to → Decides spans count at (view_of_runs runs.now at)) }
     ensures differs { IfNone result ((spans : ℕ → Span) (count below : ℕ) → AreBlocks spans count → AreBegun spans count below from slots.now → NoneBegins spans count below to → (at : ℕ) × (from ≤ at) × (at < to) × (Decides spans count at (view_of_runs runs.now at) → ⊥)) }
 {
@@ -55,7 +66,7 @@ fn agreed<'a>(slots: &[Begun; SIZES], runs: &'a [Run], from: u64, to: u64) -> Op
     while page < to {
         rest = runs_from(rest, page);
         let wanted = piece_of_runs(rest, page);
-        let given = piece_of_begun(slots, page, to);
+        let given = piece_of_begun(slots, sizes, page, to);
         if given.perm != wanted.perm {
             return None;
         }
@@ -72,6 +83,7 @@ fn agrees_in_any_order(entries: &Entries, runs: &[Run]) -> bool
 {
     let mut keys = Keys::new();
     let mut slots = [NONE; SIZES];
+    let mut sizes = Sizes::new();
     let mut rest = runs;
     let mut page = 0;
     let mut low = 0;
@@ -79,16 +91,16 @@ fn agrees_in_any_order(entries: &Entries, runs: &[Run]) -> bool
         low = gather(entries, low, &mut keys);
         for key in keys.iter() {
             let first = first_of(*key);
-            let Some(later) = agreed(&slots, rest, page, first) else {
+            let Some(later) = agreed(&slots, &mut sizes, rest, page, first) else {
                 return false;
             };
             rest = later;
             page = first;
             let number = number_of(*key);
-            begin(&mut slots, page, number, entries.span(number));
+            begin(&mut slots, &mut sizes, page, number, entries.span(number));
         }
     }
-    agreed(&slots, rest, page, SPACE_PAGES).is_some()
+    agreed(&slots, &mut sizes, rest, page, SPACE_PAGES).is_some()
 }
 
 /// Whether the first entry that covers a page has the runs' permission, at each page of the space.

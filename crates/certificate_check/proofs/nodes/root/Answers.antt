@@ -1,4 +1,4 @@
-use Rattle.std.proofs.Common.{ℕ, ◌≤◌, length, sym, ap}
+use Rattle.std.proofs.Common.{sym, ap}
 use Rattle.permission_map.specs.Runs.{view_of_runs}
 use Rattle.certificate_check.proofs.Few.{few_needed}
 use Rattle.certificate_check.proofs.nodes.root.Goals as goal

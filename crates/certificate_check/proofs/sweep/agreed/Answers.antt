@@ -7,7 +7,7 @@ use Rattle.pmp_encoding.specs.contracts.perm.Perm.{the_type}
 use Rattle.permission_map.specs.Runs.{view_of_runs}
 use Rattle.certificate_check.specs.Spans.{Decides}
 use Rattle.certificate_check.proofs.Swept.{one_decided}
-use Rattle.certificate_check.proofs.Opened.{begun_later}
+use Rattle.certificate_check.proofs.Opened.{begun_later, ended_later}
 use Rattle.certificate_check.proofs.sweep.agreed.Goals as goal
 
 pub returns-then-ne-clause-differs : goal.returns-then-ne-clause-differs
@@ -29,6 +29,8 @@ pub loop-page-preserved : goal.loop-page-preserved
 loop-page-preserved c = record {
   low = omega arith;
   high = omega arith;
+  few = c.piece_of_begun-given.ensures.few;
+  ended = ended_later _ c.loop-page.page _ _ (omega arith) c.piece_of_begun-given.ensures.ended;
   later = c.runs_from-rest.ensures.later;
   same = search rules;
   given = λ spans count below blocks are none at after before.

@@ -1,8 +1,8 @@
-use Rattle.std.proofs.Common.{◌≡◌, ℕ, ◌<◌, ◌≤◌, ◌-◌}
+use Rattle.std.proofs.Common.{◌≡◌, ℕ, ◌^◌, ◌<◌, ◌≤◌, ◌-◌}
 use Rattle.permission_map.specs.Runs.{view_of_runs}
 use Rattle.certificate_check.specs.declared.entries.Span.{Span}
 use Rattle.certificate_check.specs.Spans.{Decides, AreBlocks}
-use Rattle.certificate_check.specs.InOrder.{AreBegun, NoneBegins}
+use Rattle.certificate_check.specs.InOrder.{AreBegun, HaveEndedBut, NoneBegins}
 use Rattle.certificate_check.specs.Later.{AreLaterRuns}
 use Rattle.certificate_check.proofs.sweep.agreed.Given as goal
 
@@ -10,6 +10,8 @@ abbrev pub invariant-loop-page : goal.invariant-loop-page
 invariant-loop-page l = record {
   low : l.from ≤ l.page;
   high : l.page ≤ l.to;
+  few : l.sizes.bits < 2 ^ 45;
+  ended : HaveEndedBut l.sizes l.page l.slots;
   later : AreLaterRuns l.rest;
   same : (at : ℕ) → l.page ≤ at → view_of_runs l.rest at ≡ view_of_runs l.runs at;
   given :

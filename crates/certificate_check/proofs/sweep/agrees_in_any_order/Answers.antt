@@ -1,5 +1,5 @@
 -- Each key hands out the entry that begins next, at the first page where no other has decided.
-use Rattle.std.proofs.Common.{◌≡◌, ℕ, ◌+◌, ◌/◌, ◌%◌, ◌^◌, ◌<◌, ◌≤◌, ◌⊎◌, List, get_or, ⊎_elim, arith, sym, subst, ap, refl, ◌∙◌}
+use Rattle.std.proofs.Common.{◌≡◌, ℕ, ◌+◌, ◌/◌, ◌%◌, ◌^◌, ◌<◌, ◌≤◌, ◌⊎◌, List, get_or, ⊎_elim, arith, rules, sym, subst, ap, refl, ◌∙◌}
 use Rattle.std.specs.List.Sorted.{IsNonDecreasing}
 use Rattle.std.proofs.lemmas.Bool.{cases_lt}
 use Rattle.pmp_encoding.specs.declared.perm.Perm.{Perm}
@@ -8,7 +8,7 @@ use Rattle.certificate_check.specs.declared.entries.Span.{Span}
 use Rattle.certificate_check.specs.Spans.{Decides, count_in}
 use Rattle.certificate_check.specs.InOrder.{key_of, AreKeys, AreBegun, NoneBegins}
 use Rattle.certificate_check.proofs.Blocks.{blocks_read}
-use Rattle.certificate_check.proofs.Opened.{begun_later, begun_among, begun_none}
+use Rattle.certificate_check.proofs.Opened.{begun_later, begun_among, begun_none, ended_none}
 use Rattle.certificate_check.proofs.Gathered.{same_element, AreWithin, key_behind, key_order, key_from, keys_next, keys_first, begins_later, begins_at, by_option}
 use Rattle.certificate_check.proofs.sweep.agrees_in_any_order.Goals as goal
 
@@ -18,6 +18,8 @@ loop-low-init c = record {
   keys = omega arith;
   order = omega arith;
   later = c.requires.later;
+  few = search rules;
+  ended = ended_none _ 0 _ refl;
   same = λ at h. refl;
   begun = λ spans reads. begun_none spans _ 0 45 _ refl;
   given = λ spans reads at less. absurd (omega arith);
@@ -36,6 +38,8 @@ loop-key-init c =
       inside = inv.inside;
       order = (let o = inv.order in omega (arith, o, from));
       later = inv.later;
+      few = inv.few;
+      ended = inv.ended;
       same = inv.same;
       begun = λ spans reads.
           let are : AreKeys spans (count_in c.args.entries.now) low high ks = rw (c.deref-key-items.ensures.0) (c.gather-low.ensures.value spans reads) in
@@ -55,6 +59,8 @@ loop-low-preserved c =
       keys = c.gather-low.ensures.inside;
       order = (let o = inv.order in omega (arith, o, all));
       later = inv.later;
+      few = inv.few;
+      ended = inv.ended;
       same = inv.same;
       begun = λ spans reads.
           subst (λ (n : ℕ). AreBegun spans (count_in c.args.entries.now) n c.loop-key.page c.loop-key.slots) all (inv.begun spans reads);
@@ -83,6 +89,8 @@ loop-key-preserved c =
       inside = (let h = c.gather-low.ensures.inside in omega (arith, h, first, below));
       order = omega (arith, first, next);
       later = c.in-Some.ensures.later;
+      few = search rules;
+      ended = search rules;
       same = λ at h. c.in-Some.ensures.same at h ∙ inv.same at (omega (arith, some, h));
       begun = λ spans reads.
           let are : AreKeys spans count low high ks = rw (c.deref-key-items.ensures.0) (c.gather-low.ensures.value spans reads) in
@@ -92,7 +100,7 @@ loop-key-preserved c =
           let real : get_or ks x high ≡ key_of spans c.number_of-number.result = is.real ∙ ap (λ n. key_of spans n) (sym number) in
           let begins : c.span.result.first ≡ page =
           ap (λ (s : Span). s.first) span ∙ begins_at spans c.number_of-number.result (get_or ks x high) page (omega (arith, inside, few)) first real in
-          c.begin.ensures spans count (get_or ks x high) (get_or ks (x + 1) high) (blocks_read c.args.entries.now spans reads)
+          c.begin.ensures.begun spans count (get_or ks x high) (get_or ks (x + 1) high) (blocks_read c.args.entries.now spans reads)
           (begun_later spans count (get_or ks x high) c.loop-key.page page c.loop-key.slots some (inv.begun spans reads)) inside span begins
           (λ j less early. subst (λ (n : ℕ). (key_of spans j < get_or ks x high) ⊎ (j ≡ n)) (sym number) (keys_next spans count low high x ks are sorted few c.loop-key-test.true j less early));
       given = λ spans reads at less.

@@ -1,16 +1,11 @@
 -- What the bytes mean is one entry, so its span is the one that stands there.
-use Rattle.std.proofs.Common.{◌≡◌, ◌<◌, ◌+◌, ◌*◌, ◌-◌, length, take, drop, arith, ap, sym, subst, refl, ◌∙◌, List, ℕ, Ok}
-use Rattle.std.proofs.lemmas.Grind.{common_steps}
+use Rattle.std.proofs.Common.{◌≡◌, ◌<◌, ◌+◌, ◌*◌, drop, arith, ap, sym, subst, refl, ◌∙◌, List, ℕ, Ok}
 use Rattle.byteorder.specs.Endian.{little_number}
 use Rattle.pmp_encoding.specs.Encoding.{MeansEntry}
 use Rattle.std.specs.Prelude.{slice_index}
 use Rattle.certificate_check.specs.Spans.{IsSpanAt, count_in}
-use Rattle.certificate_check.proofs.Spanned.{span_at}
+use Rattle.certificate_check.proofs.Spanned.{rest_from, span_at}
 use Rattle.certificate_check.proofs.entries.Entries.span.Goals as goal
-
--- `&bytes[at..]` is read as `take (length bytes - at) (drop at bytes)`
-rest_from : (i : ℕ) (xs : List ℕ) → take (length xs - i) (drop i xs) ≡ drop i xs
-rest_from i xs = grind (arith, common_steps)
 
 pub overflow_mul-at : goal.overflow_mul-at
 overflow_mul-at c = let less : c.args.i < count_in c.self.inside.bytes.now = subst (λ (xs : List ℕ). c.args.i < count_in xs) (sym c.self.view_is) c.requires in let told = c.self.told.0 in omega (arith, less, told)
