@@ -1,1 +1,3 @@
 mod PlainLines
+mod Calls
+mod PlainEvents

@@ -1,8 +1,8 @@
 -- Plain lines say what the grammar of traces says.
-use Rattle.std.proofs.Common.{◌≡◌, ◌⊎◌, inl, inr, ◌∙◌, ℕ, ◌+◌, ◌^◌, Bool, true, false, not, ◌&&◌, List, [], ◌∷◌, ◌++◌, length, Option, Some, None, option_map, cond, suc, refl, ap, sym, arith, append-nil}
+use Rattle.std.proofs.Common.{◌≡◌, ◌⊎◌, inl, inr, ◌∙◌, ℕ, ◌+◌, ◌^◌, ◌≤◌, Bool, true, false, not, ◌&&◌, List, [], ◌∷◌, ◌++◌, length, Option, Some, None, option_map, cond, suc, refl, ap, sym, arith, append-nil}
 use Rattle.std.specs.Prelude.{◌==◌, nat_lt, IfSome}
 use Rattle.std.specs.List.{list_all, position_or_len}
-use Rattle.std.proofs.lemmas.Bool.{and_parts, and_from, cond-true}
+use Rattle.std.proofs.lemmas.Bool.{and_parts, and_from, cond-true, lt-ltb, ltb-true}
 use Rattle.std.proofs.lemmas.Option.{same_Some}
 use Rattle.std.proofs.lemmas.Bool.Decides.{nat_tests}
 use Rattle.std.proofs.lemmas.Grind.{common_steps}
@@ -10,30 +10,38 @@ use Rattle.pmp_match.specs.declared.access.Mode.{Mode}
 use Rattle.pmp_match.specs.declared.access.Kind.{Kind}
 use Rattle.pmp_match.specs.declared.access.Access.{Access}
 use Rattle.pmp_match.specs.Kinds.{has_size}
-use Rattle.text_lines.specs.Words.{is_allowed, is_blank, content_of, split_words, words_of}
+use Rattle.text_lines.specs.Words.{is_allowed, is_blank, is_plain, content_of, split_words, words_of}
 use Rattle.text_lines.specs.Numbers.{BeginsNumeral, digit_of, is_numeral, numeral_of, number_of, value_of}
 use Rattle.text_lines.proofs.WordsOfText.{word_split}
+use Rattle.text_lines.proofs.PlainText.{plain_allowed, plain_content}
 use Rattle.hart_trace.specs.declared.event.Event.{Event}
 use Rattle.hart_trace.specs.declared.event.Event.TheVariants as events
 use Rattle.hart_trace.specs.Events.{◌>>=◌, access_of, event_of, hart_of, meaning_of, mode_of, said_by, sized}
-use Rattle.hart_trace.specs.Plain.{Starts, is_letter, is_mark, is_plain, keyword}
+use Rattle.hart_trace.specs.Plain.{Starts, is_letter, is_mark, keyword}
 
 -- a hexadecimal digit is a letter
 hex_letter : (b : ℕ) → nat_lt (digit_of b) 16 ≡ true → is_letter b ≡ true
 hex_letter b h = grind (arith, nat_tests, common_steps, h)
 
-hex_letters : (digits : List ℕ) → list_all (λ b. nat_lt (digit_of b) 16) digits ≡ true → list_all is_letter digits ≡ true
-hex_letters [] h = refl
-hex_letters (b ∷ digits) h =
-    let both = and_parts (nat_lt (digit_of b) 16) (list_all (λ b. nat_lt (digit_of b) 16) digits) h in
-    and_from _ _ (hex_letter b both.0) (hex_letters digits both.1)
+digit_letter : (base b : ℕ) → base ≤ 16 → nat_lt (digit_of b) base ≡ true → is_letter b ≡ true
+digit_letter base b few h = hex_letter b (lt-ltb (digit_of b) 16 (omega (arith, few, ltb-true (digit_of b) base h)))
 
-numeral_letters : (digits : List ℕ) (value : ℕ) → numeral_of 16 digits ≡ Some value → (list_all is_letter digits ≡ true)
-numeral_letters digits value h = hex_letters digits (by_test (is_numeral 16 digits) (nat_lt (value_of 16 digits) (2 ^ 64)) refl h)
+digits_letters : (base : ℕ) (digits : List ℕ) → base ≤ 16 → list_all (λ b. nat_lt (digit_of b) base) digits ≡ true → list_all is_letter digits ≡ true
+digits_letters base [] few h = refl
+digits_letters base (b ∷ digits) few h =
+    let both = and_parts (nat_lt (digit_of b) base) (list_all (λ b. nat_lt (digit_of b) base) digits) h in
+    and_from _ _ (digit_letter base b few both.0) (digits_letters base digits few both.1)
+
+-- a numeral has digits alone
+pub numeral_digits : (base : ℕ) (digits : List ℕ) (value : ℕ) → numeral_of base digits ≡ Some value → list_all (λ b. nat_lt (digit_of b) base) digits ≡ true
+numeral_digits base digits value h = by_test (is_numeral base digits) (nat_lt (value_of base digits) (2 ^ 64)) refl h
   where
-    by_test : (t u : Bool) → is_numeral 16 digits ≡ t → cond (t && u) (Some (value_of 16 digits)) None ≡ Some value → list_all (λ b. nat_lt (digit_of b) 16) digits ≡ true
-    by_test true u e k = (and_parts (nat_lt 0 (length digits)) (list_all (λ b. nat_lt (digit_of b) 16) digits) e).1
+    by_test : (t u : Bool) → is_numeral base digits ≡ t → cond (t && u) (Some (value_of base digits)) None ≡ Some value → list_all (λ b. nat_lt (digit_of b) base) digits ≡ true
+    by_test true u e k = (and_parts (nat_lt 0 (length digits)) (list_all (λ b. nat_lt (digit_of b) base) digits) e).1
     by_test false u e k = cc
+
+pub numeral_letters : (base : ℕ) (digits : List ℕ) (value : ℕ) → base ≤ 16 → numeral_of base digits ≡ Some value → list_all is_letter digits ≡ true
+numeral_letters base digits value few h = digits_letters base digits few (numeral_digits base digits value h)
 
 -- letters are no blanks, and plain
 letters_word : (word : List ℕ) → list_all is_letter word ≡ true → list_all (λ b. not (is_blank b)) word ≡ true
@@ -42,28 +50,28 @@ letters_word (b ∷ word) h =
     let both = and_parts (is_letter b) (list_all is_letter word) h in
     and_from _ _ (and_parts (is_plain b) (not (is_blank b)) both.0).1 (letters_word word both.1)
 
-letters_plain : (word rest : List ℕ) → list_all is_letter word ≡ true → list_all is_plain rest ≡ true → list_all is_plain (word ++ rest) ≡ true
+pub letters_plain : (word rest : List ℕ) → list_all is_letter word ≡ true → list_all is_plain rest ≡ true → list_all is_plain (word ++ rest) ≡ true
 letters_plain [] rest h k = k
 letters_plain (b ∷ word) rest h k =
     let both = and_parts (is_letter b) (list_all is_letter word) h in
     and_from _ _ (and_parts (is_plain b) (not (is_blank b)) both.0).0 (letters_plain word rest both.1 k)
 
 -- a word of letters, and the words behind the blank after it
-letters_split : (b : ℕ) (word rest : List ℕ) → list_all is_letter (b ∷ word) ≡ true → split_words ((b ∷ word) ++ 32 ∷ rest) ≡ (b ∷ word) ∷ split_words rest
+pub letters_split : (b : ℕ) (word rest : List ℕ) → list_all is_letter (b ∷ word) ≡ true → split_words ((b ∷ word) ++ 32 ∷ rest) ≡ (b ∷ word) ∷ split_words rest
 letters_split b word rest h = word_split is_blank (b ∷ word) (32 ∷ rest) (omega arith, letters_word (b ∷ word) h) refl
 
-letters_last : (b : ℕ) (word : List ℕ) → list_all is_letter (b ∷ word) ≡ true → split_words (b ∷ word) ≡ (b ∷ word) ∷ []
+pub letters_last : (b : ℕ) (word : List ℕ) → list_all is_letter (b ∷ word) ≡ true → split_words (b ∷ word) ≡ (b ∷ word) ∷ []
 letters_last b word h = ap split_words (sym (append-nil (b ∷ word))) ∙ word_split is_blank (b ∷ word) [] (omega arith, letters_word (b ∷ word) h) tt
 
 -- the letter of a hexadecimal number
 mark_letter : (x : ℕ) → is_mark x ≡ true → is_letter x ≡ true
 mark_letter x h = grind (arith, nat_tests, common_steps, h)
 
-mark_number : (x : ℕ) (digits : List ℕ) (value : ℕ) → is_mark x ≡ true → Some value ≡ numeral_of 16 digits → number_of (48 ∷ x ∷ digits) ≡ Some value
+pub mark_number : (x : ℕ) (digits : List ℕ) (value : ℕ) → is_mark x ≡ true → Some value ≡ numeral_of 16 digits → number_of (48 ∷ x ∷ digits) ≡ Some value
 mark_number x digits value h e = cond-true (is_mark x) (numeral_of 16 digits) (numeral_of 10 (48 ∷ x ∷ digits)) h ∙ sym e
 
 -- an address that may have words behind it
-address_word : (x : ℕ) (digits : List ℕ) → is_letter x ≡ true → list_all is_letter digits ≡ true → list_all is_letter (48 ∷ x ∷ digits) ≡ true
+pub address_word : (x : ℕ) (digits : List ℕ) → is_letter x ≡ true → list_all is_letter digits ≡ true → list_all is_letter (48 ∷ x ∷ digits) ≡ true
 address_word x digits hx h = and_from _ _ hx h
 
 -- the words of an access, from its mode on
@@ -84,7 +92,7 @@ start_plain m s x behind hm hs hx h =
 -- a fetch or a load
 pub look_words : (kind : Kind) (text behind : List ℕ) (mode : Mode) (size address : ℕ) (access : Access) → Starts text mode size behind → Some address ≡ numeral_of 16 behind → Some access ≡ sized mode kind size address (has_size kind size) refl → access_of kind (split_words text) ≡ Some (access, [])
 look_words kind text behind mode size address access st ea is =
-    let letters = numeral_letters behind address (sym ea) in
+    let letters = numeral_letters 16 behind address (omega arith) (sym ea) in
     let word = address_word st.2 behind (mark_letter st.2 st.8) letters in
     ap (access_of kind) (ap split_words st.3 ∙ start_words st.0 st.1 st.2 behind st.6 st.7 ∙ ap (λ ws. (st.0 ∷ []) ∷ (st.1 ∷ []) ∷ ws) (letters_last 48 (st.2 ∷ behind) word))
     ∙ access_said kind (st.0 ∷ []) (st.1 ∷ []) (48 ∷ st.2 ∷ behind) [] mode size address access st.4 st.5 (mark_number st.2 behind address st.8 ea) is
@@ -99,14 +107,14 @@ if_some (Some a) b = b
 
 pub look_plain : (text behind : List ℕ) (mode : Mode) (size address : ℕ) → Starts text mode size behind → Some address ≡ numeral_of 16 behind → list_all is_plain text ≡ true
 look_plain text behind mode size address st ea =
-    let letters = numeral_letters behind address (sym ea) in
+    let letters = numeral_letters 16 behind address (omega arith) (sym ea) in
     ap (list_all is_plain) st.3 ∙ start_plain st.0 st.1 st.2 behind st.6 st.7 (mark_letter st.2 st.8) (ap (list_all is_plain) (sym (append-nil behind)) ∙ letters_plain behind [] letters refl)
 
 -- a store, its address before the blank
 pub store_words : (text address digits : List ℕ) (mode : Mode) (size at : ℕ) (value : ℕ) (access : Access) → Starts text mode size (address ++ 32 ∷ 48 ∷ 120 ∷ digits) → Some at ≡ numeral_of 16 address → Some value ≡ numeral_of 16 digits → Some access ≡ sized mode Kind.Store size at (has_size Kind.Store size) refl → access_of Kind.Store (split_words text) ≡ Some (access, (48 ∷ 120 ∷ digits) ∷ [])
 store_words text address digits mode size at value access st ea ev is =
-    let letters = numeral_letters address at (sym ea) in
-    let also = numeral_letters digits value (sym ev) in
+    let letters = numeral_letters 16 address at (omega arith) (sym ea) in
+    let also = numeral_letters 16 digits value (omega arith) (sym ev) in
     let words : split_words (48 ∷ st.2 ∷ (address ++ 32 ∷ 48 ∷ 120 ∷ digits)) ≡ (48 ∷ st.2 ∷ address) ∷ (48 ∷ 120 ∷ digits) ∷ [] =
     letters_split 48 (st.2 ∷ address) (48 ∷ 120 ∷ digits) (address_word st.2 address (mark_letter st.2 st.8) letters) ∙ ap (λ ws. (48 ∷ st.2 ∷ address) ∷ ws) (letters_last 48 (120 ∷ digits) (address_word 120 digits refl also)) in
     ap (access_of Kind.Store) (ap split_words st.3 ∙ start_words st.0 st.1 st.2 (address ++ 32 ∷ 48 ∷ 120 ∷ digits) st.6 st.7 ∙ ap (λ ws. (st.0 ∷ []) ∷ (st.1 ∷ []) ∷ ws) words)
@@ -114,27 +122,13 @@ store_words text address digits mode size at value access st ea ev is =
 
 pub store_plain : (text address digits : List ℕ) (mode : Mode) (size at : ℕ) (value : ℕ) → Starts text mode size (address ++ 32 ∷ 48 ∷ 120 ∷ digits) → Some at ≡ numeral_of 16 address → Some value ≡ numeral_of 16 digits → list_all is_plain text ≡ true
 store_plain text address digits mode size at value st ea ev =
-    let letters = numeral_letters address at (sym ea) in
-    let also = numeral_letters digits value (sym ev) in
+    let letters = numeral_letters 16 address at (omega arith) (sym ea) in
+    let also = numeral_letters 16 digits value (omega arith) (sym ev) in
     let last : list_all is_plain digits ≡ true = ap (list_all is_plain) (sym (append-nil digits)) ∙ letters_plain digits [] also refl in
     ap (list_all is_plain) st.3 ∙ start_plain st.0 st.1 st.2 (address ++ 32 ∷ 48 ∷ 120 ∷ digits) st.6 st.7 (mark_letter st.2 st.8) (letters_plain address (32 ∷ 48 ∷ 120 ∷ digits) letters last)
 
 one_more : (n : ℕ) → 1 + n ≡ suc n
 one_more n = omega arith
-
--- plain bytes have no comment and may stand there
-plain_content : (line : List ℕ) → list_all is_plain line ≡ true → content_of line ≡ line
-plain_content [] h = refl
-plain_content (b ∷ line) h =
-    let both = and_parts (is_plain b) (list_all is_plain line) h in
-    let no : (b == 35) ≡ false = grind (arith, nat_tests, common_steps, (and_parts (is_allowed b) (not (b == 35)) both.0).1) in
-    rw (no, one_more (position_or_len (λ c. c == 35) line)) (ap (λ xs. b ∷ xs) (plain_content line both.1))
-
-plain_allowed : (line : List ℕ) → list_all is_plain line ≡ true → list_all is_allowed line ≡ true
-plain_allowed [] h = refl
-plain_allowed (b ∷ line) h =
-    let both = and_parts (is_plain b) (list_all is_plain line) h in
-    and_from _ _ (and_parts (is_allowed b) (not (b == 35)) both.0).0 (plain_allowed line both.1)
 
 -- a plain line that begins with a word of letters that names no hart
 pub line_says : (b : ℕ) (word rest : List ℕ) (event : Event) (harts : ℕ) → list_all is_letter (b ∷ word) ≡ true → list_all is_plain rest ≡ true → hart_of harts (b ∷ word) ≡ None → event_of ((b ∷ word) ∷ split_words rest) ≡ Some event → meaning_of harts ((b ∷ word) ++ 32 ∷ rest) ≡ Some (Some (0, event))
@@ -176,7 +170,7 @@ said_event : (event : Event) (words : List (List ℕ)) → said_by 0 words ≡ S
 said_event event [] h = cc
 said_event event (word ∷ words) h = only_event event (event_of (word ∷ words)) (rw (no_hart word) at h)
 
-hart_letters : (harts digit hart : ℕ) → hart_of harts (64 ∷ digit ∷ []) ≡ Some hart → list_all is_letter (64 ∷ digit ∷ []) ≡ true
+pub hart_letters : (harts digit hart : ℕ) → hart_of harts (64 ∷ digit ∷ []) ≡ Some hart → list_all is_letter (64 ∷ digit ∷ []) ≡ true
 hart_letters harts digit hart h = grind (arith, nat_tests, common_steps, h)
 
 one_plain : (b : ℕ) (line : List ℕ) → is_plain b ≡ true → content_of (b ∷ line) ≡ b ∷ content_of line

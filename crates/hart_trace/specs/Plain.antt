@@ -1,17 +1,14 @@
 -- The plainest spelling of an access.
-use Rattle.std.specs.Prelude.{◌≡◌, ℕ, Bool, true, not, ◌&&◌, ◌||◌, ◌==◌, List, [], ◌∷◌, Some, codes}
+use Rattle.std.specs.Prelude.{◌≡◌, ℕ, Bool, true, not, ◌&&◌, ◌||◌, ◌==◌, List, [], ◌∷◌, ◌++◌, Some, codes}
+use Rattle.std.specs.List.{list_all}
 use Rattle.pmp_match.specs.declared.access.Mode.{Mode}
 use Rattle.pmp_match.specs.declared.access.Kind.{Kind}
 use Rattle.pmp_match.specs.declared.access.Kind.TheVariants.{Fetch, Load, Store}
-use Rattle.text_lines.specs.Words.{is_allowed, is_blank}
+use Rattle.text_lines.specs.Words.{is_blank, is_plain}
 use Rattle.text_lines.specs.Numbers.{number_of}
 use Rattle.hart_trace.specs.Events.{mode_of}
 
--- a byte that may stand outside a comment and begins none
-abbrev pub is_plain : ℕ → Bool
-is_plain b = is_allowed b && not (b == 35)
-
--- such a byte that is no blank
+-- a byte that may stand outside a comment, begins none and is no blank
 abbrev pub is_letter : ℕ → Bool
 is_letter b = is_plain b && not (is_blank b)
 
@@ -22,6 +19,10 @@ is_mark b = b == 120 || b == 88
 -- a letter for the mode, one for the size, and `0x` or `0X` before what follows
 abbrev pub Starts : List ℕ → Mode → ℕ → List ℕ → Type 0
 Starts text mode size behind = (m s x : ℕ) × (text ≡ m ∷ 32 ∷ s ∷ 32 ∷ 48 ∷ x ∷ behind) × (mode_of (m ∷ []) ≡ Some mode) × (number_of (s ∷ []) ≡ Some size) × (is_letter m ≡ true) × (is_letter s ≡ true) × (is_mark x ≡ true)
+
+-- a text begins with letters that spell a number, and behind them stands the rest
+abbrev pub BeginsNumber : List ℕ → ℕ → List ℕ → Type 0
+BeginsNumber text value rest = (b : ℕ) × (word : List ℕ) × (text ≡ (b ∷ word) ++ rest) × (list_all is_letter (b ∷ word) ≡ true) × (number_of (b ∷ word) ≡ Some value)
 
 -- the keyword of each kind of access
 abbrev pub keyword : Kind → List ℕ

@@ -13,6 +13,7 @@
 
 mod event;
 mod plain;
+mod plain_events;
 #[cfg(test)]
 mod tests;
 mod trace;

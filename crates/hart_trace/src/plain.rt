@@ -4,11 +4,11 @@
 
 ghost use Rattle.std.specs.Prelude.{◌≡◌, ℕ, List, ◌∷◌, ◌++◌, [], Some, None, IfSome, true};
 ghost use Rattle.std.specs.List.{list_all};
-ghost use Rattle.text_lines.specs.Words.{split_words};
+ghost use Rattle.text_lines.specs.Words.{is_plain, split_words};
 ghost use Rattle.text_lines.specs.Numbers.{number_of};
 ghost use Rattle.hart_trace.specs.declared.event.Event.TheVariants as events;
 ghost use Rattle.hart_trace.specs.Events.{access_of, hart_of, meaning_of, mode_of};
-ghost use Rattle.hart_trace.specs.Plain.{Starts, is_letter, is_plain, keyword};
+ghost use Rattle.hart_trace.specs.Plain.{Starts, is_letter, keyword};
 
 use crate::trace::sized;
 use pmp_match::{Access, Kind, Mode};
@@ -116,7 +116,7 @@ pub fn plain_access(line: &[u8]) -> Option<(Access, u64)>
 }
 
 /// The hart that a line names, where `@H` and one space begin it, and what stands behind them.
-fn behind_hart(line: &[u8], harts: u8) -> Option<(u8, &[u8])>
+pub(crate) fn behind_hart(line: &[u8], harts: u8) -> Option<(u8, &[u8])>
     ensures { IfSome result (λ named. (digit : ℕ) × (line.now ≡ 64 ∷ digit ∷ 32 ∷ named.1.now) × (hart_of harts (64 ∷ digit ∷ []) ≡ Some named.0)) }
 {
     match line {

@@ -8,6 +8,7 @@ ghost use Rattle.hart_trace.specs.Events.{mode_of, sized, access_of, with_no_val
 
 use crate::event::Event;
 use crate::plain::plain_on_hart;
+use crate::plain_events::plain_event_on_hart;
 use arrayvec::ArrayVec;
 use pmp_match::{Access, Kind, Mode};
 use text_lines::{NotUnderstood, Words, number, numeral};
@@ -73,7 +74,7 @@ fn with_value(access: Access, mut words: Words<'_>) -> Option<Event>
     }
 }
 
-fn has_leading_zero(digits: &[u8]) -> bool
+pub(crate) fn has_leading_zero(digits: &[u8]) -> bool
     ensures { result ≡ has_leading_zero digits.now }
 {
     match digits {
@@ -189,6 +190,9 @@ pub fn parse_line(line: &[u8], harts: u8) -> Result<Option<(u8, Event)>, NotUnde
 {
     if let Some((hart, access, value)) = plain_on_hart(line, harts) {
         return Ok(Some((hart, Event::Access(access, value))));
+    }
+    if let Some((hart, event)) = plain_event_on_hart(line, harts) {
+        return Ok(Some((hart, event)));
     }
     let words = Words::of(line)?;
     let mut behind = words;

@@ -1,0 +1,156 @@
+//! The events of a trace that are no accesses, in their plainest spelling, as `reg x10 0x80000ff8`, `ecall 0x10 3` or `irq`, with
+//! or without `@H` before them: one space between two words, and nothing else. They too are read in one pass.
+
+ghost use Rattle.std.specs.Prelude.{◌≡◌, ℕ, ◌<◌, List, ◌∷◌, ◌++◌, [], Some, IfSome, true, length};
+ghost use Rattle.std.specs.List.{list_all};
+ghost use Rattle.text_lines.specs.Words.{is_plain, split_words};
+ghost use Rattle.hart_trace.specs.Events.{call_of, meaning_of, register_of};
+ghost use Rattle.hart_trace.specs.Plain.{BeginsNumber, is_letter};
+
+use crate::event::Event;
+use crate::plain::behind_hart;
+use crate::trace::has_leading_zero;
+use arrayvec::ArrayVec;
+use text_lines::leading_numeral;
+
+/// What stands behind `0x`.
+fn behind_mark(text: &[u8]) -> Option<&[u8]>
+    ensures { IfSome result (λ digits. text.now ≡ 48 ∷ 120 ∷ digits.now) }
+{
+    match text {
+        [b'0', b'x', digits @ ..] => Some(digits),
+        _ => None,
+    }
+}
+
+/// What stands behind a space.
+fn behind_space(text: &[u8]) -> Option<&[u8]>
+    ensures { IfSome result (λ behind. text.now ≡ 32 ∷ behind.now) }
+{
+    match text {
+        [b' ', behind @ ..] => Some(behind),
+        _ => None,
+    }
+}
+
+/// What stands behind the letter of a register.
+fn behind_letter(text: &[u8]) -> Option<&[u8]>
+    ensures { IfSome result (λ digits. text.now ≡ 120 ∷ digits.now) }
+{
+    match text {
+        [b'x', digits @ ..] => Some(digits),
+        _ => None,
+    }
+}
+
+/// What stands behind `reg` and a space.
+fn behind_reg(line: &[u8]) -> Option<&[u8]>
+    ensures { IfSome result (λ rest. line.now ≡ 114 ∷ 101 ∷ 103 ∷ 32 ∷ rest.now) }
+{
+    match line {
+        [b'r', b'e', b'g', b' ', rest @ ..] => Some(rest),
+        _ => None,
+    }
+}
+
+/// What stands behind `ecall` and a space.
+fn behind_ecall(line: &[u8]) -> Option<&[u8]>
+    ensures { IfSome result (λ rest. line.now ≡ 101 ∷ 99 ∷ 97 ∷ 108 ∷ 108 ∷ 32 ∷ rest.now) }
+{
+    match line {
+        [b'e', b'c', b'a', b'l', b'l', b' ', rest @ ..] => Some(rest),
+        _ => None,
+    }
+}
+
+/// The number that a text begins with, and what stands behind it.
+fn plain_number(text: &[u8]) -> Option<(u64, &[u8])>
+    ensures { IfSome result (λ found. BeginsNumber text.now found.0 found.1.now) }
+{
+    if let Some(digits) = behind_mark(text) {
+        let (value, behind) = leading_numeral(digits, 16)?;
+        return Some((value, behind));
+    }
+    let (value, behind) = leading_numeral(text, 10)?;
+    Some((value, behind))
+}
+
+/// The register that a text names before a space, and what stands behind that.
+fn plain_register(text: &[u8]) -> Option<(u8, &[u8])>
+    ensures { IfSome result (λ found. (digits : List ℕ) × (text.now ≡ (120 ∷ digits) ++ 32 ∷ found.1.now) × (list_all is_letter digits ≡ true) × (register_of (120 ∷ digits) ≡ Some found.0)) }
+{
+    let digits = behind_letter(text)?;
+    let (n, behind) = leading_numeral(digits, 10)?;
+    let rest = behind_space(behind)?;
+    if has_leading_zero(digits) || n >= 32 {
+        return None;
+    }
+    Some((n as u8, rest))
+}
+
+/// The setting of a register by a plain line.
+fn plain_setting(line: &[u8]) -> Option<Event>
+    ensures { IfSome result (λ event. (harts : ℕ) → meaning_of harts line.now ≡ Some (Some (0, event))) }
+{
+    let rest = behind_reg(line)?;
+    let (register, behind) = plain_register(rest)?;
+    let (value, end) = plain_number(behind)?;
+    if end.is_empty() {
+        return Some(Event::Reg(register, value));
+    }
+    None
+}
+
+/// A call with these words, of which there is one at least.
+fn plain_words(rest: &[u8]) -> Option<Event>
+    ensures event { IfSome result (λ event. call_of (split_words rest.now) ≡ Some event) }
+    ensures plain { IfSome result (λ _. list_all is_plain rest.now ≡ true) }
+{
+    let mut numbers = ArrayVec::new();
+    let mut left = rest;
+    'words: loop {
+        let (number, behind) = plain_number(left)?;
+        if numbers.is_full() {
+            return None;
+        }
+        numbers.push(number);
+        if behind.is_empty() {
+            return Some(Event::Ecall(numbers));
+        }
+        left = behind_space(behind)?;
+    }
+}
+
+/// The call of a plain line.
+fn plain_call(line: &[u8]) -> Option<Event>
+    ensures { IfSome result (λ event. (harts : ℕ) → meaning_of harts line.now ≡ Some (Some (0, event))) }
+{
+    let rest = behind_ecall(line)?;
+    let event = plain_words(rest)?;
+    Some(event)
+}
+
+/// The event of a plain line that names no hart.
+fn plain_event(line: &[u8]) -> Option<Event>
+    ensures { IfSome result (λ event. (harts : ℕ) → meaning_of harts line.now ≡ Some (Some (0, event))) }
+{
+    match line {
+        [b'r', ..] => plain_setting(line),
+        [b'e', ..] => plain_call(line),
+        b"irq" => Some(Event::Irq),
+        _ => None,
+    }
+}
+
+/// The event of a plain line, and the hart that it happens on: the one that the line names, or hart 0. None says nothing of
+/// the line.
+pub(crate) fn plain_event_on_hart(line: &[u8], harts: u8) -> Option<(u8, Event)>
+    ensures { IfSome result (λ found. meaning_of harts line.now ≡ Some (Some found)) }
+{
+    if let Some((hart, rest)) = behind_hart(line, harts) {
+        let event = plain_event(rest)?;
+        return Some((hart, event));
+    }
+    let event = plain_event(line)?;
+    Some((0, event))
+}
