@@ -7,6 +7,9 @@ use Rattle.entry_planner.specs.declared.costs.HalfPerms.{HalfPerms}
 use Rattle.entry_planner.specs.declared.perm_set.PermSet.{PermSet}
 use Rattle.prefix_tree.specs.Trees.{PermTree, Uniform, Split}
 use Rattle.prefix_tree.specs.Counts.{splits}
+use Rattle.prefix_tree.specs.declared.chains.Chain.{Chain}
+use Rattle.prefix_tree.specs.Chains.{chained}
+use Rattle.prefix_tree.proofs.Nested.{splits-chained}
 use Rattle.entry_planner.specs.Best.{any_of, is_best, least_cost}
 use Rattle.entry_planner.specs.PermSets.{set_of}
 use Rattle.entry_planner.specs.Plans.{block_cost, half_perms, costs_in, half_perms_in}
@@ -109,3 +112,9 @@ pub least_small : (tree : PermTree) (c : BlockCost) → splits tree + 1 < 2 ^ 32
 least_small tree c few is =
     let a : c.least ≡ least_cost tree = ap (λ x. x.least) is in
     omega (arith, least_le_branches tree)
+
+-- that of a chain's smallest block, with one more for each larger one
+pub chain_small :
+    (shape tree : PermTree) (chain : Chain) (c : BlockCost) → shape ≡ chained chain tree → splits shape < 2 ^ 32 → c ≡ block_cost tree → c.least + chain.levels < 2 ^ 32
+chain_small shape tree chain c is few own =
+    omega (arith, ap (λ x. x.least) own, least_le_branches tree, splits-chained shape tree chain is)

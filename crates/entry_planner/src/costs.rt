@@ -1,6 +1,6 @@
 use crate::perm_set::PermSet;
 use pmp_encoding::Perm;
-use prefix_tree::{EdgeBlock, Halving};
+use prefix_tree::{Chain, Halving};
 use std::alloc::AllocError;
 
 /// What a block costs: the least number of entries, and the permissions under which it costs that.
@@ -18,12 +18,14 @@ pub struct HalfPerms {
     pub either: PermSet,
 }
 
-ghost use Rattle.std.specs.Prelude.{◌≡◌, ◌+◌, ◌<◌, ◌≤◌, ◌^◌, ◌++◌, [], ◌∷◌, IfOk, OnOk, reverse};
+ghost use Rattle.std.specs.Prelude.{◌≡◌, ◌+◌, ◌<◌, ◌≤◌, ◌^◌, ◌++◌, List, [], ◌∷◌, IfOk, OnOk, reverse};
+ghost use Rattle.entry_planner.specs.declared.costs.BlockCost.{BlockCost};
+ghost use Rattle.entry_planner.specs.declared.costs.HalfPerms.{HalfPerms};
 ghost use Rattle.entry_planner.specs.Best.{is_best, least_cost};
 ghost use Rattle.entry_planner.specs.PermSets.{set_of};
 ghost use Rattle.entry_planner.specs.Plans.{block_cost, cost_of, half_perms, costs_in, half_perms_in};
 ghost use Rattle.prefix_tree.specs.Counts.{splits};
-ghost use Rattle.prefix_tree.specs.EdgeTrees.{IsEdgeIn, edge_tree};
+ghost use Rattle.prefix_tree.specs.Chains.{IsChain, chained};
 ghost use Rattle.prefix_tree.specs.Trees.{PermTree, Uniform, Split};
 
 impl BlockCost {
@@ -98,28 +100,27 @@ fn add_split(
     Ok(cost)
 }
 
-/// Appends the split blocks of a block with one edge, the smallest first: in each of them one half has the edge, and
-/// the other is of one permission.
-fn add_edge_costs(
-    block: EdgeBlock,
+/// Appends the split blocks of a chain behind those of its smallest block, the smaller before the larger.
+fn add_chain_costs(
+    chain: Chain,
+    smallest: BlockCost,
     costs: &mut Vec<BlockCost>,
     halves: &mut Vec<HalfPerms>,
 ) -> Result<BlockCost, AllocError>
-    requires { IsEdgeIn block.edge block.height }
-    ensures own { IfOk result (λ cost. cost ≡ block_cost (edge_tree block.edge block.height)) }
-    ensures costs { OnOk result (costs.new.items ≡ costs.old.items ++ reverse (costs_in (edge_tree block.edge block.height))) }
-    ensures halves { OnOk result (halves.new.items ≡ halves.old.items ++ reverse (half_perms_in (edge_tree block.edge block.height))) }
+    requires chain { IsChain chain }
+    requires small { smallest.least + chain.levels < 2 ^ 32 }
+    ensures own { IfOk result (λ cost. (tree : PermTree) → smallest ≡ block_cost tree → cost ≡ block_cost (chained chain tree)) }
+    ensures costs { OnOk result ((tree : PermTree) (first : List BlockCost) → smallest ≡ block_cost tree → costs.old.items ≡ first ++ reverse (costs_in tree) → costs.new.items ≡ first ++ reverse (costs_in (chained chain tree))) }
+    ensures halves { OnOk result ((tree : PermTree) (first : List HalfPerms) → smallest ≡ block_cost tree → halves.old.items ≡ first ++ reverse (half_perms_in tree) → halves.new.items ≡ first ++ reverse (half_perms_in (chained chain tree))) }
 {
-    let before = cost_of_uniform(block.edge.before);
-    let behind = cost_of_uniform(block.edge.behind);
-    let mut cost = behind;
-    let mut rest = block.edge.place;
-    let mut inside = false;
-    for level in 0..block.height {
+    let before = cost_of_uniform(chain.before);
+    let behind = cost_of_uniform(chain.behind);
+    let mut cost = smallest;
+    let mut rest = chain.place;
+    for level in 0..chain.levels {
         if rest % 2 == 1 {
             cost = add_split(before, cost, costs, halves)?;
-            inside = true;
-        } else if inside {
+        } else {
             cost = add_split(cost, behind, costs, halves)?;
         }
         rest /= 2;
@@ -141,8 +142,9 @@ pub fn add_costs<H: Halving>(
     if let Some(perm) = block.one_perm() {
         return Ok(cost_of_uniform(perm));
     }
-    if let Some(edge) = block.edge() {
-        let cost = add_edge_costs(edge, costs, halves)?;
+    if let Some((chain, smallest)) = block.chain() {
+        let cost = add_costs(&smallest, costs, halves)?;
+        let cost = add_chain_costs(chain, cost, costs, halves)?;
         return Ok(cost);
     }
     let (lower, upper) = block.halves();

@@ -1,7 +1,7 @@
 use crate::costs::HalfPerms;
 use page_views::pages_of;
 use pmp_encoding::{Entry, Perm, Region};
-use prefix_tree::{Edge, EdgeBlock, Halving};
+use prefix_tree::{Chain, Halving};
 use std::alloc::AllocError;
 
 /// An aligned block of 2^log2 pages.
@@ -13,7 +13,7 @@ pub struct Pages {
 
 ghost use Rattle.std.specs.Prelude.{◌≡◌, ◌+◌, ◌-◌, ◌*◌, ◌≤◌, ◌<◌, ◌^◌, ◌++◌, List, IfOk, OnOk, reverse};
 ghost use Rattle.pmp_encoding.specs.declared.region.Entry.{Entry};
-ghost use Rattle.prefix_tree.specs.EdgeTrees.{IsEdgeIn, edge_tree};
+ghost use Rattle.prefix_tree.specs.Chains.{chained};
 ghost use Rattle.prefix_tree.specs.Trees.{PermTree, Fits};
 ghost use Rattle.entry_planner.specs.declared.costs.HalfPerms.{HalfPerms};
 ghost use Rattle.entry_planner.specs.Choice.{IsChosenAt, handed_on};
@@ -91,46 +91,50 @@ fn turn(
     Ok(())
 }
 
-/// Adds the entries of a block with one edge, as [`place`] does.
-fn place_edge<'a>(
-    edge: Edge,
+/// Adds the entries of the largest block of a chain, as [`place`] does.
+#[cycle(placing)]
+fn place_chain<'a, H: Halving>(
+    chain: Chain,
+    smallest: &H,
     pages: Pages,
     inherited: Perm,
     halves: &'a [HalfPerms],
     entries: &mut Vec<Entry>,
 ) -> Result<&'a [HalfPerms], AllocError>
-    requires inside { IsEdgeIn edge pages.log2 }
+    requires chain { chain.place < 2 ^ chain.levels }
+    requires most { chain.levels ≤ 44 }
+    requires fits { Fits pages.log2 (chained chain (H.shape smallest.now)) }
     requires pages { ArePages pages.log2 pages.first }
-    requires halves { (rest : List HalfPerms) × (halves.now ≡ rest ++ reverse (half_perms_in (edge_tree edge pages.log2))) }
-    ensures rest { IfOk result (λ rest. halves.now ≡ rest.now ++ reverse (half_perms_in (edge_tree edge pages.log2))) }
-    ensures placed { OnOk result ((placed : List Entry) × (entries.new.items ≡ entries.old.items ++ placed) × IsChosenAt pages.log2 pages.first inherited (edge_tree edge pages.log2) placed) }
+    requires halves { (rest : List HalfPerms) × (halves.now ≡ rest ++ reverse (half_perms_in (chained chain (H.shape smallest.now)))) }
+    ensures rest { IfOk result (λ rest. halves.now ≡ rest.now ++ reverse (half_perms_in (chained chain (H.shape smallest.now)))) }
+    ensures placed { OnOk result ((placed : List Entry) × (entries.new.items ≡ entries.old.items ++ placed) × IsChosenAt pages.log2 pages.first inherited (chained chain (H.shape smallest.now)) placed) }
 {
+    if chain.levels == 0 {
+        let rest = place(smallest, pages, inherited, halves, entries)?;
+        return Ok(rest);
+    }
     let [rest @ .., perms] = halves else {
         unreachable!();
     };
     let perm = chosen(*perms, inherited);
+    let smaller = chain.smaller();
     let lower = pages.lower();
     let upper = pages.upper();
-    let middle = pages_of(lower.log2);
-    if edge.place < middle {
-        let rest = place_edge(edge, lower, perm, rest, entries)?;
-        turn(upper, perm, edge.behind, entries)?;
+    if chain.goes_up() {
+        turn(lower, perm, chain.before, entries)?;
+        let rest = place_chain(smaller, smallest, upper, perm, rest, entries)?;
         turn(pages, inherited, perm, entries)?;
         return Ok(rest);
     }
-    turn(lower, perm, edge.before, entries)?;
-    if edge.place == middle {
-        turn(upper, perm, edge.behind, entries)?;
-        turn(pages, inherited, perm, entries)?;
-        return Ok(rest);
-    }
-    let rest = place_edge(edge.later(middle), upper, perm, rest, entries)?;
+    let rest = place_chain(smaller, smallest, lower, perm, rest, entries)?;
+    turn(upper, perm, chain.behind, entries)?;
     turn(pages, inherited, perm, entries)?;
     Ok(rest)
 }
 
 /// Adds the entries of a block that inherits a permission. The halves' permissions of its split blocks
 /// come last in the list, the first in preorder last; what comes before them is handed back.
+#[cycle(placing)]
 pub fn place<'a, H: Halving>(
     block: &H,
     pages: Pages,
@@ -148,11 +152,9 @@ pub fn place<'a, H: Halving>(
         turn(pages, inherited, perm, entries)?;
         return Ok(halves);
     }
-    if let Some(EdgeBlock { edge, height }) = block.edge() {
-        if height == pages.log2 {
-            let rest = place_edge(edge, pages, inherited, halves, entries)?;
-            return Ok(rest);
-        }
+    if let Some((chain, smallest)) = block.chain() {
+        let rest = place_chain(chain, &smallest, pages, inherited, halves, entries)?;
+        return Ok(rest);
     }
     let (lower, upper) = block.halves();
     let [rest @ .., perms] = halves else {

@@ -9,4 +9,4 @@ pub mod Edges
 pub mod Overwritten
 pub mod RunsExist
 pub mod Canonical
-pub mod EdgeTrees
+pub mod Nested

@@ -8,4 +8,4 @@ pub mod TreeOf
 pub mod Slices
 pub mod Overlaps
 pub mod RunsOf
-pub mod EdgeTrees
+pub mod Chains

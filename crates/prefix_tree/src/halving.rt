@@ -1,11 +1,11 @@
 ghost use Rattle.std.specs.Prelude.{◌≡◌, IfSome, None};
-ghost use Rattle.prefix_tree.specs.EdgeTrees.{IsEdgeIn, edge_tree};
+ghost use Rattle.prefix_tree.specs.Chains.{IsChain, chained};
 ghost use Rattle.prefix_tree.specs.Joined.{one_perm};
 ghost use Rattle.prefix_tree.specs.Shapes.{shape_of};
 ghost use Rattle.prefix_tree.specs.Trees.{PermTree, Split};
 
 use crate::blocks::Block;
-use crate::edge_blocks::EdgeBlock;
+use crate::chains::Chain;
 use pmp_encoding::Perm;
 
 /// A block of pages that is of one permission or splits into two halves. What walks a tree from the top walks anything
@@ -17,11 +17,11 @@ pub trait Halving: Drop {
     fn one_perm(&self) -> Option<Perm>
         ensures { result ≡ one_perm (shape self.now) };
 
-    /// The one edge in a block that is split, where it is known that there is just one. Of the blocks of a map most are
-    /// so: all below the last one with two edges.
-    fn edge(&self) -> Option<EdgeBlock>
+    /// The chain down to a smaller block that has all the edges of a block that is split, where such a one is known. Of
+    /// the blocks of a map that are split nearly all are in chains.
+    fn chain(&self) -> Option<(Chain, Self)>
         requires { one_perm (shape self.now) ≡ None }
-        ensures { IfSome result (λ b. IsEdgeIn b.edge b.height × (shape self.now ≡ edge_tree b.edge b.height)) };
+        ensures { IfSome result (λ r. IsChain r.0 × (shape self.now ≡ chained r.0 (shape r.1))) };
 
     /// The two halves of a block that is split, the lower first.
     fn halves(&self) -> (Self, Self)
@@ -36,7 +36,7 @@ impl<'a> Halving for &'a Block {
         Block::one_perm(*self)
     }
 
-    fn edge(&self) -> Option<EdgeBlock> {
+    fn chain(&self) -> Option<(Chain, &'a Block)> {
         None
     }
 

@@ -24,7 +24,7 @@
 
 mod blocks;
 mod building;
-mod edge_blocks;
+mod chains;
 mod halving;
 mod joining;
 mod laws;
@@ -33,7 +33,7 @@ mod overwriting;
 mod trees;
 
 pub use blocks::{Block, Parts};
-pub use edge_blocks::{Edge, EdgeBlock};
+pub use chains::Chain;
 pub use halving::Halving;
 pub use laws::{canonical_law, meaning_law};
 pub use map_blocks::MapBlock;

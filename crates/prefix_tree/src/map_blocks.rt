@@ -1,13 +1,12 @@
-ghost use Rattle.std.specs.Prelude.{◌≡◌, ◌+◌, ◌^◌, ◌*◌, ◌≤◌, length, count_by, nat_lt, nat_le, ◌-◌, IfSome, None};
+ghost use Rattle.std.specs.Prelude.{◌≡◌, ◌*◌, ◌≤◌, length, count_by, nat_lt, nat_le, ◌-◌};
 ghost use Rattle.permission_map.specs.Runs.{view_of_runs};
-ghost use Rattle.prefix_tree.specs.EdgeTrees.{IsEdgeIn, edge_tree};
 ghost use Rattle.prefix_tree.specs.Joined.{one_perm};
 ghost use Rattle.prefix_tree.specs.Slices.{AreBlockRuns};
 ghost use Rattle.prefix_tree.specs.Counts.{runs_in, splits};
 ghost use Rattle.prefix_tree.specs.Trees.{Fits};
 ghost use Rattle.prefix_tree.specs.TreeOf.{tree_at, tree_of};
 
-use crate::edge_blocks::{Edge, EdgeBlock};
+use crate::chains::{Chain, edges_of, part_around};
 use crate::halving::Halving;
 use page_views::pages_of;
 use permission_map::{PermissionMap, Run};
@@ -70,35 +69,6 @@ fn uniform_perm(runs: &[Run], first: u64, height: u32) -> Option<Perm>
     None
 }
 
-/// The edge inside the 2^height pages from `first` on, where one run meets them and just one end of it lies inside.
-fn only_edge(runs: &[Run], first: u64, height: u32) -> Option<EdgeBlock>
-    requires block { AreBlockRuns runs.now first height }
-    requires cut { one_perm (tree_at (view_of_runs runs.now) height first) ≡ None }
-    ensures { IfSome result (λ b. IsEdgeIn b.edge b.height × (tree_at (view_of_runs runs.now) height first ≡ edge_tree b.edge b.height)) }
-{
-    let [run] = runs else {
-        return None;
-    };
-    let stop = run.first + run.count;
-    if run.first <= first {
-        let edge = Edge {
-            place: stop - first,
-            before: run.perm,
-            behind: Perm::NoAccess,
-        };
-        return Some(EdgeBlock { edge, height });
-    }
-    if stop < first + pages_of(height) {
-        return None;
-    }
-    let edge = Edge {
-        place: run.first - first,
-        before: Perm::NoAccess,
-        behind: run.perm,
-    };
-    Some(EdgeBlock { edge, height })
-}
-
 impl<'a> MapBlock<'a> {
     /// The whole space, as the map has it. At most 88 blocks are split for each run of the map: 44 on the way down to
     /// either end of it.
@@ -124,8 +94,27 @@ impl<'a> Halving for MapBlock<'a> {
         uniform_perm(self.runs, self.first, self.height)
     }
 
-    fn edge(&self) -> Option<EdgeBlock> {
-        only_edge(self.runs, self.first, self.height)
+    fn chain(&self) -> Option<(Chain, MapBlock<'a>)> {
+        let [run] = self.runs else {
+            return None;
+        };
+        let edges = edges_of(run, self.first, self.height);
+        let part = part_around(self.first, self.height, edges);
+        if part.levels == 0 {
+            return None;
+        }
+        let chain = Chain {
+            levels: part.levels,
+            place: part.place,
+            before: edges.before,
+            behind: edges.behind,
+        };
+        let smallest = MapBlock {
+            runs: self.runs,
+            first: part.first,
+            height: self.height - part.levels,
+        };
+        Some((chain, smallest))
     }
 
     fn halves(&self) -> (MapBlock<'a>, MapBlock<'a>) {

@@ -1,0 +1,141 @@
+ghost use Rattle.std.specs.Prelude.{◌≡◌, ◌+◌, ◌^◌, ◌<◌, ◌≤◌, ◌∷◌, [], None};
+ghost use Rattle.permission_map.specs.Runs.{end_of, view_of_runs};
+ghost use Rattle.prefix_tree.specs.Chains.{AreEdges, HasEdges};
+ghost use Rattle.prefix_tree.specs.Joined.{one_perm};
+ghost use Rattle.prefix_tree.specs.Slices.{AreBlockRuns};
+ghost use Rattle.prefix_tree.specs.TreeOf.{tree_at};
+
+use page_views::pages_of;
+use permission_map::Run;
+use pmp_encoding::Perm;
+
+/// Blocks one inside the other: each but the smallest splits into a half that holds the next and one of one permission.
+#[derive(Clone, Copy)]
+pub struct Chain {
+    /// How many of the blocks are split so.
+    pub levels: u32,
+    /// How many blocks of the smallest one's size come before it in the largest.
+    pub place: u64,
+    /// The permission of the pages before the smallest.
+    pub before: Perm,
+    /// The permission of the pages behind it.
+    pub behind: Perm,
+}
+
+impl Chain {
+    ghost use Rattle.prefix_tree.specs.Chains.{goes_up, smaller};
+
+    /// Whether the next smaller block is the upper half of the largest.
+    pub fn goes_up(self) -> bool
+        requires some { 0 < self.levels }
+        requires most { self.levels ≤ 44 }
+        ensures { result ≡ goes_up self }
+    {
+        pages_of(self.levels - 1) <= self.place
+    }
+
+    /// The chain of all but the largest block.
+    pub fn smaller(self) -> Chain
+        requires some { 0 < self.levels }
+        requires most { self.levels ≤ 44 }
+        ensures { result ≡ smaller self }
+    {
+        let levels = self.levels - 1;
+        let half = pages_of(levels);
+        if half <= self.place {
+            let place = self.place - half;
+            return Chain {
+                levels,
+                place,
+                ..self
+            };
+        }
+        Chain { levels, ..self }
+    }
+}
+
+/// The first and the last page of a block that differ from the page before them, and the permissions round about.
+#[derive(Clone, Copy)]
+pub struct Edges {
+    pub low: u64,
+    pub high: u64,
+    pub before: Perm,
+    pub behind: Perm,
+}
+
+/// A part of a block: what is left where it is halved so often.
+#[derive(Clone, Copy)]
+pub struct Part {
+    pub levels: u32,
+    /// How many parts of its size come before it in the block.
+    pub place: u64,
+    pub first: u64,
+}
+
+/// The edges inside the 2^height pages from `first` on, which one run meets.
+pub fn edges_of(run: &Run, first: u64, height: u32) -> Edges
+    requires block { AreBlockRuns (run.now ∷ []) first height }
+    requires cut { one_perm (tree_at (view_of_runs (run.now ∷ [])) height first) ≡ None }
+    ensures edges { AreEdges (view_of_runs (run.now ∷ [])) first (first + 2 ^ height) result }
+    ensures low { result.low ≤ end_of run.now }
+    ensures high { run.now.first ≤ result.high }
+{
+    let stop = run.first + run.count;
+    if run.first <= first {
+        return Edges {
+            low: stop,
+            high: stop,
+            before: run.perm,
+            behind: Perm::NoAccess,
+        };
+    }
+    if stop < first + pages_of(height) {
+        return Edges {
+            low: run.first,
+            high: stop,
+            before: Perm::NoAccess,
+            behind: Perm::NoAccess,
+        };
+    }
+    Edges {
+        low: run.first,
+        high: run.first,
+        before: Perm::NoAccess,
+        behind: run.perm,
+    }
+}
+
+/// The smallest part of the 2^height pages from `first` on that has all the edges inside.
+pub fn part_around(first: u64, height: u32, edges: Edges) -> Part
+    requires height { height ≤ 44 }
+    requires space { first + 2 ^ height ≤ 2 ^ 44 }
+    requires low { first < edges.low }
+    requires high { edges.high < first + 2 ^ height }
+    ensures { HasEdges first height edges result }
+{
+    let mut levels = 0;
+    let mut place = 0;
+    let mut start = first;
+    while levels < height {
+        let middle = start + pages_of(height - levels - 1);
+        let lower = place * 2;
+        if edges.high < middle {
+            place = lower;
+        } else if middle < edges.low {
+            place = lower + 1;
+            start = middle;
+        } else {
+            return Part {
+                levels,
+                place,
+                first: start,
+            };
+        }
+        levels += 1;
+    }
+    Part {
+        levels,
+        place,
+        first: start,
+    }
+}
