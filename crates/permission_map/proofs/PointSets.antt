@@ -1,5 +1,5 @@
 -- Points with one range overwritten.
-use Rattle.std.proofs.Common.{◌≡◌, ℕ, ◌+◌, ◌-◌, ◌^◌, ◌<◌, ◌≤◌, ⊎_elim, List, [], ◌∷◌, ◌++◌, length, take, drop, get_or, count_by, All, nat_lt, cond, Option, None, Some, option_to_list, refl, sym, ap, subst, ◌∙◌, arith}
+use Rattle.std.proofs.Common.{◌≡◌, ℕ, ◌+◌, ◌-◌, ◌/◌, ◌^◌, ◌<◌, ◌≤◌, ⊎_elim, List, [], ◌∷◌, ◌++◌, length, take, drop, get_or, count_by, All, nat_lt, cond, Option, None, Some, option_to_list, refl, sym, ap, subst, ◌∙◌, arith}
 use Rattle.std.specs.List.{AllByRecursion}
 use Rattle.std.proofs.lemmas.Bool.{cases_lt, cond-true, cond-false, lt-ltb, le-ltb}
 use Rattle.std.proofs.lemmas.List.{take-append-drop, get_or_default, get_or-drop, length-drop}
@@ -225,6 +225,43 @@ behind_from ps i page e are less low = λ k d inside.
     let rise : page_of (get_or ps i d) ≤ page_of (get_or ps (i + k) d) = pages_rise 0 NoAccess ps are i (i + k) d (omega arith) (omega (arith, length-drop i ps, inside)) in
     let same : page_of (get_or ps i e) ≡ page_of (get_or ps i d) = ap page_of (get_or_default ps i e d less) in
     rw (get_or-drop i ps k d) (omega (arith, rise, same, low))
+
+-- ---- a step of a search: the point in the middle tells which half goes on
+
+pub halved_inside :
+    (ps : List Point) (page low half size moved : ℕ) (e : Point) → low + size ≤ length ps → half ≡ size / 2 → (page_of (get_or ps (low + half) e) < page → moved ≡ half)
+    → (page ≤ page_of (get_or ps (low + half) e) → moved ≡ 0) → low + moved + (size - half) ≤ length ps
+halved_inside ps page low half size moved e inside is before behind =
+    ⊎_elim (λ under. let m = before under in omega (arith, inside, is, m)) (λ over. let m = behind over in omega (arith, inside, is, m)) (cases_lt (page_of (get_or ps (low + half) e)) page)
+
+pub halved_front :
+    (ps : List Point) (page low half size moved : ℕ) (e : Point) → ArePoints ps → low + size ≤ length ps → half ≡ size / 2 → 1 < size → (page_of (get_or ps (low + half) e) < page → moved ≡ half)
+    → (page ≤ page_of (get_or ps (low + half) e) → moved ≡ 0) → ((k : ℕ) (d : Point) → k < low → page_of (get_or ps k d) < page) → (k : ℕ) (d : Point) → k < low + moved
+    → page_of (get_or ps k d) < page
+halved_front ps page low half size moved e are inside is some before behind front k d less =
+    ⊎_elim
+    (λ under.
+    let m = before under in
+    let middle : low + half < length ps = omega (arith, inside, is, some) in
+    let rise : page_of (get_or ps k d) ≤ page_of (get_or ps (low + half) d) = pages_rise 0 NoAccess ps are k (low + half) d (omega (arith, less, m)) middle in
+    let same : page_of (get_or ps (low + half) e) ≡ page_of (get_or ps (low + half) d) = ap page_of (get_or_default ps (low + half) e d middle) in
+    omega (arith, rise, same, under))
+    (λ over. let m = behind over in front k d (omega (arith, less, m)))
+    (cases_lt (page_of (get_or ps (low + half) e)) page)
+
+pub halved_rest :
+    (ps : List Point) (page low half size moved : ℕ) (e : Point) → ArePoints ps → low + size ≤ length ps → half ≡ size / 2 → 1 < size → (page_of (get_or ps (low + half) e) < page → moved ≡ half)
+    → (page ≤ page_of (get_or ps (low + half) e) → moved ≡ 0) → ((k : ℕ) (d : Point) → low + size ≤ k → k < length ps → page ≤ page_of (get_or ps k d)) → (k : ℕ) (d : Point)
+    → low + moved + (size - half) ≤ k → k < length ps → page ≤ page_of (get_or ps k d)
+halved_rest ps page low half size moved e are inside is some before behind rest k d more less =
+    ⊎_elim (λ under. let m = before under in rest k d (omega (arith, more, m, is)) less)
+    (λ over.
+    let m = behind over in
+    let middle : low + half < length ps = omega (arith, inside, is, some) in
+    let rise : page_of (get_or ps (low + half) d) ≤ page_of (get_or ps k d) = pages_rise 0 NoAccess ps are (low + half) k d (omega (arith, more, m, is)) less in
+    let same : page_of (get_or ps (low + half) e) ≡ page_of (get_or ps (low + half) d) = ap page_of (get_or_default ps (low + half) e d middle) in
+    omega (arith, rise, same, over))
+    (cases_lt (page_of (get_or ps (low + half) e)) page)
 
 -- ---- as the code says it
 

@@ -51,14 +51,35 @@ impl Point {
     }
 }
 
+/// The count, where the point comes before the page, else 0. The sign of the difference tells it: of a branch, a search
+/// guesses every other one wrong.
+fn past(point: Point, page: u64, count: usize) -> usize
+    requires { page ≤ 2 ^ 44 }
+    ensures before { page_of point < page → result ≡ count }
+    ensures behind { page ≤ page_of point → result ≡ 0 }
+{
+    count * (point.page().wrapping_sub(page) >> 63) as usize
+}
+
 /// How many of the points come before the page.
 pub(crate) fn before(points: &[Point], page: u64) -> usize
-    requires { ArePoints points.now }
+    requires points { ArePoints points.now }
+    requires inside { page ≤ 2 ^ 44 }
     ensures bound { result ≤ length points.now }
     ensures front { All (λ p. page_of p < page) (take result points.now) }
     ensures rest { All (λ p. page ≤ page_of p) (drop result points.now) }
 {
-    points.partition_point(|p| p.page() < page)
+    let mut low = 0;
+    let mut size = points.len();
+    while size > 1 {
+        let half = size / 2;
+        low += past(points[low + half], page, half);
+        size -= half;
+    }
+    if size == 1 {
+        low += past(points[low], page, 1);
+    }
+    low
 }
 
 /// How many of the points come before the page or at it, where the first `from` do. Those behind them are passed one by
