@@ -14,7 +14,7 @@
  *   larger.trace   1,000,000 accesses on larger.map
  *   apart-N.map    N runs, for N from 256 to 4096, whose edges alternate bits: the fewest entries are 32 for each
  *                  run, no two of which meet, so that they mean the map in any order
- *   short.trace, long.trace   the first 100,000 accesses of tidy.trace, and 4,000,000
+ *   tiny.trace, short.trace, long.trace   100, 100,000 and 4,000,000 accesses on board.map, as in tidy.trace
  *   platform.toml, platform-64.toml   a board with one hart of 16 entries, and with two harts of 64
  *   mixed.trace    1,000,000 events of every kind on platform.toml: accesses of the host and of five enclaves,
  *                  registers, interrupts, calls
@@ -180,27 +180,29 @@ static void apart(const char *folder)
     }
 }
 
+static void accesses(const char *folder, const char *name, int lines)
+{
+    FILE *trace = make(folder, name);
+    for (int i = 0; i < lines; i++)
+        access_line(trace, 0x80000000, 0x8000000, 0);
+    fclose(trace);
+}
+
 static void traces(const char *folder)
 {
     FILE *tidy = make(folder, "tidy.trace");
     FILE *messy = make(folder, "messy.trace");
     FILE *larger = make(folder, "larger.trace");
-    FILE *brief = make(folder, "short.trace");
-    FILE *longer = make(folder, "long.trace");
     for (int i = 0; i < 1000000; i++) {
         access_line(tidy, 0x80000000, 0x8000000, 0);
         access_line(messy, 0x80000000, 0x8000000, 1);
         access_line(larger, 0x80200000, 0x80000, 0);
     }
-    for (int i = 0; i < 100000; i++)
-        access_line(brief, 0x80000000, 0x8000000, 0);
-    for (int i = 0; i < 4000000; i++)
-        access_line(longer, 0x80000000, 0x8000000, 0);
     fclose(tidy);
     fclose(messy);
     fclose(larger);
-    fclose(brief);
-    fclose(longer);
+    accesses(folder, "short.trace", 100000);
+    accesses(folder, "long.trace", 4000000);
 }
 
 static void platforms(const char *folder)
@@ -335,5 +337,6 @@ int main(int count, char **words)
     mixed(words[1], "mixed-64.trace", 2, 20);
     pairs(words[1]);
     churn(words[1]);
+    accesses(words[1], "tiny.trace", 100);
     return 0;
 }
