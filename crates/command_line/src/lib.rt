@@ -16,6 +16,3 @@ mod words;
 pub use fault::takes_place;
 pub use task::{Format, Task};
 pub use words::command_of;
-
-#[cfg(test)]
-mod tests;

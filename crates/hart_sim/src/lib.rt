@@ -42,8 +42,6 @@ mod reply;
 mod report;
 mod running;
 mod step;
-#[cfg(test)]
-mod tests;
 
 pub use byte_streams::{Counted, DeviceFault, Sink, Source, fakes, write_whole};
 pub use hart_trace::{Event, parse_line};

@@ -1,4 +1,4 @@
-use crate::{Format, Task, command_of, takes_place};
+use command_line::{Format, Task, command_of, takes_place};
 use clap::error::ErrorKind;
 use pmp_encoding::Limit;
 use std::alloc::Global;
