@@ -1,7 +1,7 @@
-//! The words of a line, each with how many bytes of the line stand before it.
+//! Where things stand in a text: the words of a line, each with how many bytes of the line stand before it.
 
-ghost use Rattle.std.specs.Prelude.{◌≡◌, ◌≤◌, length};
-ghost use Rattle.std.specs.List.{prefix_len};
+ghost use Rattle.std.specs.Prelude.{◌≡◌, ◌==◌, ◌≤◌, length};
+ghost use Rattle.std.specs.List.{position_or_len, prefix_len};
 ghost use Rattle.text_lines.specs.Words.{is_blank};
 ghost use Rattle.map_lint.specs.Columns.{begin_from, end_from, word_from};
 
@@ -19,6 +19,19 @@ fn is_blank(byte: u8) -> bool
     ensures { result ≡ is_blank byte }
 {
     byte == b' ' || byte == b'\t'
+}
+
+/// How many bytes of a text stand before the first that is this one.
+pub(crate) fn len_before(mark: u8, text: &[u8]) -> usize
+    ensures within { result ≤ length text.now }
+    ensures len { result ≡ position_or_len (λ b. b == mark) text.now }
+{
+    for (i, byte) in text.iter().enumerate() {
+        if *byte == mark {
+            return i;
+        }
+    }
+    text.len()
 }
 
 /// How many blanks a text begins with.

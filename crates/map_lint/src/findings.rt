@@ -1,10 +1,10 @@
 //! The findings of a map file.
 
-ghost use Rattle.std.specs.Prelude.{◌≡◌, ◌==◌, ◌∷◌, ◌-◌, ◌^◌, ◌<◌, ◌≤◌, IfOk, length};
-ghost use Rattle.std.specs.List.{position_or_len};
+ghost use Rattle.std.specs.Prelude.{◌≡◌, ◌∷◌, ◌-◌, ◌^◌, ◌<◌, IfOk, length};
 ghost use Rattle.map_text.specs.Lines.{raw_lines};
 ghost use Rattle.map_lint.specs.Findings.{IsLintText};
 
+use crate::columns::len_before;
 use crate::idle::{Numbered, push_tail};
 use crate::reasons::push_reason;
 use crate::texts::{push, push_place};
@@ -12,26 +12,13 @@ use map_text::raw_says;
 use permission_map::Memory;
 use std::alloc::Global;
 
-/// How many bytes stand before the first LF.
-fn line_len(bytes: &[u8]) -> usize
-    ensures within { result ≤ length bytes.now }
-    ensures len { result ≡ position_or_len (λ b. b == 10) bytes.now }
-{
-    for (i, byte) in bytes.iter().enumerate() {
-        if *byte == b'\n' {
-            return i;
-        }
-    }
-    bytes.len()
-}
-
 /// The first line, and what stands behind its LF.
 fn split_line(bytes: &[u8]) -> (&[u8], &[u8])
     requires { 0 < length bytes.now }
     ensures lines { raw_lines bytes.now ≡ result.0.now ∷ raw_lines result.1.now }
     ensures shorter { length result.1.now < length bytes.now }
 {
-    let len = line_len(bytes);
+    let len = len_before(b'\n', bytes);
     if len == bytes.len() {
         return (bytes, &[]);
     }

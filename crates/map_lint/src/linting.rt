@@ -7,7 +7,7 @@ ghost use Rattle.permission_map.specs.declared.runs.Run.{Run};
 ghost use Rattle.map_text.specs.MapFile.{Makes};
 ghost use Rattle.map_lint.specs.declared.linting.LintFault as LintFault;
 ghost use Rattle.map_lint.specs.Findings.{IsLintText};
-ghost use Rattle.map_lint.specs.Lints.{IsAtFault};
+ghost use Rattle.map_lint.specs.Lints.{IsAtFault, IsVerdictOfLines};
 
 use crate::findings::findings;
 use byte_streams::{Sink, write_whole};
@@ -29,6 +29,7 @@ fn is_map(alloc: Global, bytes: &[u8]) -> Result<bool, Memory>
     requires { length bytes.now < 2 ^ 64 - 1 }
     ensures map { result ≡ Ok true → (map : List Run) × Makes bytes.now map }
     ensures fault { result ≡ Ok false → IsAtFault bytes.now }
+    ensures verdict { IfOk result (IsVerdictOfLines bytes.now) }
 {
     match map_of(alloc, bytes) {
         Ok(_) => Ok(true),
@@ -54,7 +55,7 @@ pub fn lint<W: Sink>(
     ensures well { OnOk result (W.failures out.new ≡ W.failures out.old) }
     ensures unstalled { OnOk result (W.stalls out.new ≡ W.stalls out.old) }
     ensures untouched { result ≡ Err LintFault.Memory → out.new ≡ out.old }
-    ensures part { result ≡ Err LintFault.Device → (is_map : Bool) × (text : List ℕ) × IsLintText name.now bytes.now is_map text × (n : ℕ) × (n < length text) × Appends (W.contents out.old) (W.contents out.new) (take n text) }
+    ensures part { result ≡ Err LintFault.Device → (is_map : Bool) × IsVerdictOfLines bytes.now is_map × (text : List ℕ) × IsLintText name.now bytes.now is_map text × (n : ℕ) × (n < length text) × Appends (W.contents out.old) (W.contents out.new) (take n text) }
     ensures failed { result ≡ Err LintFault.Device → WriteFails (W.failures out.old) (W.failures out.new) (W.stalls out.old) (W.stalls out.new) }
 {
     let Ok(answer) = is_map(alloc, bytes) else {

@@ -1,13 +1,13 @@
 //! Why a line is not understood.
 
-ghost use Rattle.std.specs.Prelude.{◌≡◌, ◌++◌, ◌-◌, ◌^◌, ◌<◌, ◌≤◌, ◌==◌, OnOk, length, nat_lt};
-ghost use Rattle.std.specs.List.{list_all, position_or_len, prefix_len};
+ghost use Rattle.std.specs.Prelude.{◌≡◌, ◌++◌, ◌-◌, ◌^◌, ◌<◌, ◌≤◌, OnOk, length, nat_lt};
+ghost use Rattle.std.specs.List.{list_all, prefix_len};
 ghost use Rattle.text_lines.specs.Words.{content_of, is_allowed};
 ghost use Rattle.text_lines.specs.Numbers.{digit_of, is_numeral};
 ghost use Rattle.map_lint.specs.Pieces.{column_text};
 ghost use Rattle.map_lint.specs.Reasons.{has_mark, line_text, looks_like_number, most_text, named_text, no_number, number_text, pages_mend, part_text, past_text, range_text, reason_of, short_reason, three_text, whole_text, words_text};
 
-use crate::columns::{Placed, word_from};
+use crate::columns::{Placed, len_before, word_from};
 use crate::perms::push_perm;
 use crate::texts::{push, push_address, push_column, push_quoted};
 use permission_map::Memory;
@@ -18,19 +18,6 @@ fn is_allowed(byte: u8) -> bool
     ensures { result ≡ is_allowed byte }
 {
     byte == b'\t' || (byte >= 32 && byte <= 126)
-}
-
-/// How many bytes a line has before its comment.
-fn content_len(line: &[u8]) -> usize
-    ensures within { result ≤ length line.now }
-    ensures len { result ≡ position_or_len (λ b. b == 35) line.now }
-{
-    for (i, byte) in line.iter().enumerate() {
-        if *byte == b'#' {
-            return i;
-        }
-    }
-    line.len()
 }
 
 /// How many bytes stand before the first that may not stand outside a comment.
@@ -287,7 +274,7 @@ fn are_allowed(text: &[u8]) -> bool
 fn content_of(line: &[u8]) -> &[u8]
     ensures { result.now ≡ content_of line.now }
 {
-    &line[..content_len(line)]
+    &line[..len_before(b'#', line)]
 }
 
 /// Appends what is wrong with a line that comes without its LF and its CR.

@@ -16,7 +16,8 @@ use Rattle.text_lines.specs.declared.fault.RunFault.{RunFault}
 use Rattle.text_lines.specs.LineLoop.{CountsReads, CountsWrites, DoesAll}
 use Rattle.map_text.specs.declared.map_file.MapFileFault.{MapFileFault}
 use Rattle.map_text.specs.MapFile.{Makes}
-use Rattle.map_lint.specs.Lints.{IsAtFault}
+use Rattle.map_lint.specs.Findings.{IsLintText}
+use Rattle.map_lint.specs.Lints.{IsVerdictOfLines}
 use Rattle.certificate_check.specs.Certificates.{IsRight}
 use Rattle.certificate_format.specs.Spelling.{Spells}
 use Rattle.plan_certificate.specs.Written.{version_for}
@@ -300,10 +301,10 @@ pub data Runs {R W : Type 0} (file trace : Bor (List ℕ)) (measure : Bool) (fir
       → DoesAll DoesLine booted ended second.before second.after out.before report → n ≤ 64 → AreMeasures (kept_of ended).table n text → TakesPart text report out.after
       → WriteFails out.failures out.failed out.stalls out.stalled → Runs file trace measure first second out (Err Output)
 
--- the status of an audit: 0 where the registers mean the map, and else 1
-abbrev pub audit_status : Bool → ℕ
-audit_status true = 0
-audit_status false = 1
+-- the status of an answer: 0 for a yes, and 1 for a no
+abbrev pub answer_status : Bool → ℕ
+answer_status true = 0
+answer_status false = 1
 
 -- what an audit is made of: the map of the first file, the listing in the second, and how many entries are enough
 pub record IsAudited {R : Type 0} (first second : Reading R) (view : View) (listing : List ℕ) (fewest : ℕ) : Type 0 where
@@ -319,7 +320,7 @@ pub record IsAudited {R : Type 0} (first second : Reading R) (view : View) (list
 pub data Audits {R W : Type 0} (map registers : Bor (List ℕ)) (first second : Reading R) (out : Writing W) : Result ℕ Trouble → Type 0 where
   audited :
       (view : View) (listing text : List ℕ) (fewest : ℕ) (means : Bool) → IsAudited first second view listing fewest → IsAudit view fewest listing text means
-      → Appends out.before out.after text → Audits map registers first second out (Ok (audit_status means))
+      → Appends out.before out.after text → Audits map registers first second out (Ok (answer_status means))
   no_map : (trouble : Trouble) → HasNoMap map first trouble → IsUnread second → IsUnwritten out → Audits map registers first second out (Err trouble)
   no_registers : (runs : List Run) (trouble : Trouble) → HasMap first runs → HasNoBytes (2 ^ 20) registers second trouble → IsUnwritten out → Audits map registers first second out (Err trouble)
   no_memory : (runs : List Run) (listing : List ℕ) → HasMap first runs → HasBytes (2 ^ 20) second listing → IsUnwritten out → Audits map registers first second out (Err Memory)
@@ -330,24 +331,16 @@ pub data Audits {R W : Type 0} (map registers : Bor (List ℕ)) (first second : 
       (view : View) (listing text : List ℕ) (fewest : ℕ) (means : Bool) → IsAudited first second view listing fewest → IsAudit view fewest listing text means → Breaks text out
       → Audits map registers first second out (Err Output)
 
--- the status of a lint: 0 where the file is a map, and else 1
-abbrev pub lint_status : Bool → ℕ
-lint_status true = 0
-lint_status false = 1
-
--- whether bytes are a map: their lines make one, or some line, the first at fault, makes none
-abbrev pub IsVerdictOfLines : List ℕ → Bool → Type 0
-IsVerdictOfLines bytes true = (runs : List Run) × Makes bytes runs
-IsVerdictOfLines bytes false = IsAtFault bytes
-
 -- `lint`: the file is read, and what is wrong with it is printed
 pub data Lints {R W : Type 0} (map : Bor (List ℕ)) (first : Reading R) (out : Writing W) : Result ℕ Trouble → Type 0 where
   linted :
-      (bytes : List ℕ) (is_map : Bool) → HasBytes (2 ^ 20) first bytes → IsVerdictOfLines bytes is_map → out.failed ≡ out.failures → out.stalled ≡ out.stalls
-      → Lints map first out (Ok (lint_status is_map))
+      (bytes text : List ℕ) (is_map : Bool) → HasBytes (2 ^ 20) first bytes → IsVerdictOfLines bytes is_map → IsLintText map.now bytes is_map text
+      → Appends out.before out.after text → out.failed ≡ out.failures → out.stalled ≡ out.stalls → Lints map first out (Ok (answer_status is_map))
   no_bytes : (trouble : Trouble) → HasNoBytes (2 ^ 20) map first trouble → IsUnwritten out → Lints map first out (Err trouble)
   no_memory : (bytes : List ℕ) → HasBytes (2 ^ 20) first bytes → IsUnwritten out → Lints map first out (Err Memory)
-  no_output : (bytes : List ℕ) → HasBytes (2 ^ 20) first bytes → WriteFails out.failures out.failed out.stalls out.stalled → Lints map first out (Err Output)
+  no_output :
+      (bytes text : List ℕ) (is_map : Bool) → HasBytes (2 ^ 20) first bytes → IsVerdictOfLines bytes is_map → IsLintText map.now bytes is_map text → Breaks text out
+      → Lints map first out (Err Output)
 
 -- what a task comes to: what its command does not use stays as it was
 abbrev pub Performs : {R C W : Type 0} → Task → Reading R → Reading R → Placing C → Writing W → Result ℕ Trouble → Type 0

@@ -1,27 +1,24 @@
 //! Plans with their certificates.
 
-ghost use Rattle.std.specs.Prelude.{◌≡◌, ◌≤◌, ◌<◌, ◌-◌, ◌^◌, ◌⊎◌, ◌↔◌, ℕ, List, Err, IfErr, IfOk, IfSome, None, length};
+ghost use Rattle.std.specs.Prelude.{◌≡◌, ◌≤◌, ◌<◌, ◌-◌, ◌^◌, ◌⊎◌, ◌↔◌, List, IfErr, IfOk, IfSome, None, length};
 ghost use Rattle.std.specs.Io.KnownBytes.{Appends};
 ghost use Rattle.pmp_encoding.specs.declared.region.Entry.{Entry};
 ghost use Rattle.pmp_encoding.specs.Banks.{HasList, IsBankOf};
 ghost use Rattle.pmp_encoding.specs.Limits.{limit_number};
 ghost use Rattle.pmp_match.specs.Meaning.{Means};
 ghost use Rattle.permission_map.specs.Runs.{view_of_runs};
-ghost use Rattle.certificate_check.specs.Certificates.{IsRight};
-ghost use Rattle.certificate_format.specs.Spelling.{Spells};
 ghost use Rattle.prefix_tree.specs.Counts.{splits};
 ghost use Rattle.prefix_tree.specs.TreeOf.{tree_of};
-ghost use Rattle.plan_certificate.specs.Written.{version_for, certificate_for};
-ghost use Rattle.pmp_match.specs.Bounds.{BoundTree};
-ghost use Rattle.monitor_cli.specs.Commands.{placing, writing, Breaks, IsBeyond, IsCertificateOf, IsCertified, IsLoaded, IsNotPlaced, IsPlanned, IsUnplanned, IsWithin, NeedsMore};
+ghost use Rattle.plan_certificate.specs.Written.{certificate_for};
+ghost use Rattle.monitor_cli.specs.Commands.{placing, IsBeyond, IsCertified, IsLoaded, IsNotPlaced, IsPlanned, IsUnplanned, IsWithin, NeedsMore};
 ghost use Rattle.monitor_cli.specs.Tasks.{IsFewest};
 
 use crate::certificate_file::WholeSink;
 use crate::trouble::Trouble;
-use byte_streams::{DeviceFault, Sink, write_whole};
+use byte_streams::DeviceFault;
 use entry_planner::{Plan, plan_map};
 use permission_map::{Memory, PermissionMap};
-use plan_certificate::{send_map, write_map};
+use plan_certificate::send_map;
 use pmp_encoding::{Bank, Entry, Limit};
 use std::alloc::Global;
 
@@ -44,48 +41,6 @@ pub fn bank_of(entries: &[Entry], limit: Limit) -> Option<Bank>
         return None;
     }
     Some(Bank::of(entries, limit))
-}
-
-/// The fewest entries that mean a map, and their certificate for a hart of that limit. [`check`](certificate_check::check)
-/// accepts it, with the number of entries.
-pub fn certified(
-    alloc: Global,
-    map: &PermissionMap,
-    limit: Limit,
-) -> Result<(Plan, Vec<u8>), Memory>
-    ensures means { IfOk result (λ r. Means r.0.entries (view_of_runs map.now)) }
-    ensures least { IfOk result (λ r. (others : List Entry) → Means others (view_of_runs map.now) → length r.0.entries ≤ length others) }
-    ensures spells { IfOk result (λ r. (tree : BoundTree) × Spells r.1.items (version_for limit) r.0.entries tree) }
-    ensures accepted { IfOk result (λ r. IsRight (view_of_runs map.now) r.1.items (length r.0.entries)) }
-{
-    let plan = plan_map(alloc, map)?;
-    let bytes = write_map(alloc, map, &plan, limit)?;
-    Ok((plan, bytes))
-}
-
-/// Plans a map and writes its certificate to a sink. Where it answers Ok, the sink took bytes that
-/// [`check`](certificate_check::check) accepts, with the number of entries.
-pub fn write_certified<'a, C: Sink>(
-    alloc: Global,
-    map: &PermissionMap,
-    limit: Limit,
-    file: &'a str,
-    sink: &mut C,
-) -> Result<Plan, Trouble<'a>>
-    requires { C.failures sink.old < 2 ^ 64 - 1 }
-    ensures means { IfOk result (λ plan. Means plan.entries (view_of_runs map.now)) }
-    ensures least { IfOk result (λ plan. (others : List Entry) → Means others (view_of_runs map.now) → length plan.entries ≤ length others) }
-    ensures accepted { IfOk result (λ plan. (bytes : List ℕ) × IsRight (view_of_runs map.now) bytes (length plan.entries) × Appends (C.contents sink.old) (C.contents sink.new) bytes) }
-    ensures refused { IfErr result (λ trouble. (trouble ≡ Trouble.Memory) ⊎ (trouble ≡ Trouble.CannotWrite file.entry)) }
-    ensures untouched { result ≡ Err Trouble.Memory → sink.new ≡ sink.old }
-    ensures certificate { IfOk result (λ plan. (bytes : List ℕ) × IsCertificateOf (view_of_runs map.now) limit plan.entries bytes × Appends (C.contents sink.old) (C.contents sink.new) bytes) }
-    ensures broken { result ≡ Err (Trouble.CannotWrite file.entry) → (entries : List Entry) × (bytes : List ℕ) × IsFewest (view_of_runs map.now) entries × IsCertificateOf (view_of_runs map.now) limit entries bytes × Breaks bytes (writing C.contents C.failures C.stalls sink.old sink.new) }
-{
-    let (plan, bytes) = certified(alloc, map, limit)?;
-    let Ok(()) = write_whole(sink, bytes.as_slice()) else {
-        return Err(Trouble::CannotWrite { file });
-    };
-    Ok(plan)
 }
 
 /// The fewest entries of a map, where they are within the bound.

@@ -1,5 +1,6 @@
 //! The files and streams that the program lends to a task.
 
+ghost use Rattle.std.specs.Prelude.{◌≡◌, None};
 ghost use Rattle.std.specs.Io.{ReadsAtMost, WritesAtMost};
 
 use std::io::{ErrorKind, Read, Write};
@@ -16,7 +17,10 @@ pub struct FileToRead<'a, R: Files> {
 
 impl<'a, R: Files> FileToRead<'a, R> {
     /// The file of that name, which may not be there.
-    pub fn new(files: &'a R, name: &'a str) -> FileToRead<'a, R> {
+    pub fn new(files: &'a R, name: &'a str) -> FileToRead<'a, R>
+        ensures name { result.name ≡ name.entry }
+        ensures closed { result.file ≡ None }
+    {
         FileToRead {
             files,
             name,
@@ -63,7 +67,9 @@ pub struct RetryInterrupted<T> {
 
 impl<T> RetryInterrupted<T> {
     /// The reader or writer, whose interrupted calls are tried again.
-    pub fn new(inner: T) -> RetryInterrupted<T> {
+    pub fn new(inner: T) -> RetryInterrupted<T>
+        ensures { result.inner ≡ inner }
+    {
         RetryInterrupted { inner }
     }
 }

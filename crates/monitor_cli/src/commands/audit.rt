@@ -1,9 +1,10 @@
 //! `audit`: registers against a map.
 
-ghost use Rattle.std.specs.Prelude.{◌≡◌, ◌-◌, ◌^◌, ◌<◌};
-ghost use Rattle.monitor_cli.specs.Commands.{reading, writing, audit_status, Audits};
+ghost use Rattle.std.specs.Prelude.{◌-◌, ◌^◌, ◌<◌};
+ghost use Rattle.monitor_cli.specs.Commands.{reading, writing, Audits};
 
 use crate::certifying::planned;
+use crate::commands::answer_status;
 use crate::inputs::{bytes_in, map_in};
 use crate::trouble::Trouble;
 use byte_streams::{Sink, Source};
@@ -12,13 +13,6 @@ use std::alloc::Global;
 
 /// How many bytes a listing of registers may have.
 const REGISTER_BYTES: usize = 1 << 20;
-
-/// The status of an audit.
-fn status_of(means: bool) -> u8
-    ensures { result ≡ audit_status means }
-{
-    if means { 0 } else { 1 }
-}
 
 /// Audits registers against a map, and answers the status 0 where they mean it and 1 where they don't.
 pub fn do_audit<'a, R: Source, W: Sink>(
@@ -39,7 +33,7 @@ pub fn do_audit<'a, R: Source, W: Sink>(
     let plan = planned(alloc, &map)?;
     let fewest = plan.entries().len() as u64;
     match audit(alloc, &map, fewest, listing.as_slice(), out) {
-        Ok(means) => Ok(status_of(means)),
+        Ok(means) => Ok(answer_status(means)),
         Err(AuditFault::Line(line)) => Err(Trouble::NotUnderstood {
             file: registers,
             line,

@@ -1,20 +1,14 @@
 //! `lint`: what is wrong with a map file.
 
-ghost use Rattle.std.specs.Prelude.{◌≡◌, ◌-◌, ◌^◌, ◌<◌};
-ghost use Rattle.monitor_cli.specs.Commands.{lint_status, reading, writing, Lints};
+ghost use Rattle.std.specs.Prelude.{◌-◌, ◌^◌, ◌<◌};
+ghost use Rattle.monitor_cli.specs.Commands.{reading, writing, Lints};
 
+use crate::commands::answer_status;
 use crate::inputs::{MAP_BYTES, bytes_in};
 use crate::trouble::Trouble;
 use byte_streams::{Sink, Source};
 use map_lint::{LintFault, lint};
 use std::alloc::Global;
-
-/// The status of a lint.
-fn status_of(is_map: bool) -> u8
-    ensures { result ≡ lint_status is_map }
-{
-    if is_map { 0 } else { 1 }
-}
 
 /// Prints what is wrong with a map file, and answers the status 0 where it is a map and 1 where it is none.
 pub fn do_lint<'a, R: Source, W: Sink>(
@@ -29,7 +23,7 @@ pub fn do_lint<'a, R: Source, W: Sink>(
 {
     let bytes = bytes_in(alloc, map, first, MAP_BYTES)?;
     match lint(alloc, map, bytes.as_slice(), out) {
-        Ok(is_map) => Ok(status_of(is_map)),
+        Ok(is_map) => Ok(answer_status(is_map)),
         Err(LintFault::Memory) => Err(Trouble::Memory),
         Err(LintFault::Device) => Err(Trouble::Output),
     }

@@ -2,8 +2,8 @@ use Rattle.std.proofs.Common.{◌≡◌, ℕ, Bool, true, false, List, Err, Ok, 
 use Rattle.std.proofs.lemmas.Result.{err_from_is_err_and}
 use Rattle.permission_map.specs.declared.runs.Run.{Run}
 use Rattle.map_text.specs.MapFile.{Makes}
-use Rattle.map_lint.specs.Lints.{IsAtFault}
-use Rattle.monitor_cli.specs.Commands.{IsVerdictOfLines, linted}
+use Rattle.map_lint.specs.Lints.{IsAtFault, IsVerdictOfLines}
+use Rattle.monitor_cli.specs.Commands.{linted}
 use Rattle.monitor_cli.specs.Commands as commands
 use Rattle.monitor_cli.proofs.commands.lint.do_lint.Goals as goal
 
@@ -19,10 +19,14 @@ returns-in_err-bytes g c =
 pub returns-in-Ok : goal.returns-in-Ok
 returns-in-Ok g c =
     let is = verdict _ c.in-Ok.is_map (λ e. c.in-Ok.ensures.map (ap (λ t. Ok t) e)) (λ e. c.in-Ok.ensures.fault (ap (λ t. Ok t) e)) in
-    rw c.status_of.ensures (linted _ _ c.in_ok-bytes.ensures.whole (rw c.as_slice.ensures.value at is) c.in-Ok.ensures.well c.in-Ok.ensures.unstalled)
+    let w = rw c.as_slice.ensures.value at c.in-Ok.ensures.written in
+    rw c.answer_status.ensures (linted _ w.0 _ c.in_ok-bytes.ensures.whole (rw c.as_slice.ensures.value at is) w.1 w.2 c.in-Ok.ensures.well c.in-Ok.ensures.unstalled)
 
 pub returns-in-Err-Memory : goal.returns-in-Err-Memory
 returns-in-Err-Memory g c = commands.Lints.no_memory _ c.in_ok-bytes.ensures.whole (c.in-Err-Memory.ensures.untouched (ap (λ f. Err f) c.in-Err-Memory.field-0-is))
 
 pub returns : goal.returns
-returns g c = commands.Lints.no_output _ c.in_ok-bytes.ensures.whole (c.in-Err-Device.ensures.failed (ap (λ f. Err f) c.in-Err-Device.field-0-is))
+returns g c =
+    let device = ap (λ f. Err f) c.in-Err-Device.field-0-is in
+    let w = rw c.as_slice.ensures.value at c.in-Err-Device.ensures.part device in
+    commands.Lints.no_output _ w.2 w.0 c.in_ok-bytes.ensures.whole w.1 w.3 (record { part = (w.4, w.5, w.6); fails = c.in-Err-Device.ensures.failed device })
