@@ -76,6 +76,8 @@ fn agreed<'a>(
 }
 
 /// Whether entries in any order give the runs' permission at each page of the space. They begin by rising first page.
+/// (Out of line, so that the room for the keys is no part of the frame of who calls, which touches all of its pages.)
+#[inline(never)]
 fn agrees_in_any_order(entries: &Entries, runs: &[Run]) -> bool
     requires few { count_in entries.now < 2 ^ 19 }
     requires later { AreLaterRuns runs.now }
