@@ -1,5 +1,5 @@
-use command_line::{Format, Task, command_of, takes_place};
 use clap::error::ErrorKind;
+use command_line::{Format, Task, command_of, takes_place};
 use pmp_encoding::Limit;
 use std::alloc::Global;
 use std::test::Fail;
