@@ -1,6 +1,6 @@
 -- The program's command line, as `clap` sees it, and the task that it names.
-use Rattle.std.specs.Prelude.{ℕ, Bool, true, false, List, [], ◌∷◌, Option, Some, None, codes, ◌≡◌, ◌≢◌, option_map}
-use Rattle.clap.specs.Words.{App, Row, Rule, Text, first_of, one_of, new_app, new_rule, with_rule, with_subcommand}
+use Rattle.std.specs.Prelude.{ℕ, Bool, true, false, List, [], ◌∷◌, Option, Some, None, codes, ◌≡◌, ◌≢◌, option_map, bytes_eq, find}
+use Rattle.clap.specs.Words.{App, Row, Rule, Shape, Text, first_of, one_of, new_app, new_rule, with_rule, with_subcommand}
 use Rattle.clap.specs.declared.builder.ArgAction.TheVariants.{Set, SetTrue}
 use Rattle.pmp_encoding.specs.declared.limit.Limit.{Limit}
 use Rattle.pmp_encoding.specs.declared.limit.Limit.TheVariants.{Sixteen, SixtyFour}
@@ -85,6 +85,15 @@ looking_app = with_subcommand (with_subcommand planning_app show_app.top) audit_
 
 abbrev pub program_app : App
 program_app = with_subcommand looking_app lint_app.top
+
+-- a subcommand as a program of its own, and the whole program where there is none
+abbrev pub app_by : Option Shape → App
+app_by None = program_app
+app_by (Some shape) = record { top = shape; subs = [] }
+
+-- the program's subcommand of that name, and the whole program where it has none of that name
+abbrev pub app_named : Text → App
+app_named name = app_by (find (λ shape. bytes_eq name shape.name) program_app.subs)
 
 -- the word that names a limit
 abbrev pub limit_word : Limit → Text

@@ -3,7 +3,7 @@
 ghost use Rattle.std.specs.Prelude.{◌≡◌, IfOk, false};
 ghost use Rattle.clap.specs.Words.{app_of, new_app, rule_of};
 ghost use Rattle.clap.specs.declared.builder.command.Command.TheViews.{out-Command};
-ghost use Rattle.command_line.specs.CommandLine.{at_most_rule, audit_app, bare_app, check_app, entries_rule, file_rule, format_rule, judge_app, lint_app, looking_app, measure_rule, plan_app, plan_files_app, planning_app, program_app, run_app, running_app, show_app};
+ghost use Rattle.command_line.specs.CommandLine.{app_named, at_most_rule, audit_app, bare_app, check_app, entries_rule, file_rule, format_rule, judge_app, lint_app, looking_app, measure_rule, plan_app, plan_files_app, planning_app, program_app, run_app, running_app, show_app};
 
 use clap::{Arg, ArgAction, Command};
 use std::alloc::{AllocError, Global};
@@ -272,7 +272,9 @@ pub fn program<'a>(alloc: Global) -> Result<Command<'a>, AllocError>
 }
 
 /// The subcommand of that name as the program calls it, and the program itself where it has none of that name.
-pub fn subcommand_named<'a>(alloc: Global, name: &str) -> Result<Command<'a>, AllocError> {
+pub fn subcommand_named<'a>(alloc: Global, name: &str) -> Result<Command<'a>, AllocError>
+    ensures { IfOk result (λ c. app_of c ≡ app_named name.now) }
+{
     if name == "run" {
         return run_command(alloc)?.bin_name("pmpmon run");
     }
