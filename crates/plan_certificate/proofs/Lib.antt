@@ -1,3 +1,4 @@
 pub mod Spelled
 pub mod Sums
 pub mod Sent
+pub mod ChainSpelled

@@ -41,6 +41,19 @@ put_then held middle holds old mid new bytes more first second = record {
   unstalled = second.unstalled ∙ first.unstalled;
 }
 
+-- bytes that are held behind others, for which room was made
+pub held_put : (held room new : List ℕ) (old mid : Taken) (bytes : List ℕ) → IsPut held room old mid [] → new ≡ room ++ bytes → IsPut held new old mid bytes
+held_put held room new old mid bytes put is = record {
+  went = put.went;
+  appended = put.appended;
+  left =
+      ap (λ (xs : List ℕ). put.went ++ xs) is
+      ∙ sym (append_assoc put.went room bytes)
+      ∙ ap (λ (xs : List ℕ). xs ++ bytes) (put.left ∙ append-nil held);
+  well = put.well;
+  unstalled = put.unstalled;
+}
+
 fails_from :
     (failures failures' failed stalls stalls' stalled : ℕ) → failures' ≡ failures → stalls' ≡ stalls → WriteFails failures' failed stalls' stalled → WriteFails failures failed stalls stalled
 fails_from failures failures' failed stalls stalls' stalled e f fails =

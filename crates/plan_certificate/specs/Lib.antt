@@ -1,3 +1,4 @@
 pub mod Spelling
 pub mod Written
 pub mod Sending
+pub mod ChainBytes

@@ -1,12 +1,14 @@
-ghost use Rattle.std.specs.Prelude.{◌≡◌, ◌+◌, ◌-◌, ◌≤◌, ◌<◌, ◌^◌, ◌∷◌, ◌++◌, ℕ, [], IfOk, IfErr, OnOk, length};
+ghost use Rattle.std.specs.Prelude.{◌≡◌, ◌+◌, ◌-◌, ◌*◌, ◌≤◌, ◌<◌, ◌^◌, ◌∷◌, ◌++◌, ℕ, List, [], IfOk, IfErr, OnOk, length};
 ghost use Rattle.std.specs.List.{flat_map};
 ghost use Rattle.std.specs.Io.KnownBytes.{Appends};
 ghost use Rattle.pmp_encoding.specs.declared.perm.Perm.{Perm};
+ghost use Rattle.prefix_tree.specs.Chains.{IsChain, chained};
 ghost use Rattle.prefix_tree.specs.Counts.{splits};
 ghost use Rattle.prefix_tree.specs.Trees.{Fits};
 ghost use Rattle.entry_planner.specs.Plans.{cost_in, costed};
 ghost use Rattle.certificate_format.specs.Costs.{cost_of, six_of};
 ghost use Rattle.certificate_format.specs.Spelling.{costs_bytes, header_bytes, version_bytes, node_bytes, FitsNode};
+ghost use Rattle.plan_certificate.specs.ChainBytes.{head_bytes, tail_bytes};
 ghost use Rattle.plan_certificate.specs.Sending.{taken, IsPut, IsCut};
 ghost use Rattle.plan_certificate.specs.Written.{version_for, entry_bytes, certificate_for};
 
@@ -16,7 +18,7 @@ use byteorder::{ByteOrder, LittleEndian};
 use certificate_format::{Header, SixCosts, Version};
 use entry_planner::Plan;
 use pmp_encoding::{Entry, Limit, Perm};
-use prefix_tree::Halving;
+use prefix_tree::{Chain, Halving};
 
 /// How many bytes go to a sink at a time.
 const PIECE: usize = 32768;
@@ -93,7 +95,8 @@ fn costs_of(plan: &Plan, i: usize) -> SixCosts
 /// A branch's tag and its costs.
 #[tactic(auto, unfolding(crate::specs::Spelling::u32_bytes))]
 fn front_of(costs: SixCosts) -> [u8; 25]
-    ensures { result ≡ 1 ∷ costs_bytes (cost_of costs) }
+    ensures bytes { result ≡ 1 ∷ costs_bytes (cost_of costs) }
+    ensures size { length result ≡ 25 }
 {
     let mut bytes = [1; 25];
     LittleEndian::write_u32(&mut bytes[1..5], costs.no_access);
@@ -103,6 +106,28 @@ fn front_of(costs: SixCosts) -> [u8; 25]
     LittleEndian::write_u32(&mut bytes[17..21], costs.read_execute);
     LittleEndian::write_u32(&mut bytes[21..25], costs.read_write_execute);
     bytes
+}
+
+/// Makes room for so many bytes behind those that are held, which go to the sink where there is none.
+fn make_room<W: Sink>(
+    piece: &mut ArrayVec<u8, PIECE>,
+    room: usize,
+    sink: &mut W,
+) -> Result<(), DeviceFault>
+    requires failures { W.failures sink.old < 2 ^ 64 - 1 }
+    requires small { room ≤ 32768 }
+    ensures room { OnOk result (length piece.new.items + room ≤ 32768) }
+    ensures put { IfOk result (λ _. IsPut piece.old.items piece.new.items (taken W.contents W.failures W.stalls sink.old) (taken W.contents W.failures W.stalls sink.new) []) }
+    ensures cut { IfErr result (λ _. (bytes : List ℕ) → IsCut piece.old.items (taken W.contents W.failures W.stalls sink.old) (taken W.contents W.failures W.stalls sink.new) bytes) }
+{
+    if room <= piece.remaining_capacity() {
+        return Ok(());
+    }
+    let Ok(()) = write_whole(sink, piece.as_slice()) else {
+        return Err(DeviceFault);
+    };
+    piece.clear();
+    Ok(())
 }
 
 /// Puts bytes behind those that are held, which go to the sink first where there is no room.
@@ -116,14 +141,9 @@ fn put<W: Sink>(
     ensures put { IfOk result (λ _. IsPut piece.old.items piece.new.items (taken W.contents W.failures W.stalls sink.old) (taken W.contents W.failures W.stalls sink.new) bytes.now) }
     ensures cut { IfErr result (λ _. IsCut piece.old.items (taken W.contents W.failures W.stalls sink.old) (taken W.contents W.failures W.stalls sink.new) bytes.now) }
 {
-    if piece.remaining_capacity() < bytes.len() {
-        let Ok(()) = write_whole(sink, piece.as_slice()) else {
-            return Err(DeviceFault);
-        };
-        piece.clear();
-        hold(piece, bytes);
-        return Ok(());
-    }
+    let Ok(()) = make_room(piece, bytes.len(), sink) else {
+        return Err(DeviceFault);
+    };
     hold(piece, bytes);
     Ok(())
 }
@@ -143,6 +163,94 @@ fn put_entries<W: Sink>(
             return Err(DeviceFault);
         };
     }
+    Ok(())
+}
+
+/// Puts what stands before the node of a chain's smallest block: the branches, and the leaves of the pages before it.
+fn hold_heads(piece: &mut ArrayVec<u8, PIECE>, chain: Chain, plan: &Plan, i: usize)
+    requires chain { chain.place < 2 ^ chain.levels }
+    requires most { chain.levels ≤ 44 }
+    requires room { length piece.old.items + 27 * chain.levels ≤ 32768 }
+    requires counted { i + chain.levels ≤ length plan.now.costs }
+    requires small { length plan.now.costs < 2 ^ 64 }
+    ensures held { piece.new.items ≡ piece.old.items ++ head_bytes plan.now.costs i chain.levels chain.place chain.before }
+    ensures fits { (m : ℕ) → i ≤ m → m < i + chain.levels → (perm : Perm) → cost_in plan.now.costs m perm < 2 ^ 32 }
+{
+    let leaf = [0, chain.before.bits()];
+    let bytes = leaf.as_slice();
+    let mut rest = chain;
+    let mut next = i;
+    while rest.levels > 0 {
+        let front = front_of(costs_of(plan, next));
+        let smaller = rest.smaller();
+        hold(piece, front.as_slice());
+        if rest.goes_up() {
+            hold(piece, bytes);
+        }
+        next += 1;
+        rest = smaller;
+    }
+}
+
+/// Puts what stands behind it: the leaves of the pages behind it.
+fn hold_tails(piece: &mut ArrayVec<u8, PIECE>, chain: Chain)
+    requires chain { chain.place < 2 ^ chain.levels }
+    requires most { chain.levels ≤ 44 }
+    requires room { length piece.old.items + 2 * chain.levels ≤ 32768 }
+    ensures { piece.new.items ≡ piece.old.items ++ tail_bytes chain.levels chain.place chain.behind }
+{
+    let leaf = [0, chain.behind.bits()];
+    let bytes = leaf.as_slice();
+    let mut rest = chain;
+    while rest.levels > 0 {
+        if rest.goes_up() {
+            // its lower half stands before the smallest block
+        } else {
+            hold(piece, bytes);
+        }
+        let smaller = rest.smaller();
+        rest = smaller;
+    }
+}
+
+/// Puts what stands before the node of a chain's smallest block.
+fn put_heads<W: Sink>(
+    piece: &mut ArrayVec<u8, PIECE>,
+    chain: Chain,
+    plan: &Plan,
+    i: usize,
+    sink: &mut W,
+) -> Result<(), DeviceFault>
+    requires failures { W.failures sink.old < 2 ^ 64 - 1 }
+    requires chain { IsChain chain }
+    requires counted { i + chain.levels ≤ length plan.now.costs }
+    requires small { length plan.now.costs < 2 ^ 64 }
+    ensures put { IfOk result (λ _. IsPut piece.old.items piece.new.items (taken W.contents W.failures W.stalls sink.old) (taken W.contents W.failures W.stalls sink.new) (head_bytes plan.now.costs i chain.levels chain.place chain.before)) }
+    ensures cut { IfErr result (λ _. (bytes : List ℕ) → IsCut piece.old.items (taken W.contents W.failures W.stalls sink.old) (taken W.contents W.failures W.stalls sink.new) bytes) }
+    ensures fits { OnOk result ((m : ℕ) → i ≤ m → m < i + chain.levels → (perm : Perm) → cost_in plan.now.costs m perm < 2 ^ 32) }
+{
+    let Ok(()) = make_room(piece, 27 * chain.levels as usize, sink) else {
+        return Err(DeviceFault);
+    };
+    hold_heads(piece, chain, plan, i);
+    Ok(())
+}
+
+/// Puts what stands behind it.
+fn put_tails<W: Sink>(
+    piece: &mut ArrayVec<u8, PIECE>,
+    chain: Chain,
+    sink: &mut W,
+) -> Result<(), DeviceFault>
+    requires failures { W.failures sink.old < 2 ^ 64 - 1 }
+    requires chain { IsChain chain }
+    ensures put { IfOk result (λ _. IsPut piece.old.items piece.new.items (taken W.contents W.failures W.stalls sink.old) (taken W.contents W.failures W.stalls sink.new) (tail_bytes chain.levels chain.place chain.behind)) }
+    ensures cut { IfErr result (λ _. (bytes : List ℕ) → IsCut piece.old.items (taken W.contents W.failures W.stalls sink.old) (taken W.contents W.failures W.stalls sink.new) bytes) }
+{
+    let Ok(()) = make_room(piece, 2 * chain.levels as usize, sink) else {
+        return Err(DeviceFault);
+    };
+    hold_tails(piece, chain);
     Ok(())
 }
 
@@ -167,6 +275,19 @@ fn put_node<H: Halving, W: Sink>(
             return Err(DeviceFault);
         };
         return Ok(i);
+    }
+    if let Some((chain, smallest)) = block.chain() {
+        let Ok(()) = put_heads(piece, chain, plan, i, sink) else {
+            return Err(DeviceFault);
+        };
+        let inside = i + chain.levels as usize;
+        let Ok(next) = put_node(piece, &smallest, plan, inside, sink) else {
+            return Err(DeviceFault);
+        };
+        let Ok(()) = put_tails(piece, chain, sink) else {
+            return Err(DeviceFault);
+        };
+        return Ok(next);
     }
     let (lower, upper) = block.halves();
     let front = front_of(costs_of(plan, i));

@@ -1,6 +1,8 @@
-use Rattle.plan_certificate.proofs.Sent.{cut_in_piece}
+use Rattle.plan_certificate.proofs.Sent.{held_put}
 use Rattle.plan_certificate.proofs.sending.put.Goals as goal
 
+pub returns-clause-put : goal.returns-clause-put
+returns-clause-put g c = held_put _ _ _ _ _ _ c.in-Ok.ensures.put c.hold.ensures
+
 pub returns-in_default-clause-cut : goal.returns-in_default-clause-cut
-returns-in_default-clause-cut g c =
-    cut_in_piece c.args.piece.now.items _ _ c.args.bytes.now (rw c.as_slice.ensures.value at c.in_default.ensures.part) c.in_default.ensures.failed
+returns-in_default-clause-cut g c = c.in_default.ensures.cut c.args.bytes.now
