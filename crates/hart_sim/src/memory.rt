@@ -1,7 +1,7 @@
 //! The bytes of the physical address space, kept by pages. A page that was not written has no bytes of its own and
 //! reads as zero.
 
-ghost use Rattle.std.specs.Prelude.{◌≡◌, ℕ, ◌+◌, ◌-◌, ◌*◌, ◌/◌, ◌%◌, ◌^◌, ◌<◌, ◌≤◌, OnOk, OnErr, IfSome, None, false, true, not, ◌==◌, ◌||◌, ◌&&◌, if◌then◌else◌, length, slice_index};
+ghost use Rattle.std.specs.Prelude.{◌≡◌, ℕ, ◌+◌, ◌-◌, ◌*◌, ◌/◌, ◌%◌, ◌^◌, ◌<◌, ◌≤◌, IfOk, OnOk, OnErr, IfSome, None, false, true, not, ◌==◌, ◌||◌, ◌&&◌, if◌then◌else◌, length, slice_index};
 ghost use Rattle.pmp_encoding.specs.Registers.{byte_of};
 ghost use Rattle.hart_sim.specs.Memory.{bytes_at, number_of, in_range, stored, zeroed, byte_at, is_written};
 
@@ -77,6 +77,18 @@ fn page_with(at: usize, size: usize, value: u64) -> [u8; 4096]
     page
 }
 
+/// A page of its own of zeros but for a value. It stands apart so that a store to a page that is there clears no room for
+/// another.
+#[inline(never)]
+fn page_of(alloc: Global, at: usize, size: usize, value: u64) -> Result<Box<[u8; 4096]>, AllocError>
+    requires size { size ≤ 8 }
+    requires inside { at + size ≤ 4096 }
+    ensures { IfOk result (λ page. (k : ℕ) → slice_index page.value k ≡ (if in_range at size k then byte_of value (k - at) else 0)) }
+{
+    let page = Box::new(alloc, page_with(at, size, value))?;
+    Ok(page)
+}
+
 /// The pages that were written, by their numbers.
 #[derive(Drop)]
 pub(crate) struct Memory {
@@ -139,7 +151,7 @@ impl Memory {
             put(page, at, size, value);
             return Ok(());
         }
-        let page = Box::new(alloc, page_with(at, size, value))?;
+        let page = page_of(alloc, at, size, value)?;
         self.pages.insert(index, page)?;
         Ok(())
     }
