@@ -14,7 +14,5 @@
 
 pub mod fakes;
 mod streams;
-#[cfg(test)]
-mod tests;
 
 pub use streams::{Counted, DeviceFault, Sink, Source, write_whole};

@@ -22,8 +22,6 @@ mod fault;
 mod header;
 mod parts;
 mod reader;
-#[cfg(test)]
-mod tests;
 
 pub use costs::SixCosts;
 pub use fault::ReadFault;

@@ -21,8 +21,6 @@
 mod contexts;
 mod hart;
 mod switching;
-#[cfg(test)]
-mod tests;
 
 pub use contexts::Contexts;
 pub use hart::Hart;

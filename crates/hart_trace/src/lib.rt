@@ -14,8 +14,6 @@
 mod event;
 mod plain;
 mod plain_events;
-#[cfg(test)]
-mod tests;
 mod trace;
 
 pub use event::Event;

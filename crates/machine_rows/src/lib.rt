@@ -1,7 +1,15 @@
-//! Worked rows of the machine, as tests alone: traces on booted machines, and the report of each.
+//! Worked rows of the machine and of what it is made of, as tests alone: calls, changes of world, measured bytes, and
+//! traces on booted machines with the report of each.
 //!
-//! They stand apart from the machine so that the gate proves it once, and tries its edits beside the rows.
+//! They stand apart from the crates that they are of so that the gate proves each of these once, and tries its edits
+//! beside the rows.
 #![tactic(auto)]
 
 #[cfg(test)]
-mod tests;
+mod calls;
+#[cfg(test)]
+mod measuring;
+#[cfg(test)]
+mod running;
+#[cfg(test)]
+mod switching;

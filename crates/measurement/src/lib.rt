@@ -18,5 +18,3 @@ mod measured;
 pub use measure::{Measure, word};
 pub use measured::Layout;
 
-#[cfg(test)]
-mod tests;

@@ -16,8 +16,6 @@
 #![tactic(auto)]
 
 mod pages;
-#[cfg(test)]
-mod tests;
 
 pub use pages::{PAGE_SIZE, PageRange, SPACE_PAGES, pages_of};
 pub use pmp_encoding::SPACE_SIZE;

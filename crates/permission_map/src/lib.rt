@@ -30,8 +30,6 @@ mod overwriting;
 mod points;
 mod runs;
 mod searching;
-#[cfg(test)]
-mod tests;
 
 pub use builder::MapBuilder;
 pub use fault::MapFault;

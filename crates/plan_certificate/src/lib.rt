@@ -13,8 +13,6 @@
 
 mod laws;
 mod sending;
-#[cfg(test)]
-mod tests;
 mod writing;
 
 pub use certificate_format::{EntryBytes, Header, ReadFault, Reader, SixCosts, Tag, Version};

@@ -27,8 +27,6 @@ mod laws;
 mod limit;
 mod perm;
 mod region;
-#[cfg(test)]
-mod tests;
 
 pub use bank::Bank;
 pub use decoding::decode;

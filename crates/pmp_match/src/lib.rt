@@ -22,8 +22,6 @@ mod cause;
 mod judging;
 mod laws;
 mod rows;
-#[cfg(test)]
-mod tests;
 
 pub use access::{Access, Kind, Mode};
 pub use cause::Cause;

@@ -21,5 +21,3 @@ pub use calls::{Call, EXTENSION_ID, NotSupported};
 pub use decoding::decode;
 pub use registers::Registers;
 
-#[cfg(test)]
-mod tests;

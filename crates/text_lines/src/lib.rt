@@ -28,8 +28,6 @@ mod laws;
 mod lexical;
 mod line_loop;
 mod lines;
-#[cfg(test)]
-mod tests;
 mod written;
 
 pub use fault::{ReadFault, RunFault};

@@ -12,8 +12,6 @@
 
 mod answers;
 mod judging;
-#[cfg(test)]
-mod tests;
 
 pub use answers::{answer_line, push_answer};
 pub use judging::judge_trace;

@@ -1,4 +1,4 @@
-use crate::{Header, ReadFault, Reader, Tag, Version};
+use certificate_format::{Header, ReadFault, Reader, Tag, Version};
 use pmp_encoding::{Limit, Perm};
 
 /// The lower half of the space with every right, in one entry.

@@ -1,5 +1,5 @@
-use crate::fakes::PieceSink;
-use crate::{Counted, Sink, Source, write_whole};
+use byte_streams::fakes::PieceSink;
+use byte_streams::{Counted, Sink, Source, write_whole};
 
 #[test]
 fn bytes_are_written_in_pieces_and_none_twice(rt: HostRuntime) {

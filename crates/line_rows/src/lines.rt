@@ -1,8 +1,8 @@
 ghost use Rattle.std.specs.Prelude.{◌≡◌};
 
-use crate::{LineReader, ReadFault, Words, number, permission};
 use byte_streams::fakes::PieceSource;
 use pmp_encoding::Perm;
+use text_lines::{LineReader, ReadFault, Words, number, permission};
 
 #[test]
 fn numbers_are_decimal_or_hexadecimal(rt: HostRuntime) {

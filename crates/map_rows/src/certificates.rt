@@ -1,7 +1,7 @@
-use crate::{Header, ReadFault, Reader, Tag, send_map, write, write_map};
 use byte_streams::fakes::PieceSink;
 use entry_planner::{plan, plan_map};
 use permission_map::PermissionMap;
+use plan_certificate::{Header, ReadFault, Reader, Tag, send_map, write, write_map};
 use pmp_encoding::{Limit, Perm};
 use prefix_tree::build;
 use std::alloc::Global;

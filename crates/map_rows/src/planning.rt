@@ -1,5 +1,4 @@
-use super::*;
-use crate::costs::add_costs;
+use entry_planner::{Plan, plan, plan_map};
 use permission_map::PermissionMap;
 use pmp_encoding::{Bank, Limit, Perm};
 use prefix_tree::{Tree, build};
@@ -231,16 +230,13 @@ fn one_shared_page_more_needs_one_entry_more(rt: HostRuntime) -> Result<(), Fail
 fn the_lower_half_costs_one_under_either_permission(rt: HostRuntime) -> Result<(), Fail> {
     let ranges = [(0, 1 << 43, Perm::ReadWriteExecute)];
     let tree = tree_of(rt.alloc(), &ranges)?;
-    let mut costs = Vec::new(rt.alloc());
-    let mut halves = Vec::new(rt.alloc());
-    assert!(rt; tree.branches() < 1 << 32);
-    let whole = add_costs(&tree.root(), &mut costs, &mut halves)?;
-    assert_eq!(rt; whole.least, 1);
-    assert_eq!(rt; whole.best.bits, 0x21);
     let plan = plan(rt.alloc(), &tree)?;
     assert_eq!(rt; plan.branches(), 1);
     assert_eq!(rt; plan.cost(0, Perm::NoAccess), 1);
     assert_eq!(rt; plan.cost(0, Perm::Read), 2);
+    assert_eq!(rt; plan.cost(0, Perm::ReadWrite), 2);
+    assert_eq!(rt; plan.cost(0, Perm::Execute), 2);
+    assert_eq!(rt; plan.cost(0, Perm::ReadExecute), 2);
     assert_eq!(rt; plan.cost(0, Perm::ReadWriteExecute), 1);
     Ok(())
 }

@@ -1,4 +1,4 @@
-use crate::{Layout, Measure, word};
+use measurement::{Layout, Measure, word};
 
 const NOTHING: Layout = Layout {
     text_pages: 0,

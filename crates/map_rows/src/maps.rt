@@ -1,4 +1,4 @@
-use crate::{MapBuilder, MapFault, PermissionMap, Run};
+use permission_map::{MapBuilder, MapFault, PermissionMap, Run};
 use pmp_encoding::Perm;
 use std::alloc::Global;
 use std::process::Abort;

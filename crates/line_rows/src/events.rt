@@ -1,4 +1,4 @@
-use crate::{Event, parse_line};
+use hart_trace::{Event, parse_line};
 use pmp_match::{Kind, Mode};
 
 fn access(line: &[u8]) -> Option<(Mode, Kind, u8, u64, u64)> {

@@ -1,4 +1,4 @@
-use crate::{Contexts, Hart, switch};
+use context_switch::{Contexts, Hart, switch};
 use pmp_encoding::{Bank, Entry, Limit, Perm, Region};
 use sbi_decode::Registers;
 use std::test::Fail;

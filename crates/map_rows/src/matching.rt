@@ -1,5 +1,5 @@
-use super::*;
 use pmp_encoding::{Bank, Entry, Limit, Perm, Region};
+use pmp_match::{Access, Cause, Kind, Mode, judge};
 use std::test::Fail;
 
 /// The entry on the block, where there is such a block.

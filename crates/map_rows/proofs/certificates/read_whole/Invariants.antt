@@ -1,5 +1,5 @@
 use Rattle.std.proofs.Common.{length}
-use Rattle.plan_certificate.proofs.tests.read_whole.Given as goal
+use Rattle.map_rows.proofs.certificates.read_whole.Given as goal
 
 abbrev pub decreases-loop-open : goal.decreases-loop-open
 decreases-loop-open l = length l.reader

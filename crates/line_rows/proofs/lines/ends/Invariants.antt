@@ -1,5 +1,5 @@
 use Rattle.std.proofs.Common.{◌≡◌}
-use Rattle.text_lines.proofs.tests.ends.Given as goal
+use Rattle.line_rows.proofs.lines.ends.Given as goal
 
 abbrev pub invariant-loop : goal.invariant-loop
 invariant-loop l = l.source.failures ≡ 0

@@ -1,4 +1,4 @@
-use crate::{Call, EXTENSION_ID, NotSupported, Registers, decode};
+use sbi_decode::{Call, EXTENSION_ID, NotSupported, Registers, decode};
 
 const A0: usize = 10;
 

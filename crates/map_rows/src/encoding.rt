@@ -1,4 +1,4 @@
-use super::*;
+use pmp_encoding::{Bank, EncodingFault, Entry, Extent, Limit, Perm, Region, decode};
 use std::process::Abort;
 use std::test::Fail;
 

@@ -1,4 +1,4 @@
-use super::*;
+use page_views::{PAGE_SIZE, PageRange, SPACE_PAGES, SPACE_SIZE, pages_of};
 
 #[test]
 fn pages_and_ranges(rt: HostRuntime) {

@@ -1,0 +1,20 @@
+//! Worked rows of the way from a map to its entries and their certificate, as tests alone: pairs and banks, judgements,
+//! maps, plans, and certificates byte by byte.
+//!
+//! They stand apart from the crates that they are of so that the gate proves each of these once.
+#![tactic(auto)]
+
+#[cfg(test)]
+mod certificate_parts;
+#[cfg(test)]
+mod certificates;
+#[cfg(test)]
+mod encoding;
+#[cfg(test)]
+mod maps;
+#[cfg(test)]
+mod matching;
+#[cfg(test)]
+mod pages;
+#[cfg(test)]
+mod planning;
