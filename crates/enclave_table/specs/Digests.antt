@@ -1,5 +1,5 @@
 -- What is measured of an enclave, and the words of its digest.
-use Rattle.std.specs.Prelude.{◌≡◌, ℕ, ◌+◌, ◌/◌, List, [], ◌∷◌, ◌*◌, zero, suc, ◌++◌, drop}
+use Rattle.std.specs.Prelude.{◌≡◌, ℕ, ◌+◌, ◌/◌, List, [], ◌∷◌, ◌*◌, zero, suc, ◌++◌, drop, replicate}
 use Rattle.byteorder.specs.Endian.{little_number}
 use Rattle.measurement.specs.Measured.{digest_of}
 use Rattle.measurement.specs.declared.measured.Layout.{Layout}
@@ -14,6 +14,10 @@ use Rattle.enclave_table.specs.declared.request.Create.{Create}
 abbrev pub pages_from : (ℕ → List ℕ) → ℕ → ℕ → List (List ℕ)
 pages_from pages first zero = []
 pages_from pages first (suc count) = pages_from pages first count ++ (pages (first + count) ∷ [])
+
+-- the bytes of a page that was never written
+abbrev pub blank_page : List ℕ
+blank_page = replicate 4096 0
 
 -- what is measured beside them
 abbrev pub layout_of : Create → Layout

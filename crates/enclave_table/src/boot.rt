@@ -91,6 +91,7 @@ impl Table {
             lists,
             host_tree: tree,
             host_list: list,
+            blank: None,
         })
     }
 }

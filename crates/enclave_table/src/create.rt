@@ -1,6 +1,8 @@
 ghost use Rattle.std.specs.Prelude.{◌≡◌, ◌<◌, ◌≤◌, ◌-◌, IfOk, OnOk, IfErr, OnErr, Some, None, slice_set};
 ghost use Rattle.enclave_table.specs.Enclaves.{with_enclave};
 ghost use Rattle.enclave_table.specs.Tables.{IsCurrent, IsKept, IsHostTree};
+ghost use Rattle.enclave_table.specs.Requests.{HasCounts, HasPlaces};
+ghost use Rattle.enclave_table.specs.Digests.{measured};
 ghost use Rattle.enclave_table.specs.Creating.{Creates, RefusesCreate};
 ghost use Rattle.enclave_table.specs.Destroying.{Destroys, RefusesDestroy};
 
@@ -14,6 +16,16 @@ use pmp_encoding::Perm;
 use worlds::World;
 
 impl Table {
+    /// The digest of an enclave with these parts, over its private pages as they are.
+    fn digest_of<P: Pages>(&mut self, pages: &P, parts: &Create) -> [u8; 32]
+        requires counts { HasCounts parts.now }
+        requires places { HasPlaces parts.now }
+        ensures value { result ≡ measured (P.bytes_of pages.now) parts.now }
+        ensures kept { self.new ≡ self.old }
+    {
+        digest(&mut self.blank, pages, parts)
+    }
+
     /// Creates an enclave. Nothing is changed before all that can be refused has been done.
     pub fn create<P: Pages>(
         &mut self,
@@ -31,10 +43,11 @@ impl Table {
         let id = self.checked_create(world, &parts)?;
         let host = self.host_with(parts.private_pages(), Perm::NoAccess)?;
         let list = enclave_list(self.alloc(), self.limit(), &parts)?;
+        let digest = self.digest_of(pages, &parts);
         let enclave = Enclave {
             parts,
             state: State::Fresh,
-            digest: digest(pages, &parts),
+            digest,
         };
         self.place(id, Some(enclave), host, list);
         Ok(id)

@@ -1,6 +1,8 @@
-ghost use Rattle.std.specs.Prelude.{◌≡◌, ℕ, ◌<◌, ◌^◌, List};
+ghost use Rattle.std.specs.Prelude.{◌≡◌, ℕ, ◌+◌, ◌<◌, ◌≤◌, ◌==◌, ◌^◌, List, IfSome, true};
+ghost use Rattle.std.specs.List.{list_all};
+ghost use Rattle.measurement.specs.Measured.{digest_of};
 ghost use Rattle.enclave_table.specs.Requests.{HasCounts, HasPlaces};
-ghost use Rattle.enclave_table.specs.Digests.{layout_of, measured};
+ghost use Rattle.enclave_table.specs.Digests.{blank_page, layout_of, measured, pages_from};
 
 use crate::request::Create;
 use measurement::{Layout, Measure};
@@ -28,8 +30,43 @@ fn layout(parts: &Create) -> Layout
     }
 }
 
+/// Whether each byte of a page is zero. Each is looked at in any case, so that many can be at once.
+fn is_blank(page: &[u8; 4096]) -> bool
+    ensures { result ≡ list_all (λ b. b == 0) page.now }
+{
+    let mut all = true;
+    for b in page {
+        all = all & (*b == 0);
+    }
+    all
+}
+
+/// Whether so many pages from one on have no byte but zeros.
+fn are_blank<P: Pages>(pages: &P, first: u64, count: u64) -> bool
+    requires { first + count ≤ 2 ^ 44 }
+    ensures { result ≡ true → (i : ℕ) → i < count → P.bytes_of pages.now (first + i) ≡ blank_page }
+{
+    let mut bytes = [0; 4096];
+    for i in 0..count {
+        pages.copy_page(first + i, &mut bytes);
+        if !is_blank(&bytes) {
+            return false;
+        }
+    }
+    true
+}
+
+/// The digest over pages of zeros alone, with its layout. Most enclaves are made of pages that were never written, and many
+/// with one layout.
+#[derive(Drop)]
+pub(crate) struct BlankDigest {
+    layout: Layout,
+    digest: [u8; 32],
+    ghost taken: { digest ≡ digest_of layout (pages_from (λ page. blank_page) 0 (layout.text_pages + layout.data_pages)) },
+}
+
 /// The digest of an enclave with these parts, over its private pages as they are.
-pub(crate) fn digest<P: Pages>(pages: &P, parts: &Create) -> [u8; 32]
+fn taken<P: Pages>(pages: &P, parts: &Create) -> [u8; 32]
     requires counts { HasCounts parts.now }
     requires places { HasPlaces parts.now }
     ensures { result ≡ measured (P.bytes_of pages.now) parts.now }
@@ -43,4 +80,30 @@ pub(crate) fn digest<P: Pages>(pages: &P, parts: &Create) -> [u8; 32]
         measure.page(&bytes);
     }
     measure.finish()
+}
+
+/// The digest of an enclave with these parts, over its private pages as they are. Where they are blank, it is the last one
+/// of such pages if that had the same layout, and else it is kept.
+pub(crate) fn digest<P: Pages>(
+    last: &mut Option<BlankDigest>,
+    pages: &P,
+    parts: &Create,
+) -> [u8; 32]
+    requires counts { HasCounts parts.now }
+    requires places { HasPlaces parts.now }
+    ensures { result ≡ measured (P.bytes_of pages.now) parts.now }
+{
+    let range = parts.private_pages();
+    if !are_blank(pages, range.first, range.count) {
+        return taken(pages, parts);
+    }
+    let layout = layout(parts);
+    if let Some(blank) = last {
+        if blank.layout == layout {
+            return blank.digest;
+        }
+    }
+    let digest = taken(pages, parts);
+    *last = Some(BlankDigest { layout, digest });
+    digest
 }

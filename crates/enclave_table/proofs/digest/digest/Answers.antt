@@ -1,29 +1,25 @@
-use Rattle.std.proofs.Common.{ℕ, ◌≡◌, ◌∙◌, ◌+◌, ◌/◌, ◌++◌, sym, ap, subst, List, [], ◌∷◌, refl, add-one, arith}
-use Rattle.measurement.specs.Progress.{HasMeasured}
-use Rattle.measurement.specs.Measured.{digest_of}
-use Rattle.enclave_table.specs.Digests.{layout_of, pages_from}
+use Rattle.std.proofs.Common.{◌≡◌, ℕ, ◌+◌, ◌/◌, ◌<◌, ◌∙◌, true, sym, subst, arith}
+use Rattle.std.proofs.lemmas.Grind.{common_steps}
 use Rattle.page_views.specs.declared.pages.PageRange.{PageRange}
+use Rattle.enclave_table.specs.Digests.{blank_page, layout_of}
+use Rattle.enclave_table.proofs.BlankPages.{measured_alike, same_layout}
 use Rattle.enclave_table.proofs.digest.digest.Goals as goal
 
-more : (pages : ℕ → List ℕ) (first n : ℕ) → pages_from pages first (n + 1) ≡ pages_from pages first n ++ (pages (first + n) ∷ [])
-more pages first n = rw add-one refl
-
-pub loop-i-preserved : goal.loop-i-preserved
-loop-i-preserved g c =
-    let bytes_of = g.P.Pages.bytes_of c.args.pages.now in
-    let first = c.args.parts.now.base / 4096 in
-    let begins : c.private_pages-range.result.first ≡ first = ap (λ (r : PageRange). r.first) c.private_pages-range.ensures.value in
-    let bytes : c.copy_page.new.into ≡ bytes_of (first + c.loop-i.i) = c.copy_page.ensures ∙ ap (λ n. bytes_of (n + c.loop-i.i)) begins in
-    let P : List (List ℕ) → Type 0 = λ pages. HasMeasured c.page.new.self (layout_of c.args.parts.now) pages in
-    let all : pages_from bytes_of first c.loop-i.i ++ (c.copy_page.new.into ∷ []) ≡ pages_from bytes_of first (c.loop-i.i + 1) =
-    ap (λ b. pages_from bytes_of first c.loop-i.i ++ (b ∷ [])) bytes ∙ sym (more bytes_of first c.loop-i.i) in
-    subst P all (c.page.ensures (layout_of c.args.parts.now) (pages_from bytes_of first c.loop-i.i) c.loop-i.invariant)
-
-pub returns : goal.returns
-returns g c =
+pub returns-then-eq : goal.returns-then-eq
+returns-then-eq g c =
     let bytes_of = g.P.Pages.bytes_of c.args.pages.now in
     let parts = c.args.parts.now in
-    let count : c.private_pages-range.result.count ≡ parts.text_pages + parts.data_pages = ap (λ (r : PageRange). r.count) c.private_pages-range.ensures.value in
-    let all : c.loop-i.i ≡ parts.text_pages + parts.data_pages = omega (arith, count, c.loop-i-test.false, c.loop-i.auto.i-end) in
-    c.finish.ensures (layout_of parts) (pages_from bytes_of (parts.base / 4096) c.loop-i.i) c.loop-i.invariant
-    ∙ ap (λ n. digest_of (layout_of parts) (pages_from bytes_of (parts.base / 4096) n)) all
+    let B : PageRange → Type 0 = λ r. (i : ℕ) → i < r.count → bytes_of (r.first + i) ≡ blank_page in
+    let yes : c.are_blank.result ≡ true = grind (arith, common_steps, c.if-not-are_blank.false, c.if-not-are_blank.ensures) in
+    let blank : (i : ℕ) → i < parts.text_pages + parts.data_pages → bytes_of (parts.base / 4096 + i) ≡ blank_page = subst B c.private_pages-range.ensures.value (c.are_blank.ensures yes) in
+    let same : c.in-Some.blank.layout ≡ layout_of parts = same_layout c.in-Some.blank.layout c.layout-layout.result (sym c.if-eq.ensures) ∙ c.layout-layout.ensures in
+    c.in-Some.blank.taken ∙ measured_alike blank_page bytes_of parts c.in-Some.blank.layout same blank
+
+pub invariant_of-last : goal.invariant_of-last
+invariant_of-last g c =
+    let bytes_of = g.P.Pages.bytes_of c.args.pages.now in
+    let parts = c.args.parts.now in
+    let B : PageRange → Type 0 = λ r. (i : ℕ) → i < r.count → bytes_of (r.first + i) ≡ blank_page in
+    let yes : c.are_blank.result ≡ true = grind (arith, common_steps, c.if-not-are_blank.false, c.if-not-are_blank.ensures) in
+    let blank : (i : ℕ) → i < parts.text_pages + parts.data_pages → bytes_of (parts.base / 4096 + i) ≡ blank_page = subst B c.private_pages-range.ensures.value (c.are_blank.ensures yes) in
+    record { taken = c.taken-digest.ensures ∙ sym (measured_alike blank_page bytes_of parts c.layout-layout.result c.layout-layout.ensures blank) }

@@ -1,5 +1,4 @@
-use Rattle.std.proofs.Common.{◌≡◌, ◌∙◌, length, arith}
-use Rattle.pmp_match.specs.Meaning.{Means, Needs}
+use Rattle.std.proofs.Common.{◌≡◌, ◌∙◌, arith}
 use Rattle.enclave_table.proofs.fewest.listed.Goals as goal
 
 pub returns-clause-list : goal.returns-clause-list

@@ -48,15 +48,16 @@ place-requires-clause-kept g c =
     let parts : Create = c.kept-parts.result in
     let range : PageRange = c.private_pages.result in
     let free = c.in_ok-id.ensures.next.free in
-    let e : Enclave = record { parts = parts; state = Fresh; digest = c.digest.result } in
+    let e : Enclave = record { parts = parts; state = Fresh; digest = c.digest_of-digest.result } in
     let L : Limit → Type 0 = λ l. IsListOf l (enclave_view parts) c.in_ok-list.list in
-    added_kept c.args.self.now c.in_ok-id.id e c.in_ok-host.host.list c.in_ok-list.list (free_place old c.in_ok-id.id c.rules.ensures.table free.0 free.1) c.rules.ensures.kept
+    rw c.digest_of-digest.ensures.kept
+    (added_kept c.args.self.now c.in_ok-id.id e c.in_ok-host.host.list c.in_ok-list.list (free_place old c.in_ok-id.id c.rules.ensures.table free.0 free.1) c.rules.ensures.kept
     (sound_from old c.args.world parts c.in_ok-id.ensures.passes) (apart_from old c.args.world parts c.in_ok-id.ensures.passes)
     (list_same old.layout.limit (overwritten (host_view old) range.first range.count NoAccess) (host_view (with_enclave old c.in_ok-id.id (Some e))) c.in_ok-host.host.list
     (along (host_view old) (host_view (with_enclave old c.in_ok-id.id (Some e))) range (private_range parts) NoAccess c.private_pages.ensures.value
     (host_added old c.in_ok-id.id e (free_place old c.in_ok-id.id c.rules.ensures.table free.0 free.1) free.2))
     c.in_ok-host.ensures.list)
-    (subst L c.limit.ensures c.in_ok-list.ensures.list)
+    (subst L c.limit.ensures c.in_ok-list.ensures.list))
 
 pub place-requires-clause-tree : goal.place-requires-clause-tree
 place-requires-clause-tree g c =
@@ -64,14 +65,15 @@ place-requires-clause-tree g c =
     let parts : Create = c.kept-parts.result in
     let range : PageRange = c.private_pages.result in
     let free = c.in_ok-id.ensures.next.free in
-    let e : Enclave = record { parts = parts; state = Fresh; digest = c.digest.result } in
-    record {
+    let e : Enclave = record { parts = parts; state = Fresh; digest = c.digest_of-digest.result } in
+    rw c.digest_of-digest.ensures.kept
+    (record {
       means = tree_same (overwritten (host_view old) range.first range.count NoAccess) (host_view (with_enclave old c.in_ok-id.id (Some e))) c.in_ok-host.host.tree
           (along (host_view old) (host_view (with_enclave old c.in_ok-id.id (Some e))) range (private_range parts) NoAccess c.private_pages.ensures.value
           (host_added old c.in_ok-id.id e (free_place old c.in_ok-id.id c.rules.ensures.table free.0 free.1) free.2))
           c.in_ok-host.ensures.means;
       canonical = c.in_ok-host.ensures.canonical;
-    }
+    })
 
 pub returns-clause-done : goal.returns-clause-done
 returns-clause-done g c =
@@ -82,7 +84,7 @@ returns-clause-done g c =
     let e : Enclave = fresh (g.P.Pages.bytes_of c.args.pages.now) parts in
     let L : Limit → Type 0 = λ l. IsListOf l (enclave_view parts) c.in_ok-list.list in
     let added : c.place.new.self.table ≡ with_enclave old c.in_ok-id.id (Some e) =
-    ap (λ (k : Kept). k.table) c.place.ensures ∙ ap (λ (d : List ℕ). with_enclave old c.in_ok-id.id (Some (record { parts = parts; state = Fresh; digest = d }))) c.digest.ensures in
+    ap (λ (k : Kept). k.table) (rw c.digest_of-digest.ensures.kept at c.place.ensures) ∙ ap (λ (d : List ℕ). with_enclave old c.in_ok-id.id (Some (record { parts = parts; state = Fresh; digest = d }))) c.digest_of-digest.ensures.value in
     creates (g.P.Pages.bytes_of c.args.pages.now) old c.args.world c.args.asked parts c.in_ok-id.id c.place.new.self.table c.kept-parts.ensures c.in_ok-id.ensures.passes c.in_ok-id.ensures.next added
     (fits_same old.layout.limit (overwritten (host_view old) range.first range.count NoAccess) (host_view (with_enclave old c.in_ok-id.id (Some e)))
     (along (host_view old) (host_view (with_enclave old c.in_ok-id.id (Some e))) range (private_range parts) NoAccess c.private_pages.ensures.value
