@@ -16,7 +16,7 @@ use Rattle.certificate_check.specs.declared.refusal.CheckRefusal.TheVariants.{Co
 use Rattle.certificate_format.specs.declared.costs.SixCosts.{SixCosts}
 use Rattle.page_views.specs.Views.{IsUniform}
 use Rattle.certificate_check.specs.Later.{AgreeFrom}
-use Rattle.certificate_check.specs.Nodes.{IsRightNode, IsAllowed, IsTooLarge, IsTooHigh, BranchFault, NodeFault, overflow, too_high, IsNodeRead, IsAnswer}
+use Rattle.certificate_check.specs.Nodes.{IsRightNode, IsAllowed, IsTooLarge, BranchFault, NodeFault, overflow, too_high, IsNodeRead, IsAnswer}
 
 -- functions that agree everywhere are one
 pub same_function : (f g : Perm → ℕ) → ((p : Perm) → f p ≡ g p) → f ≡ g
@@ -139,7 +139,9 @@ pub branch_fault :
 branch_fault view k half first bytes rest costs f g lower upper CostOverflow is spelled small low high p q fault =
     overflow half costs lower upper rest is spelled low high (subst (λ (x : Perm → ℕ). IsTooLarge (bound_of lower) x) q (subst (λ (x : Perm → ℕ). IsTooLarge x g) p fault))
 branch_fault view k half first bytes rest costs f g lower upper CostTooHigh is spelled small low high p q fault =
-    too_high half costs lower upper rest is spelled small low high (subst (λ (x : Perm → ℕ). IsTooHigh costs (bound_of lower) x) q (subst (λ (x : Perm → ℕ). IsTooHigh costs x g) p fault))
+    let here : BranchFault costs (bound_of lower) (bound_of upper) CostTooHigh =
+    subst (λ (x : Perm → ℕ). BranchFault costs (bound_of lower) x CostTooHigh) q (subst (λ (x : Perm → ℕ). BranchFault costs x g CostTooHigh) p fault) in
+    too_high half costs lower upper rest is spelled small low high here.0 here.1
 branch_fault view k half first bytes rest costs f g lower upper refusal is spelled small low high p q fault = absurd fault
 
 -- the answer to a right branch

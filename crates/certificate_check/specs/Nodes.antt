@@ -23,9 +23,13 @@ pub record IsRightNode (view : View) (k first : ℕ) (tree : BoundTree) : Type 0
 abbrev pub AreNumbersOf : BoundTree → SixCosts → Type 0
 AreNumbersOf tree numbers = (p : Perm) → cost_of numbers p ≡ bound_of tree p
 
--- the costs of a split block are allowed by the halves' numbers, and one more than any sum of them has four bytes
+-- one more than each sum of the halves' numbers has four bytes
+abbrev pub HaveSums : (Perm → ℕ) → (Perm → ℕ) → Type 0
+HaveSums lower upper = (p : Perm) → lower p + upper p + 1 < 2 ^ 32
+
+-- the costs of a split block are allowed by the halves' numbers, whose sums have four bytes
 pub record IsAllowed (costs lower upper : Perm → ℕ) : Type 0 where
-  pub sums : (p : Perm) → lower p + upper p + 1 < 2 ^ 32
+  pub sums : HaveSums lower upper
   pub same : (p : Perm) → costs p ≤ lower p + upper p
   pub any : (p q : Perm) → costs p ≤ 1 + (lower q + upper q)
 
@@ -37,10 +41,10 @@ IsTooLarge lower upper = (p : Perm) × (2 ^ 32 ≤ lower p + upper p + 1)
 abbrev pub IsTooHigh : (Perm → ℕ) → (Perm → ℕ) → (Perm → ℕ) → Type 0
 IsTooHigh costs lower upper = (p : Perm) × (q : Perm) × ((lower p + upper p < costs p) ⊎ (1 + (lower q + upper q) < costs p))
 
--- the fault of a refusal stands in the costs of a split block
+-- the fault of a refusal stands in the costs of a split block: sums that are too large come before costs that are too high
 abbrev pub BranchFault : (Perm → ℕ) → (Perm → ℕ) → (Perm → ℕ) → CheckRefusal → Type 0
 BranchFault costs lower upper CostOverflow = IsTooLarge lower upper
-BranchFault costs lower upper CostTooHigh = IsTooHigh costs lower upper
+BranchFault costs lower upper CostTooHigh = HaveSums lower upper × IsTooHigh costs lower upper
 BranchFault costs lower upper _ = ⊥
 
 -- the fault of a refusal stands in the node at the front of the bytes, for the 2 ^ k pages from `first` on
@@ -54,7 +58,9 @@ pub data NodeFault (view : View) : ℕ → ℕ → List ℕ → CheckRefusal →
       {k first : ℕ} {bytes : List ℕ} (perm other : Perm) (rest : List ℕ) → bytes ≡ 0 ∷ bits_of perm ∷ rest → IsUniform view k first other → perm ≢ other
       → NodeFault view k first bytes WrongLeaf
   a_page : {k first : ℕ} {bytes : List ℕ} (rest : List ℕ) → bytes ≡ 1 ∷ rest → k ≡ 0 → NodeFault view k first bytes TooDeep
-  in_costs : {k first : ℕ} {bytes : List ℕ} (rest : List ℕ) (fault : ReadFault) → bytes ≡ 1 ∷ rest → ShortFault 24 rest fault → NodeFault view k first bytes (refusal_of fault)
+  in_costs :
+      {k first : ℕ} {bytes : List ℕ} (half : ℕ) (rest : List ℕ) (fault : ReadFault) → k ≡ suc half → bytes ≡ 1 ∷ rest → ShortFault 24 rest fault
+      → NodeFault view k first bytes (refusal_of fault)
   in_lower :
       {k first : ℕ} {bytes : List ℕ} (half : ℕ) (costs : Perm → ℕ) (rest : List ℕ) (refusal : CheckRefusal) → k ≡ suc half → bytes ≡ 1 ∷ (costs_bytes costs ++ rest)
       → NodeFault view half first rest refusal → NodeFault view k first bytes refusal
@@ -69,7 +75,7 @@ pub data NodeFault (view : View) : ℕ → ℕ → List ℕ → CheckRefusal →
   too_high :
       {k first : ℕ} {bytes : List ℕ} (half : ℕ) (costs : Perm → ℕ) (lower upper : BoundTree) (rest : List ℕ) → k ≡ suc half
       → bytes ≡ 1 ∷ (costs_bytes costs ++ (node_bytes lower ++ (node_bytes upper ++ rest))) → ((p : Perm) → costs p < 2 ^ 32) → IsRightNode view half first lower
-      → IsRightNode view half (first + 2 ^ half) upper → IsTooHigh costs (bound_of lower) (bound_of upper) → NodeFault view k first bytes CostTooHigh
+      → IsRightNode view half (first + 2 ^ half) upper → HaveSums (bound_of lower) (bound_of upper) → IsTooHigh costs (bound_of lower) (bound_of upper) → NodeFault view k first bytes CostTooHigh
 
 -- a right node stood at the front of the bytes, with these numbers, and was read
 pub record IsNodeRead (view : View) (k first : ℕ) (bytes rest : List ℕ) (numbers : SixCosts) : Type 0 where

@@ -47,9 +47,10 @@ pub returns-in_err-costs-in-Branch-clause-fault : goal.returns-in_err-costs-in-B
 returns-in_err-costs-in-Branch-clause-fault t c =
     λ view same.
     let tag : c.args.reader.now ≡ 1 ∷ c.tag.new.self = c.in_ok-tag.ensures.read ∙ ap (λ x. tag_byte x ∷ c.tag.new.self) c.in-Branch.is in
+    let half : c.args.log2 ≡ suc (c.args.log2 - 1) = omega arith in
     refused c.from_residual-in_err-costs-in-Branch.result c.in_err-costs-in-Branch.field-0.0 (NodeFault view c.args.log2 c.args.first c.args.reader.now)
     c.from_residual-in_err-costs-in-Branch.ensures.1
-    (in_costs c.tag.new.self c.in_err-costs-in-Branch.field-0.0 tag ((c.in_err-costs-in-Branch.ensures.fault c.in_err-costs-in-Branch.field-0.0).0 refl))
+    (in_costs (c.args.log2 - 1) c.tag.new.self c.in_err-costs-in-Branch.field-0.0 half tag ((c.in_err-costs-in-Branch.ensures.fault c.in_err-costs-in-Branch.field-0.0).0 refl))
 
 pub node-requires : goal.node-requires
 node-requires t c =

@@ -23,10 +23,13 @@ returns-then-are_too_high-clause-fault c =
     let high = c.are_too_high.ensures.high c.if-are_too_high.true in
     let p : Perm = high.0 in
     let q : Perm = high.1 in (
-      p,
-      q,
-      ⊎_elim (λ over. inl (omega (arith, over, c.in-Some.ensures.sums p)))
-          (λ over. inr (omega (arith, over, c.in-Some.ensures.sums q))) high.2,
+      (λ r. omega (arith, c.in-Some.ensures.sums r, c.in-Some.ensures.small r)),
+      (
+        p,
+        q,
+        ⊎_elim (λ over. inl (omega (arith, over, c.in-Some.ensures.sums p)))
+            (λ over. inr (omega (arith, over, c.in-Some.ensures.sums q))) high.2,
+      ),
     )
 
 pub returns-clause-allowed : goal.returns-clause-allowed
