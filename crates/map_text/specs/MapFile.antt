@@ -86,13 +86,14 @@ IsUnknown map says = says ≡ None
 abbrev pub MakesTooMany : List Run → Option (Option Run) → Type 0
 MakesTooMany map says = (setting : Run) × (says ≡ Some (Some setting)) × SetsTooMany map setting
 
--- one setting would lead from a map to one of more ranges, at most 4096: memory can be refused for it
-pub record SetsMore (before : List Run) (setting : Run) : Type 0 where
+-- one setting would lead from a map of no range to one of some, at most 4096: memory can be refused for it
+pub record SetsFirst (before : List Run) (setting : Run) : Type 0 where
+  pub none : before ≡ []
   pub runs : List Run
   pub overwritten : AreOverwritten before setting.first setting.count setting.perm runs
-  pub more : length before < length runs
+  pub some : 0 < length runs
   pub most : length runs ≤ 4096
 
--- a line after which there would be more ranges
-abbrev pub MakesMore : List Run → Option (Option Run) → Type 0
-MakesMore map says = (setting : Run) × (says ≡ Some (Some setting)) × SetsMore map setting
+-- a line after which there would be the first ranges
+abbrev pub MakesFirst : List Run → Option (Option Run) → Type 0
+MakesFirst map says = (setting : Run) × (says ≡ Some (Some setting)) × SetsFirst map setting

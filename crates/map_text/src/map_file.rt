@@ -3,7 +3,7 @@
 ghost use Rattle.std.specs.Prelude.{◌≡◌, ℕ, ◌+◌, ◌-◌, ◌^◌, ◌<◌, Err, IfErr, IfOk, None, OnOk, length};
 ghost use Rattle.text_lines.specs.LineReaders.{came_of, most_of};
 ghost use Rattle.map_text.specs.Lines.{NextOf};
-ghost use Rattle.map_text.specs.MapFile.{FaultAt, IsUnknown, Leads, Makes, MakesMore, MakesTooMany, line_says};
+ghost use Rattle.map_text.specs.MapFile.{FaultAt, IsUnknown, Leads, Makes, MakesFirst, MakesTooMany, line_says};
 
 use crate::map_lines::line_says;
 use permission_map::{MapBuilder, MapFault, PermissionMap};
@@ -20,7 +20,7 @@ pub enum MapFileFault {
     /// After some line there would be more than 4096 ranges.
     #[error("too many ranges")]
     TooManyRanges,
-    /// Memory was refused, for a line after which there would be more ranges than before.
+    /// Memory was refused, for the first range or for the map at the end.
     #[error("out of memory")]
     Memory,
 }
@@ -54,7 +54,7 @@ fn follow(map: &mut MapBuilder, line: &[u8]) -> Result<(), LineFault>
     ensures said { OnOk result (Leads (line_says line.now) map.old map.new) }
     ensures unknown { result ≡ Err LineFault.NotUnderstood → line_says line.now ≡ None }
     ensures many { result ≡ Err LineFault.TooManyRanges → MakesTooMany map.old (line_says line.now) }
-    ensures memory { result ≡ Err LineFault.Memory → MakesMore map.old (line_says line.now) }
+    ensures memory { result ≡ Err LineFault.Memory → MakesFirst map.old (line_says line.now) }
 {
     let Ok(said) = line_says(line) else {
         return Err(LineFault::NotUnderstood);
@@ -79,7 +79,7 @@ pub fn map_of(alloc: Global, bytes: &[u8]) -> Result<PermissionMap, MapFileFault
     ensures made { IfOk result (Makes bytes.now) }
     ensures unknown { IfErr result (λ fault. (n : ℕ) → fault ≡ MapFileFault.Line n → FaultAt bytes.now n IsUnknown) }
     ensures many { result ≡ Err MapFileFault.TooManyRanges → (n : ℕ) × FaultAt bytes.now n MakesTooMany }
-    ensures memory { result ≡ Err MapFileFault.Memory → (n : ℕ) × FaultAt bytes.now n MakesMore }
+    ensures memory { result ≡ Err MapFileFault.Memory → (n : ℕ) × FaultAt bytes.now n MakesFirst }
 {
     let mut map = MapBuilder::new(alloc);
     let mut lines = LineReader::with_limit(u64::MAX);

@@ -4,7 +4,7 @@ use Rattle.std.specs.Borrow.{Bor}
 use Rattle.std.specs.Io.KnownBytes.{Consumes}
 use Rattle.map_text.specs.declared.map_file.MapFileFault.{MapFileFault}
 use Rattle.map_text.specs.declared.map_file.MapFileFault.TheVariants as maps
-use Rattle.map_text.specs.MapFile.{FaultAt, IsUnknown, MakesMore, MakesTooMany}
+use Rattle.map_text.specs.MapFile.{FaultAt, IsUnknown, MakesFirst, MakesTooMany}
 use Rattle.monitor_cli.specs.declared.whole.WholeFault.{WholeFault}
 use Rattle.monitor_cli.specs.declared.whole.WholeFault.TheVariants as whole
 use Rattle.enclave_table.specs.Platform.{Layout}
@@ -29,7 +29,7 @@ pub map_fault :
     (bytes : List ℕ) (fault : MapFileFault)
     → ((n : ℕ) → fault ≡ maps.Line n → FaultAt bytes n IsUnknown)
     → (fault ≡ maps.TooManyRanges → (n : ℕ) × FaultAt bytes n MakesTooMany)
-    → (fault ≡ maps.Memory → (n : ℕ) × FaultAt bytes n MakesMore)
+    → (fault ≡ maps.Memory → (n : ℕ) × FaultAt bytes n MakesFirst)
     → IsMapFault bytes fault
 map_fault bytes (maps.Line n) unknown many more = unknown n refl
 map_fault bytes maps.TooManyRanges unknown many more = many refl

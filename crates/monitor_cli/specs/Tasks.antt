@@ -12,7 +12,7 @@ use Rattle.hart_sim.specs.Machines.{KeepsBanksRight, state_of}
 use Rattle.hart_sim.specs.States.{SameState, opening}
 use Rattle.map_text.specs.declared.map_file.MapFileFault.{MapFileFault}
 use Rattle.map_text.specs.declared.map_file.MapFileFault.TheVariants as maps
-use Rattle.map_text.specs.MapFile.{FaultAt, IsUnknown, MakesMore, MakesTooMany}
+use Rattle.map_text.specs.MapFile.{FaultAt, IsUnknown, MakesFirst, MakesTooMany}
 use Rattle.text_lines.specs.declared.fault.RunFault.{RunFault}
 use Rattle.text_lines.specs.declared.fault.RunFault.TheVariants as runs
 use Rattle.text_lines.specs.LineLoop.{Meaning, StopsAt, StopsForMemory, StopsReading, StopsTooLong, StopsWriting}
@@ -36,7 +36,7 @@ pub record IsFewest (view : View) (entries : List Entry) : Type 0 where
 abbrev pub IsMapFault : List ℕ → MapFileFault → Type 0
 IsMapFault bytes (maps.Line n) = FaultAt bytes n IsUnknown
 IsMapFault bytes maps.TooManyRanges = (n : ℕ) × FaultAt bytes n MakesTooMany
-IsMapFault bytes maps.Memory = (n : ℕ) × FaultAt bytes n MakesMore
+IsMapFault bytes maps.Memory = (n : ℕ) × FaultAt bytes n MakesFirst
 
 -- how the lines of an input stop being interpreted, by the fault
 abbrev pub Stops :

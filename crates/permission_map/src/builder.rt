@@ -21,7 +21,7 @@ const MOST_POINTS: usize = 2 * MOST_RUNS + 3;
 
 /// A map on which many ranges are set one after another, as the lines of a map file do. It is seen as the runs of the
 /// [`PermissionMap`] that it becomes. It keeps the pages at which the permission changes: a range replaces the few that
-/// lie in it, and what stands behind them moves at most once. Room for all is taken with the first run.
+/// lie in it by at most two. Room for all is taken with the first run.
 #[derive(Drop)]
 pub struct MapBuilder {
     alloc: Global,
@@ -95,6 +95,7 @@ fn overwrite(
     requires inside { first + count ≤ 2 ^ 44 }
     ensures built { IsBuilt points.new.items runs.new (vec_capacity points.new) }
     ensures wanted { (wanted : List Run) × AreOverwritten (runs_of points.old.items) first count perm wanted × Becomes (runs_of points.old.items) (runs_of points.new.items) wanted result }
+    ensures first { result ≡ Err MapFault.Memory → runs.old ≡ 0 }
 {
     if count == 0 {
         return Ok(());
@@ -142,6 +143,7 @@ impl MapBuilder {
         ensures past_end { (result ≡ Err MapFault.PastEnd) ↔ (2 ^ 44 < first + count) }
         ensures too_many { (result ≡ Err MapFault.TooManyRanges) ↔ ((first + count ≤ 2 ^ 44) × ((runs : List Run) × AreOverwritten self.old first count perm runs × (4096 < length runs))) }
         ensures memory { result ≡ Err MapFault.Memory → (runs : List Run) × AreOverwritten self.old first count perm runs × (length self.old < length runs) × (length runs ≤ 4096) }
+        ensures first { result ≡ Err MapFault.Memory → self.old ≡ [] }
     {
         if first > SPACE_PAGES || count > SPACE_PAGES - first {
             return Err(MapFault::PastEnd);

@@ -1,6 +1,5 @@
-ghost use Rattle.std.specs.Prelude.{◌≡◌, ◌≤◌, ◌<◌, ◌+◌, ◌^◌, ◌∷◌, ◌++◌, Some, All, List, length, take, drop, count_by, option_to_list, vec_len, vec_capacity};
+ghost use Rattle.std.specs.Prelude.{◌≡◌, ◌≤◌, ◌<◌, ◌+◌, ◌^◌, ◌++◌, Some, All, length, take, drop, count_by, option_to_list, vec_len, vec_capacity};
 ghost use Rattle.pmp_encoding.specs.declared.perm.Perm.TheVariants.{NoAccess};
-ghost use Rattle.permission_map.specs.declared.points.Point.{Point};
 ghost use Rattle.permission_map.specs.Points.{ArePoints, IsStop, IsTurn, allows, page_of, perm_of, standing};
 
 use page_views::SPACE_PAGES;
@@ -186,29 +185,6 @@ fn put(points: &mut Vec<Point>, at: usize, end: usize, point: Point) -> usize
     end + 1
 }
 
-/// Moves the points from `tail` on before those from `at` on.
-fn move_tail_to(points: &mut [Point], at: usize, tail: usize)
-    requires order { at ≤ tail }
-    requires inside { tail ≤ length points.old }
-    ensures { (front back : List Point) → points.old ≡ front ++ back → length front ≡ tail → points.new ≡ take at front ++ (back ++ drop at front) }
-{
-    points[at..].rotate_left(tail - at);
-}
-
-/// Puts two points in at an index. What stands from there on moves once.
-fn put_both(points: &mut Vec<Point>, at: usize, start: Point, stop: Point)
-    requires inside { at ≤ vec_len points.old }
-    requires room { vec_len points.old + 2 ≤ vec_capacity points.old }
-    ensures items { points.new.items ≡ take at points.old.items ++ start ∷ stop ∷ drop at points.old.items }
-    ensures room { vec_capacity points.old ≤ vec_capacity points.new }
-{
-    let tail = points.len();
-    let Ok(()) = points.extend_from_slice(&[start, stop]) else {
-        unreachable!();
-    };
-    move_tail_to(points, at, tail);
-}
-
 /// Puts at most two points in the place of those with the indices from `from` to before `to`.
 pub(crate) fn replace(
     points: &mut Vec<Point>,
@@ -223,11 +199,6 @@ pub(crate) fn replace(
     ensures items { points.new.items ≡ take from points.old.items ++ (option_to_list start ++ (option_to_list stop ++ drop to points.old.items)) }
     ensures room { vec_capacity points.old ≤ vec_capacity points.new }
 {
-    if let (Some(start), Some(stop)) = (start, stop) {
-        if from == to {
-            return put_both(points, from, start, stop);
-        }
-    }
     let mut at = from;
     let mut end = to;
     if let Some(start) = start {

@@ -2,7 +2,7 @@ use Rattle.std.proofs.Common.{⊎_elim, List, Err, ◌≡◌, ◌∙◌, ◌+◌
 use Rattle.std.proofs.lemmas.Bool.{cases_lt}
 use Rattle.permission_map.specs.declared.runs.Run.{Run}
 use Rattle.map_text.specs.Lines.{left_of, raw_lines}
-use Rattle.map_text.specs.MapFile.{IsUnknown, Leads, Makes, MakesMore, MakesTooMany, raw_says, start, line}
+use Rattle.map_text.specs.MapFile.{IsUnknown, Leads, Makes, MakesFirst, MakesTooMany, raw_says, start, line}
 use Rattle.map_text.proofs.FirstLine.{raw_lines-are}
 use Rattle.map_text.proofs.Followed.{fault_at, long_says, short_says}
 use Rattle.map_text.proofs.Growing.{grows}
@@ -46,7 +46,7 @@ returns-in-Err-Memory-clause-memory c = λ _.
     let first = rw c.in-Ok-true.field-0-test at c.in-Ok-true.ensures.next in
     let says = short_says first.0 c.line.result.now first.1.short (c.line.ensures ∙ first.1.text) in
     let more = c.in-Err-Memory.ensures.memory (ap (λ e. Err e) c.in-Err-Memory.field-0-is) in
-    (_, fault_at c.args.bytes.now _ MakesMore f.0 first.0 _ _ c.lines.map f.1 first.1.lines refl f.3 (subst (MakesMore c.lines.map) (sym says) more))
+    (_, fault_at c.args.bytes.now _ MakesFirst f.0 first.0 _ _ c.lines.map f.1 first.1.lines refl f.3 (subst (MakesFirst c.lines.map) (sym says) more))
 
 pub returns-in_default-clause-memory : goal.returns-in_default-clause-memory
 returns-in_default-clause-memory c = λ _. c.lines.invariant.grown c.in_default.ensures.memory
@@ -79,7 +79,7 @@ lines-preserved c =
       );
       grown = λ some.
           ⊎_elim (λ had. c.lines.invariant.grown had)
-          (λ none. (_, fault_at c.args.bytes.now _ MakesMore f.0 first.0 _ _ c.lines.map f.1 first.1.lines refl f.3 (grows _ _ _ none some leads)))
+          (λ none. (_, fault_at c.args.bytes.now _ MakesFirst f.0 first.0 _ _ c.lines.map f.1 first.1.lines refl f.3 (grows _ _ _ none some leads)))
           (cases_lt 0 (length c.lines.map));
       came = c.in-Ok-true.ensures.came ∙ c.lines.invariant.came;
       limit = c.in-Ok-true.ensures.limit ∙ c.lines.invariant.limit;
