@@ -1,10 +1,14 @@
--- The subcommand that was entered, by its name and its rows.
-use Rattle.std.proofs.Common.{List, Option, Some, None, Box, ◌≡◌, option_map}
+-- The subcommand that was entered, by its name and its rows, and the tasks that it may be.
+use Rattle.std.proofs.Common.{List, Option, Some, None, Result, Ok, Err, IfOk, IfErr, Box, ◌≡◌, ◌∙◌, ap, sym, option_map}
+use Rattle.std.specs.Option.{option_map_or}
 use Rattle.std.specs.Box.{box_value}
-use Rattle.clap.specs.Words.{Row, Text, subcommand_rows, subcommand_rows_of, subcommand_name_of}
+use Rattle.clap.specs.Words.{Row, Text, first_of, one_of, subcommand_rows, subcommand_rows_of, subcommand_name_of}
 use Rattle.clap.specs.declared.parser.matches.ArgMatches.{ArgMatches}
 use Rattle.clap.specs.declared.parser.matches.ArgMatches.TheViews.{out-ArgMatches, out-SubCommand}
 use Rattle.clap.specs.declared.parser.matches.SubCommand.{SubCommand}
+use Rattle.program_tasks.specs.declared.task.Task.{Task}
+use Rattle.program_tasks.specs.Tasks.{word_of, HasValues, NamesNone}
+use Rattle.command_line.specs.CommandLine.{AreNone, IsTask}
 
 joined : {Z : Type 0} (sub : Option (Box SubCommand Z)) (name : Text) (rows : List Row) → Some name ≡ option_map (λ b. (out-SubCommand (box_value b)).name.now) sub → Some rows ≡ option_map (λ p. p.1) (subcommand_rows sub) → subcommand_rows sub ≡ Some (name, rows)
 joined None name rows p q = cc
@@ -12,3 +16,34 @@ joined (Some b) name rows p q = cc
 
 pub entered : (m : ArgMatches) (name : Text) (rows : List Row) → Some name ≡ subcommand_name_of m → Some rows ≡ option_map (λ p. p.1) (subcommand_rows (out-ArgMatches m).subcommand) → subcommand_rows_of m ≡ Some (name, rows)
 entered m name rows p q = joined (out-ArgMatches m).subcommand name rows p q
+
+absent : {Z : Type 0} (sub : Option (Box SubCommand Z)) → None ≡ option_map (λ b. (out-SubCommand (box_value b)).name.now) sub → subcommand_rows sub ≡ None
+absent None p = cc
+absent (Some b) p = cc
+
+-- no task is a subcommand that was not entered
+pub none_entered : (m : ArgMatches) → None ≡ subcommand_name_of m → AreNone (subcommand_rows_of m)
+none_entered m p task (rows, e, values) sound = nothing _ _ (absent (out-ArgMatches m).subcommand p) e
+  where
+    nothing : (found : Option (Text × List Row)) (p : Text × List Row) → found ≡ None → found ≡ Some p → ⊥
+    nothing found p e f = cc
+
+pub with_rows :
+    {E : Type 0} (result : Result Task E) (found : Option (Text × List Row)) (name : Text) (rows : List Row) → found ≡ Some (name, rows)
+    → IfOk result (λ task. word_of task ≡ name) → IfOk result (HasValues (λ id. first_of id rows) (λ id. one_of id rows)) → IfOk result (IsTask found)
+with_rows (Ok task) found name rows e word values = (rows, rw (sym word) at e, values)
+with_rows (Err error) found name rows e word values = tt
+
+same_name : (found : Option (Text × List Row)) (name word : Text) (rows others : List Row) → found ≡ Some (name, rows) → found ≡ Some (word, others) → word ≡ name
+same_name found name word rows others e f = ap (λ o. option_map_or (λ p. p.0) o name) (sym f ∙ e)
+
+same_rows : (found : Option (Text × List Row)) (name word : Text) (rows others : List Row) → found ≡ Some (name, rows) → found ≡ Some (word, others) → others ≡ rows
+same_rows found name word rows others e f = ap (λ o. option_map_or (λ p. p.1) o rows) (sym f ∙ e)
+
+pub none_with_rows :
+    {E : Type 0} (result : Result Task E) (found : Option (Text × List Row)) (name : Text) (rows : List Row) → found ≡ Some (name, rows)
+    → IfErr result (λ _. NamesNone name (λ id. first_of id rows) (λ id. one_of id rows)) → IfErr result (λ _. AreNone found)
+none_with_rows (Ok task) found name rows e none = tt
+none_with_rows (Err error) found name rows e none = λ task is sound.
+    let same = same_rows found name (word_of task) rows is.0 e is.1 in
+    none task (same_name found name (word_of task) rows is.0 e is.1) (rw same at is.2) sound

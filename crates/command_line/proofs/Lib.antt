@@ -1,2 +1,2 @@
 mod Entered
-pub mod Texts
+mod Program

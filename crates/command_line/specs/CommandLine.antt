@@ -1,14 +1,12 @@
 -- The program's command line, as `clap` sees it, and the task that it names.
-use Rattle.std.specs.Prelude.{ℕ, Bool, true, false, List, [], ◌∷◌, Option, Some, None, codes, ◌≡◌, ◌≢◌, option_map, bytes_eq, find}
-use Rattle.clap.specs.Words.{App, Row, Rule, Shape, Text, first_of, one_of, new_app, new_rule, with_rule, with_subcommand}
+use Rattle.std.specs.Prelude.{Bool, true, false, List, [], ◌∷◌, Option, Some, None, codes, ◌≡◌, ◌⊎◌, bytes_eq, find}
+use Rattle.clap.specs.Kinds.{IsAmong}
+use Rattle.clap.specs.Words.{App, Row, Rule, Shape, Text, fault_of, first_of, one_of, new_app, new_rule, subcommand_of, with_rule, with_subcommand}
 use Rattle.clap.specs.declared.builder.ArgAction.TheVariants.{Set, SetTrue}
-use Rattle.pmp_encoding.specs.declared.limit.Limit.{Limit}
-use Rattle.pmp_encoding.specs.declared.limit.Limit.TheVariants.{Sixteen, SixtyFour}
-use Rattle.text_lines.specs.Numbers.{number_of}
-use Rattle.command_line.specs.declared.task.Format.{Format}
-use Rattle.command_line.specs.declared.task.Format.TheVariants as formats
-use Rattle.command_line.specs.declared.task.Task.{Task}
-use Rattle.command_line.specs.declared.task.Task.TheVariants.{Run, Plan, Judge, Check, Show, Audit, Lint}
+use Rattle.clap.specs.declared.error.kind.ErrorKind.{ErrorKind}
+use Rattle.clap.specs.declared.error.kind.ErrorKind.TheVariants.{OutOfMemory}
+use Rattle.program_tasks.specs.declared.task.Task.{Task}
+use Rattle.program_tasks.specs.Tasks.{word_of, HasValues, IsSound}
 
 -- a file that is named by its place among the words
 abbrev pub file_rule : Text → Bool → Rule
@@ -95,77 +93,15 @@ app_by (Some shape) = record { top = shape; subs = [] }
 abbrev pub app_named : Text → App
 app_named name = app_by (find (λ shape. bytes_eq name shape.name) program_app.subs)
 
--- the word that names a limit
-abbrev pub limit_word : Limit → Text
-limit_word Sixteen = codes "16"
-limit_word SixtyFour = codes "64"
-
--- the word that names a format
-abbrev pub format_word : Format → Text
-format_word formats.Text = codes "text"
-format_word formats.C = codes "c"
-format_word formats.Asm = codes "asm"
-format_word formats.Json = codes "json"
-
--- the number that a word names, where there is one
-abbrev pub Counts : Option Text → Option ℕ → Type 0
-Counts None count = count ≡ None
-Counts (Some word) count = (n : ℕ) × (number_of word ≡ Some n) × (count ≡ Some n)
-
--- the subcommand of that name was entered, with these rows
-abbrev pub Enters : Option (Text × List Row) → Text → List Row → Type 0
-Enters found name rows = found ≡ Some (name, rows)
-
--- the subcommand of a task
-abbrev pub word_of : Task → Text
-word_of (Run platform trace measure) = codes "run"
-word_of (Plan map cert limit at_most format) = codes "plan"
-word_of (Judge map trace limit) = codes "judge"
-word_of (Check map cert) = codes "check"
-word_of (Show map limit at_most) = codes "show"
-word_of (Audit map registers) = codes "audit"
-word_of (Lint map) = codes "lint"
-
--- the task has the values of its words
-abbrev pub HasValues : List Row → Task → Type 0
-HasValues rows (Run platform trace measure) =
-    (first_of (codes "PLATFORM") rows ≡ Some platform.now)
-    × (first_of (codes "TRACE") rows ≡ Some trace.now)
-    × (one_of (codes "measure") rows ≡ Some (codes "true") → measure ≡ true)
-    × (one_of (codes "measure") rows ≡ Some (codes "false") → measure ≡ false)
-HasValues rows (Plan map cert limit at_most format) =
-    (first_of (codes "MAP") rows ≡ Some map.now)
-    × (first_of (codes "CERT") rows ≡ option_map (λ s. s.now) cert)
-    × (first_of (codes "entries") rows ≡ Some (limit_word limit))
-    × Counts (first_of (codes "at-most") rows) at_most
-    × (first_of (codes "format") rows ≡ Some (format_word format))
-HasValues rows (Judge map trace limit) =
-    (first_of (codes "MAP") rows ≡ Some map.now)
-    × (first_of (codes "TRACE") rows ≡ Some trace.now)
-    × (first_of (codes "entries") rows ≡ Some (limit_word limit))
-HasValues rows (Check map cert) =
-    (first_of (codes "MAP") rows ≡ Some map.now)
-    × (first_of (codes "CERT") rows ≡ Some cert.now)
-HasValues rows (Show map limit at_most) =
-    (first_of (codes "MAP") rows ≡ Some map.now)
-    × (first_of (codes "entries") rows ≡ Some (limit_word limit))
-    × Counts (first_of (codes "at-most") rows) at_most
-HasValues rows (Audit map registers) =
-    (first_of (codes "MAP") rows ≡ Some map.now)
-    × (first_of (codes "REGISTERS") rows ≡ Some registers.now)
-HasValues rows (Lint map) = first_of (codes "MAP") rows ≡ Some map.now
-
--- the task is the subcommand that was entered, with the values of its words
+-- the task is the subcommand that was entered, with the values of its rows
 abbrev pub IsTask : Option (Text × List Row) → Task → Type 0
-IsTask found task = (rows : List Row) × Enters found (word_of task) rows × HasValues rows task
+IsTask found task = (rows : List Row) × (found ≡ Some (word_of task, rows)) × HasValues (λ name. first_of name rows) (λ name. one_of name rows) task
 
--- a word that standard input stands for
-abbrev pub input_word : Text
-input_word = codes "-"
+-- no sound task is the subcommand that was entered
+abbrev pub AreNone : Option (Text × List Row) → Type 0
+AreNone found = (task : Task) → IsTask found task → ¬ IsSound task
 
--- standard input is read once at most, and a certificate never takes the place of its map
-abbrev pub IsSound : Task → Type 0
-IsSound (Plan map cert limit at_most format) = option_map (λ s. s.now) cert ≢ Some map.now
-IsSound (Judge map trace limit) = ¬ ((map.now ≡ input_word) × (trace.now ≡ input_word))
-IsSound (Audit map registers) = ¬ ((map.now ≡ input_word) × (registers.now ≡ input_word))
-IsSound task = Unit {0}
+-- words are refused by an error of this kind: for want of memory, by a kind that `clap` has for them, or where no sound
+-- task is the subcommand that they enter
+abbrev pub Refuses : List Text → ErrorKind → Type 0
+Refuses words kind = (kind ≡ OutOfMemory) ⊎ (IsAmong kind (fault_of program_app words) ⊎ AreNone (subcommand_of program_app words))

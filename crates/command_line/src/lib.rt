@@ -1,7 +1,8 @@
 //! The program's command line: what its words ask for.
 //!
-//! A [`Task`] is one command with the names of its files. For the layer above: [`command_of`] answers the task that the
-//! words of a command line name, as `clap` reads them by the program's subcommands. This crate alone knows of `clap`.
+//! For the layer above: [`command_of`] answers the [`Task`] that the words of a command line name, as `clap` reads them by
+//! the program's subcommands. This crate alone knows of `clap`; what a task is, and which one a subcommand's values are,
+//! stands below it.
 //!
 //! ```rust
 //! let task = command_of(rt.alloc(), &["pmpmon", "plan", "map.txt"])?;
@@ -9,10 +10,10 @@
 #![tactic(auto)]
 
 mod fault;
+mod found;
 mod subcommands;
-mod task;
 mod words;
 
 pub use fault::takes_place;
-pub use task::{Format, Task};
+pub use program_tasks::{Format, Task};
 pub use words::command_of;

@@ -7,17 +7,17 @@ use Rattle.text_lines.specs.declared.fault.RunFault.{RunFault}
 use Rattle.text_lines.specs.declared.fault.RunFault.TheVariants as runs
 use Rattle.text_lines.specs.LineLoop.{Meaning, StopsAt, StopsForMemory, StopsReading, StopsTooLong, StopsWriting}
 use Rattle.printed_lines.specs.Plans.{TakesPart}
-use Rattle.monitor_cli.specs.declared.trouble.Trouble.{Trouble}
+use Rattle.program_troubles.specs.declared.trouble.Trouble.{Trouble}
 use Rattle.hart_sim.specs.declared.machine.Machine.{Machine}
 use Rattle.hart_sim.specs.Machines.{kept_of}
 use Rattle.pmp_encoding.specs.declared.limit.Limit.{Limit}
 use Rattle.pmp_encoding.specs.Limits.{limit_number}
 use Rattle.pmp_match.specs.Meaning.{View}
-use Rattle.command_line.specs.declared.task.Format.TheVariants as formats
-use Rattle.monitor_cli.specs.declared.trouble.Trouble.TheVariants.{Memory}
+use Rattle.program_tasks.specs.declared.task.Format.TheVariants as formats
+use Rattle.program_troubles.specs.declared.trouble.Trouble.TheVariants.{Memory}
 use Rattle.monitor_cli.specs.Commands.{Writing, Placing, Breaks, IsMeasured, IsUnplanned, IsUnwritten, IsWithin, NeedsMore, Tells, beyond, most_entries, starved, told, cut}
 use Rattle.monitor_cli.specs.Tasks.{AreMeasures, Stops}
-use Rattle.monitor_cli.specs.Troubles.{trouble_text}
+use Rattle.program_troubles.specs.Troubles.{trouble_text}
 
 pub stops :
     {S : Type 0} (does : Meaning S) (refuses : S → List ℕ → Type 0) (starves : S → List ℕ → S → Type 0) (old new : S) (before after held holds : Option (List ℕ)) (fault : RunFault)

@@ -1,5 +1,3 @@
-pub mod Names
 mod Ends
 pub mod Refusals
-mod Parts
 mod PlanCertificates

@@ -5,15 +5,15 @@ use Rattle.std.specs.Io.KnownBytes.{Consumes}
 use Rattle.map_text.specs.declared.map_file.MapFileFault.{MapFileFault}
 use Rattle.map_text.specs.declared.map_file.MapFileFault.TheVariants as maps
 use Rattle.map_text.specs.MapFile.{FaultAt, IsUnknown, MakesFirst, MakesTooMany}
-use Rattle.monitor_cli.specs.declared.whole.WholeFault.{WholeFault}
-use Rattle.monitor_cli.specs.declared.whole.WholeFault.TheVariants as whole
+use Rattle.program_files.specs.declared.whole.WholeFault.{WholeFault}
+use Rattle.program_files.specs.declared.whole.WholeFault.TheVariants as whole
 use Rattle.enclave_table.specs.Platform.{Layout}
-use Rattle.monitor_cli.specs.declared.trouble.Trouble.{Trouble}
-use Rattle.monitor_cli.specs.declared.trouble.Trouble.TheVariants.{NotAPlatform, Memory}
+use Rattle.program_troubles.specs.declared.trouble.Trouble.{Trouble}
+use Rattle.program_troubles.specs.declared.trouble.Trouble.TheVariants.{NotAPlatform, Memory}
 use Rattle.monitor_cli.specs.Commands.{Reading, HasBytes, HasNoBytes, HasNoPlatform, too_large, cannot_read}
 use Rattle.monitor_cli.specs.Commands as commands
 use Rattle.monitor_cli.specs.Tasks.{IsMapFault, IsPlatformFile}
-use Rattle.monitor_cli.specs.Troubles.{whole_trouble}
+use Rattle.program_troubles.specs.Troubles.{whole_trouble}
 
 pub no_bytes :
     {R : Type 0} (most : ℕ) (file : Bor (List ℕ)) (source : Reading R) (fault : WholeFault)

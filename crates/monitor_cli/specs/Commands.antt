@@ -35,15 +35,15 @@ use Rattle.register_formats.specs.CTexts.{IsCText}
 use Rattle.register_formats.specs.JsonTexts.{IsJsonText}
 use Rattle.register_audit.specs.Audits.{IsAudit}
 use Rattle.register_text.specs.Listings.{IsFirstUnknown}
-use Rattle.command_line.specs.declared.task.Format.{Format}
-use Rattle.command_line.specs.declared.task.Format.TheVariants as formats
-use Rattle.command_line.specs.declared.task.Task.{Task}
-use Rattle.command_line.specs.declared.task.Task.TheVariants as tasks
-use Rattle.monitor_cli.specs.declared.trouble.Trouble.{Trouble}
-use Rattle.monitor_cli.specs.declared.trouble.Trouble.TheVariants.{NotUnderstood, TooLarge, NotAPlatform, NeedsEntries, CannotRead, CannotWrite, Output, Memory}
+use Rattle.program_tasks.specs.declared.task.Format.{Format}
+use Rattle.program_tasks.specs.declared.task.Format.TheVariants as formats
+use Rattle.program_tasks.specs.declared.task.Task.{Task}
+use Rattle.program_tasks.specs.declared.task.Task.TheVariants as tasks
+use Rattle.program_troubles.specs.declared.trouble.Trouble.{Trouble}
+use Rattle.program_troubles.specs.declared.trouble.Trouble.TheVariants.{NotUnderstood, TooLarge, NotAPlatform, NeedsEntries, CannotRead, CannotWrite, Output, Memory}
 use Rattle.monitor_cli.specs.Tasks.{AreMeasures, IsBooted, IsFewest, IsMapFault, IsPlatformFile, IsWhole, Stops}
-use Rattle.monitor_cli.specs.Troubles.{boot_trouble, map_trouble, run_trouble, status_of, trouble_text}
-use Rattle.monitor_cli.specs.Verdicts.{IsVerdict}
+use Rattle.program_troubles.specs.Troubles.{boot_trouble, map_trouble, run_trouble, status_of, trouble_text}
+use Rattle.check_verdicts.specs.Verdicts.{IsVerdict}
 
 -- a source over a call: itself, the bytes that are still to come, and how often it has failed
 pub record Reading (R : Type 0) : Type 0 where

@@ -1,5 +1,3 @@
 pub use Rattle.trace_judge.specs.Judging
 pub mod Commands
 pub mod Tasks
-pub mod Troubles
-pub mod Verdicts

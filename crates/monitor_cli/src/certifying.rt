@@ -13,13 +13,13 @@ ghost use Rattle.plan_certificate.specs.Written.{certificate_for};
 ghost use Rattle.monitor_cli.specs.Commands.{placing, IsBeyond, IsCertified, IsLoaded, IsNotPlaced, IsPlanned, IsUnplanned, IsWithin, NeedsMore};
 ghost use Rattle.monitor_cli.specs.Tasks.{IsFewest};
 
-use crate::certificate_file::WholeSink;
-use crate::trouble::Trouble;
 use byte_streams::DeviceFault;
 use entry_planner::{Plan, plan_map};
 use permission_map::{Memory, PermissionMap};
 use plan_certificate::send_map;
 use pmp_encoding::{Bank, Entry, Limit};
+use program_files::WholeSink;
+use program_troubles::Trouble;
 use std::alloc::Global;
 
 /// The fewest entries that mean a map.

@@ -4,12 +4,12 @@ ghost use Rattle.std.specs.Prelude.{◌≡◌, ◌-◌, ◌^◌, ◌<◌, IfErr,
 ghost use Rattle.monitor_cli.specs.Commands.{reading, HasBytes, HasMap, HasNoBytes, HasNoMap, HasNoPlatform, HasPlatform};
 
 use crate::running::platform_in;
-use crate::trouble::Trouble;
-use crate::whole::read_whole;
 use byte_streams::Source;
 use enclave_table::Platform;
 use map_text::map_of;
 use permission_map::PermissionMap;
+use program_files::read_whole;
+use program_troubles::Trouble;
 use std::alloc::Global;
 
 /// How many bytes a map file may have.

@@ -4,13 +4,13 @@ ghost use Rattle.std.specs.Prelude.{◌≡◌, ◌-◌, ◌^◌, ◌<◌, ◌⊎
 ghost use Rattle.std.specs.Io.KnownBytes.{Appends};
 ghost use Rattle.printed_lines.specs.Plans.{TakesPart};
 ghost use Rattle.monitor_cli.specs.Commands.{placing, reading, writing, Ends, Performs, Tells};
-ghost use Rattle.monitor_cli.specs.Troubles.{status_of, trouble_text};
+ghost use Rattle.program_troubles.specs.Troubles.{status_of, trouble_text};
 
-use crate::certificate_file::WholeSink;
 use crate::commands::{Asked, do_audit, do_check, do_judge, do_lint, do_plan, do_run, do_show};
-use crate::trouble::Trouble;
 use byte_streams::{Sink, Source};
-use command_line::Task;
+use program_files::WholeSink;
+use program_tasks::Task;
+use program_troubles::Trouble;
 use std::alloc::Global;
 
 /// The status of a task, whose trouble is told on standard error.

@@ -13,16 +13,16 @@ ghost use Rattle.enclave_table.specs.Digests.{AnswersWord, RefusesWord};
 ghost use Rattle.enclave_table.specs.Platform.{Layout};
 ghost use Rattle.hart_sim.specs.Machines.{KeepsBanksRight, state_of};
 ghost use Rattle.platform_file.specs.Document.{IsPlatformText};
-ghost use Rattle.monitor_cli.specs.Troubles.{boot_trouble};
+ghost use Rattle.program_troubles.specs.Troubles.{boot_trouble};
 ghost use Rattle.monitor_cli.specs.Tasks.{AreMeasures, IsBooted, IsDigest, IsMeasureText, IsPlatformFile};
 
-use crate::trouble::Trouble;
 use byte_streams::{DeviceFault, Sink, write_whole};
 use byteorder::{ByteOrder, LittleEndian};
 use enclave_table::{Platform, Table};
 use hart_sim::Machine;
 use platform_file::platform_of;
 use printed_lines::measure_line;
+use program_troubles::Trouble;
 use std::alloc::Global;
 use std::str;
 

@@ -6,10 +6,10 @@ ghost use Rattle.hart_sim.specs.Streams.{failures_of};
 
 use clap::Error;
 use clap::error::ErrorKind;
+use command_line::{command_of, takes_place};
 use hart_sim::Counted;
 use monitor_cli::{
-    CertificateFile, FileToRead, InputToRead, RetryInterrupted, Task, Trouble, command_of, perform,
-    takes_place,
+    CertificateFile, FileToRead, InputToRead, RetryInterrupted, Task, Trouble, perform,
 };
 use std::alloc::AllocError;
 use std::io::{BufWriter, Stderr, Stdin, Write};

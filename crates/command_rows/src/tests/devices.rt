@@ -4,7 +4,8 @@ ghost use Rattle.std.specs.Prelude.{None};
 
 use byte_streams::fakes::{PieceSink, PieceSource};
 use byte_streams::{DeviceFault, Sink};
-use monitor_cli::{WholeSink, command_of, perform};
+use command_line::command_of;
+use monitor_cli::{WholeSink, perform};
 use std::alloc::Global;
 use std::test::Fail;
 

@@ -1,7 +1,8 @@
 //! A command line, run on files in memory.
 
 use byte_streams::Counted;
-use monitor_cli::{command_of, perform};
+use command_line::command_of;
+use monitor_cli::perform;
 use std::alloc::Global;
 use std::process::Abort;
 use std::test::Fail;

@@ -6,8 +6,8 @@ ghost use Rattle.monitor_cli.specs.Commands.{reading, writing, Audits};
 use crate::certifying::planned;
 use crate::commands::answer_status;
 use crate::inputs::{bytes_in, map_in};
-use crate::trouble::Trouble;
 use byte_streams::{Sink, Source};
+use program_troubles::Trouble;
 use register_audit::{AuditFault, audit};
 use std::alloc::Global;
 

@@ -4,9 +4,9 @@ ghost use Rattle.std.specs.Prelude.{◌-◌, ◌^◌, ◌<◌};
 ghost use Rattle.monitor_cli.specs.Commands.{reading, writing, Checks};
 
 use crate::inputs::{bytes_in, map_in};
-use crate::trouble::Trouble;
-use crate::verdicts::verdict;
 use byte_streams::{DeviceFault, Sink, Source, write_whole};
+use check_verdicts::verdict;
+use program_troubles::Trouble;
 use std::alloc::Global;
 
 /// How many bytes a certificate may have.

@@ -5,9 +5,9 @@ ghost use Rattle.monitor_cli.specs.Commands.{reading, writing, Judges};
 
 use crate::certifying::bank_in;
 use crate::inputs::map_in;
-use crate::trouble::Trouble;
 use byte_streams::{Sink, Source};
 use pmp_encoding::Limit;
+use program_troubles::Trouble;
 use std::alloc::Global;
 use trace_judge::judge_trace;
 

@@ -5,9 +5,9 @@ ghost use Rattle.monitor_cli.specs.Commands.{reading, writing, Lints};
 
 use crate::commands::answer_status;
 use crate::inputs::{MAP_BYTES, bytes_in};
-use crate::trouble::Trouble;
 use byte_streams::{Sink, Source};
 use map_lint::{LintFault, lint};
+use program_troubles::Trouble;
 use std::alloc::Global;
 
 /// Prints what is wrong with a map file, and answers the status 0 where it is a map and 1 where it is none.

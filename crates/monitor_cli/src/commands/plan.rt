@@ -5,14 +5,14 @@ ghost use Rattle.std.specs.Io.KnownBytes.{Appends};
 ghost use Rattle.pmp_encoding.specs.Limits.{limit_number};
 ghost use Rattle.monitor_cli.specs.Commands.{most_entries, placing, reading, writing, Breaks, IsPrinted, IsWithin, Plans};
 
-use crate::certificate_file::WholeSink;
 use crate::certifying::plan_and_certify;
 use crate::inputs::map_in;
-use crate::trouble::Trouble;
 use byte_streams::{DeviceFault, Sink, Source};
-use command_line::Format;
 use pmp_encoding::{Entry, Limit};
 use printed_lines::print_plan;
+use program_files::WholeSink;
+use program_tasks::Format;
+use program_troubles::Trouble;
 use register_formats::{print_asm, print_c, print_json};
 use std::alloc::Global;
 

@@ -5,9 +5,9 @@ ghost use Rattle.monitor_cli.specs.Commands.{reading, writing, Runs};
 
 use crate::inputs::read_platform;
 use crate::running::{booted, print_measures};
-use crate::trouble::Trouble;
 use byte_streams::{DeviceFault, Sink, Source};
 use hart_sim::run;
+use program_troubles::Trouble;
 use std::alloc::Global;
 
 /// Boots a platform, runs a trace on it, and prints the measurements where they are asked for.

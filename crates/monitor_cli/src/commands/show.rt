@@ -5,10 +5,10 @@ ghost use Rattle.monitor_cli.specs.Commands.{reading, writing, Shows};
 
 use crate::certifying::planned_within;
 use crate::inputs::map_in;
-use crate::trouble::Trouble;
 use byte_streams::{Sink, Source};
 use map_table::{TableFault, print_map};
 use pmp_encoding::Limit;
+use program_troubles::Trouble;
 use std::alloc::Global;
 
 /// Prints a map as a table of its stretches, each with the entry that decides it.

@@ -3,9 +3,9 @@ use Rattle.std.specs.Borrow.{Bor}
 use Rattle.enclave_table.specs.Platform.{Layout}
 use Rattle.platform_file.specs.declared.fault.TextFault.{TextFault}
 use Rattle.platform_file.specs.declared.fault.TextFault.TheVariants as texts
-use Rattle.monitor_cli.specs.declared.trouble.Trouble.TheVariants.{NotAPlatform, Memory}
+use Rattle.program_troubles.specs.declared.trouble.Trouble.TheVariants.{NotAPlatform, Memory}
 use Rattle.monitor_cli.specs.Tasks.{IsPlatformFile}
-use Rattle.monitor_cli.specs.Troubles.{text_trouble}
+use Rattle.program_troubles.specs.Troubles.{text_trouble}
 use Rattle.monitor_cli.proofs.running.platform_in.Goals as goal
 
 by_fault : (fault : TextFault) (file : Bor (List ℕ)) (P : Type 0) → (fault ≡ texts.NotAPlatform → P) → (text_trouble file fault ≡ Memory) ⊎ ((text_trouble file fault ≡ NotAPlatform file) × P)

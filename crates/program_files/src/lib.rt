@@ -1,0 +1,18 @@
+//! The program's files: read whole or from their first read on, and written so that they stand whole or not at all.
+//!
+//! For the layer above: [`read_whole`] answers the bytes of a source of bounded length; a [`FileToRead`] is opened at its
+//! first read, and an [`InputToRead`] is one or standard input; a [`CertificateFile`] is a [`WholeSink`], whose bytes come
+//! to stand in their place all at once. A call that a signal interrupted is tried again ([`RetryInterrupted`]).
+//!
+//! ```rust
+//! let bytes = read_whole(rt.alloc(), &mut source, 1 << 20)?;
+//! ```
+#![tactic(auto)]
+
+mod certificate_file;
+mod devices;
+mod whole;
+
+pub use certificate_file::{CertificateFile, WholeSink};
+pub use devices::{FileToRead, InputToRead, RetryInterrupted};
+pub use whole::{WholeFault, read_whole};

@@ -1,0 +1,84 @@
+-- What the program can be asked to do: which task a subcommand with its values is.
+use Rattle.std.specs.Prelude.{ℕ, true, false, List, Option, Some, None, codes, ◌≡◌, ◌≢◌, option_map}
+use Rattle.pmp_encoding.specs.declared.limit.Limit.{Limit}
+use Rattle.pmp_encoding.specs.declared.limit.Limit.TheVariants.{Sixteen, SixtyFour}
+use Rattle.text_lines.specs.Numbers.{number_of}
+use Rattle.program_tasks.specs.declared.task.Format.{Format}
+use Rattle.program_tasks.specs.declared.task.Format.TheVariants as formats
+use Rattle.program_tasks.specs.declared.task.Task.{Task}
+use Rattle.program_tasks.specs.declared.task.Task.TheVariants.{Run, Plan, Judge, Check, Show, Audit, Lint}
+
+-- bytes of UTF-8
+abbrev pub Text : Type 0
+Text = List ℕ
+
+-- the word that names a limit
+abbrev pub limit_word : Limit → Text
+limit_word Sixteen = codes "16"
+limit_word SixtyFour = codes "64"
+
+-- the word that names a format
+abbrev pub format_word : Format → Text
+format_word formats.Text = codes "text"
+format_word formats.C = codes "c"
+format_word formats.Asm = codes "asm"
+format_word formats.Json = codes "json"
+
+-- the number that a word names, where there is one
+abbrev pub Counts : Option Text → Option ℕ → Type 0
+Counts None count = count ≡ None
+Counts (Some word) count = (n : ℕ) × (number_of word ≡ Some n) × (count ≡ Some n)
+
+-- the subcommand of a task
+abbrev pub word_of : Task → Text
+word_of (Run platform trace measure) = codes "run"
+word_of (Plan map cert limit at_most format) = codes "plan"
+word_of (Judge map trace limit) = codes "judge"
+word_of (Check map cert) = codes "check"
+word_of (Show map limit at_most) = codes "show"
+word_of (Audit map registers) = codes "audit"
+word_of (Lint map) = codes "lint"
+
+-- the task has these values: of its arguments and of its flags, by their names
+abbrev pub HasValues : (Text → Option Text) → (Text → Option Text) → Task → Type 0
+HasValues value flag (Run platform trace measure) =
+    (value (codes "PLATFORM") ≡ Some platform.now)
+    × (value (codes "TRACE") ≡ Some trace.now)
+    × (flag (codes "measure") ≡ Some (codes "true") → measure ≡ true)
+    × (flag (codes "measure") ≡ Some (codes "false") → measure ≡ false)
+HasValues value flag (Plan map cert limit at_most format) =
+    (value (codes "MAP") ≡ Some map.now)
+    × (value (codes "CERT") ≡ option_map (λ s. s.now) cert)
+    × (value (codes "entries") ≡ Some (limit_word limit))
+    × Counts (value (codes "at-most")) at_most
+    × (value (codes "format") ≡ Some (format_word format))
+HasValues value flag (Judge map trace limit) =
+    (value (codes "MAP") ≡ Some map.now)
+    × (value (codes "TRACE") ≡ Some trace.now)
+    × (value (codes "entries") ≡ Some (limit_word limit))
+HasValues value flag (Check map cert) =
+    (value (codes "MAP") ≡ Some map.now)
+    × (value (codes "CERT") ≡ Some cert.now)
+HasValues value flag (Show map limit at_most) =
+    (value (codes "MAP") ≡ Some map.now)
+    × (value (codes "entries") ≡ Some (limit_word limit))
+    × Counts (value (codes "at-most")) at_most
+HasValues value flag (Audit map registers) =
+    (value (codes "MAP") ≡ Some map.now)
+    × (value (codes "REGISTERS") ≡ Some registers.now)
+HasValues value flag (Lint map) = value (codes "MAP") ≡ Some map.now
+
+-- a word that standard input stands for
+abbrev pub input_word : Text
+input_word = codes "-"
+
+-- standard input is read once at most, and a certificate never takes the place of its map
+abbrev pub IsSound : Task → Type 0
+IsSound (Plan map cert limit at_most format) = option_map (λ s. s.now) cert ≢ Some map.now
+IsSound (Judge map trace limit) = ¬ ((map.now ≡ input_word) × (trace.now ≡ input_word))
+IsSound (Audit map registers) = ¬ ((map.now ≡ input_word) × (registers.now ≡ input_word))
+IsSound task = Unit {0}
+
+-- no sound task is that subcommand with these values
+abbrev pub NamesNone : Text → (Text → Option Text) → (Text → Option Text) → Type 0
+NamesNone name value flag = (task : Task) → word_of task ≡ name → HasValues value flag task → ¬ IsSound task

@@ -1,0 +1,53 @@
+//! Why a subcommand with its values names no task, and the text for each reason.
+
+ghost use Rattle.std.specs.Prelude.{◌≡◌, IfOk};
+ghost use Rattle.program_tasks.specs.Faults.{fault_text};
+
+use std::alloc::{AllocError, Global};
+
+/// Why a subcommand with its values names no task.
+#[derive(Clone, Copy, Debug, PartialEq, Eq)]
+pub enum Fault<'a> {
+    /// There is no such subcommand, or an argument that it requires is not there.
+    Missing,
+    /// `--entries` has a value of another form.
+    Entries(&'a str),
+    /// `--format` has one.
+    Format(&'a str),
+    /// `--at-most` has one.
+    AtMost(&'a str),
+    /// Standard input is named twice.
+    InputTwice,
+    /// The certificate would take the place of the map of this name.
+    TakesPlace(&'a str),
+}
+
+impl Fault<'_> {
+    /// What is said of it.
+    pub fn text(&self, alloc: Global) -> Result<String, AllocError>
+        ensures { IfOk result (λ text. text.bytes.items ≡ fault_text self.now) }
+    {
+        match self {
+            Fault::Missing => format!(in alloc; "a required argument is missing"),
+            Fault::Entries(word) => {
+                format!(in alloc;
+                    "invalid value '{word}' for '--entries <16|64>'\n  [possible values: 16, 64]"
+                )
+            }
+            Fault::Format(word) => {
+                format!(in alloc;
+                    "invalid value '{word}' for '--format <text|c|asm|json>'\n  [possible values: text, c, asm, json]"
+                )
+            }
+            Fault::AtMost(word) => {
+                format!(in alloc;
+                    "invalid value '{word}' for '--at-most <N>': no number below 2^64"
+                )
+            }
+            Fault::InputTwice => format!(in alloc; "standard input, '-', cannot be read twice"),
+            Fault::TakesPlace(map) => {
+                format!(in alloc; "the certificate would take the place of the map '{map}'")
+            }
+        }
+    }
+}

@@ -1,0 +1,264 @@
+//! The task that a subcommand with its values is.
+
+ghost use Rattle.std.specs.Prelude.{◌≡◌, ◌≢◌, ◌↔◌, ℕ, IfErr, IfOk, IfSome, Option, None, Some, codes, true, option_map};
+ghost use Rattle.pmp_encoding.specs.declared.limit.Limit.{Limit};
+ghost use Rattle.program_tasks.specs.declared.task.Format.{Format};
+ghost use Rattle.program_tasks.specs.Tasks.{limit_word, format_word, input_word, word_of, Counts, HasValues, IsSound, NamesNone};
+
+use crate::fault::Fault;
+use crate::given::Values;
+use crate::task::{Format, Task};
+use pmp_encoding::Limit;
+use text_lines::number;
+
+/// The word that standard input stands for.
+const INPUT: &str = "-";
+
+/// The limit that a word names.
+fn limit_of(word: &str) -> Option<Limit>
+    ensures some { IfSome result (λ limit. word.now ≡ limit_word limit) }
+    ensures none { result ≡ None → (limit : Limit) → word.now ≢ limit_word limit }
+{
+    if word == "16" {
+        return Some(Limit::Sixteen);
+    }
+    if word == "64" {
+        return Some(Limit::SixtyFour);
+    }
+    None
+}
+
+/// The format that a word names.
+fn format_of(word: &str) -> Option<Format>
+    ensures some { IfSome result (λ format. word.now ≡ format_word format) }
+    ensures none { result ≡ None → (format : Format) → word.now ≢ format_word format }
+{
+    if word == "text" {
+        return Some(Format::Text);
+    }
+    if word == "c" {
+        return Some(Format::C);
+    }
+    if word == "asm" {
+        return Some(Format::Asm);
+    }
+    if word == "json" {
+        return Some(Format::Json);
+    }
+    None
+}
+
+/// The value of an argument that has to be there.
+fn value_in<'a, V: Values<'a>>(given: &V, name: &str) -> Result<&'a str, Fault<'a>>
+    ensures value { IfOk result (λ word. V.value given.now name.now ≡ Some word.now) }
+    ensures missing { IfErr result (λ _. V.value given.now name.now ≡ None) }
+{
+    match given.value(name) {
+        Some(word) => Ok(word),
+        None => Err(Fault::Missing),
+    }
+}
+
+/// The value of `--entries`.
+fn limit_in<'a, V: Values<'a>>(given: &V) -> Result<Limit, Fault<'a>>
+    ensures value { IfOk result (λ limit. V.value given.now (codes "entries") ≡ Some (limit_word limit)) }
+    ensures other { IfErr result (λ _. (limit : Limit) → V.value given.now (codes "entries") ≢ Some (limit_word limit)) }
+{
+    let word = value_in(given, "entries")?;
+    match limit_of(word) {
+        Some(limit) => Ok(limit),
+        None => Err(Fault::Entries(word)),
+    }
+}
+
+/// The value of `--format`.
+fn format_in<'a, V: Values<'a>>(given: &V) -> Result<Format, Fault<'a>>
+    ensures value { IfOk result (λ format. V.value given.now (codes "format") ≡ Some (format_word format)) }
+    ensures other { IfErr result (λ _. (format : Format) → V.value given.now (codes "format") ≢ Some (format_word format)) }
+{
+    let word = value_in(given, "format")?;
+    match format_of(word) {
+        Some(format) => Ok(format),
+        None => Err(Fault::Format(word)),
+    }
+}
+
+/// The value of `--at-most`, where it is given.
+fn at_most_in<'a, V: Values<'a>>(given: &V) -> Result<Option<u64>, Fault<'a>>
+    ensures value { IfOk result (Counts (V.value given.now (codes "at-most"))) }
+    ensures other { IfErr result (λ _. (count : Option ℕ) → Counts (V.value given.now (codes "at-most")) count → ⊥) }
+{
+    match given.value("at-most") {
+        None => Ok(None),
+        Some(word) => {
+            let Some(count) = number(word.as_bytes()) else {
+                return Err(Fault::AtMost(word));
+            };
+            Ok(Some(count))
+        }
+    }
+}
+
+/// Whether a word stands for standard input.
+fn is_input(word: &str) -> bool
+    ensures { (result ≡ true) ↔ (word.now ≡ input_word) }
+{
+    word == INPUT
+}
+
+fn run_in<'a, V: Values<'a>>(given: &V) -> Result<Task<'a>, Fault<'a>>
+    ensures word { IfOk result (λ task. word_of task ≡ codes "run") }
+    ensures values { IfOk result (HasValues (V.value given.now) (V.flag given.now)) }
+    ensures sound { IfOk result IsSound }
+    ensures refused { IfErr result (λ _. NamesNone (codes "run") (V.value given.now) (V.flag given.now)) }
+{
+    let platform = value_in(given, "PLATFORM")?;
+    let trace = value_in(given, "TRACE")?;
+    let measure = given.is_given("measure");
+    Ok(Task::Run {
+        platform,
+        trace,
+        measure,
+    })
+}
+
+/// The file for the certificate of a map, where one is named, which may not be the map's.
+fn cert_in<'a, V: Values<'a>>(given: &V, map: &'a str) -> Result<Option<&'a str>, Fault<'a>>
+    ensures value { IfOk result (λ cert. V.value given.now (codes "CERT") ≡ option_map (λ s. s.now) cert) }
+    ensures other { IfOk result (λ cert. option_map (λ s. s.now) cert ≢ Some map.entry.now) }
+    ensures same { IfErr result (λ _. V.value given.now (codes "CERT") ≡ Some map.entry.now) }
+{
+    match given.value("CERT") {
+        None => Ok(None),
+        Some(cert) => {
+            if cert == map {
+                return Err(Fault::TakesPlace(map));
+            }
+            Ok(Some(cert))
+        }
+    }
+}
+
+fn plan_in<'a, V: Values<'a>>(given: &V) -> Result<Task<'a>, Fault<'a>>
+    ensures word { IfOk result (λ task. word_of task ≡ codes "plan") }
+    ensures values { IfOk result (HasValues (V.value given.now) (V.flag given.now)) }
+    ensures sound { IfOk result IsSound }
+    ensures refused { IfErr result (λ _. NamesNone (codes "plan") (V.value given.now) (V.flag given.now)) }
+{
+    let map = value_in(given, "MAP")?;
+    let cert = cert_in(given, map)?;
+    let limit = limit_in(given)?;
+    let at_most = at_most_in(given)?;
+    let format = format_in(given)?;
+    Ok(Task::Plan {
+        map,
+        cert,
+        limit,
+        at_most,
+        format,
+    })
+}
+
+/// Refuses two files that are both standard input.
+fn once<'a>(map: &str, other: &str) -> Result<(), Fault<'a>>
+    ensures once { IfOk result (λ _. (map.now ≡ input_word) × (other.now ≡ input_word) → ⊥) }
+    ensures twice { IfErr result (λ _. (map.now ≡ input_word) × (other.now ≡ input_word)) }
+{
+    if is_input(map) && is_input(other) {
+        return Err(Fault::InputTwice);
+    }
+    Ok(())
+}
+
+fn judge_in<'a, V: Values<'a>>(given: &V) -> Result<Task<'a>, Fault<'a>>
+    ensures word { IfOk result (λ task. word_of task ≡ codes "judge") }
+    ensures values { IfOk result (HasValues (V.value given.now) (V.flag given.now)) }
+    ensures sound { IfOk result IsSound }
+    ensures refused { IfErr result (λ _. NamesNone (codes "judge") (V.value given.now) (V.flag given.now)) }
+{
+    let map = value_in(given, "MAP")?;
+    let trace = value_in(given, "TRACE")?;
+    let limit = limit_in(given)?;
+    once(map, trace)?;
+    Ok(Task::Judge { map, trace, limit })
+}
+
+fn check_in<'a, V: Values<'a>>(given: &V) -> Result<Task<'a>, Fault<'a>>
+    ensures word { IfOk result (λ task. word_of task ≡ codes "check") }
+    ensures values { IfOk result (HasValues (V.value given.now) (V.flag given.now)) }
+    ensures sound { IfOk result IsSound }
+    ensures refused { IfErr result (λ _. NamesNone (codes "check") (V.value given.now) (V.flag given.now)) }
+{
+    let map = value_in(given, "MAP")?;
+    let cert = value_in(given, "CERT")?;
+    Ok(Task::Check { map, cert })
+}
+
+fn show_in<'a, V: Values<'a>>(given: &V) -> Result<Task<'a>, Fault<'a>>
+    ensures word { IfOk result (λ task. word_of task ≡ codes "show") }
+    ensures values { IfOk result (HasValues (V.value given.now) (V.flag given.now)) }
+    ensures sound { IfOk result IsSound }
+    ensures refused { IfErr result (λ _. NamesNone (codes "show") (V.value given.now) (V.flag given.now)) }
+{
+    let map = value_in(given, "MAP")?;
+    let limit = limit_in(given)?;
+    let at_most = at_most_in(given)?;
+    Ok(Task::Show {
+        map,
+        limit,
+        at_most,
+    })
+}
+
+fn audit_in<'a, V: Values<'a>>(given: &V) -> Result<Task<'a>, Fault<'a>>
+    ensures word { IfOk result (λ task. word_of task ≡ codes "audit") }
+    ensures values { IfOk result (HasValues (V.value given.now) (V.flag given.now)) }
+    ensures sound { IfOk result IsSound }
+    ensures refused { IfErr result (λ _. NamesNone (codes "audit") (V.value given.now) (V.flag given.now)) }
+{
+    let map = value_in(given, "MAP")?;
+    let registers = value_in(given, "REGISTERS")?;
+    once(map, registers)?;
+    Ok(Task::Audit { map, registers })
+}
+
+fn lint_in<'a, V: Values<'a>>(given: &V) -> Result<Task<'a>, Fault<'a>>
+    ensures word { IfOk result (λ task. word_of task ≡ codes "lint") }
+    ensures values { IfOk result (HasValues (V.value given.now) (V.flag given.now)) }
+    ensures sound { IfOk result IsSound }
+    ensures refused { IfErr result (λ _. NamesNone (codes "lint") (V.value given.now) (V.flag given.now)) }
+{
+    let map = value_in(given, "MAP")?;
+    Ok(Task::Lint { map })
+}
+
+/// The task of a subcommand with its values, and a fault only where no sound task is that subcommand with these values.
+pub fn task_of<'a, V: Values<'a>>(name: &str, given: &V) -> Result<Task<'a>, Fault<'a>>
+    ensures word { IfOk result (λ task. word_of task ≡ name.now) }
+    ensures values { IfOk result (HasValues (V.value given.now) (V.flag given.now)) }
+    ensures sound { IfOk result IsSound }
+    ensures refused { IfErr result (λ _. NamesNone name.now (V.value given.now) (V.flag given.now)) }
+{
+    if name == "run" {
+        return run_in(given);
+    }
+    if name == "plan" {
+        return plan_in(given);
+    }
+    if name == "judge" {
+        return judge_in(given);
+    }
+    if name == "check" {
+        return check_in(given);
+    }
+    if name == "show" {
+        return show_in(given);
+    }
+    if name == "audit" {
+        return audit_in(given);
+    }
+    if name == "lint" {
+        return lint_in(given);
+    }
+    Err(Fault::Missing)
+}

@@ -1,0 +1,13 @@
+//! Why a task of the program did not end well: the text for standard error, and the status.
+//!
+//! A [`Trouble`] has the names of the files that were given. For the layer above: `of_whole`, `of_map`, `of_run`, `of_text`
+//! and `of_boot` say which trouble a fault is, `print` writes its line, and `status` is the one that the program ends with.
+//!
+//! ```rust
+//! let trouble = Trouble::of_map(name, fault);
+//! ```
+#![tactic(auto)]
+
+mod trouble;
+
+pub use trouble::Trouble;

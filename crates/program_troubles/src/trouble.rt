@@ -1,0 +1,197 @@
+//! Why a task did not end well: the text for standard error, and the program's status.
+
+ghost use Rattle.std.specs.Prelude.{◌≡◌, ◌-◌, ◌^◌, ◌<◌, IfErr, IfOk, map};
+ghost use Rattle.std.specs.Io.KnownBytes.{Appends};
+ghost use Rattle.byte_streams.specs.Streams.{WriteFails};
+ghost use Rattle.printed_lines.specs.Plans.{TakesPart};
+ghost use Rattle.program_troubles.specs.Troubles.{boot_trouble, file_text, joined, map_trouble, run_trouble, text_trouble, trouble_status, trouble_text, whole_trouble};
+
+use byte_streams::{DeviceFault, Sink, write_whole};
+use enclave_table::BootFault;
+use itoa::Buffer;
+use map_text::MapFileFault;
+use platform_file::TextFault;
+use program_files::WholeFault;
+use std::alloc::AllocError;
+use text_lines::RunFault;
+
+/// Why a task did not end well. Files have the names that were given.
+#[derive(Clone, Copy, Debug, PartialEq, Eq)]
+pub enum Trouble<'a> {
+    /// A line of the file, counted from 1, is not understood.
+    NotUnderstood {
+        /// The map or the trace.
+        file: &'a str,
+        /// The number of the line.
+        line: u64,
+    },
+    /// The map has more than 4096 ranges after some line.
+    TooManyRanges {
+        /// The map.
+        file: &'a str,
+    },
+    /// The file has more bytes than are allowed.
+    TooLarge {
+        /// The platform, the map, the trace or the certificate.
+        file: &'a str,
+    },
+    /// The file is no platform.
+    NotAPlatform {
+        /// The platform file.
+        file: &'a str,
+    },
+    /// The map, or the host's view of a platform, needs more entries than a hart has.
+    NeedsEntries {
+        /// How many it needs.
+        needed: u64,
+    },
+    /// The file could not be opened or read.
+    CannotRead {
+        /// The platform, the map, the trace or the certificate.
+        file: &'a str,
+    },
+    /// The file could not be made or written.
+    CannotWrite {
+        /// The certificate.
+        file: &'a str,
+    },
+    /// Standard output could not be written.
+    Output,
+    /// Memory was refused.
+    Memory,
+}
+
+impl From<AllocError> for Trouble<'_> {
+    ghost use Rattle.std.specs.Prelude.{◌≡◌};
+    ghost use Rattle.program_troubles.specs.declared.trouble.Trouble.TheVariants.{Memory};
+
+    ghost from_gives = { λ error trouble. trouble ≡ Memory };
+
+    fn from(_error: AllocError) -> Self {
+        Trouble::Memory
+    }
+}
+
+impl<'a> Trouble<'a> {
+    /// What a fault of reading a file whole is for the program.
+    pub fn of_whole(file: &'a str, fault: WholeFault) -> Trouble<'a>
+        ensures { result ≡ whole_trouble file.entry fault }
+    {
+        match fault {
+            WholeFault::TooLarge => Trouble::TooLarge { file },
+            WholeFault::Read => Trouble::CannotRead { file },
+            WholeFault::Memory => Trouble::Memory,
+        }
+    }
+
+    /// What a fault of a map file is for the program.
+    pub fn of_map(file: &'a str, fault: MapFileFault) -> Trouble<'a>
+        ensures { result ≡ map_trouble file.entry fault }
+    {
+        match fault {
+            MapFileFault::Line(line) => Trouble::NotUnderstood { file, line },
+            MapFileFault::TooManyRanges => Trouble::TooManyRanges { file },
+            MapFileFault::Memory => Trouble::Memory,
+        }
+    }
+
+    /// What a fault of a run over a trace is for the program.
+    pub fn of_run(file: &'a str, fault: RunFault) -> Trouble<'a>
+        ensures { result ≡ run_trouble file.entry fault }
+    {
+        match fault {
+            RunFault::Line(line) => Trouble::NotUnderstood { file, line },
+            RunFault::TooLong => Trouble::TooLarge { file },
+            RunFault::Read => Trouble::CannotRead { file },
+            RunFault::Write => Trouble::Output,
+            RunFault::Memory => Trouble::Memory,
+        }
+    }
+
+    /// What a fault of a platform's text is for the program.
+    pub fn of_text(file: &'a str, fault: TextFault) -> Trouble<'a>
+        ensures { result ≡ text_trouble file.entry fault }
+    {
+        match fault {
+            TextFault::NotAPlatform => Trouble::NotAPlatform { file },
+            TextFault::Memory => Trouble::Memory,
+        }
+    }
+
+    /// What a refusal to boot is for the program.
+    pub fn of_boot(fault: BootFault) -> Trouble<'a>
+        ensures { result ≡ boot_trouble fault }
+    {
+        match fault {
+            BootFault::NeedsMoreEntries(needed) => Trouble::NeedsEntries { needed },
+            BootFault::Memory => Trouble::Memory,
+        }
+    }
+
+    /// The status that the program ends with: 2 for bad input, 3 for a device, 4 for memory.
+    pub fn status(&self) -> u8
+        ensures { result ≡ trouble_status self.now }
+    {
+        match self {
+            Trouble::NotUnderstood { .. }
+            | Trouble::TooManyRanges { .. }
+            | Trouble::TooLarge { .. }
+            | Trouble::NotAPlatform { .. }
+            | Trouble::NeedsEntries { .. } => 2,
+            Trouble::CannotRead { .. } | Trouble::CannotWrite { .. } | Trouble::Output => 3,
+            Trouble::Memory => 4,
+        }
+    }
+
+    /// Writes the one line of text. It takes no memory. On an `Err` a beginning of it was written, not all of it, and the
+    /// device failed, or took none of some bytes, in this call.
+    pub fn print<E: Sink>(&self, err: &mut E) -> Result<(), DeviceFault>
+        requires { E.failures err.old < 2 ^ 64 - 1 }
+        ensures written { IfOk result (λ _. Appends (E.contents err.old) (E.contents err.new) (trouble_text self.now)) }
+        ensures part { IfErr result (λ _. TakesPart (trouble_text self.now) (E.contents err.old) (E.contents err.new)) }
+        ensures failed { IfErr result (λ _. WriteFails (E.failures err.old) (E.failures err.new) (E.stalls err.old) (E.stalls err.new)) }
+    {
+        let mut buffer = Buffer::new();
+        match self {
+            Trouble::NotUnderstood { file, line } => {
+                let number = buffer.format(*line);
+                let parts = ["pmpmon: ", *file, ": line ", number, " is not understood\n"];
+                write_parts(err, &parts)
+            }
+            Trouble::TooManyRanges { file } => about(*file, ": too many ranges\n", err),
+            Trouble::TooLarge { file } => about(*file, ": too large\n", err),
+            Trouble::NotAPlatform { file } => about(*file, ": not a platform\n", err),
+            Trouble::NeedsEntries { needed } => {
+                let number = buffer.format(*needed);
+                write_parts(err, &["pmpmon: needs ", number, " entries\n"])
+            }
+            Trouble::CannotRead { file } => about(*file, ": cannot read\n", err),
+            Trouble::CannotWrite { file } => about(*file, ": cannot write\n", err),
+            Trouble::Output => write_whole(err, b"pmpmon: standard output: cannot write\n"),
+            Trouble::Memory => write_whole(err, b"pmpmon: out of memory\n"),
+        }
+    }
+}
+
+/// Writes what is said of a file.
+fn about<E: Sink>(file: &str, said: &str, err: &mut E) -> Result<(), DeviceFault>
+    requires { E.failures err.old < 2 ^ 64 - 1 }
+    ensures written { IfOk result (λ _. Appends (E.contents err.old) (E.contents err.new) (file_text file.now said.now)) }
+    ensures part { IfErr result (λ _. TakesPart (file_text file.now said.now) (E.contents err.old) (E.contents err.new)) }
+    ensures failed { IfErr result (λ _. WriteFails (E.failures err.old) (E.failures err.new) (E.stalls err.old) (E.stalls err.new)) }
+{
+    write_parts(err, &["pmpmon: ", file, said])
+}
+
+/// Writes texts one after another.
+fn write_parts<E: Sink>(err: &mut E, parts: &[&str]) -> Result<(), DeviceFault>
+    requires { E.failures err.old < 2 ^ 64 - 1 }
+    ensures written { IfOk result (λ _. Appends (E.contents err.old) (E.contents err.new) (joined (map (λ part. part.now) parts.now))) }
+    ensures part { IfErr result (λ _. TakesPart (joined (map (λ part. part.now) parts.now)) (E.contents err.old) (E.contents err.new)) }
+    ensures failed { IfErr result (λ _. WriteFails (E.failures err.old) (E.failures err.new) (E.stalls err.old) (E.stalls err.new)) }
+{
+    for part in parts {
+        write_whole(err, part.as_bytes())?;
+    }
+    Ok(())
+}
