@@ -1,4 +1,4 @@
-use Rattle.std.proofs.Common.{◌∙◌, arith}
+use Rattle.std.proofs.Common.{arith}
 use Rattle.text_lines.proofs.Numerals.{below_sixteen, four_begin}
 use Rattle.text_lines.proofs.lexical.four_digits.Goals as goal
 

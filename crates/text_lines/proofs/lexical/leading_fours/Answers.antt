@@ -1,4 +1,3 @@
-use Rattle.text_lines.specs.Numbers.{BeginsFour}
 use Rattle.text_lines.proofs.Splitting.{rest_from}
 use Rattle.text_lines.proofs.Numerals.{four_more}
 use Rattle.text_lines.proofs.lexical.leading_fours.Goals as goal
