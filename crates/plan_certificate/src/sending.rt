@@ -203,9 +203,7 @@ fn hold_tails(piece: &mut ArrayVec<u8, PIECE>, chain: Chain)
     let bytes = leaf.as_slice();
     let mut rest = chain;
     while rest.levels > 0 {
-        if rest.goes_up() {
-            // its lower half stands before the smallest block
-        } else {
+        if !rest.goes_up() {
             hold(piece, bytes);
         }
         let smaller = rest.smaller();

@@ -1,5 +1,9 @@
 -- Chains of blocks.
-use Rattle.std.proofs.Common.{◌≡◌, ◌≢◌, ℕ, zero, suc, ◌+◌, ◌-◌, ◌*◌, ◌^◌, ◌<◌, ◌≤◌, ⊎_elim, List, [], ◌∷◌, length, slice_index_or, None, Some, Bool, true, false, cond, refl, sym, ap, ap₂, subst, ◌∙◌, arith, pow_mono, pow_pos, pow-add, pow-suc, add-mul, mul-le-mul_right, suc-mul}
+use Rattle.std.proofs.Common.{◌≡◌, ◌≢◌, ℕ, zero, suc, ◌+◌, ◌-◌, ◌*◌, ◌/◌, ◌^◌, ◌<◌, ◌≤◌, ⊎_elim, List, [], ◌∷◌, length, slice_index_or, None, Some, true, false, cond, refl, sym, ap, ap₂, subst, ◌∙◌, arith, pow_mono, pow_pos, pow-add, pow-suc, add-mul, mul-le-mul_right, suc-mul}
+use Rattle.std.proofs.Math.Nat.{div-eq_of_lt, div-lt_iff_lt-mul, div-mul-le_self, lt-div-mul-add}
+use Rattle.std.proofs.lemmas.Nat.{leading_length, xor_lt, xor_shr}
+use Rattle.std.specs.Int.Bits.{bit_xor, xor_assoc, xor_self, xor_zero_r}
+use Rattle.std.specs.Int.Count.{count_leading_zeros}
 use Rattle.std.proofs.lemmas.Bool.{cases_lt, lt-ltb, le-ltb, lt-leb, le-leb, leb-true, leb-false}
 use Rattle.pmp_encoding.specs.declared.perm.Perm.{Perm}
 use Rattle.pmp_encoding.specs.declared.perm.Perm.TheVariants.{NoAccess}
@@ -208,62 +212,56 @@ part_chained v first height edges part are is =
     ∙ ap (λ x. nested part.levels part.place edges.before edges.behind (tree_at v k x)) (sym is.starts)
 
 -- the whole block
-pub whole_part : (first height low high : ℕ) → first < low → high < first + 2 ^ height → IsPartAround first height low high 0 0 first
-whole_part first height low high begins ends =
-    let level : height - 0 ≡ height = omega arith in
-    let size : 2 ^ (height - 0) ≡ 2 ^ height = ap (λ n. 2 ^ n) level in
-    record { within = omega arith; placed = omega arith; starts = omega arith; ends = omega (arith, size); begins = begins; reaches = omega (arith, size, ends) }
+-- numbers that differ in digits below a place alone are the same above it
+same_above : (a b m : ℕ) → bit_xor a b < 2 ^ m → a / 2 ^ m ≡ b / 2 ^ m
+same_above a b m few =
+    let p = a / 2 ^ m in
+    let q = b / 2 ^ m in
+    let none : bit_xor p q ≡ 0 = sym (xor_shr a b m) ∙ div-eq_of_lt few in
+    sym (xor_zero_r p) ∙ ap (bit_xor p) (sym (xor_self q)) ∙ sym (xor_assoc p q q) ∙ ap (λ x. bit_xor x q) none
 
-pub half_size : (height levels : ℕ) → levels < height → 2 ^ (height - levels) ≡ 2 ^ (height - levels - 1) * 2
-half_size height levels less = let up : height - levels ≡ suc (height - levels - 1) = omega arith in ap (λ n. 2 ^ n) up ∙ pow-suc 2 (height - levels - 1)
+-- a number of few digits is short
+short : (x m height : ℕ) → 2 ^ m ≤ 2 * x + 1 → x < 2 ^ height → m ≤ height
+short x m height long less =
+    ⊎_elim (λ more. let far : 2 ^ suc height ≤ 2 ^ m = pow_mono more in absurd (omega (arith, far, pow-suc 2 height))) (λ within. within) (cases_lt height m)
 
-next_size : (height levels : ℕ) → 2 ^ (height - (levels + 1)) ≡ 2 ^ (height - levels - 1)
-next_size height levels = let same : height - (levels + 1) ≡ height - levels - 1 = omega arith in ap (λ n. 2 ^ n) same
-
-next_parts : (levels : ℕ) → 2 ^ (levels + 1) ≡ 2 ^ levels * 2
-next_parts levels = let up : levels + 1 ≡ suc levels = omega arith in ap (λ n. 2 ^ n) up ∙ pow-suc 2 levels
-
-even_place : (place n m : ℕ) → n ≡ m * 2 → place * n ≡ (place * 2) * m
-even_place place n m is = rw is (grind arith)
-
-odd_place : (place n m : ℕ) → n ≡ m * 2 → place * n + m ≡ (place * 2 + 1) * m
-odd_place place n m is = rw is (grind arith)
-
-pub small_place : (levels place : ℕ) → levels ≤ 44 → place < 2 ^ levels → place < 2 ^ 44
-small_place levels place few less = omega (arith, less, pow_mono few)
-
--- its lower half
-pub lower_part :
-    (first height low high levels place start half : ℕ) → levels < height → half ≡ 2 ^ (height - levels - 1) → high < start + half
-    → IsPartAround first height low high levels place start → IsPartAround first height low high (levels + 1) (place * 2) start
-lower_part first height low high levels place start half less at below part =
-    let size = half_size height levels less in
-    let next = next_size height levels in
-    record {
-      within = omega arith;
-      placed = omega (arith, next_parts levels, part.placed);
-      starts = part.starts ∙ ap (λ n. first + n) (even_place place (2 ^ (height - levels)) (2 ^ (height - levels - 1)) size ∙ ap (λ n. (place * 2) * n) (sym next));
-      ends = omega (arith, part.ends, size, next);
-      begins = part.begins;
-      reaches = omega (arith, at, next);
-    }
-
--- its upper half
-pub upper_part :
-    (first height low high levels place start half : ℕ) → levels < height → half ≡ 2 ^ (height - levels - 1) → start + half < low
-    → IsPartAround first height low high levels place start → IsPartAround first height low high (levels + 1) (place * 2 + 1) (start + half)
-upper_part first height low high levels place start half less at above part =
-    let size = half_size height levels less in
-    let next = next_size height levels in
-    let odd = odd_place place (2 ^ (height - levels)) (2 ^ (height - levels - 1)) size ∙ ap (λ n. (place * 2 + 1) * n) (sym next) in
-    record {
-      within = omega arith;
-      placed = omega (arith, next_parts levels, part.placed);
-      starts = omega (arith, at, part.starts, odd);
-      ends = omega (arith, at, part.ends, size, next);
-      begins = above;
-      reaches = omega (arith, at, part.reaches, size, next);
-    }
+-- the part by the digits in which the places of the page before the first edge and of the last edge differ
+pub part_is :
+    (first height low high log2 : ℕ) → height ≤ 44 → first < low → low ≤ high → high < first + 2 ^ height
+    → log2 ≡ 64 - count_leading_zeros 64 (bit_xor (low - first - 1) (high - first))
+    → (log2 ≤ height)
+    × IsPartAround first height low high (height - log2) ((high - first) / 2 ^ log2) (first + (high - first) / 2 ^ log2 * 2 ^ log2)
+part_is first height low high log2 small begins rising ends is =
+    let a = low - first - 1 in
+    let b = high - first in
+    let place = b / 2 ^ log2 in
+    let inside : b < 2 ^ height = omega arith in
+    let few : bit_xor a b < 2 ^ height = xor_lt height a b (omega arith) inside in
+    let most : 2 ^ height ≤ 2 ^ 44 = pow_mono small in
+    let l = leading_length 64 (bit_xor a b) (omega (arith, few, most)) in
+    let length_is : l.0 ≡ log2 = omega (arith, is, l.1) in
+    let L : ℕ → Type 0 = λ m. (bit_xor a b < 2 ^ m) × (2 ^ m ≤ 2 * bit_xor a b + 1) in
+    let long = subst L length_is (l.2, l.3) in
+    let within : log2 ≤ height = short (bit_xor a b) log2 height long.1 few in
+    let left : height - (height - log2) ≡ log2 = omega arith in
+    let size : 2 ^ (height - (height - log2)) ≡ 2 ^ log2 = ap (λ n. 2 ^ n) left in
+    let both : height ≡ height - log2 + log2 = omega arith in
+    let whole : 2 ^ height ≡ 2 ^ (height - log2) * 2 ^ log2 = ap (λ n. 2 ^ n) both ∙ pow-add 2 (height - log2) log2 in
+    let placed : place < 2 ^ (height - log2) = (div-lt_iff_lt-mul (pow_pos log2)).1 (omega (arith, inside, whole)) in
+    let same : a / 2 ^ log2 * 2 ^ log2 ≡ place * 2 ^ log2 = ap (λ x. x * 2 ^ log2) (same_above a b log2 long.0) in
+    let at_most : a / 2 ^ log2 * 2 ^ log2 ≤ a = div-mul-le_self a (2 ^ log2) in
+    let above : b < place * 2 ^ log2 + 2 ^ log2 = lt-div-mul-add (pow_pos log2) in
+    let below : place * 2 ^ log2 + 2 ^ log2 ≤ 2 ^ (height - log2) * 2 ^ log2 = parts_below place (2 ^ (height - log2)) (2 ^ log2) placed in (
+      within,
+      record {
+        within = omega arith;
+        placed = placed;
+        starts = ap (λ n. first + place * n) (sym size);
+        ends = omega (arith, size, whole, below);
+        begins = omega (arith, same, at_most);
+        reaches = omega (arith, size, above);
+      },
+    )
 
 -- ---- the edges of one run
 

@@ -105,37 +105,24 @@ pub fn edges_of(run: &Run, first: u64, height: u32) -> Edges
     }
 }
 
-/// The smallest part of the 2^height pages from `first` on that has all the edges inside.
+/// The smallest part of the 2^height pages from `first` on that has all the edges inside. The pages before the first edge
+/// and at the last lie in one part where their places in the block differ in the digits below alone.
 pub fn part_around(first: u64, height: u32, edges: Edges) -> Part
     requires height { height ≤ 44 }
     requires space { first + 2 ^ height ≤ 2 ^ 44 }
     requires low { first < edges.low }
+    requires rising { edges.low ≤ edges.high }
     requires high { edges.high < first + 2 ^ height }
     ensures { HasEdges first height edges result }
 {
-    let mut levels = 0;
-    let mut place = 0;
-    let mut start = first;
-    while levels < height {
-        let middle = start + pages_of(height - levels - 1);
-        let lower = place * 2;
-        if edges.high < middle {
-            place = lower;
-        } else if middle < edges.low {
-            place = lower + 1;
-            start = middle;
-        } else {
-            return Part {
-                levels,
-                place,
-                first: start,
-            };
-        }
-        levels += 1;
-    }
+    let before = edges.low - first - 1;
+    let last = edges.high - first;
+    let log2 = u64::BITS - (before ^ last).leading_zeros();
+    let size = pages_of(log2);
+    let place = last / size;
     Part {
-        levels,
+        levels: height - log2,
         place,
-        first: start,
+        first: first + place * size,
     }
 }

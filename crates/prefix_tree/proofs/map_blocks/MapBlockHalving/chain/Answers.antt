@@ -1,5 +1,5 @@
 -- The one run of the block has its edges in the part.
-use Rattle.std.proofs.Common.{ℕ, ◌-◌, List, [], ◌∷◌, subst, sym, ap, ◌∙◌, arith}
+use Rattle.std.proofs.Common.{◌-◌, List, subst, sym, ap, ◌∙◌, arith}
 use Rattle.permission_map.specs.declared.runs.Run.{Run}
 use Rattle.permission_map.specs.Runs.{view_of_runs}
 use Rattle.prefix_tree.specs.Joined.{one_perm}
@@ -28,6 +28,9 @@ part_around-part-requires-clause-space c = c.self.invariant.inside
 
 pub part_around-part-requires-clause-low : goal.part_around-part-requires-clause-low
 part_around-part-requires-clause-low c = c.edges_of-edges.ensures.edges.low
+
+pub part_around-part-requires-clause-rising : goal.part_around-part-requires-clause-rising
+part_around-part-requires-clause-rising c = c.edges_of-edges.ensures.edges.rising
 
 pub part_around-part-requires-clause-high : goal.part_around-part-requires-clause-high
 part_around-part-requires-clause-high c = c.edges_of-edges.ensures.edges.high
