@@ -1,13 +1,15 @@
 -- What a walk down a split block adds, from what it adds in the halves.
-use Rattle.std.proofs.Common.{◌≡◌, ℕ, suc, ◌+◌, ◌-◌, ◌^◌, ◌≤◌, List, [], ◌∷◌, ◌++◌, length, take, get_or, Some, reverse, refl, sym, ap, subst, ◌∙◌, arith, append_assoc, length-append}
+use Rattle.std.proofs.Common.{◌≡◌, ℕ, suc, ◌+◌, ◌-◌, ◌^◌, ◌≤◌, List, [], ◌∷◌, ◌++◌, length, take, get_or, Some, IsPermutation, reverse, refl, sym, ap, subst, ◌∙◌, arith, append_assoc, length-append}
 use Rattle.std.proofs.lemmas.Grind.{common_steps}
 use Rattle.std.proofs.lemmas.List.{append_cancel_right}
+use Rattle.std.proofs.lemmas.List.Sorted.{IsPermutation-append_left, IsPermutation-append_right, IsPermutation-refl, IsPermutation-trans}
 use Rattle.pmp_encoding.specs.declared.perm.Perm.{Perm}
+use Rattle.pmp_encoding.specs.declared.perm.Perm.TheVariants.{NoAccess}
 use Rattle.pmp_encoding.specs.declared.region.Entry.{Entry}
 use Rattle.prefix_tree.specs.Trees.{PermTree, Uniform, Split, Fits}
 use Rattle.prefix_tree.specs.Joined.{one_perm}
 use Rattle.entry_planner.specs.declared.costs.HalfPerms.{HalfPerms}
-use Rattle.entry_planner.specs.Choice.{IsChosenAt, handed_on}
+use Rattle.entry_planner.specs.Choice.{AddsChosen, AreChosen, IsChosenAt, handed_on}
 use Rattle.entry_planner.specs.Placing.{ArePages, IsOwn}
 use Rattle.entry_planner.specs.Plans.{half_perms, half_perms_in}
 use Rattle.entry_planner.proofs.BlockCosts.{added_both}
@@ -99,38 +101,46 @@ rest_is halves rest before tree low high split ends lower upper =
 
 -- ---- the entries that are added
 
-abbrev AddsChosen : ℕ → ℕ → Perm → PermTree → List Entry → List Entry → Type 0
-AddsChosen k first p tree old new = (chosen : List Entry) × (new ≡ old ++ chosen) × IsChosenAt k first p tree chosen
-
-abbrev AddsOwn : ℕ → ℕ → Perm → Perm → List Entry → List Entry → Type 0
+abbrev pub AddsOwn : ℕ → ℕ → Perm → Perm → List Entry → List Entry → Type 0
 AddsOwn k first p q old new = (own : List Entry) × (new ≡ old ++ own) × IsOwn k first p q own
+
+-- the entries of a split block are those of its halves and its own
+pub split_is :
+    (tree low high : PermTree) (k i j first lower upper : ℕ) (p q : Perm) (l h o : List Entry) → tree ≡ Split low high → i + 1 ≡ k → j + 1 ≡ k → lower ≡ first
+    → upper ≡ first + 2 ^ (k - 1) → q ≡ handed_on low high p → IsChosenAt i lower q low l → IsChosenAt j upper q high h → IsOwn k first p q o
+    → IsChosenAt k first p tree (l ++ (h ++ o))
+split_is tree low high k i j first lower upper p q l h o split low_height height at_lower at_upper handed in_low in_high own =
+    let up : k ≡ suc j = omega arith in
+    let down : k - 1 ≡ j = omega arith in
+    let level : i ≡ j = omega arith in
+    let low_chosen : IsChosenAt j first (handed_on low high p) low l =
+    (let P : ℕ → Type 0 = λ n. IsChosenAt i n q low l in
+    let Q : ℕ → Type 0 = λ n. IsChosenAt n first q low l in
+    let R : Perm → Type 0 = λ r. IsChosenAt j first r low l in
+    subst R handed (subst Q level (subst P at_lower in_low))) in
+    let high_chosen : IsChosenAt j (first + 2 ^ j) (handed_on low high p) high h =
+    (let P : ℕ → Type 0 = λ n. IsChosenAt j n q high h in
+    let R : Perm → Type 0 = λ r. IsChosenAt j (first + 2 ^ j) r high h in
+    subst R handed (subst P (at_upper ∙ ap (λ n. first + 2 ^ n) down) in_high)) in
+    let its_own : IsOwn (suc j) first p (handed_on low high p) o =
+    (let P : ℕ → Type 0 = λ n. IsOwn n first p q o in let R : Perm → Type 0 = λ r. IsOwn (suc j) first p r o in subst R handed (subst P up own)) in
+    let whole : IsChosenAt (suc j) first p (Split low high) (l ++ (h ++ o)) = (l, h, o, refl, low_chosen, high_chosen, its_own) in
+    let T : PermTree → Type 0 = λ t. IsChosenAt (suc j) first p t (l ++ (h ++ o)) in
+    let N : ℕ → Type 0 = λ n. IsChosenAt n first p tree (l ++ (h ++ o)) in
+    subst N (sym up) (subst T (sym split) whole)
 
 pub split_chosen :
     (tree low high : PermTree) (k i j first lower upper : ℕ) (p q : Perm) (a b c d : List Entry) → tree ≡ Split low high → i + 1 ≡ k → j + 1 ≡ k → lower ≡ first
     → upper ≡ first + 2 ^ (k - 1) → q ≡ handed_on low high p → AddsChosen i lower q low a b → AddsChosen j upper q high b c → AddsOwn k first p q c d
     → AddsChosen k first p tree a d
-split_chosen tree low high k i j first lower upper p q a b c d split low_height height at_lower at_upper handed l h o =
-    let up : k ≡ suc j = omega arith in
-    let down : k - 1 ≡ j = omega arith in
-    let level : i ≡ j = omega arith in
-    let low_chosen : IsChosenAt j first (handed_on low high p) low l.0 =
-    (let P : ℕ → Type 0 = λ n. IsChosenAt i n q low l.0 in
-    let Q : ℕ → Type 0 = λ n. IsChosenAt n first q low l.0 in
-    let R : Perm → Type 0 = λ r. IsChosenAt j first r low l.0 in
-    subst R handed (subst Q level (subst P at_lower l.2))) in
-    let high_chosen : IsChosenAt j (first + 2 ^ j) (handed_on low high p) high h.0 =
-    (let P : ℕ → Type 0 = λ n. IsChosenAt j n q high h.0 in
-    let R : Perm → Type 0 = λ r. IsChosenAt j (first + 2 ^ j) r high h.0 in
-    subst R handed (subst P (at_upper ∙ ap (λ n. first + 2 ^ n) down) h.2)) in
-    let own : IsOwn (suc j) first p (handed_on low high p) o.0 =
-    (let P : ℕ → Type 0 = λ n. IsOwn n first p q o.0 in let R : Perm → Type 0 = λ r. IsOwn (suc j) first p r o.0 in subst R handed (subst P up o.2)) in
-    let whole : IsChosenAt (suc j) first p (Split low high) (l.0 ++ (h.0 ++ o.0)) = (l.0, h.0, o.0, refl, low_chosen, high_chosen, own) in
-    let T : PermTree → Type 0 = λ t. IsChosenAt (suc j) first p t (l.0 ++ (h.0 ++ o.0)) in
-    let N : ℕ → Type 0 = λ n. IsChosenAt n first p tree (l.0 ++ (h.0 ++ o.0)) in (
-      l.0 ++ (h.0 ++ o.0),
-      o.1 ∙ ap (λ x. x ++ o.0) (h.1 ∙ ap (λ x. x ++ h.0) l.1) ∙ append_assoc (a ++ l.0) h.0 o.0 ∙ append_assoc a l.0 (h.0 ++ o.0),
-      subst N (sym up) (subst T (sym split) whole),
-    )
+split_chosen tree low high k i j first lower upper p q a b c d split low_height height at_lower at_upper handed l h o = (
+  l.0 ++ (h.0 ++ o.0),
+  l.1 ++ (h.1 ++ o.0),
+  o.1 ∙ ap (λ x. x ++ o.0) (h.2 ∙ ap (λ x. x ++ h.1) l.2) ∙ append_assoc (a ++ l.1) h.1 o.0 ∙ append_assoc a l.1 (h.1 ++ o.0),
+  split_is tree low high k i j first lower upper p q l.0 h.0 o.0 split low_height height at_lower at_upper handed l.3 h.3 o.2,
+  IsPermutation-trans (l.0 ++ (h.0 ++ o.0)) (l.1 ++ (h.0 ++ o.0)) (l.1 ++ (h.1 ++ o.0)) (IsPermutation-append_left (h.0 ++ o.0) l.0 l.1 l.4)
+      (IsPermutation-append_right l.1 (h.0 ++ o.0) (h.1 ++ o.0) (IsPermutation-append_left o.0 h.0 h.1 h.4)),
+)
 
 is_uniform : (tree : PermTree) (q : Perm) → Some q ≡ one_perm tree → tree ≡ Uniform q
 is_uniform (Uniform p) q e = let same : q ≡ p = cc in ap Uniform (sym same)
@@ -140,4 +150,11 @@ pub uniform_chosen :
     (tree : PermTree) (k first : ℕ) (p q : Perm) (a b : List Entry) → Some q ≡ one_perm tree → AddsOwn k first p q a b → AddsChosen k first p tree a b
 uniform_chosen tree k first p q a b one own =
     let T : PermTree → Type 0 = λ t. IsChosenAt k first p t own.0 in
-    (own.0, own.1, subst T (sym (is_uniform tree q one)) own.2)
+    (own.0, own.0, own.1, subst T (sym (is_uniform tree q one)) own.2, IsPermutation-refl own.0)
+
+-- what is added to no entries, in another order, is what is chosen for the whole space
+pub all_chosen :
+    (tree : PermTree) (old placed entries : List Entry) → old ≡ [] → AddsChosen 44 0 NoAccess tree old placed → IsPermutation placed entries → AreChosen tree entries
+all_chosen tree old placed entries none adds same =
+    let are : adds.1 ≡ placed = sym (adds.2 ∙ ap (λ l. l ++ adds.1) none) in
+    (adds.0, adds.3, IsPermutation-trans adds.0 placed entries (subst (IsPermutation adds.0) are adds.4) same)

@@ -35,3 +35,7 @@ IsChosenAt (suc k) first p (Split lower upper) es =
 -- the entries of the whole space, which inherits no access, in some order
 abbrev pub AreChosen : PermTree → List Entry → Type 0
 AreChosen tree entries = (es : List Entry) × IsChosenAt 44 0 NoAccess tree es × IsPermutation es entries
+
+-- entries that are added to a list are chosen for the 2 ^ k pages from `first` on, in some order
+abbrev pub AddsChosen : ℕ → ℕ → Perm → PermTree → List Entry → List Entry → Type 0
+AddsChosen k first p tree old new = (es : List Entry) × (added : List Entry) × (new ≡ old ++ added) × IsChosenAt k first p tree es × IsPermutation es added

@@ -11,12 +11,20 @@ pub struct Pages {
     pub log2: u32,
 }
 
+/// A block that waits for the entry that gives it another permission than the inherited one.
+#[derive(Clone, Copy)]
+struct Waiting {
+    pages: Pages,
+    from: Perm,
+    perm: Perm,
+}
+
 ghost use Rattle.std.specs.Prelude.{◌≡◌, ◌+◌, ◌-◌, ◌*◌, ◌≤◌, ◌<◌, ◌^◌, ◌++◌, List, IfOk, OnOk, reverse};
 ghost use Rattle.pmp_encoding.specs.declared.region.Entry.{Entry};
 ghost use Rattle.prefix_tree.specs.Chains.{chained};
 ghost use Rattle.prefix_tree.specs.Trees.{PermTree, Fits};
 ghost use Rattle.entry_planner.specs.declared.costs.HalfPerms.{HalfPerms};
-ghost use Rattle.entry_planner.specs.Choice.{IsChosenAt, handed_on};
+ghost use Rattle.entry_planner.specs.Choice.{AddsChosen, handed_on};
 ghost use Rattle.entry_planner.specs.Placing.{ArePages, IsOwn};
 ghost use Rattle.entry_planner.specs.Plans.{half_perms, half_perms_in};
 
@@ -91,7 +99,8 @@ fn turn(
     Ok(())
 }
 
-/// Adds the entries of the largest block of a chain, as [`place`] does.
+/// Adds the entries of the largest block of a chain, as [`place`] does. An upper half's waits for those of the lower half
+/// that are as large, so that those of one size come by rising address.
 #[cycle(placing)]
 fn place_chain<'a, H: Halving>(
     chain: Chain,
@@ -107,29 +116,46 @@ fn place_chain<'a, H: Halving>(
     requires pages { ArePages pages.log2 pages.first }
     requires halves { (rest : List HalfPerms) × (halves.now ≡ rest ++ reverse (half_perms_in (chained chain (H.shape smallest.now)))) }
     ensures rest { IfOk result (λ rest. halves.now ≡ rest.now ++ reverse (half_perms_in (chained chain (H.shape smallest.now)))) }
-    ensures placed { OnOk result ((placed : List Entry) × (entries.new.items ≡ entries.old.items ++ placed) × IsChosenAt pages.log2 pages.first inherited (chained chain (H.shape smallest.now)) placed) }
+    ensures placed { OnOk result (AddsChosen pages.log2 pages.first inherited (chained chain (H.shape smallest.now)) entries.old.items entries.new.items) }
 {
-    if chain.levels == 0 {
-        let rest = place(smallest, pages, inherited, halves, entries)?;
-        return Ok(rest);
-    }
-    let [rest @ .., perms] = halves else {
-        unreachable!();
+    let mut rest = chain;
+    let mut block = pages;
+    let mut from = inherited;
+    let mut left = halves;
+    let mut late = Waiting {
+        pages,
+        from: inherited,
+        perm: inherited,
     };
-    let perm = chosen(*perms, inherited);
-    let smaller = chain.smaller();
-    let lower = pages.lower();
-    let upper = pages.upper();
-    if chain.goes_up() {
-        turn(lower, perm, chain.before, entries)?;
-        let rest = place_chain(smaller, smallest, upper, perm, rest, entries)?;
-        turn(pages, inherited, perm, entries)?;
-        return Ok(rest);
+    while rest.levels > 0 {
+        let [others @ .., perms] = left else {
+            unreachable!();
+        };
+        let perm = chosen(*perms, from);
+        turn(block, from, perm, entries)?;
+        turn(late.pages, late.from, late.perm, entries)?;
+        let lower = block.lower();
+        let upper = block.upper();
+        if rest.goes_up() {
+            turn(lower, perm, rest.before, entries)?;
+            late.perm = late.from;
+            block = upper;
+        } else {
+            late = Waiting {
+                pages: upper,
+                from: perm,
+                perm: rest.behind,
+            };
+            block = lower;
+        }
+        let smaller = rest.smaller();
+        rest = smaller;
+        from = perm;
+        left = others;
     }
-    let rest = place_chain(smaller, smallest, lower, perm, rest, entries)?;
-    turn(upper, perm, chain.behind, entries)?;
-    turn(pages, inherited, perm, entries)?;
-    Ok(rest)
+    let others = place(smallest, block, from, left, entries)?;
+    turn(late.pages, late.from, late.perm, entries)?;
+    Ok(others)
 }
 
 /// Adds the entries of a block that inherits a permission. The halves' permissions of its split blocks
@@ -146,7 +172,7 @@ pub fn place<'a, H: Halving>(
     requires pages { ArePages pages.log2 pages.first }
     requires halves { (rest : List HalfPerms) × (halves.now ≡ rest ++ reverse (half_perms_in (H.shape block.now))) }
     ensures rest { IfOk result (λ rest. halves.now ≡ rest.now ++ reverse (half_perms_in (H.shape block.now))) }
-    ensures placed { OnOk result ((placed : List Entry) × (entries.new.items ≡ entries.old.items ++ placed) × IsChosenAt pages.log2 pages.first inherited (H.shape block.now) placed) }
+    ensures placed { OnOk result (AddsChosen pages.log2 pages.first inherited (H.shape block.now) entries.old.items entries.new.items) }
 {
     if let Some(perm) = block.one_perm() {
         turn(pages, inherited, perm, entries)?;
