@@ -17,4 +17,3 @@ mod measured;
 
 pub use measure::{Measure, word};
 pub use measured::Layout;
-

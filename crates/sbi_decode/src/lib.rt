@@ -20,4 +20,3 @@ mod registers;
 pub use calls::{Call, EXTENSION_ID, NotSupported};
 pub use decoding::decode;
 pub use registers::Registers;
-
