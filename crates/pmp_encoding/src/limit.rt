@@ -6,7 +6,7 @@ pub enum Limit {
 }
 
 impl Limit {
-    ghost use Rattle.std.specs.Prelude.{◌≡◌, ◌≢◌, ◌≤◌, IfSome, IfNone};
+    ghost use Rattle.std.specs.Prelude.{◌≡◌, ◌≢◌, ◌*◌, ◌/◌, ◌≤◌, IfSome, IfNone};
     ghost use Rattle.pmp_encoding.specs.declared.limit.Limit.{Limit};
     ghost use Rattle.pmp_encoding.specs.Limits.{limit_number};
 
@@ -30,6 +30,18 @@ impl Limit {
         match self {
             Limit::Sixteen => 16,
             Limit::SixtyFour => 64,
+        }
+    }
+
+    /// The number of configuration words that RV64 has for these entries, eight to a word: 2 or 8.
+    pub fn words(self) -> usize
+        ensures value { result ≡ limit_number self / 8 }
+        ensures whole { result * 8 ≡ limit_number self }
+        ensures most { result ≤ 8 }
+    {
+        match self {
+            Limit::Sixteen => 2,
+            Limit::SixtyFour => 8,
         }
     }
 }

@@ -60,17 +60,6 @@ fn print_words<W: Sink>(bank: &Bank, count: usize, out: &mut W) -> Result<(), De
     Ok(())
 }
 
-/// How many configuration words a bank has.
-fn words_of(limit: Limit) -> usize
-    ensures value { result * 8 ≡ limit_number limit }
-    ensures most { result ≤ 8 }
-{
-    match limit {
-        Limit::Sixteen => 2,
-        Limit::SixtyFour => 8,
-    }
-}
-
 /// Writes the number of entries, a line for each, and the configuration words of the bank that they fit in.
 ///
 /// On an `Err` a beginning of this text was written, not all of it, and the device failed, or took none of some bytes, in
@@ -88,7 +77,7 @@ pub fn print_plan<W: Sink>(entries: &[Entry], limit: Limit, out: &mut W) -> Resu
         return Ok(());
     }
     let bank = Bank::of(entries, limit);
-    let count = words_of(limit);
+    let count = limit.words();
     print_list(entries, out)?;
     print_words(&bank, count, out)?;
     Ok(())

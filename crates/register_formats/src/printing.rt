@@ -31,17 +31,6 @@ fn head() -> &'static [u8]
 "
 }
 
-/// How many configuration words a bank has.
-fn words_of(limit: Limit) -> usize
-    ensures value { result ≡ limit_number limit / 8 }
-    ensures most { result ≤ 8 }
-{
-    match limit {
-        Limit::Sixteen => 2,
-        Limit::SixtyFour => 8,
-    }
-}
-
 /// Writes the registers of a list as C: two arrays of all address registers and configuration words, each entry's region,
 /// size and permission beside it, below a comment that says what must hold where they are written.
 ///
@@ -66,7 +55,7 @@ pub fn print_c<W: Sink>(entries: &[Entry], limit: Limit, out: &mut W) -> Result<
         limit.number() as usize,
         out,
     )?;
-    print_section(c_rows::words_begin(limit), &words, words_of(limit), out)?;
+    print_section(c_rows::words_begin(limit), &words, limit.words(), out)?;
     write_whole(out, b"};\n")?;
     Ok(())
 }
@@ -95,7 +84,7 @@ pub fn print_asm<W: Sink>(entries: &[Entry], limit: Limit, out: &mut W) -> Resul
         entries.len(),
         out,
     )?;
-    print_section(b"", &words, words_of(limit), out)?;
+    print_section(b"", &words, limit.words(), out)?;
     write_whole(out, b"    sfence.vma\n")?;
     Ok(())
 }
@@ -155,6 +144,6 @@ pub fn print_json<W: Sink>(
         return Ok(());
     }
     let bank = Bank::of(entries, limit);
-    print_object(map.as_bytes(), entries, &bank, words_of(limit), out)?;
+    print_object(map.as_bytes(), entries, &bank, limit.words(), out)?;
     Ok(())
 }

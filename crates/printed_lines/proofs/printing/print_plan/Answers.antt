@@ -27,7 +27,7 @@ returns-then-entries-number-clause-written g c =
 pub returns-clause-written : goal.returns-clause-written
 returns-clause-written g c =
     let entries = c.args.entries.now in
-    let words = words_text c.of-bank.result 0 c.words_of-count.result in (
+    let words = words_text c.of-bank.result 0 c.words-count.result in (
       list_text entries ++ words,
       record {
         words = words;
@@ -35,8 +35,8 @@ returns-clause-written g c =
         fits = λ h. record {
           bank = c.of-bank.result;
           is_bank = c.of-bank.ensures.registers;
-          count = c.words_of-count.result;
-          words = c.words_of-count.ensures.value;
+          count = c.words-count.result;
+          words = c.words-count.ensures.value;
           lines = refl;
         };
         too_many = λ h. absurd (room _ _ _ c.if-entries-number.false c.number.ensures.value h);
@@ -47,7 +47,7 @@ returns-clause-written g c =
 pub returns-in_err-print_list-2-clause-part : goal.returns-in_err-print_list-2-clause-part
 returns-in_err-print_list-2-clause-part g c =
     let entries = c.args.entries.now in
-    let words = words_text c.of-bank.result 0 c.words_of-count.result in
+    let words = words_text c.of-bank.result 0 c.words-count.result in
     rw (err_from_is_err_and c.from_residual-in_err-print_list-2.result c.from_residual-in_err-print_list-2.ensures.1).1 (
       list_text entries ++ words,
       record {
@@ -56,8 +56,8 @@ returns-in_err-print_list-2-clause-part g c =
         fits = λ h. record {
           bank = c.of-bank.result;
           is_bank = c.of-bank.ensures.registers;
-          count = c.words_of-count.result;
-          words = c.words_of-count.ensures.value;
+          count = c.words-count.result;
+          words = c.words-count.ensures.value;
           lines = refl;
         };
         too_many = λ h. absurd (room _ _ _ c.if-entries-number.false c.number.ensures.value h);
@@ -68,7 +68,7 @@ returns-in_err-print_list-2-clause-part g c =
 pub returns-in_err-print_words-clause-part : goal.returns-in_err-print_words-clause-part
 returns-in_err-print_words-clause-part g c =
     let entries = c.args.entries.now in
-    let words = words_text c.of-bank.result 0 c.words_of-count.result in
+    let words = words_text c.of-bank.result 0 c.words-count.result in
     rw (err_from_is_err_and c.from_residual-in_err-print_words.result c.from_residual-in_err-print_words.ensures.1).1 (
       list_text entries ++ words,
       record {
@@ -77,8 +77,8 @@ returns-in_err-print_words-clause-part g c =
         fits = λ h. record {
           bank = c.of-bank.result;
           is_bank = c.of-bank.ensures.registers;
-          count = c.words_of-count.result;
-          words = c.words_of-count.ensures.value;
+          count = c.words-count.result;
+          words = c.words-count.ensures.value;
           lines = refl;
         };
         too_many = λ h. absurd (room _ _ _ c.if-entries-number.false c.number.ensures.value h);

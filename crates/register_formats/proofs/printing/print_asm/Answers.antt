@@ -38,7 +38,7 @@ returns-in_err-print_section-2-clause-part g c =
     let entries = c.args.entries.now in
     let bank = c.of-bank.result in
     let second : Appends (g.W.Sink.contents c.write_whole.new.sink) (g.W.Sink.contents c.print_section.new.out) (asm_begin ++ rows_text (asm_address_row entries) 0 (length entries)) = c.in_ok-print_section.ensures.written in
-    let third : TakesPart ([] ++ rows_text (asm_word_row bank) 0 (limit_number limit / 8)) (g.W.Sink.contents c.print_section.new.out) (g.W.Sink.contents c.print_section-2.new.out) = rw c.words_of.ensures.value at c.in_err-print_section-2.ensures.part in
+    let third : TakesPart ([] ++ rows_text (asm_word_row bank) 0 (limit_number limit / 8)) (g.W.Sink.contents c.print_section.new.out) (g.W.Sink.contents c.print_section-2.new.out) = rw c.words.ensures.value at c.in_err-print_section-2.ensures.part in
     rw (err_from_is_err_and c.from_residual-in_err-print_section-2.result c.from_residual-in_err-print_section-2.ensures.1).1 (
       asm_text limit entries bank,
       record { bank = bank; is_bank = c.of-bank.ensures.registers; lines = refl },
@@ -51,7 +51,7 @@ returns-in_err-write_whole-2-clause-part g c =
     let entries = c.args.entries.now in
     let bank = c.of-bank.result in
     let second : Appends (g.W.Sink.contents c.write_whole.new.sink) (g.W.Sink.contents c.print_section.new.out) (asm_begin ++ rows_text (asm_address_row entries) 0 (length entries)) = c.in_ok-print_section.ensures.written in
-    let third : Appends (g.W.Sink.contents c.print_section.new.out) (g.W.Sink.contents c.print_section-2.new.out) ([] ++ rows_text (asm_word_row bank) 0 (limit_number limit / 8)) = rw c.words_of.ensures.value at c.in_ok-print_section-2.ensures.written in
+    let third : Appends (g.W.Sink.contents c.print_section.new.out) (g.W.Sink.contents c.print_section-2.new.out) ([] ++ rows_text (asm_word_row bank) 0 (limit_number limit / 8)) = rw c.words.ensures.value at c.in_ok-print_section-2.ensures.written in
     rw (err_from_is_err_and c.from_residual-in_err-write_whole-2.result c.from_residual-in_err-write_whole-2.ensures.1).1 (
       asm_text limit entries bank,
       record { bank = bank; is_bank = c.of-bank.ensures.registers; lines = refl },
@@ -64,7 +64,7 @@ returns-clause-written g c =
     let entries = c.args.entries.now in
     let bank = c.of-bank.result in
     let second : Appends (g.W.Sink.contents c.write_whole.new.sink) (g.W.Sink.contents c.print_section.new.out) (asm_begin ++ rows_text (asm_address_row entries) 0 (length entries)) = c.in_ok-print_section.ensures.written in
-    let third : Appends (g.W.Sink.contents c.print_section.new.out) (g.W.Sink.contents c.print_section-2.new.out) ([] ++ rows_text (asm_word_row bank) 0 (limit_number limit / 8)) = rw c.words_of.ensures.value at c.in_ok-print_section-2.ensures.written in (
+    let third : Appends (g.W.Sink.contents c.print_section.new.out) (g.W.Sink.contents c.print_section-2.new.out) ([] ++ rows_text (asm_word_row bank) 0 (limit_number limit / 8)) = rw c.words.ensures.value at c.in_ok-print_section-2.ensures.written in (
       asm_text limit entries bank,
       record { bank = bank; is_bank = c.of-bank.ensures.registers; lines = refl },
       all_four head_text (asm_begin ++ rows_text (asm_address_row entries) 0 (length entries)) ([] ++ rows_text (asm_word_row bank) 0 (limit_number limit / 8)) (codes "    sfence.vma\n") _ _ _ _ _ (rw c.head.ensures at c.in_ok-write_whole.ensures.whole) second third c.in_ok-write_whole-2.ensures.whole,

@@ -42,29 +42,29 @@ returns-in_err-print_object-clause-part g c =
 
 pub returns-clause-written : goal.returns-clause-written
 returns-clause-written g c = (
-  json_text c.args.map.now c.args.entries.now c.of-bank.result c.words_of.result,
+  json_text c.args.map.now c.args.entries.now c.of-bank.result c.words.result,
   record {
     bank = c.of-bank.result;
-    words = c.words_of.result;
+    words = c.words.result;
     limit_is = c.of-bank.ensures.registers.limit_is;
-    fits = λ h. (c.of-bank.ensures.registers, c.words_of.ensures.value);
+    fits = λ h. (c.of-bank.ensures.registers, c.words.ensures.value);
     too_many = λ h. absurd (room _ _ _ c.if-entries-number.false c.number.ensures.value h);
     lines = refl;
   },
-  subst (λ name. Appends (g.W.Sink.contents c.args.out.now) (g.W.Sink.contents c.print_object-2.new.out) (json_text name c.args.entries.now c.of-bank.result c.words_of.result)) c.as_bytes-2.ensures.value c.in_ok-print_object-2.ensures.written,
+  subst (λ name. Appends (g.W.Sink.contents c.args.out.now) (g.W.Sink.contents c.print_object-2.new.out) (json_text name c.args.entries.now c.of-bank.result c.words.result)) c.as_bytes-2.ensures.value c.in_ok-print_object-2.ensures.written,
 )
 
 pub returns-in_err-print_object-2-clause-part : goal.returns-in_err-print_object-2-clause-part
 returns-in_err-print_object-2-clause-part g c =
     rw (err_from_is_err_and c.from_residual-in_err-print_object-2.result c.from_residual-in_err-print_object-2.ensures.1).1 (
-      json_text c.args.map.now c.args.entries.now c.of-bank.result c.words_of.result,
+      json_text c.args.map.now c.args.entries.now c.of-bank.result c.words.result,
       record {
         bank = c.of-bank.result;
-        words = c.words_of.result;
+        words = c.words.result;
         limit_is = c.of-bank.ensures.registers.limit_is;
-        fits = λ h. (c.of-bank.ensures.registers, c.words_of.ensures.value);
+        fits = λ h. (c.of-bank.ensures.registers, c.words.ensures.value);
         too_many = λ h. absurd (room _ _ _ c.if-entries-number.false c.number.ensures.value h);
         lines = refl;
       },
-      subst (λ name. TakesPart (json_text name c.args.entries.now c.of-bank.result c.words_of.result) (g.W.Sink.contents c.args.out.now) (g.W.Sink.contents c.print_object-2.new.out)) c.as_bytes-2.ensures.value c.in_err-print_object-2.ensures.part,
+      subst (λ name. TakesPart (json_text name c.args.entries.now c.of-bank.result c.words.result) (g.W.Sink.contents c.args.out.now) (g.W.Sink.contents c.print_object-2.new.out)) c.as_bytes-2.ensures.value c.in_err-print_object-2.ensures.part,
     )
