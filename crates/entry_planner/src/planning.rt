@@ -35,7 +35,7 @@ fn entries_of<H: Halving>(
     let mut entries = Vec::with_capacity(alloc, least as usize)?;
     let space = Pages { first: 0, log2: 44 };
     let _ = place(root, space, Perm::NoAccess, halves, &mut entries)?;
-    put_in_order(&mut entries)?;
+    put_in_order(&mut entries);
     Ok(entries)
 }
 
