@@ -28,6 +28,14 @@ ghost use Rattle.entry_planner.specs.Choice.{AddsChosen, handed_on};
 ghost use Rattle.entry_planner.specs.Placing.{ArePages, IsOwn};
 ghost use Rattle.entry_planner.specs.Plans.{half_perms, half_perms_in};
 
+impl Waiting {
+    fn new(pages: Pages, from: Perm, perm: Perm) -> Waiting
+        ensures { result ≡ record { pages = pages; from = from; perm = perm } }
+    {
+        Waiting { pages, from, perm }
+    }
+}
+
 impl Pages {
     fn lower(self) -> Pages
         requires split { 0 < self.log2 }
@@ -122,11 +130,7 @@ fn place_chain<'a, H: Halving>(
     let mut block = pages;
     let mut from = inherited;
     let mut left = halves;
-    let mut late = Waiting {
-        pages,
-        from: inherited,
-        perm: inherited,
-    };
+    let mut late = Waiting::new(pages, inherited, inherited);
     while rest.levels > 0 {
         let [others @ .., perms] = left else {
             unreachable!();
@@ -141,11 +145,7 @@ fn place_chain<'a, H: Halving>(
             late.perm = late.from;
             block = upper;
         } else {
-            late = Waiting {
-                pages: upper,
-                from: perm,
-                perm: rest.behind,
-            };
+            late = Waiting::new(upper, perm, rest.behind);
             block = lower;
         }
         let smaller = rest.smaller();

@@ -68,7 +68,7 @@ place-returns-clause-placed g t c =
 -- ---- of a chain
 
 pub place_chain-loop-rest-init : goal.place_chain-loop-rest-init
-place_chain-loop-rest-init g t c = record {
+place_chain-loop-rest-init g t c = rw c.new-late.ensures (record {
   place = c.requires.chain;
   most = c.requires.most;
   sides = (refl, refl);
@@ -79,7 +79,7 @@ place_chain-loop-rest-init g t c = record {
   ends = c.requires.halves;
   back = λ rest same. same;
   placed = begun _ _ _ _ _ _ _ _;
-}
+})
 
 pub place_chain-unreachable-requires : goal.place_chain-unreachable-requires
 place_chain-unreachable-requires g t c =
@@ -125,7 +125,7 @@ place_chain-loop-rest-preserved g t c =
       | place_chain-else-goes_up w ↦
           let s = split_down l.rest next tree _ some c.smaller-smaller.ensures c.goes_up.ensures w.if-goes_up.false in
           let handed = c.chosen-perm.ensures (chained next tree) (Uniform l.rest.behind) (last_is _ _ _ _ _ s.0 i.ends) in
-          rw (w.entries-is, w.block-is, w.late-is) (record {
+          rw (w.entries-is, w.block-is, w.late-is, w.new-late-else-goes_up.ensures) (record {
             place = s.1;
             most = omega (arith, level, i.most);
             sides = sides;
