@@ -111,14 +111,11 @@ fn run_command<'a>(alloc: Global) -> Result<Command<'a>, AllocError>
     ensures app { IfOk result (λ c. app_of c ≡ run_app) }
     ensures local { IfOk result (λ c. (out-Command c).has_globals ≡ false) }
 {
-    let platform = file_arg(alloc, "PLATFORM", "The platform file", true);
-    let trace = file_arg(alloc, "TRACE", "The trace of events", true);
-    let measure = measure_arg(alloc);
     let about = "Boot a platform and run a trace of accesses, calls and interrupts on it";
     let run = named(alloc, "run", about, RUN_HELP)
-        .arg(platform)?
-        .arg(trace)?
-        .arg(measure)?;
+        .arg(file_arg(alloc, "PLATFORM", "The platform file", true))?
+        .arg(file_arg(alloc, "TRACE", "The trace of events", true))?
+        .arg(measure_arg(alloc))?;
     Ok(run)
 }
 
@@ -127,10 +124,11 @@ fn plan_files<'a>(alloc: Global) -> Result<Command<'a>, AllocError>
     ensures app { IfOk result (λ c. app_of c ≡ plan_files_app) }
     ensures local { IfOk result (λ c. (out-Command c).has_globals ≡ false) }
 {
-    let map = file_arg(alloc, "MAP", "The map file", true);
-    let cert = file_arg(alloc, "CERT", "The file to write the certificate to", false);
     let about = "Print the fewest entries that mean a map, and write their certificate";
-    let plan = named(alloc, "plan", about, PLAN_HELP).arg(map)?.arg(cert)?;
+    let cert = "The file to write the certificate to";
+    let plan = named(alloc, "plan", about, PLAN_HELP)
+        .arg(file_arg(alloc, "MAP", "The map file", true))?
+        .arg(file_arg(alloc, "CERT", cert, false))?;
     Ok(plan)
 }
 
@@ -138,11 +136,10 @@ fn plan_command<'a>(alloc: Global) -> Result<Command<'a>, AllocError>
     ensures app { IfOk result (λ c. app_of c ≡ plan_app) }
     ensures local { IfOk result (λ c. (out-Command c).has_globals ≡ false) }
 {
-    let files = plan_files(alloc)?;
-    let entries = entries_arg(alloc);
-    let at_most = at_most_arg(alloc);
-    let format = format_arg(alloc);
-    let plan = files.arg(entries)?.arg(at_most)?.arg(format)?;
+    let plan = plan_files(alloc)?
+        .arg(entries_arg(alloc))?
+        .arg(at_most_arg(alloc))?
+        .arg(format_arg(alloc))?;
     Ok(plan)
 }
 
@@ -150,14 +147,11 @@ fn judge_command<'a>(alloc: Global) -> Result<Command<'a>, AllocError>
     ensures app { IfOk result (λ c. app_of c ≡ judge_app) }
     ensures local { IfOk result (λ c. (out-Command c).has_globals ≡ false) }
 {
-    let map = file_arg(alloc, "MAP", "The map file", true);
-    let trace = file_arg(alloc, "TRACE", "The trace of accesses", true);
-    let entries = entries_arg(alloc);
     let about = "Load a map's entries and judge the accesses of a trace by them";
     let judge = named(alloc, "judge", about, JUDGE_HELP)
-        .arg(map)?
-        .arg(trace)?
-        .arg(entries)?;
+        .arg(file_arg(alloc, "MAP", "The map file", true))?
+        .arg(file_arg(alloc, "TRACE", "The trace of accesses", true))?
+        .arg(entries_arg(alloc))?;
     Ok(judge)
 }
 
@@ -165,12 +159,10 @@ fn check_command<'a>(alloc: Global) -> Result<Command<'a>, AllocError>
     ensures app { IfOk result (λ c. app_of c ≡ check_app) }
     ensures local { IfOk result (λ c. (out-Command c).has_globals ≡ false) }
 {
-    let map = file_arg(alloc, "MAP", "The map file", true);
-    let cert = file_arg(alloc, "CERT", "The certificate", true);
     let about = "Check that a certificate proves its entries right and fewest for a map";
     let check = named(alloc, "check", about, CHECK_HELP)
-        .arg(map)?
-        .arg(cert)?;
+        .arg(file_arg(alloc, "MAP", "The map file", true))?
+        .arg(file_arg(alloc, "CERT", "The certificate", true))?;
     Ok(check)
 }
 
@@ -178,14 +170,11 @@ fn show_command<'a>(alloc: Global) -> Result<Command<'a>, AllocError>
     ensures app { IfOk result (λ c. app_of c ≡ show_app) }
     ensures local { IfOk result (λ c. (out-Command c).has_globals ≡ false) }
 {
-    let map = file_arg(alloc, "MAP", "The map file", true);
-    let entries = entries_arg(alloc);
-    let at_most = at_most_arg(alloc);
     let about = "Print a map as a table, each stretch with the entry that decides it";
     let show = named(alloc, "show", about, SHOW_HELP)
-        .arg(map)?
-        .arg(entries)?
-        .arg(at_most)?;
+        .arg(file_arg(alloc, "MAP", "The map file", true))?
+        .arg(entries_arg(alloc))?
+        .arg(at_most_arg(alloc))?;
     Ok(show)
 }
 
@@ -193,12 +182,11 @@ fn audit_command<'a>(alloc: Global) -> Result<Command<'a>, AllocError>
     ensures app { IfOk result (λ c. app_of c ≡ audit_app) }
     ensures local { IfOk result (λ c. (out-Command c).has_globals ≡ false) }
 {
-    let map = file_arg(alloc, "MAP", "The map file", true);
-    let registers = file_arg(alloc, "REGISTERS", "The listing of the registers", true);
     let about = "Say whether registers mean a map, or where they differ first";
+    let registers = "The listing of the registers";
     let audit = named(alloc, "audit", about, AUDIT_HELP)
-        .arg(map)?
-        .arg(registers)?;
+        .arg(file_arg(alloc, "MAP", "The map file", true))?
+        .arg(file_arg(alloc, "REGISTERS", registers, true))?;
     Ok(audit)
 }
 
@@ -206,9 +194,13 @@ fn lint_command<'a>(alloc: Global) -> Result<Command<'a>, AllocError>
     ensures app { IfOk result (λ c. app_of c ≡ lint_app) }
     ensures local { IfOk result (λ c. (out-Command c).has_globals ≡ false) }
 {
-    let map = file_arg(alloc, "MAP", "The map file", true);
     let about = "Say what is wrong with a map file, line by line, and what would mend it";
-    let lint = named(alloc, "lint", about, LINT_HELP).arg(map)?;
+    let lint = named(alloc, "lint", about, LINT_HELP).arg(file_arg(
+        alloc,
+        "MAP",
+        "The map file",
+        true,
+    ))?;
     Ok(lint)
 }
 
@@ -227,8 +219,7 @@ fn running_program<'a>(alloc: Global) -> Result<Command<'a>, AllocError>
     ensures app { IfOk result (λ c. app_of c ≡ running_app) }
     ensures local { IfOk result (λ c. (out-Command c).has_globals ≡ false) }
 {
-    let run = run_command(alloc)?;
-    let program = bare_program(alloc).subcommand(run)?;
+    let program = bare_program(alloc).subcommand(run_command(alloc)?)?;
     Ok(program)
 }
 
@@ -237,14 +228,10 @@ fn planning_program<'a>(alloc: Global) -> Result<Command<'a>, AllocError>
     ensures app { IfOk result (λ c. app_of c ≡ planning_app) }
     ensures local { IfOk result (λ c. (out-Command c).has_globals ≡ false) }
 {
-    let running = running_program(alloc)?;
-    let plan = plan_command(alloc)?;
-    let judge = judge_command(alloc)?;
-    let check = check_command(alloc)?;
-    let program = running
-        .subcommand(plan)?
-        .subcommand(judge)?
-        .subcommand(check)?;
+    let program = running_program(alloc)?
+        .subcommand(plan_command(alloc)?)?
+        .subcommand(judge_command(alloc)?)?
+        .subcommand(check_command(alloc)?)?;
     Ok(program)
 }
 
@@ -253,10 +240,9 @@ fn looking_program<'a>(alloc: Global) -> Result<Command<'a>, AllocError>
     ensures app { IfOk result (λ c. app_of c ≡ looking_app) }
     ensures local { IfOk result (λ c. (out-Command c).has_globals ≡ false) }
 {
-    let planning = planning_program(alloc)?;
-    let show = show_command(alloc)?;
-    let audit = audit_command(alloc)?;
-    let program = planning.subcommand(show)?.subcommand(audit)?;
+    let program = planning_program(alloc)?
+        .subcommand(show_command(alloc)?)?
+        .subcommand(audit_command(alloc)?)?;
     Ok(program)
 }
 
@@ -265,9 +251,7 @@ pub fn program<'a>(alloc: Global) -> Result<Command<'a>, AllocError>
     ensures app { IfOk result (λ c. app_of c ≡ program_app) }
     ensures local { IfOk result (λ c. (out-Command c).has_globals ≡ false) }
 {
-    let looking = looking_program(alloc)?;
-    let lint = lint_command(alloc)?;
-    let program = looking.subcommand(lint)?;
+    let program = looking_program(alloc)?.subcommand(lint_command(alloc)?)?;
     Ok(program)
 }
 
