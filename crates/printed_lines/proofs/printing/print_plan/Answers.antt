@@ -36,7 +36,7 @@ returns-clause-written g c =
           bank = c.of-bank.result;
           is_bank = c.of-bank.ensures.registers;
           count = c.words-count.result;
-          words = c.words-count.ensures.value;
+          words = c.words-count.ensures.whole;
           lines = refl;
         };
         too_many = λ h. absurd (room _ _ _ c.if-entries-number.false c.number.ensures.value h);
@@ -57,7 +57,7 @@ returns-in_err-print_list-2-clause-part g c =
           bank = c.of-bank.result;
           is_bank = c.of-bank.ensures.registers;
           count = c.words-count.result;
-          words = c.words-count.ensures.value;
+          words = c.words-count.ensures.whole;
           lines = refl;
         };
         too_many = λ h. absurd (room _ _ _ c.if-entries-number.false c.number.ensures.value h);
@@ -78,7 +78,7 @@ returns-in_err-print_words-clause-part g c =
           bank = c.of-bank.result;
           is_bank = c.of-bank.ensures.registers;
           count = c.words-count.result;
-          words = c.words-count.ensures.value;
+          words = c.words-count.ensures.whole;
           lines = refl;
         };
         too_many = λ h. absurd (room _ _ _ c.if-entries-number.false c.number.ensures.value h);
