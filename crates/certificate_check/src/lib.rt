@@ -35,8 +35,6 @@ mod refusal;
 mod runs;
 mod sizes;
 mod sweep;
-#[cfg(test)]
-mod tests;
 
 pub use checking::check;
 pub use refusal::CheckRefusal;

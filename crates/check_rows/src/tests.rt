@@ -1,14 +1,10 @@
-ghost use Rattle.std.specs.Prelude.{◌<◌, ◌^◌};
-
+mod orders;
 mod ways;
 
-use crate::listing::listed;
-use crate::sweep::means;
-use crate::{CheckRefusal, check};
-use certificate_format::Reader;
+use certificate_check::{CheckRefusal, check};
 use permission_map::{MapFault, PermissionMap};
 use pmp_encoding::Perm;
-use std::alloc::{AllocError, Global};
+use std::alloc::Global;
 use std::test::Fail;
 
 /// The whole space with every right, in one entry.
@@ -45,6 +41,7 @@ fn lower_half_map(alloc: Global) -> Result<PermissionMap, MapFault> {
 fn seven_pages_map(alloc: Global) -> Result<PermissionMap, MapFault> {
     map_of(alloc, 0x80208, 7, Perm::ReadExecute)
 }
+
 /// The number of the refusal, or 0 for a yes.
 fn code(map: &PermissionMap, bytes: &[u8]) -> u8 {
     match check(map, bytes) {
@@ -212,100 +209,5 @@ fn a_page_that_is_split_is_too_deep(rt: HostRuntime) -> Result<(), Fail> {
     for map in &maps {
         assert_eq!(rt; check(map, &bytes), Err(CheckRefusal::TooDeep));
     }
-    Ok(())
-}
-
-/// The pairs of every second page from 0x80000 on, fifty of them, by falling address.
-fn falling_pages(alloc: Global) -> Result<Vec<u8>, AllocError> {
-    let mut bytes = Vec::new(alloc);
-    for i in 0..50u64 {
-        let page = 0x80000 + 2 * (49 - i);
-        bytes.push(0x1F)?;
-        bytes.extend_from_slice((page * 1024 + 511).to_le_bytes().as_slice())?;
-    }
-    Ok(bytes)
-}
-
-/// Whether that many entries of these bytes mean the map.
-fn list_means(bytes: &[u8], count: u32, map: &PermissionMap) -> Result<bool, CheckRefusal>
-    requires { count < 2 ^ 19 }
-{
-    let mut reader = Reader::new(bytes);
-    let list = listed(&mut reader, count)?;
-    Ok(means(&list, map))
-}
-
-#[test]
-fn entries_in_any_order_mean_a_map(rt: HostRuntime) -> Result<(), Fail> {
-    let alloc = rt.alloc();
-    let mut map = PermissionMap::new(alloc);
-    for i in 0..50 {
-        map.set_range(0x80000 + 2 * i, 1, Perm::ReadWriteExecute)?;
-    }
-    let falling = falling_pages(alloc)?;
-    let mut rising = Vec::new(alloc);
-    for pair in falling.chunks(9).rev() {
-        rising.extend_from_slice(pair)?;
-    }
-    assert_eq!(rt; rising.len(), 450);
-    let (fewer, _) = rising.as_slice().split_at(441);
-    assert_eq!(rt; list_means(&falling, 50, &map), Ok(true));
-    assert_eq!(rt; list_means(&rising, 50, &map), Ok(true));
-    assert_eq!(rt; list_means(fewer, 49, &map), Ok(false));
-    map.set_range(0x80001, 1, Perm::Read)?;
-    assert_eq!(rt; list_means(&falling, 50, &map), Ok(false));
-    assert_eq!(rt; list_means(&rising, 50, &map), Ok(false));
-    Ok(())
-}
-
-/// The block of 256 pages from 0x80000 on, with read alone.
-const WIDE: [u8; 9] = [0x19, 0xFF, 0xFF, 0x01, 0x20, 0, 0, 0, 0];
-
-#[test]
-fn of_entries_in_any_order_the_first_decides(rt: HostRuntime) -> Result<(), Fail> {
-    let alloc = rt.alloc();
-    let mut wide = PermissionMap::new(alloc);
-    wide.set_range(0x80000, 256, Perm::Read)?;
-    let mut both = PermissionMap::new(alloc);
-    both.set_range(0x80000, 256, Perm::Read)?;
-    for i in 0..50 {
-        both.set_range(0x80000 + 2 * i, 1, Perm::ReadWriteExecute)?;
-    }
-    let falling = falling_pages(alloc)?;
-    let mut wide_last = falling.clone()?;
-    wide_last.extend_from_slice(WIDE.as_slice())?;
-    let mut wide_first = Vec::new(alloc);
-    wide_first.extend_from_slice(WIDE.as_slice())?;
-    wide_first.extend_from_slice(&falling)?;
-    let mut twice = wide_last.clone()?;
-    for pair in falling.chunks(9) {
-        twice.push(0x19)?;
-        twice.extend_from_slice(&pair[1..])?;
-    }
-    assert_eq!(rt; list_means(&wide_last, 51, &both), Ok(true));
-    assert_eq!(rt; list_means(&wide_last, 51, &wide), Ok(false));
-    assert_eq!(rt; list_means(&wide_first, 51, &wide), Ok(true));
-    assert_eq!(rt; list_means(&wide_first, 51, &both), Ok(false));
-    assert_eq!(rt; list_means(&twice, 101, &both), Ok(true));
-    Ok(())
-}
-
-#[test]
-fn more_entries_than_are_held_at_once_mean_a_map(rt: HostRuntime) -> Result<(), Fail> {
-    let alloc = rt.alloc();
-    let mut map = PermissionMap::new(alloc);
-    map.set_range(0x80000, 70000, Perm::ReadWriteExecute)?;
-    let mut bytes = Vec::new(alloc);
-    for i in 0..70000u64 {
-        let page = 0x80000 + 69999 - i;
-        bytes.push(0x1F)?;
-        bytes.extend_from_slice((page * 1024 + 511).to_le_bytes().as_slice())?;
-    }
-    assert_eq!(rt; list_means(&bytes, 70000, &map), Ok(true));
-    assert_eq!(rt; bytes.len(), 630000);
-    let (fewer, _) = bytes.as_slice().split_at(629991);
-    assert_eq!(rt; list_means(fewer, 69999, &map), Ok(false));
-    map.set_range(0x80000 + 34999, 1, Perm::Read)?;
-    assert_eq!(rt; list_means(&bytes, 70000, &map), Ok(false));
     Ok(())
 }

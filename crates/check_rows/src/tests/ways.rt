@@ -1,5 +1,5 @@
 use super::{code, map_of, seven_pages_map};
-use crate::{CheckRefusal, check};
+use certificate_check::{CheckRefusal, check};
 use permission_map::PermissionMap;
 use pmp_encoding::Perm;
 use std::alloc::{AllocError, Global};
@@ -109,6 +109,7 @@ const EIGHT_PAGES: (u8, u64) = (0x1D, 0x2008_2FFF);
 fn seven_pages(alloc: Global) -> Result<Vec<u8>, AllocError> {
     certificate(alloc, [HOLE, EIGHT_PAGES].as_slice(), seven_pages_way())
 }
+
 /// The number for the bytes with one of them changed.
 fn code_with(
     alloc: Global,

@@ -1,4 +1,4 @@
-use Rattle.certificate_check.proofs.tests.ways.Way.+costs.Given as goal
+use Rattle.check_rows.proofs.tests.ways.Way.+costs.Given as goal
 
 abbrev pub decreases-costs : goal.decreases-costs
 decreases-costs l = l.log2

@@ -1,4 +1,4 @@
-use Rattle.certificate_check.proofs.tests.ways.Way.+write.Given as goal
+use Rattle.check_rows.proofs.tests.ways.Way.+write.Given as goal
 
 abbrev pub decreases-write : goal.decreases-write
 decreases-write l = l.log2
