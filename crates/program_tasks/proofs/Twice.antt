@@ -1,9 +1,12 @@
--- Standard input that is named twice.
-use Rattle.std.proofs.Common.{ℕ, ◌∷◌, ◌≡◌, ◌∙◌, false, Option, Some, Result, Ok, Err, IfErr, codes, ap, sym, refl, true≢false}
+-- Registers that are not given, and standard input that is named twice.
+use Rattle.std.proofs.Common.{ℕ, ◌∷◌, ◌≡◌, ◌∙◌, false, Option, Some, None, Result, Ok, Err, IfErr, IsErrAnd, codes, ap, subst, sym, refl, inl, inr, true≢false}
 use Rattle.std.proofs.Math.Dec.{eqb}
 use Rattle.std.proofs.lemmas.Bool.{eq-eqb}
 use Rattle.std.specs.List.{slice_index_or}
 use Rattle.program_tasks.specs.declared.task.Task.TheVariants.{Run, Plan, Judge, Check, Show, Audit, Lint}
+use Rattle.program_tasks.specs.declared.fault.Fault.{Fault}
+use Rattle.program_tasks.specs.declared.fault.Fault.TheVariants.{InputTwice}
+use Rattle.program_tasks.specs.Faults.{Breaks, IsFirst, audit_demands, has}
 use Rattle.program_tasks.specs.Tasks.{Text, NamesNone, input_word}
 
 same : (x y : Text) → Some x ≡ Some y → x ≡ y
@@ -12,6 +15,23 @@ same x y e = cc
 pub if_err : {T E P : Type 0} (result : Result T E) → P → IfErr result (λ _. P)
 if_err (Ok x) p = tt
 if_err (Err e) p = p
+
+-- a fault handed on as it is
+pub handed_on : {T : Type 0} (result : Result T Fault) (fault : Fault) (P : Fault → Type 0) → IsErrAnd result (λ f. f ≡ fault) → P fault → IfErr result P
+handed_on (Ok x) fault P h p = tt
+handed_on (Err f) fault P h p = subst P (sym h) p
+
+given : (value : Text → Option Text) (name word : Text) → value name ≡ Some word → value name ≡ None → ⊥
+given value name word e none = cc
+
+pub no_registers : (value : Text → Option Text) (map : Text) (fault : Fault) → value (codes "MAP") ≡ Some map → Breaks value (has (codes "REGISTERS")) fault → IsFirst value audit_demands fault
+no_registers value map fault m broken = inr (given value (codes "MAP") map m, inl broken)
+
+pub read_twice :
+    (value : Text → Option Text) (map registers : Text) (fault : Fault) → value (codes "MAP") ≡ Some map → value (codes "REGISTERS") ≡ Some registers → map ≡ input_word
+    → registers ≡ input_word → fault ≡ InputTwice → IsFirst value audit_demands fault
+read_twice value map registers fault m r mi ri e =
+    inr (given value (codes "MAP") map m, inr (given value (codes "REGISTERS") registers r, inl ((m ∙ ap (λ t. Some t) mi, r ∙ ap (λ t. Some t) ri), e)))
 
 -- words that begin with other letters are others
 differ : {P : Type 0} (a b : ℕ) (xs ys : Text) → eqb a b ≡ false → a ∷ xs ≡ b ∷ ys → P
@@ -26,3 +46,12 @@ twice_audited value flag map registers m r mi ri (Judge p t s) e v sound = diffe
 twice_audited value flag map registers m r mi ri (Check p t) e v sound = differ _ _ _ _ refl e
 twice_audited value flag map registers m r mi ri (Show p t s) e v sound = differ _ _ _ _ refl e
 twice_audited value flag map registers m r mi ri (Lint p) e v sound = differ _ _ _ _ refl e
+
+pub unlisted : (value flag : Text → Option Text) → value (codes "REGISTERS") ≡ None → NamesNone (codes "audit") value flag
+unlisted value flag none (Audit named other) e v sound = given value (codes "REGISTERS") _ v.1 none
+unlisted value flag none (Run p t s) e v sound = differ _ _ _ _ refl e
+unlisted value flag none (Plan p t s a f) e v sound = differ _ _ _ _ refl e
+unlisted value flag none (Judge p t s) e v sound = differ _ _ _ _ refl e
+unlisted value flag none (Check p t) e v sound = differ _ _ _ _ refl e
+unlisted value flag none (Show p t s) e v sound = differ _ _ _ _ refl e
+unlisted value flag none (Lint p) e v sound = differ _ _ _ _ refl e

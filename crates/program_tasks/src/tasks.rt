@@ -1,8 +1,10 @@
 //! The task that a subcommand with its values is.
 
-ghost use Rattle.std.specs.Prelude.{◌≡◌, ◌≢◌, ◌↔◌, ℕ, IfErr, IfOk, IfSome, Option, None, Some, codes, true, option_map};
+ghost use Rattle.std.specs.Prelude.{◌≡◌, ◌≢◌, ◌↔◌, [], ◌∷◌, ℕ, IfErr, IfOk, IfSome, Option, None, Some, codes, true, option_map};
 ghost use Rattle.pmp_encoding.specs.declared.limit.Limit.{Limit};
 ghost use Rattle.program_tasks.specs.declared.task.Format.{Format};
+ghost use Rattle.program_tasks.specs.Faults.{Breaks, IsFaultOf, IsFirst, audit_demands, check_demands, judge_demands, lint_demands, plan_demands, run_demands, show_demands};
+ghost use Rattle.program_tasks.specs.Faults.Demand.{counts, has, names_limit, names_format};
 ghost use Rattle.program_tasks.specs.Tasks.{limit_word, format_word, input_word, word_of, Counts, HasValues, IsSound, NamesNone};
 
 use crate::fault::Fault;
@@ -51,7 +53,7 @@ fn format_of(word: &str) -> Option<Format>
 /// The value of an argument that has to be there.
 fn value_in<'a, V: Values<'a>>(given: &V, name: &str) -> Result<&'a str, Fault<'a>>
     ensures value { IfOk result (λ word. V.value given.now name.now ≡ Some word.now) }
-    ensures missing { IfErr result (λ _. V.value given.now name.now ≡ None) }
+    ensures missing { IfErr result (Breaks (V.value given.now) (has name.now)) }
 {
     match given.value(name) {
         Some(word) => Ok(word),
@@ -63,6 +65,7 @@ fn value_in<'a, V: Values<'a>>(given: &V, name: &str) -> Result<&'a str, Fault<'
 fn limit_in<'a, V: Values<'a>>(given: &V) -> Result<Limit, Fault<'a>>
     ensures value { IfOk result (λ limit. V.value given.now (codes "entries") ≡ Some (limit_word limit)) }
     ensures other { IfErr result (λ _. (limit : Limit) → V.value given.now (codes "entries") ≢ Some (limit_word limit)) }
+    ensures fault { IfErr result (IsFirst (V.value given.now) (has (codes "entries") ∷ names_limit ∷ [])) }
 {
     let word = value_in(given, "entries")?;
     match limit_of(word) {
@@ -75,6 +78,7 @@ fn limit_in<'a, V: Values<'a>>(given: &V) -> Result<Limit, Fault<'a>>
 fn format_in<'a, V: Values<'a>>(given: &V) -> Result<Format, Fault<'a>>
     ensures value { IfOk result (λ format. V.value given.now (codes "format") ≡ Some (format_word format)) }
     ensures other { IfErr result (λ _. (format : Format) → V.value given.now (codes "format") ≢ Some (format_word format)) }
+    ensures fault { IfErr result (IsFirst (V.value given.now) (has (codes "format") ∷ names_format ∷ [])) }
 {
     let word = value_in(given, "format")?;
     match format_of(word) {
@@ -86,7 +90,7 @@ fn format_in<'a, V: Values<'a>>(given: &V) -> Result<Format, Fault<'a>>
 /// The value of `--at-most`, where it is given.
 fn at_most_in<'a, V: Values<'a>>(given: &V) -> Result<Option<u64>, Fault<'a>>
     ensures value { IfOk result (Counts (V.value given.now (codes "at-most"))) }
-    ensures other { IfErr result (λ _. (count : Option ℕ) → Counts (V.value given.now (codes "at-most")) count → ⊥) }
+    ensures fault { IfErr result (Breaks (V.value given.now) counts) }
 {
     match given.value("at-most") {
         None => Ok(None),
@@ -111,6 +115,7 @@ fn run_in<'a, V: Values<'a>>(given: &V) -> Result<Task<'a>, Fault<'a>>
     ensures values { IfOk result (HasValues (V.value given.now) (V.flag given.now)) }
     ensures sound { IfOk result IsSound }
     ensures refused { IfErr result (λ _. NamesNone (codes "run") (V.value given.now) (V.flag given.now)) }
+    ensures fault { IfErr result (IsFirst (V.value given.now) run_demands) }
 {
     let platform = value_in(given, "PLATFORM")?;
     let trace = value_in(given, "TRACE")?;
@@ -127,6 +132,7 @@ fn cert_in<'a, V: Values<'a>>(given: &V, map: &'a str) -> Result<Option<&'a str>
     ensures value { IfOk result (λ cert. V.value given.now (codes "CERT") ≡ option_map (λ s. s.now) cert) }
     ensures other { IfOk result (λ cert. option_map (λ s. s.now) cert ≢ Some map.entry.now) }
     ensures same { IfErr result (λ _. V.value given.now (codes "CERT") ≡ Some map.entry.now) }
+    ensures fault { IfErr result (λ fault. fault ≡ Fault.TakesPlace map.entry) }
 {
     match given.value("CERT") {
         None => Ok(None),
@@ -144,6 +150,7 @@ fn plan_in<'a, V: Values<'a>>(given: &V) -> Result<Task<'a>, Fault<'a>>
     ensures values { IfOk result (HasValues (V.value given.now) (V.flag given.now)) }
     ensures sound { IfOk result IsSound }
     ensures refused { IfErr result (λ _. NamesNone (codes "plan") (V.value given.now) (V.flag given.now)) }
+    ensures fault { IfErr result (IsFirst (V.value given.now) plan_demands) }
 {
     let map = value_in(given, "MAP")?;
     let cert = cert_in(given, map)?;
@@ -163,6 +170,7 @@ fn plan_in<'a, V: Values<'a>>(given: &V) -> Result<Task<'a>, Fault<'a>>
 fn once<'a>(map: &str, other: &str) -> Result<(), Fault<'a>>
     ensures once { IfOk result (λ _. (map.now ≡ input_word) × (other.now ≡ input_word) → ⊥) }
     ensures twice { IfErr result (λ _. (map.now ≡ input_word) × (other.now ≡ input_word)) }
+    ensures fault { IfErr result (λ fault. fault ≡ Fault.InputTwice) }
 {
     if is_input(map) && is_input(other) {
         return Err(Fault::InputTwice);
@@ -175,6 +183,7 @@ fn judge_in<'a, V: Values<'a>>(given: &V) -> Result<Task<'a>, Fault<'a>>
     ensures values { IfOk result (HasValues (V.value given.now) (V.flag given.now)) }
     ensures sound { IfOk result IsSound }
     ensures refused { IfErr result (λ _. NamesNone (codes "judge") (V.value given.now) (V.flag given.now)) }
+    ensures fault { IfErr result (IsFirst (V.value given.now) judge_demands) }
 {
     let map = value_in(given, "MAP")?;
     let trace = value_in(given, "TRACE")?;
@@ -188,6 +197,7 @@ fn check_in<'a, V: Values<'a>>(given: &V) -> Result<Task<'a>, Fault<'a>>
     ensures values { IfOk result (HasValues (V.value given.now) (V.flag given.now)) }
     ensures sound { IfOk result IsSound }
     ensures refused { IfErr result (λ _. NamesNone (codes "check") (V.value given.now) (V.flag given.now)) }
+    ensures fault { IfErr result (IsFirst (V.value given.now) check_demands) }
 {
     let map = value_in(given, "MAP")?;
     let cert = value_in(given, "CERT")?;
@@ -199,6 +209,7 @@ fn show_in<'a, V: Values<'a>>(given: &V) -> Result<Task<'a>, Fault<'a>>
     ensures values { IfOk result (HasValues (V.value given.now) (V.flag given.now)) }
     ensures sound { IfOk result IsSound }
     ensures refused { IfErr result (λ _. NamesNone (codes "show") (V.value given.now) (V.flag given.now)) }
+    ensures fault { IfErr result (IsFirst (V.value given.now) show_demands) }
 {
     let map = value_in(given, "MAP")?;
     let limit = limit_in(given)?;
@@ -215,6 +226,7 @@ fn audit_in<'a, V: Values<'a>>(given: &V) -> Result<Task<'a>, Fault<'a>>
     ensures values { IfOk result (HasValues (V.value given.now) (V.flag given.now)) }
     ensures sound { IfOk result IsSound }
     ensures refused { IfErr result (λ _. NamesNone (codes "audit") (V.value given.now) (V.flag given.now)) }
+    ensures fault { IfErr result (IsFirst (V.value given.now) audit_demands) }
 {
     let map = value_in(given, "MAP")?;
     let registers = value_in(given, "REGISTERS")?;
@@ -227,6 +239,7 @@ fn lint_in<'a, V: Values<'a>>(given: &V) -> Result<Task<'a>, Fault<'a>>
     ensures values { IfOk result (HasValues (V.value given.now) (V.flag given.now)) }
     ensures sound { IfOk result IsSound }
     ensures refused { IfErr result (λ _. NamesNone (codes "lint") (V.value given.now) (V.flag given.now)) }
+    ensures fault { IfErr result (IsFirst (V.value given.now) lint_demands) }
 {
     let map = value_in(given, "MAP")?;
     Ok(Task::Lint { map })
@@ -238,6 +251,7 @@ pub fn task_of<'a, V: Values<'a>>(name: &str, given: &V) -> Result<Task<'a>, Fau
     ensures values { IfOk result (HasValues (V.value given.now) (V.flag given.now)) }
     ensures sound { IfOk result IsSound }
     ensures refused { IfErr result (λ _. NamesNone name.now (V.value given.now) (V.flag given.now)) }
+    ensures fault { IfErr result (IsFaultOf name.now (V.value given.now)) }
 {
     if name == "run" {
         return run_in(given);
