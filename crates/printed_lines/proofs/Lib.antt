@@ -1,2 +1,3 @@
 pub mod Parts
 mod Printed
+mod HexPairs

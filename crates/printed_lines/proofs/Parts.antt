@@ -1,5 +1,5 @@
 -- Texts that are written one after another: where one of them stops within itself, a beginning of all was written.
-use Rattle.std.proofs.Common.{ℕ, List, [], ◌++◌, ◌≡◌, ◌∙◌, ◌+◌, ◌<◌, Option, ap, sym, arith, length, length-append, take, append_assoc, append-nil}
+use Rattle.std.proofs.Common.{ℕ, List, [], ◌++◌, ◌≡◌, ◌∙◌, ◌+◌, ◌<◌, Option, ap, arith, length, length-append, take, append-nil}
 use Rattle.std.proofs.Math.Seq.{take-append-add, take-append-le}
 use Rattle.std.proofs.KnownBytes.{Appends-trans, Appends-nil}
 use Rattle.std.specs.Io.KnownBytes.{Appends}

@@ -1,5 +1,5 @@
 -- The lines of a plan, one after another.
-use Rattle.std.proofs.Common.{ℕ, List, ◌∷◌, ◌++◌, ◌≡◌, ◌∙◌, ◌+◌, ◌-◌, ◌*◌, ◌<◌, suc, length, drop, get_or, ap, sym, arith, add-one, drop-cons}
+use Rattle.std.proofs.Common.{ℕ, List, ◌∷◌, ◌++◌, ◌≡◌, ◌∙◌, ◌+◌, ◌-◌, ◌*◌, ◌<◌, suc, length, drop, get_or, ap, sym, arith, add-one, drop-cons, append_assoc}
 use Rattle.pmp_encoding.specs.declared.bank.Bank.{Bank}
 use Rattle.pmp_encoding.specs.declared.region.Entry.{Entry}
 use Rattle.pmp_encoding.specs.Banks.{word_at}
@@ -17,3 +17,12 @@ entries_text-first entries i entry h is = ap (entries_text i) (entry_at entries 
 -- the line of word i, and the lines behind it
 pub words_text-first : (bank : Bank) (i count : ℕ) → i < count → words_text bank i (count - i) ≡ word_text (2 * i) (word_at bank (2 * i)) ++ words_text bank (i + 1) (count - (i + 1))
 words_text-first bank i count h = let e : count - i ≡ suc (count - (i + 1)) = omega arith in ap (words_text bank i) e
+
+-- the pieces of a line, behind what stood before them
+pub line_behind : (old a b c d e f : List ℕ) → (((((old ++ a) ++ b) ++ c) ++ d) ++ e) ++ f ≡ old ++ (((((a ++ b) ++ c) ++ d) ++ e) ++ f)
+line_behind old a b c d e f =
+    ap (λ l. (((l ++ c) ++ d) ++ e) ++ f) (append_assoc old a b)
+    ∙ ap (λ l. ((l ++ d) ++ e) ++ f) (append_assoc old (a ++ b) c)
+    ∙ ap (λ l. (l ++ e) ++ f) (append_assoc old ((a ++ b) ++ c) d)
+    ∙ ap (λ l. l ++ f) (append_assoc old (((a ++ b) ++ c) ++ d) e)
+    ∙ append_assoc old ((((a ++ b) ++ c) ++ d) ++ e) f

@@ -10,6 +10,7 @@
 
 mod digests;
 mod fields;
+mod hexadecimal;
 mod printing;
 #[cfg(test)]
 mod tests;

@@ -6,7 +6,8 @@ ghost use Rattle.byte_streams.specs.Streams.{WriteFails};
 ghost use Rattle.pmp_encoding.specs.Limits.{limit_number};
 ghost use Rattle.printed_lines.specs.Plans.{IsPlanText, TakesPart, entries_text, list_text, words_text};
 
-use crate::texts::{count_line, entry_line, word_line};
+use crate::texts::{count_line, push_entry, word_line};
+use arrayvec::ArrayVec;
 use byte_streams::{DeviceFault, Sink, write_whole};
 use pmp_encoding::{Bank, Entry, Limit};
 
@@ -21,7 +22,8 @@ fn print_entries<W: Sink>(entries: &[Entry], out: &mut W) -> Result<(), DeviceFa
 {
     for (i, entry) in entries.iter().enumerate() {
         let (cfg, address) = entry.encode();
-        let line = entry_line(i as u64, cfg, address);
+        let mut line = ArrayVec::new();
+        push_entry(&mut line, i as u64, cfg, address);
         write_whole(out, line.as_slice())?;
     }
     Ok(())

@@ -1,10 +1,12 @@
 //! The lines that the program prints, in a buffer of a fixed length.
 
-ghost use Rattle.std.specs.Prelude.{◌≡◌, ◌≤◌, length};
+ghost use Rattle.std.specs.Prelude.{◌≡◌, ◌+◌, ◌≤◌, ◌++◌, length};
+ghost use Rattle.arrayvec.specs.ArrayVec.{array_vec_len};
 ghost use Rattle.printed_lines.specs.Texts.{accepted_of_text, accepted_text, count_text, entry_text, refused_text, word_text};
 
+use crate::hexadecimal::{byte_digits, word_digits};
 use arrayvec::ArrayVec;
-use text_lines::{Line, push_decimal, push_hex, push_text};
+use text_lines::{Line, push_decimal, push_text};
 
 /// `entries N`.
 pub fn count_line(n: u64) -> Line
@@ -17,17 +19,25 @@ pub fn count_line(n: u64) -> Line
     line
 }
 
+/// Appends `I 0xCC 0xAAAAAAAAAAAAAAAA`.
+pub fn push_entry(line: &mut Line, i: u64, cfg: u8, addr: u64)
+    requires { array_vec_len line.old + 45 ≤ 128 }
+    ensures { line.new.items ≡ line.old.items ++ entry_text i cfg addr }
+{
+    push_decimal(line, i);
+    push_text(line, b" 0x");
+    push_text(line, byte_digits(cfg).as_slice());
+    push_text(line, b" 0x");
+    push_text(line, word_digits(addr).as_slice());
+    line.push(b'\n');
+}
+
 /// `I 0xCC 0xAAAAAAAAAAAAAAAA`.
 pub fn entry_line(i: u64, cfg: u8, addr: u64) -> Line
     ensures { result.items ≡ entry_text i cfg addr }
 {
     let mut line = ArrayVec::new();
-    push_decimal(&mut line, i);
-    push_text(&mut line, b" 0x");
-    push_hex(&mut line, u64::from(cfg), 2);
-    push_text(&mut line, b" 0x");
-    push_hex(&mut line, addr, 16);
-    line.push(b'\n');
+    push_entry(&mut line, i, cfg, addr);
     line
 }
 
@@ -39,7 +49,7 @@ pub fn word_line(k: u64, word: u64) -> Line
     push_text(&mut line, b"pmpcfg");
     push_decimal(&mut line, k);
     push_text(&mut line, b" 0x");
-    push_hex(&mut line, word, 16);
+    push_text(&mut line, word_digits(word).as_slice());
     line.push(b'\n');
     line
 }

@@ -14,7 +14,7 @@ loop-i-preserved g c =
     let entry = c.index-entries-i.result in
     let w = c.loop-i.invariant.written in
     let line : c.as_slice.result.now ≡ entry_text i (cfg_of entry) (address_of entry) =
-    c.as_slice.ensures.value ∙ c.entry_line-line.ensures ∙ ap₂ (entry_text i) c.encode-cfg.ensures.cfg c.encode-cfg.ensures.address in
+    c.as_slice.ensures.value ∙ c.push_entry.ensures ∙ ap₂ (λ l t. l ++ t) c.new-line.ensures (ap₂ (entry_text i) c.encode-cfg.ensures.cfg c.encode-cfg.ensures.address) in
     record {
       well = c.in_ok-write_whole.ensures.well ∙ c.loop-i.invariant.well;
       unstalled = c.in_ok-write_whole.ensures.unstalled ∙ c.loop-i.invariant.unstalled;
@@ -31,7 +31,7 @@ returns-in_err-write_whole-clause-part g c =
     let entry = c.index-entries-i.result in
     let w = c.loop-i.invariant.written in
     let line : c.as_slice.result.now ≡ entry_text i (cfg_of entry) (address_of entry) =
-    c.as_slice.ensures.value ∙ c.entry_line-line.ensures ∙ ap₂ (entry_text i) c.encode-cfg.ensures.cfg c.encode-cfg.ensures.address in
+    c.as_slice.ensures.value ∙ c.push_entry.ensures ∙ ap₂ (λ l t. l ++ t) c.new-line.ensures (ap₂ (entry_text i) c.encode-cfg.ensures.cfg c.encode-cfg.ensures.address) in
     let whole = ap (λ x. w.0 ++ x) (sym (entries_text-first c.args.entries.now i entry c.loop-i-test.true c.index-entries-i.is)) ∙ w.1 in
     let part = part_behind w.0 (entry_text i (cfg_of entry) (address_of entry)) (entries_text (i + 1) (drop (i + 1) c.args.entries.now)) (g.W.Sink.contents c.args.out.now) (g.W.Sink.contents c.loop-i.out) (g.W.Sink.contents c.write_whole.new.sink) w.2 (rw line at c.in_err-write_whole.ensures.part) in
     rw (err_from_is_err_and c.from_residual.result c.from_residual.ensures.1).1 (rw whole at part)

@@ -1,4 +1,4 @@
-use Rattle.std.proofs.Common.{ℕ, [], ◌≡◌, ◌∙◌, ◌++◌, ◌<◌, ◌≤◌, sym, refl, append-nil, length, arith}
+use Rattle.std.proofs.Common.{ℕ, [], ◌≡◌, ◌++◌, ◌<◌, ◌≤◌, sym, refl, append-nil, arith}
 use Rattle.std.proofs.lemmas.Result.{err_from_is_err_and}
 use Rattle.std.proofs.KnownBytes.{Appends-trans}
 use Rattle.printed_lines.specs.Plans.{list_text, words_text}
