@@ -10,3 +10,4 @@ mod FirstByte
 pub mod PlainText
 mod HexDigits
 mod Digits
+mod DecimalPairs

@@ -4,11 +4,11 @@ use Rattle.std.proofs.lemmas.Bool.{and_right, and_from, lt-ltb, le-ltb, cond-tru
 use Rattle.std.proofs.lemmas.List.{drop_all}
 use Rattle.std.proofs.lemmas.Grind.{common_steps, fold-append}
 use Rattle.std.proofs.lemmas.List.Folds.{list_all-append}
-use Rattle.std.proofs.lemmas.Nat.{le_or_l, le_or_r}
 use Rattle.std.proofs.Math.Seq.{take-add}
-use Rattle.std.specs.Prelude.{bit_or, nat_lt}
+use Rattle.std.specs.Prelude.{nat_lt}
 use Rattle.std.specs.List.{list_all}
-use Rattle.text_lines.specs.Numbers.{BeginsFour, BeginsNumeral, EndsDigits, digit_of, value_of, is_numeral, numeral_of}
+use Rattle.text_lines.proofs.Digits.{hex_digit_of}
+use Rattle.text_lines.specs.Numbers.{BeginsFour, BeginsNumeral, EndsDigits, digit_of, hex_or_more, value_of, is_numeral, numeral_of}
 
 -- more digits make no smaller value
 grows : (base : ℕ) → 1 ≤ base → (value : ℕ) (digits : List ℕ) → value ≤ fold (λ v b. base * v + digit_of b) value digits
@@ -78,35 +78,19 @@ ends_here base (b ∷ text) (suc n) digit below is large = ends_here base text n
 pub ends_all : (base : ℕ) (text : List ℕ) (n : ℕ) → length text ≤ n → EndsDigits base (drop n text)
 ends_all base text n all = let none : drop n text ≡ [] = drop_all n text all in rw none tt
 
--- numbers are below 16 where their bits together are
-pub below_sixteen : (p q r s : ℕ) → bit_or (bit_or (bit_or p q) r) s < 16 → (p < 16) × (q < 16) × (r < 16) × (s < 16)
-below_sixteen p q r s small =
-    let three = le_or_l (bit_or (bit_or p q) r) s in
-    let two = le_or_l (bit_or p q) r in (
-      omega (arith, small, three, two, le_or_l p q),
-      omega (arith, small, three, two, le_or_r p q),
-      omega (arith, small, three, le_or_r (bit_or p q) r),
-      omega (arith, small, le_or_r (bit_or (bit_or p q) r) s),
-    )
-
 -- four digits, as the table has their values
-pub four_begin : (text : List ℕ) (p q r s : ℕ) → 4 ≤ length text → p ≡ digit_of (get_or text 0 0) → q ≡ digit_of (get_or text 1 0) → r ≡ digit_of (get_or text 2 0) → s ≡ digit_of (get_or text 3 0) → bit_or (bit_or (bit_or p q) r) s < 16 → BeginsFour text (p * 4096 + q * 256 + r * 16 + s)
+pub four_begin : (text : List ℕ) (p q r s : ℕ) → 4 ≤ length text → p ≡ hex_or_more (get_or text 0 0) → q ≡ hex_or_more (get_or text 1 0) → r ≡ hex_or_more (get_or text 2 0) → s ≡ hex_or_more (get_or text 3 0) → p * 4096 + q * 256 + r * 16 + s < 65536 → BeginsFour text (p * 4096 + q * 256 + r * 16 + s)
 four_begin [] p q r s room ea eb ec ed small = absurd (omega (arith, room))
 four_begin (a ∷ []) p q r s room ea eb ec ed small = absurd (omega (arith, room))
 four_begin (a ∷ b ∷ []) p q r s room ea eb ec ed small = absurd (omega (arith, room))
 four_begin (a ∷ b ∷ c ∷ []) p q r s room ea eb ec ed small = absurd (omega (arith, room))
 four_begin (a ∷ b ∷ c ∷ d ∷ rest) p q r s room ea eb ec ed small =
-    let below = below_sixteen p q r s small in
-    let ea : p ≡ digit_of a = ea in
-    let eb : q ≡ digit_of b = eb in
-    let ec : r ≡ digit_of c = ec in
-    let ed : s ≡ digit_of d = ed in
-    let first : nat_lt (digit_of a) 16 ≡ true = lt-ltb (digit_of a) 16 (omega (arith, below.0, ea)) in
-    let second : nat_lt (digit_of b) 16 ≡ true = lt-ltb (digit_of b) 16 (omega (arith, below.1, eb)) in
-    let third : nat_lt (digit_of c) 16 ≡ true = lt-ltb (digit_of c) 16 (omega (arith, below.2, ec)) in
-    let fourth : nat_lt (digit_of d) 16 ≡ true = lt-ltb (digit_of d) 16 (omega (arith, below.3, ed)) in
-    let value : p * 4096 + q * 256 + r * 16 + s ≡ 16 * (16 * (16 * (16 * 0 + digit_of a) + digit_of b) + digit_of c) + digit_of d = omega (arith, ea, eb, ec, ed) in
-    (a, b, c, d, rest, refl, and_from _ _ first (and_from _ _ second (and_from _ _ third (and_from _ _ fourth refl))), value)
+    let first = hex_digit_of a p ea (omega (arith, small)) in
+    let second = hex_digit_of b q eb (omega (arith, small)) in
+    let third = hex_digit_of c r ec (omega (arith, small)) in
+    let fourth = hex_digit_of d s ed (omega (arith, small)) in
+    let value : p * 4096 + q * 256 + r * 16 + s ≡ 16 * (16 * (16 * (16 * 0 + digit_of a) + digit_of b) + digit_of c) + digit_of d = omega (arith, first.0, second.0, third.0, fourth.0) in
+    (a, b, c, d, rest, refl, and_from _ _ first.1 (and_from _ _ second.1 (and_from _ _ third.1 (and_from _ _ fourth.1 refl))), value)
 
 -- four digits more
 pub four_more : (base : ℕ) (text : List ℕ) (n value four : ℕ) → base ≡ 16 → n ≤ length text → value ≡ value_of base (take n text) → list_all (λ b. nat_lt (digit_of b) base) (take n text) ≡ true → BeginsFour (drop n text) four

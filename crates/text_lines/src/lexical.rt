@@ -4,7 +4,7 @@ ghost use Rattle.std.specs.Prelude.{◌≡◌, ℕ, ◌+◌, ◌-◌, ◌^◌, �
 ghost use Rattle.std.specs.Result.{result_ok};
 ghost use Rattle.std.specs.List.{list_all, prefix_len, position_or_len};
 ghost use Rattle.text_lines.specs.Words.{is_blank, is_allowed, is_plain, content_of, split_words, words_of};
-ghost use Rattle.text_lines.specs.Numbers.{BeginsFour, BeginsNumeral, digit_of, value_of, numeral_of, number_of, permission_of};
+ghost use Rattle.text_lines.specs.Numbers.{BeginsFour, BeginsNumeral, digit_of, hex_or_more, value_of, numeral_of, number_of, permission_of};
 
 use memchr::memchr;
 use pmp_encoding::Perm;
@@ -114,6 +114,38 @@ fn digit(byte: u8) -> u8
     DIGITS[usize::from(byte)]
 }
 
+/// The value of each byte as a hexadecimal digit, and 65536 for one that is none: four digits are worth less, so one comparison
+/// of their sum says whether all four bytes are digits.
+static HEX_DIGITS: [u32; 256] = [
+    65536, 65536, 65536, 65536, 65536, 65536, 65536, 65536, 65536, 65536, 65536, 65536, 65536,
+    65536, 65536, 65536, 65536, 65536, 65536, 65536, 65536, 65536, 65536, 65536, 65536, 65536,
+    65536, 65536, 65536, 65536, 65536, 65536, 65536, 65536, 65536, 65536, 65536, 65536, 65536,
+    65536, 65536, 65536, 65536, 65536, 65536, 65536, 65536, 65536, 0, 1, 2, 3, 4, 5, 6, 7, 8, 9,
+    65536, 65536, 65536, 65536, 65536, 65536, 65536, 10, 11, 12, 13, 14, 15, 65536, 65536, 65536,
+    65536, 65536, 65536, 65536, 65536, 65536, 65536, 65536, 65536, 65536, 65536, 65536, 65536,
+    65536, 65536, 65536, 65536, 65536, 65536, 65536, 65536, 65536, 65536, 10, 11, 12, 13, 14, 15,
+    65536, 65536, 65536, 65536, 65536, 65536, 65536, 65536, 65536, 65536, 65536, 65536, 65536,
+    65536, 65536, 65536, 65536, 65536, 65536, 65536, 65536, 65536, 65536, 65536, 65536, 65536,
+    65536, 65536, 65536, 65536, 65536, 65536, 65536, 65536, 65536, 65536, 65536, 65536, 65536,
+    65536, 65536, 65536, 65536, 65536, 65536, 65536, 65536, 65536, 65536, 65536, 65536, 65536,
+    65536, 65536, 65536, 65536, 65536, 65536, 65536, 65536, 65536, 65536, 65536, 65536, 65536,
+    65536, 65536, 65536, 65536, 65536, 65536, 65536, 65536, 65536, 65536, 65536, 65536, 65536,
+    65536, 65536, 65536, 65536, 65536, 65536, 65536, 65536, 65536, 65536, 65536, 65536, 65536,
+    65536, 65536, 65536, 65536, 65536, 65536, 65536, 65536, 65536, 65536, 65536, 65536, 65536,
+    65536, 65536, 65536, 65536, 65536, 65536, 65536, 65536, 65536, 65536, 65536, 65536, 65536,
+    65536, 65536, 65536, 65536, 65536, 65536, 65536, 65536, 65536, 65536, 65536, 65536, 65536,
+    65536, 65536, 65536, 65536, 65536, 65536, 65536, 65536, 65536, 65536, 65536, 65536, 65536,
+    65536, 65536, 65536, 65536, 65536, 65536, 65536, 65536, 65536, 65536,
+];
+
+/// The value of a hexadecimal digit, and 65536 for a byte that is none.
+fn hex_digit(byte: u8) -> u32
+    ensures value { result ≡ hex_or_more byte }
+    ensures most { result ≤ 65536 }
+{
+    HEX_DIGITS[usize::from(byte)]
+}
+
 /// The value of the four hexadecimal digits that a text begins with, where it does.
 fn four_digits(text: &[u8]) -> Option<u64>
     ensures four { IfSome result (λ value. BeginsFour text.now value) }
@@ -122,15 +154,15 @@ fn four_digits(text: &[u8]) -> Option<u64>
     let [a, b, c, d, ..] = text else {
         return None;
     };
-    let first = digit(*a);
-    let second = digit(*b);
-    let third = digit(*c);
-    let fourth = digit(*d);
-    if (first | second | third | fourth) >= 16 {
+    let first = hex_digit(*a);
+    let second = hex_digit(*b);
+    let third = hex_digit(*c);
+    let fourth = hex_digit(*d);
+    let value = first * 4096 + second * 256 + third * 16 + fourth;
+    if value >= 65536 {
         return None;
     }
-    let high = u64::from(first) * 4096 + u64::from(second) * 256;
-    Some(high + u64::from(third) * 16 + u64::from(fourth))
+    Some(u64::from(value))
 }
 
 /// A value has room for four hexadecimal digits more below this one.
