@@ -25,15 +25,13 @@ fn plain_mode(byte: u8) -> Option<Mode>
     }
 }
 
+/// The number that a digit spells. Which sizes there are is asked once, with the kind.
 fn plain_size(byte: u8) -> Option<u64>
     ensures size { IfSome result (λ size. number_of (byte ∷ []) ≡ Some size) }
     ensures letter { IfSome result (λ _. is_letter byte ≡ true) }
 {
     match byte {
-        b'1' => Some(1),
-        b'2' => Some(2),
-        b'4' => Some(4),
-        b'8' => Some(8),
+        b'0'..=b'9' => Some(u64::from(byte - b'0')),
         _ => None,
     }
 }
