@@ -5,7 +5,8 @@
  *   REFUSE=memory   a call of malloc, calloc, realloc, aligned_alloc or posix_memalign
  *   REFUSE=read     a read of a descriptor fails (EIO)
  *   REFUSE=write    a write of a descriptor fails (EIO)
- *   REFUSE=move     a rename of a file fails (EIO), and so does a sync
+ *   REFUSE=sync     a sync of a file fails (EIO)
+ *   REFUSE=move     a rename of a file fails (EIO)
  *   REFUSE=signal   a read or write of a descriptor is interrupted before it begins (EINTR)
  *   REFUSE=short    each write takes one byte
  *   REFUSE_AT=K     the K-th such call, from 1 (not for short)
@@ -30,7 +31,7 @@ extern void *__libc_calloc(size_t, size_t);
 extern void *__libc_realloc(void *, size_t);
 extern void *__libc_memalign(size_t, size_t);
 
-enum kind { NONE, MEMORY, READ, WRITE, MOVE, SIGNAL, SHORT };
+enum kind { NONE, MEMORY, READ, WRITE, SYNC, MOVE, SIGNAL, SHORT };
 
 static enum kind kind = NONE;
 static unsigned long at = 0;
@@ -54,6 +55,8 @@ __attribute__((constructor)) static void begin(void)
         kind = READ;
     else if (!strcmp(what, "write"))
         kind = WRITE;
+    else if (!strcmp(what, "sync"))
+        kind = SYNC;
     else if (!strcmp(what, "move"))
         kind = MOVE;
     else if (!strcmp(what, "signal"))
@@ -146,7 +149,7 @@ int rename(const char *from, const char *to)
 
 int fsync(int fd)
 {
-    if (refused(MOVE)) {
+    if (refused(SYNC)) {
         errno = EIO;
         return -1;
     }
