@@ -1,7 +1,9 @@
 -- The number and the set of a split block, from those of its halves.
 use Rattle.std.proofs.Common.{◌≡◌, ℕ, ◌+◌, ◌^◌, ◌<◌, ◌≤◌, List, [], ◌∷◌, ◌++◌, Bool, true, false, not, ◌==◌, ◌&&◌, ◌||◌, if◌then◌else◌, refl, sym, ap, ◌∙◌, arith, bit_and, bit_or, append_assoc, reverse}
-use Rattle.std.proofs.Math.Path.{ap₂}
+use Rattle.std.proofs.Math.Bool.{and_comm, or_comm}
+use Rattle.std.proofs.Math.Path.{ap₂, fun_ext}
 use Rattle.std.proofs.lemmas.List.{append-nil, reverse-append}
+use Rattle.pmp_encoding.specs.declared.perm.Perm.{Perm}
 use Rattle.entry_planner.specs.declared.costs.BlockCost.{BlockCost}
 use Rattle.entry_planner.specs.declared.costs.HalfPerms.{HalfPerms}
 use Rattle.entry_planner.specs.declared.perm_set.PermSet.{PermSet}
@@ -118,3 +120,21 @@ pub chain_small :
     (shape tree : PermTree) (chain : Chain) (c : BlockCost) → shape ≡ chained chain tree → splits shape < 2 ^ 32 → c ≡ block_cost tree → c.least + chain.levels < 2 ^ 32
 chain_small shape tree chain c is few own =
     omega (arith, ap (λ x. x.least) own, least_le_branches tree, splits-chained shape tree chain is)
+
+-- a split block and its mirror image cost the same
+pub turned_cost : (low high : PermTree) → block_cost (Split low high) ≡ block_cost (Split high low)
+turned_cost low high =
+    let make : ℕ → (Perm → Bool) → (Perm → Bool) → BlockCost =
+    λ together both either.
+    record {
+      least = together + (if any_of both then 0 else 1);
+      best = record { bits = set_of (λ p. if any_of both then both p else either p) };
+    } in
+    let sum : least_cost low + least_cost high ≡ least_cost high + least_cost low = omega arith in
+    ap (λ n. make n (λ p. is_best low p && is_best high p) (λ p. is_best low p || is_best high p)) sum
+    ∙ ap₂ (make (least_cost high + least_cost low)) (fun_ext (λ p. and_comm (is_best low p) (is_best high p))) (fun_ext (λ p. or_comm (is_best low p) (is_best high p)))
+
+pub turned_perms : (low high : PermTree) → half_perms low high ≡ half_perms high low
+turned_perms low high =
+    let make : (Perm → Bool) → (Perm → Bool) → HalfPerms = λ both either. record { both = record { bits = set_of both }; either = record { bits = set_of either } } in
+    ap₂ make (fun_ext (λ p. and_comm (is_best low p) (is_best high p))) (fun_ext (λ p. or_comm (is_best low p) (is_best high p)))

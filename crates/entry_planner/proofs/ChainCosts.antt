@@ -1,6 +1,5 @@
 -- The costs of a chain, from its smallest block up.
-use Rattle.std.proofs.Common.{◌≡◌, ℕ, zero, suc, ◌+◌, ◌-◌, ◌*◌, ◌^◌, ◌<◌, ◌≤◌, List, [], ◌∷◌, ◌++◌, refl, sym, ap, subst, ◌∙◌, arith, pow-suc, reverse}
-use Rattle.pmp_encoding.specs.declared.perm.Perm.{Perm}
+use Rattle.std.proofs.Common.{◌≡◌, ℕ, zero, suc, ◌+◌, ◌-◌, ◌*◌, ◌^◌, ◌<◌, ◌≤◌, List, [], ◌∷◌, ◌++◌, sym, ap, subst, ◌∙◌, arith, pow-suc, reverse}
 use Rattle.prefix_tree.specs.declared.chains.Chain.{Chain}
 use Rattle.prefix_tree.specs.Trees.{PermTree, Uniform, Split}
 use Rattle.prefix_tree.specs.Chains.{nested, chained}

@@ -18,7 +18,7 @@ pub struct HalfPerms {
     pub either: PermSet,
 }
 
-ghost use Rattle.std.specs.Prelude.{◌≡◌, ◌+◌, ◌<◌, ◌≤◌, ◌^◌, ◌++◌, List, [], ◌∷◌, IfOk, OnOk, reverse};
+ghost use Rattle.std.specs.Prelude.{◌≡◌, ◌+◌, ◌%◌, ◌<◌, ◌≤◌, ◌^◌, ◌++◌, List, [], ◌∷◌, IfOk, OnOk, reverse};
 ghost use Rattle.entry_planner.specs.declared.costs.BlockCost.{BlockCost};
 ghost use Rattle.entry_planner.specs.declared.costs.HalfPerms.{HalfPerms};
 ghost use Rattle.entry_planner.specs.Best.{is_best, least_cost};
@@ -100,6 +100,14 @@ fn add_split(
     Ok(cost)
 }
 
+/// The cost of the half that a chain's next smaller block is not in, by the place of that block.
+fn cost_beside(place: u64, before: BlockCost, behind: BlockCost) -> BlockCost
+    ensures upper { place % 2 ≡ 1 → result ≡ before }
+    ensures lower { place % 2 ≡ 0 → result ≡ behind }
+{
+    if place % 2 == 1 { before } else { behind }
+}
+
 /// Appends the split blocks of a chain behind those of its smallest block, the smaller before the larger.
 fn add_chain_costs(
     chain: Chain,
@@ -118,11 +126,10 @@ fn add_chain_costs(
     let mut cost = smallest;
     let mut rest = chain.place;
     for level in 0..chain.levels {
-        if rest % 2 == 1 {
-            cost = add_split(before, cost, costs, halves)?;
-        } else {
-            cost = add_split(cost, behind, costs, halves)?;
-        }
+        // Which of the halves is the lower makes no difference to what they cost, and a branch on it would often be
+        // guessed wrong.
+        let beside = cost_beside(rest, before, behind);
+        cost = add_split(beside, cost, costs, halves)?;
         rest /= 2;
     }
     Ok(cost)

@@ -1,32 +1,48 @@
--- The lists grow by the split block of each level.
-use Rattle.std.proofs.Common.{◌∙◌, ◌++◌, ap, arith, reverse}
+-- The lists grow by the split block of each level, whose halves are taken with the one beside the chain first.
+use Rattle.std.proofs.Common.{◌≡◌, ◌%◌, ◌∙◌, ◌∷◌, [], ◌++◌, ap, arith, reverse, eq-zero-or-pos, inl, inr}
 use Rattle.entry_planner.specs.Plans.{block_cost, costs_in, half_perms_in}
+use Rattle.entry_planner.proofs.BlockCosts.{turned_cost, turned_perms}
 use Rattle.entry_planner.proofs.ChainCosts.{begun, raised_upper, raised_lower, raised_whole}
 use Rattle.entry_planner.proofs.costs.add_chain_costs.Goals as goal
-use Rattle.entry_planner.proofs.costs.add_chain_costs.Goals.{then-rest-eq1+in_ok-cost, else-rest-eq1+in_ok-cost-2}
 
 pub loop-level-init : goal.loop-level-init
 loop-level-init c = record { raised = begun _ _ _ _ }
 
 pub add_split-requires : goal.add_split-requires
 add_split-requires c =
-    omega (arith, ap (λ x. x.least) c.cost_of_uniform-before.ensures, c.loop-level.invariant.raised.few, c.loop-level-test.true, c.requires.small)
-
-pub add_split-requires-else-rest-eq1 : goal.add_split-requires-else-rest-eq1
-add_split-requires-else-rest-eq1 c =
-    omega (arith, ap (λ x. x.least) c.cost_of_uniform-behind.ensures, c.loop-level.invariant.raised.few, c.loop-level-test.true, c.requires.small)
+    let few = c.loop-level.invariant.raised.few in
+    let inside = c.loop-level-test.true in
+    elim (eq-zero-or-pos (c.loop-level.rest % 2)) [
+      | inl even ↦
+          let beside = c.cost_beside-beside.ensures.lower even ∙ c.cost_of_uniform-behind.ensures in
+          omega (arith, ap (λ x. x.least) beside, few, inside, c.requires.small)
+      | inr some ↦
+          let beside = c.cost_beside-beside.ensures.upper (omega (arith, some)) ∙ c.cost_of_uniform-before.ensures in
+          omega (arith, ap (λ x. x.least) beside, few, inside, c.requires.small)
+    ]
 
 pub loop-level-preserved : goal.loop-level-preserved
 loop-level-preserved c =
-    elim c.if-rest-eq1.branch [
-      | then-rest-eq1+in_ok-cost w ↦ rw (w.costs-is, w.halves-is, w.cost-is) (record {
-        raised = raised_upper _ _ _ _ _ _ _ _ _ _ _ _ _ _ (omega (arith, w.if-rest-eq1)) c.cost_of_uniform-before.ensures
-            c.loop-level.invariant.raised w.in_ok-cost.ensures.own w.in_ok-cost.ensures.costs w.in_ok-cost.ensures.halves w.in_ok-cost.ensures.most;
-      })
-      | else-rest-eq1+in_ok-cost-2 w ↦ rw (w.costs-is, w.halves-is, w.cost-is) (record {
-        raised = raised_lower _ _ _ _ _ _ _ _ _ _ _ _ _ _ (omega (arith, w.if-rest-eq1)) c.cost_of_uniform-behind.ensures
-            c.loop-level.invariant.raised w.in_ok-cost-2.ensures.own w.in_ok-cost-2.ensures.costs w.in_ok-cost-2.ensures.halves w.in_ok-cost-2.ensures.most;
-      })
+    let l = c.loop-level in
+    let s = c.in_ok-cost.ensures in
+    elim (eq-zero-or-pos (l.rest % 2)) [
+      | inl even ↦
+          let beside = c.cost_beside-beside.ensures.lower even in (record {
+            raised = raised_lower _ _ _ _ _ _ _ _ _ _ _ _ _ _ (omega (arith, even)) c.cost_of_uniform-behind.ensures l.invariant.raised
+                (λ t u is other. s.own u t (beside ∙ other) is ∙ turned_cost u t)
+                (λ t u is other. s.costs u t (beside ∙ other) is ∙ ap (λ x. l.costs.items ++ x ∷ []) (turned_cost u t))
+                (λ t u is other. s.halves u t (beside ∙ other) is ∙ ap (λ x. l.halves.items ++ x ∷ []) (turned_perms u t))
+                (omega (arith, s.most, ap (λ x. x.least) beside));
+          })
+      | inr some ↦
+          let odd : l.rest % 2 ≡ 1 = omega (arith, some) in
+          let beside = c.cost_beside-beside.ensures.upper odd in (record {
+            raised = raised_upper _ _ _ _ _ _ _ _ _ _ _ _ _ _ (omega (arith, odd)) c.cost_of_uniform-before.ensures l.invariant.raised
+                (λ t u is other. s.own t u (beside ∙ is) other)
+                (λ t u is other. s.costs t u (beside ∙ is) other)
+                (λ t u is other. s.halves t u (beside ∙ is) other)
+                (omega (arith, s.most, ap (λ x. x.least) beside));
+          })
     ]
 
 pub returns-clause-own : goal.returns-clause-own
