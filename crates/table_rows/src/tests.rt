@@ -1,6 +1,8 @@
 ghost use Rattle.std.specs.Prelude.{replicate, ◌<◌, ◌^◌};
 
 mod anew;
+mod life;
+mod platforms;
 mod refusals;
 mod scattered;
 mod views;
