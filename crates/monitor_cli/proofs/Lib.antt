@@ -1,3 +1,4 @@
 mod Ends
+pub mod Live
 pub mod Refusals
 mod PlanCertificates

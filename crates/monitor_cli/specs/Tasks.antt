@@ -3,10 +3,10 @@ use Rattle.std.specs.Prelude.{◌≡◌, ℕ, ◌+◌, ◌≤◌, List, [], ◌+
 use Rattle.std.specs.Io.KnownBytes.{Consumes, IsAtEnd}
 use Rattle.std.specs.Str.{IsUtf8}
 use Rattle.byteorder.specs.Endian.{little_bytes}
-use Rattle.enclave_table.specs.Enclaves.{EnclaveTable}
-use Rattle.enclave_table.specs.Digests.{AnswersWord, RefusesWord}
+use Rattle.enclave_table.specs.Enclaves.{EnclaveTable, Live}
+use Rattle.enclave_table.specs.Digests.{AnswersWord}
 use Rattle.enclave_table.specs.Platform.{Layout}
-use Rattle.enclave_table.specs.declared.refusal.Refusal.{Refusal}
+use Rattle.enclave_table.specs.declared.enclave.Enclave.{Enclave}
 use Rattle.hart_sim.specs.declared.machine.Machine.{Machine}
 use Rattle.hart_sim.specs.Machines.{KeepsBanksRight, state_of}
 use Rattle.hart_sim.specs.States.{SameState, opening}
@@ -69,10 +69,10 @@ pub record IsDigest (table : EnclaveTable) (id : ℕ) (digest : List ℕ) : Type
   pub fourth_is : AnswersWord table id 3 fourth
   pub bytes : digest ≡ little_bytes 8 first ++ (little_bytes 8 second ++ (little_bytes 8 third ++ little_bytes 8 fourth))
 
--- what is printed of an id: the line of its digest, and nothing where no word of it is answered
+-- what is printed of an id: the line of its digest, and nothing where no enclave is live under it
 pub data IsMeasureText (table : EnclaveTable) (id : ℕ) : List ℕ → Type 0 where
   live : (digest : List ℕ) → IsDigest table id digest → IsMeasureText table id (measure_text id digest)
-  absent : (k : ℕ) (refusal : Refusal) → RefusesWord table id k refusal → IsMeasureText table id []
+  absent : ((enclave : Enclave) → ¬ Live table id enclave) → IsMeasureText table id []
 
 -- what is printed of the ids from 1 to n
 pub data AreMeasures (table : EnclaveTable) : ℕ → List ℕ → Type 0 where

@@ -8,8 +8,9 @@ ghost use Rattle.byte_streams.specs.Streams.{WriteFails};
 ghost use Rattle.printed_lines.specs.Plans.{TakesPart};
 ghost use Rattle.enclave_table.specs.Booting.{IsBootFault};
 ghost use Rattle.enclave_table.specs.declared.boot.BootFault.{BootFault};
-ghost use Rattle.enclave_table.specs.declared.refusal.Refusal.{Refusal};
-ghost use Rattle.enclave_table.specs.Digests.{AnswersWord, RefusesWord};
+ghost use Rattle.enclave_table.specs.declared.enclave.Enclave.{Enclave};
+ghost use Rattle.enclave_table.specs.Digests.{AnswersWord};
+ghost use Rattle.enclave_table.specs.Enclaves.{Live};
 ghost use Rattle.enclave_table.specs.Platform.{Layout};
 ghost use Rattle.hart_sim.specs.Machines.{KeepsBanksRight, state_of};
 ghost use Rattle.platform_file.specs.Document.{IsPlatformText};
@@ -56,10 +57,11 @@ pub fn booted<'a>(alloc: Global, platform: Platform) -> Result<Machine, Trouble<
 }
 
 /// A word of the digest of an enclave, none where it is not live.
+#[tactic(auto, using(crate::proofs::Live::not_live))]
 fn word_of(table: &Table, id: u64, k: u64) -> Option<u64>
     requires { k < 4 }
     ensures some { IfSome result (AnswersWord table.now.table id k) }
-    ensures none { result ≡ None → (refusal : Refusal) × RefusesWord table.now.table id k refusal }
+    ensures none { result ≡ None → (enclave : Enclave) → ¬ Live table.now.table id enclave }
 {
     match table.word(id, k) {
         Ok(word) => Some(word),
@@ -82,7 +84,7 @@ fn bytes_of(first: u64, second: u64, third: u64, fourth: u64) -> [u8; 32]
 /// The digest of an enclave, none where it is not live.
 fn digest_of(table: &Table, id: u64) -> Option<[u8; 32]>
     ensures some { IfSome result (IsDigest table.now.table id) }
-    ensures none { result ≡ None → (k : ℕ) × (refusal : Refusal) × RefusesWord table.now.table id k refusal }
+    ensures none { result ≡ None → (enclave : Enclave) → ¬ Live table.now.table id enclave }
 {
     let first = word_of(table, id, 0)?;
     let second = word_of(table, id, 1)?;

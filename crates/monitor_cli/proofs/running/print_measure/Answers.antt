@@ -6,7 +6,7 @@ use Rattle.monitor_cli.specs.Tasks.{absent, live}
 use Rattle.monitor_cli.proofs.running.print_measure.Goals as goal
 
 pub returns-in_default-clause-written : goal.returns-in_default-clause-written
-returns-in_default-clause-written g c = let n = c.in_default.ensures.none refl in ([], absent n.0 n.1 n.2, Appends-nil _)
+returns-in_default-clause-written g c = ([], absent (c.in_default.ensures.none refl), Appends-nil _)
 
 pub returns-clause-written : goal.returns-clause-written
 returns-clause-written g c = (
