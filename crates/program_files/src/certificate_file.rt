@@ -2,13 +2,16 @@
 
 ghost use Rattle.std.specs.Io.{WritesAtMost};
 ghost use Rattle.byte_streams.specs.Streams.{inner_of};
-ghost use Rattle.std.specs.Prelude.{◌≡◌, ◌+◌, ◌-◌, ◌^◌, ◌<◌, ℕ, List, Option, None, IfErr, IfOk, MatchResult};
+ghost use Rattle.std.specs.Path.{path_buf_bytes};
+ghost use Rattle.std.specs.Prelude.{◌≡◌, ◌+◌, ◌-◌, ◌^◌, ◌<◌, ◌⊎◌, ℕ, List, Option, None, true, false, IfErr, IfOk, IfSome, MatchResult, string_bytes};
+ghost use Rattle.program_files.specs.Beside.{IsNumbered, part_name};
 
 use crate::devices::write_again;
 use byte_streams::{Counted, DeviceFault, Sink};
 use std::alloc::{AllocError, Global};
 use std::fs::{File, OpenFile};
 use std::io::{ErrorKind, Write};
+use std::path::PathBuf;
 use std::rt::Files;
 use std::{fs, io};
 
@@ -48,12 +51,11 @@ impl<'a, R: Files> CertificateFile<'a, R> {
         alloc: Global,
         name: &str,
     ) -> Result<CertificateFile<'a, R>, AllocError>
-        ensures { IfOk result (λ file. file.failures ≡ 0) }
+        ensures failures { IfOk result (λ file. file.failures ≡ 0) }
+        ensures beside { IfOk result (λ file. string_bytes file.beside ≡ part_name (string_bytes file.place)) }
     {
-        let place = place_of(files, alloc, name)?;
-        let mut beside = String::with_capacity(alloc, place.len().saturating_add(6))?;
-        beside.push_str(place.as_str())?;
-        beside.push_str(".part")?;
+        let place = place_of(alloc, name, led_to(files, alloc, name))?;
+        let beside = beside_of(alloc, place.as_str())?;
         Ok(CertificateFile {
             files,
             place,
@@ -67,6 +69,8 @@ impl<'a, R: Files> CertificateFile<'a, R> {
 
     /// Opens what is written to: a new file beside the place, or what stands there and is no plain file.
     fn open(&mut self) -> io::Result<()>
+        ensures place { self.new.place ≡ self.old.place }
+        ensures beside { self.new.is_beside ≡ true → self.old.is_beside ≡ true ⊎ IsNumbered (string_bytes self.old.beside) (string_bytes self.new.beside) }
         ensures failures { self.new.failures ≡ self.old.failures }
         ensures stalls { self.new.stalls ≡ self.old.stalls }
     {
@@ -103,6 +107,8 @@ impl<'a, R: Files> CertificateFile<'a, R> {
 
     /// Moves what was written beside the place into it, where that is so.
     fn move_in(&mut self) -> io::Result<()>
+        ensures place { self.new.place ≡ self.old.place }
+        ensures moved { IfOk result (λ _. self.new.is_beside ≡ false) }
         ensures failures { self.new.failures ≡ self.old.failures }
         ensures stalls { self.new.stalls ≡ self.old.stalls }
     {
@@ -120,6 +126,8 @@ impl<'a, R: Files> CertificateFile<'a, R> {
 
     /// Removes what was written beside the place.
     fn discard(&mut self)
+        ensures place { self.new.place ≡ self.old.place }
+        ensures removed { self.new.is_beside ≡ false }
         ensures failures { self.new.failures ≡ self.old.failures }
         ensures stalls { self.new.stalls ≡ self.old.stalls }
     {
@@ -131,28 +139,52 @@ impl<'a, R: Files> CertificateFile<'a, R> {
     }
 }
 
-/// The name of what stands where a name leads, by links too; the name itself where that cannot be told.
-fn place_of<R: Files>(files: &R, alloc: Global, name: &str) -> Result<String, AllocError> {
-    if let Ok(stands) = fs::symlink_metadata(files, name) {
-        if stands.is_symlink() {
-            if let Ok(path) = files.canonicalize(alloc, name) {
-                return String::from_str(alloc, path.as_path().as_str());
-            }
-        }
+/// What a link of that name leads to; nothing where it is no link, or that cannot be told.
+fn led_to<R: Files>(files: &R, alloc: Global, name: &str) -> Option<PathBuf> {
+    let stands = fs::symlink_metadata(files, name).ok()?;
+    if !stands.is_symlink() {
+        return None;
     }
-    String::from_str(alloc, name)
+    files.canonicalize(alloc, name).ok()
+}
+
+/// The place of a file of that name: what it leads to, and else the name itself.
+fn place_of(alloc: Global, name: &str, led: Option<PathBuf>) -> Result<String, AllocError>
+    ensures led { IfSome led (λ path. IfOk result (λ place. string_bytes place ≡ path_buf_bytes path)) }
+    ensures name { led ≡ None → IfOk result (λ place. string_bytes place ≡ name.now) }
+{
+    match led {
+        Some(path) => Ok(path.into_string()),
+        None => String::from_str(alloc, name),
+    }
+}
+
+/// The name beside a place, with room for a digit behind it.
+fn beside_of(alloc: Global, place: &str) -> Result<String, AllocError>
+    ensures { IfOk result (λ name. string_bytes name ≡ part_name place.now) }
+{
+    let mut name = String::with_capacity(alloc, place.len().saturating_add(6))?;
+    name.push_str(place)?;
+    name.push_str(".part")?;
+    Ok(name)
 }
 
 /// A new file under a name with a digit behind it, the first that is free.
-fn new_file<R: Files>(files: &R, name: &mut String) -> io::Result<R::File> {
-    for digit in '0'..='9' {
-        name.push(digit)?;
+fn new_file<R: Files>(files: &R, name: &mut String) -> io::Result<R::File>
+    ensures made { IfOk result (λ _. IsNumbered (string_bytes name.old) (string_bytes name.new)) }
+    ensures stays { IfErr result (λ _. string_bytes name.new ≡ string_bytes name.old) }
+{
+    let len = name.len();
+    for digit in 0..10u8 {
+        name.push(char::from(b'0' + digit))?;
         match File::create_new(files, name.as_str()) {
             Ok(file) => return Ok(file),
-            Err(error) if error.kind() == ErrorKind::AlreadyExists => {
-                let _ = name.pop();
+            Err(error) => {
+                name.truncate(len);
+                if error.kind() != ErrorKind::AlreadyExists {
+                    return Err(error);
+                }
             }
-            Err(error) => return Err(error),
         }
     }
     Err(io::Error::from(ErrorKind::AlreadyExists))

@@ -2,6 +2,7 @@
 
 ghost use Rattle.std.specs.Prelude.{◌≡◌, None};
 ghost use Rattle.std.specs.Io.{ReadsAtMost, WritesAtMost};
+ghost use Rattle.std.specs.Io.KnownBytes.{ReadConsumes, WriteAppends};
 
 use std::io::{ErrorKind, Read, Write};
 use std::rt::Files;
@@ -75,12 +76,16 @@ impl<T> RetryInterrupted<T> {
 }
 
 impl<T: Read> Read for RetryInterrupted<T> {
+    ghost remaining = { λ r. T.remaining r.inner };
+
     fn read(&mut self, buf: &mut [u8]) -> io::Result<usize> {
         read_again(&mut self.inner, buf)
     }
 }
 
 impl<T: Write> Write for RetryInterrupted<T> {
+    ghost contents = { λ r. T.contents r.inner };
+
     fn write(&mut self, buf: &[u8]) -> io::Result<usize> {
         write_again(&mut self.inner, buf)
     }
@@ -92,7 +97,8 @@ impl<T: Write> Write for RetryInterrupted<T> {
 
 /// A read that is tried again where a signal interrupted it.
 fn read_again<T: Read>(reader: &mut T, buf: &mut [u8]) -> io::Result<usize>
-    ensures { ReadsAtMost result buf.new }
+    ensures most { ReadsAtMost result buf.new }
+    ensures bytes { ReadConsumes (T.remaining reader.old) (T.remaining reader.new) result buf.new }
 {
     for _ in 0..u64::MAX {
         match reader.read(buf) {
@@ -105,7 +111,8 @@ fn read_again<T: Read>(reader: &mut T, buf: &mut [u8]) -> io::Result<usize>
 
 /// A write that is tried again where a signal interrupted it.
 pub fn write_again<T: Write>(writer: &mut T, buf: &[u8]) -> io::Result<usize>
-    ensures { WritesAtMost result buf.now }
+    ensures most { WritesAtMost result buf.now }
+    ensures bytes { WriteAppends (T.contents writer.old) (T.contents writer.new) result buf.now }
 {
     for _ in 0..u64::MAX {
         match writer.write(buf) {

@@ -1,0 +1,10 @@
+-- The name of a new file beside the place that it will be moved to.
+use Rattle.std.specs.Prelude.{ℕ, ◌+◌, ◌<◌, List, ◌≡◌, ◌++◌, codes, encode_utf8}
+
+-- the name of a place and `.part`
+abbrev pub part_name : List ℕ → List ℕ
+part_name place = place ++ codes ".part"
+
+-- a name with one digit behind it
+abbrev pub IsNumbered : List ℕ → List ℕ → Type 0
+IsNumbered name numbered = (digit : ℕ) × (digit < 10) × (numbered ≡ name ++ encode_utf8 (48 + digit))
