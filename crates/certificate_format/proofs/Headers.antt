@@ -69,7 +69,7 @@ magic_once bytes _ BadTag h w = absurd w
 magic_once bytes _ BadPerm h w = absurd w
 magic_once bytes _ BadLimit h w = absurd w
 
-short_once : (n : ℕ) (bytes : List ℕ) (f g : ReadFault) → ShortFault n bytes f → ShortFault n bytes g → f ≡ g
+pub short_once : (n : ℕ) (bytes : List ℕ) (f g : ReadFault) → ShortFault n bytes f → ShortFault n bytes g → f ≡ g
 short_once n bytes Truncated Truncated h w = refl
 short_once n bytes Truncated _ h w = absurd w
 short_once n bytes _ g h w = absurd h

@@ -1,3 +1,5 @@
 pub mod Numbers
 pub mod CostBytes
 pub mod Headers
+pub mod InNodes
+pub mod Trees

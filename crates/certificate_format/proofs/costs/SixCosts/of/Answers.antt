@@ -1,5 +1,5 @@
 -- The bytes are those of the six numbers that they hold.
-use Rattle.std.proofs.Common.{◌∙◌, ap, subst, sym, ℕ, ◌^◌, ◌<◌, arith}
+use Rattle.std.proofs.Common.{◌∙◌, ap, subst, sym, ◌^◌, ◌<◌, arith}
 use Rattle.pmp_encoding.specs.declared.perm.Perm.{Perm}
 use Rattle.certificate_format.specs.Costs.{cost_of}
 use Rattle.certificate_format.specs.Spelling.{costs_bytes}
