@@ -14,3 +14,6 @@ pub mod InTurn
 pub mod Few
 pub mod Entered
 pub mod Judged
+pub mod OneNode
+pub mod OneList
+pub mod OneFault

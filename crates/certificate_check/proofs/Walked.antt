@@ -1,8 +1,7 @@
 -- The parts of a right node.
-use Rattle.std.proofs.Common.{◌≡◌, ℕ, zero, suc, ◌+◌, ◌*◌, ◌^◌, ◌<◌, ◌≤◌, List, ◌∷◌, ◌++◌, append_assoc, pow_pos, ◌-◌, ◌≢◌, arith, sym, subst, ap, refl, ◌∙◌, Result, Ok, Err, pow-suc}
+use Rattle.std.proofs.Common.{◌≡◌, ℕ, zero, suc, ◌+◌, ◌*◌, ◌^◌, ◌<◌, ◌≤◌, List, ◌∷◌, ◌++◌, pow_pos, ◌-◌, ◌≢◌, arith, sym, subst, ap, refl, ◌∙◌, Result, Ok, Err, pow-suc}
 use Rattle.std.specs.Result.{IfErr, IfOk, OnOk, IsOk}
 use Rattle.pmp_encoding.specs.declared.perm.Perm.{Perm}
-use Rattle.pmp_encoding.specs.declared.perm.Perm.TheVariants.{NoAccess, Read, ReadWrite, Execute, ReadExecute, ReadWriteExecute}
 use Rattle.pmp_encoding.specs.Perms.{bits_of}
 use Rattle.pmp_match.specs.Meaning.{View}
 use Rattle.pmp_match.specs.Bounds.{BoundTree, Leaf, Branch, bound_of, IsSoundAt}
@@ -11,24 +10,13 @@ use Rattle.certificate_format.specs.Spelling.{costs_bytes, node_bytes}
 use Rattle.certificate_format.specs.declared.reader.Tag.{Tag}
 use Rattle.certificate_format.specs.declared.reader.Tag.TheVariants as Tags
 use Rattle.certificate_format.specs.Tags.{tag_byte}
+use Rattle.certificate_format.proofs.Trees.{same_function, six_back, tags_differ, joined_branch}
 use Rattle.certificate_check.specs.declared.refusal.CheckRefusal.{CheckRefusal}
 use Rattle.certificate_check.specs.declared.refusal.CheckRefusal.TheVariants.{CostTooHigh, CostOverflow}
 use Rattle.certificate_format.specs.declared.costs.SixCosts.{SixCosts}
 use Rattle.page_views.specs.Views.{IsUniform}
 use Rattle.certificate_check.specs.Later.{AgreeFrom}
 use Rattle.certificate_check.specs.Nodes.{IsRightNode, IsAllowed, IsTooLarge, BranchFault, NodeFault, overflow, too_high, IsNodeRead, IsAnswer}
-
--- functions that agree everywhere are one
-pub same_function : (f g : Perm → ℕ) → ((p : Perm) → f p ≡ g p) → f ≡ g
-same_function f g h = λ i p. h p i
-
-pub six_back : (f : Perm → ℕ) (p : Perm) → cost_of (six_of f) p ≡ f p
-six_back f NoAccess = refl
-six_back f Read = refl
-six_back f ReadWrite = refl
-six_back f Execute = refl
-six_back f ReadExecute = refl
-six_back f ReadWriteExecute = refl
 
 -- a right split node in its parts
 pub record AreRightHalves (view : View) (half first : ℕ) (costs : Perm → ℕ) (lower upper : BoundTree) : Type 0 where
@@ -57,21 +45,6 @@ pub right_from_halves :
     → IsRightNode view k first (Branch costs lower upper)
 right_from_halves view k half first costs lower upper is h =
     subst (λ (n : ℕ). IsRightNode view n first (Branch costs lower upper)) (sym is) (whole_of view half first costs lower upper h)
-
--- no bytes begin with both tags
-same_head : (a b : ℕ) (xs ys : List ℕ) → a ∷ xs ≡ b ∷ ys → a ≡ b
-same_head a b xs ys e = cc
-
-tags_differ : (xs ys : List ℕ) → 0 ∷ xs ≡ 1 ∷ ys → ⊥
-tags_differ xs ys e = omega (arith, same_head 0 1 xs ys e)
-
--- a branch's bytes in parts
-joined_branch :
-    (costs : Perm → ℕ) (lower upper : BoundTree) (rest : List ℕ)
-    → node_bytes (Branch costs lower upper) ++ rest ≡ 1 ∷ (costs_bytes costs ++ (node_bytes lower ++ (node_bytes upper ++ rest)))
-joined_branch costs lower upper rest =
-    ap (λ xs. 1 ∷ xs)
-    (append_assoc (costs_bytes costs) (node_bytes lower ++ node_bytes upper) rest ∙ ap (λ xs. costs_bytes costs ++ xs) (append_assoc (node_bytes lower) (node_bytes upper) rest))
 
 -- a page is not split
 page_whole : (view : View) (first : ℕ) (costs : Perm → ℕ) (lower upper : BoundTree) → IsRightNode view zero first (Branch costs lower upper) → ⊥

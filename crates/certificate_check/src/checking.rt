@@ -3,6 +3,7 @@ ghost use Rattle.pmp_encoding.specs.declared.region.Entry.{Entry};
 ghost use Rattle.pmp_match.specs.Meaning.{Means};
 ghost use Rattle.permission_map.specs.Runs.{view_of_runs};
 ghost use Rattle.certificate_check.specs.Certificates.{IsRight, HoldsFewest, RefusalStands};
+ghost use Rattle.certificate_check.specs.declared.refusal.CheckRefusal.{CheckRefusal};
 
 use crate::listing::listed;
 use crate::nodes::root;
@@ -42,7 +43,7 @@ pub fn check(map: &PermissionMap, bytes: &[u8]) -> Result<u32, CheckRefusal>
     ensures fewest { IfOk result (HoldsFewest (view_of_runs map.now) bytes.now) }
     ensures least { IfOk result (λ n. (others : List Entry) → Means others (view_of_runs map.now) → n ≤ length others) }
     ensures right { (n : ℕ) → (result ≡ Ok n) ↔ IsRight (view_of_runs map.now) bytes.now n }
-    ensures fault { IfErr result (RefusalStands (view_of_runs map.now) bytes.now) }
+    ensures fault { (refusal : CheckRefusal) → (result ≡ Err refusal) ↔ RefusalStands (view_of_runs map.now) bytes.now refusal }
 {
     read_whole(map, bytes)
 }

@@ -5,9 +5,9 @@
 //! means the map is shorter than its root says.
 //!
 //! For the layer above: [`check`] answers `Ok(n)` exactly for right certificates, of n entries. The bytes then hold n
-//! entries that mean the map, and no list of fewer entries, of any regions and in any order, means it. On each
-//! [`CheckRefusal`] the fault of that name stands in the bytes. It takes no memory. It
-//! stands on `certificate_format`, and on no crate that knows of trees or plans.
+//! entries that mean the map, and no list of fewer entries, of any regions and in any order, means it. Each
+//! [`CheckRefusal`] comes exactly where the fault of that name stands in the bytes, behind parts that are right. It takes
+//! no memory. It stands on `certificate_format`, and on no crate that knows of trees or plans.
 //!
 //! The entries may stand in any order. Where they stand in at most 45 chains, as a planner's do by rising size and
 //! then by rising address, a place in each chain goes on with the pages, so that each entry is passed once. Where

@@ -40,7 +40,7 @@ fn refused(refusal: CheckRefusal) -> Line
 /// The line that `check` prints for a certificate, and its status: 0 for a yes and 1 for a no.
 pub fn verdict(map: &PermissionMap, bytes: &[u8]) -> (Line, u8)
     ensures yes { (n : ℕ) (right : IsRight (view_of_runs map.now) bytes.now n) → (result.0.items ≡ accepted_by right.version n) × (result.1 ≡ 0) }
-    ensures no { ((n : ℕ) → IsRight (view_of_runs map.now) bytes.now n → ⊥) → (refusal : CheckRefusal) × RefusalStands (view_of_runs map.now) bytes.now refusal × (result.0.items ≡ refused_text (refusal_number refusal) (refusal_name refusal)) × (result.1 ≡ 1) }
+    ensures no { (refusal : CheckRefusal) → RefusalStands (view_of_runs map.now) bytes.now refusal → (result.0.items ≡ refused_text (refusal_number refusal) (refusal_name refusal)) × (result.1 ≡ 1) }
     ensures verdict { IsVerdict (view_of_runs map.now) bytes.now result.0.items result.1 }
 {
     match check(map, bytes) {

@@ -5,10 +5,11 @@ use Rattle.permission_map.specs.Runs.{view_of_runs}
 use Rattle.certificate_format.specs.Costs.{cost_of, six_of}
 use Rattle.certificate_format.specs.Spelling.{costs_bytes}
 use Rattle.certificate_format.specs.Tags.{tag_byte}
+use Rattle.certificate_format.proofs.Trees.{six_back}
 use Rattle.certificate_check.specs.Later.{AgreeFrom}
 use Rattle.certificate_check.specs.Nodes.{IsRightNode, IsNodeRead, IsAnswer, NodeFault, in_tag, a_page, in_costs, in_lower, in_upper}
 use Rattle.certificate_check.proofs.Refused.{refused, refused_again}
-use Rattle.certificate_check.proofs.Walked.{branch_at, no_branch_at, leaf_at, tag_at, answered, branch_read, branch_refused, allowed_along, six_back, half_inside, agree_on, agree_far, on_ok}
+use Rattle.certificate_check.proofs.Walked.{branch_at, no_branch_at, leaf_at, tag_at, answered, branch_read, branch_refused, allowed_along, half_inside, agree_on, agree_far, on_ok}
 use Rattle.certificate_check.proofs.nodes.+node.Goals as goal
 
 pub returns-in_err-tag-clause-given : goal.returns-in_err-tag-clause-given

@@ -11,10 +11,15 @@ returns-in-Ok-clause-yes c = λ n right.
     )
 
 pub returns-in-Ok-clause-no : goal.returns-in-Ok-clause-no
-returns-in-Ok-clause-no c = λ none. absurd (none c.in-Ok.n ((c.in-Ok.ensures.right c.in-Ok.n).0 refl))
+returns-in-Ok-clause-no c = λ refusal stands. let e = (c.in-Ok.ensures.fault refusal).1 stands in cc
 
 pub returns-in-Err-clause-yes : goal.returns-in-Err-clause-yes
 returns-in-Err-clause-yes c = λ n right. let e = (c.in-Err.ensures.right n).1 right in cc
+
+pub returns-in-Err-clause-no : goal.returns-in-Err-clause-no
+returns-in-Err-clause-no c = λ refusal stands.
+    let same : c.in-Err.refusal ≡ refusal = let e = (c.in-Err.ensures.fault refusal).1 stands in cc in
+    (rw same at c.refused.ensures, refl)
 
 pub returns-in-Ok-clause-verdict : goal.returns-in-Ok-clause-verdict
 returns-in-Ok-clause-verdict c =
@@ -24,4 +29,4 @@ returns-in-Ok-clause-verdict c =
 
 pub returns-in-Err-clause-verdict : goal.returns-in-Err-clause-verdict
 returns-in-Err-clause-verdict c =
-    rw c.refused.ensures (no c.in-Err.refusal (λ n right. let e = (c.in-Err.ensures.right n).1 right in cc) c.in-Err.ensures.fault)
+    rw c.refused.ensures (no c.in-Err.refusal (λ n right. let e = (c.in-Err.ensures.right n).1 right in cc) ((c.in-Err.ensures.fault c.in-Err.refusal).0 refl))
