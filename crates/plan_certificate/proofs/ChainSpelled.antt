@@ -1,10 +1,10 @@
 -- A chain is spelled from its largest block in to its smallest, and out again.
-use Rattle.std.proofs.Common.{◌≡◌, ◌∙◌, ℕ, zero, suc, ◌+◌, ◌-◌, ◌*◌, ◌^◌, ◌<◌, ◌≤◌, ⊎_elim, List, [], ◌∷◌, ◌++◌, Bool, true, false, cond, length, append_assoc, append-nil, arith, ap, ap₂, refl, sym, subst}
+use Rattle.std.proofs.Common.{◌≡◌, ◌∙◌, ℕ, zero, suc, ◌+◌, ◌-◌, ◌^◌, ◌<◌, ◌≤◌, ⊎_elim, List, ◌∷◌, ◌++◌, Bool, true, false, cond, append_assoc, append-nil, arith, ap, ap₂, refl, sym, subst}
 use Rattle.std.proofs.lemmas.Bool.{cases_lt, lt-ltb, le-ltb, leb-true, leb-false}
 use Rattle.pmp_encoding.specs.declared.perm.Perm.{Perm}
-use Rattle.pmp_match.specs.Bounds.{BoundTree, Leaf}
+use Rattle.pmp_match.specs.Bounds.{Leaf}
 use Rattle.prefix_tree.specs.declared.chains.Chain.{Chain}
-use Rattle.prefix_tree.specs.Trees.{PermTree, Uniform, Split, Fits}
+use Rattle.prefix_tree.specs.Trees.{PermTree, Uniform, Fits}
 use Rattle.prefix_tree.specs.Chains.{nested, chained, goes_up, smaller}
 use Rattle.prefix_tree.proofs.Nested.{nested_lower, nested_upper, smaller_lower, smaller_upper}
 use Rattle.entry_planner.specs.declared.costs.BlockCost.{BlockCost}

@@ -1,4 +1,4 @@
-use Rattle.std.proofs.Common.{◌≡◌, ◌∙◌, ◌++◌, List, [], ℕ, length, append-nil, ap₂, subst}
+use Rattle.std.proofs.Common.{◌≡◌, ◌∙◌, ◌++◌, List, [], ℕ, append-nil, ap₂, subst}
 use Rattle.std.specs.List.{flat_map}
 use Rattle.pmp_encoding.specs.declared.region.Entry.{Entry}
 use Rattle.entry_planner.specs.Plans.{costed}
