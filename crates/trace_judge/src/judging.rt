@@ -1,6 +1,6 @@
 //! The accesses of a trace, judged by a bank.
 
-ghost use Rattle.std.specs.Prelude.{◌≡◌, ℕ, ◌+◌, ◌-◌, ◌^◌, ◌<◌, Err, IfOk};
+ghost use Rattle.std.specs.Prelude.{◌≡◌, ℕ, ◌+◌, ◌-◌, ◌^◌, ◌<◌, Some, Err, IfOk, IfSome};
 ghost use Rattle.std.specs.Result.{result_ok};
 ghost use Rattle.text_lines.specs.LineLoop.{CountsReads, CountsWrites, DoesAll, StopsAt, StopsReading, StopsTooLong, StopsWriting};
 ghost use Rattle.trace_judge.specs.Judging.{access_on, is_no_access, judged_by};
@@ -12,13 +12,33 @@ use pmp_encoding::Bank;
 use pmp_match::{Access, judge};
 use text_lines::{Interpreter, Line, NotUnderstood, Refusal, RunFault, interpret_lines};
 
+/// The same access, field by field. As a whole it would be read in one piece while its fields, written just before, are on
+/// their way to memory, and the processor would wait for them.
+fn taken_apart(access: Access) -> Access
+    ensures { result ≡ access }
+{
+    Access {
+        mode: access.mode,
+        kind: access.kind,
+        size: access.size,
+        address: access.address,
+    }
+}
+
+/// The access of a plain line. None says nothing of the line.
+fn plain_access_in(line: &[u8]) -> Option<Access>
+    ensures { IfSome result (λ access. access_on line.now ≡ Some (Some access)) }
+{
+    if let Some((access, _)) = plain_access(line) {
+        return Some(taken_apart(access));
+    }
+    None
+}
+
 /// The access of a line, and none where it has no words.
 fn access_in(line: &[u8]) -> Result<Option<Access>, NotUnderstood>
     ensures { result_ok result ≡ access_on line.now }
 {
-    if let Some((access, _)) = plain_access(line) {
-        return Ok(Some(access));
-    }
     match parse_line(line, 0) {
         Ok(None) => Ok(None),
         Ok(Some((_, Event::Access(access, _)))) => Ok(Some(access)),
@@ -45,6 +65,10 @@ impl Interpreter for Judge<'_> {
     ghost keeps = { λ now. Unit {0} };
 
     fn interpret(&mut self, line: &[u8], count: u64, answer: &mut Line) -> Result<bool, Refusal> {
+        if let Some(access) = plain_access_in(line) {
+            push_answer(answer, count + 1, judge(self.bank, &access));
+            return Ok(true);
+        }
         let Ok(found) = access_in(line) else {
             return Err(Refusal::NotUnderstood);
         };
