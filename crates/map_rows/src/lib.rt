@@ -1,5 +1,5 @@
 //! Worked rows of the way from a map to its entries and their certificate, as tests alone: pairs and banks, judgements,
-//! maps, plans, and certificates byte by byte.
+//! maps, trees, plans, and certificates byte by byte.
 //!
 //! They stand apart from the crates that they are of so that the gate proves each of these once.
 #![tactic(auto)]
@@ -18,3 +18,5 @@ mod matching;
 mod pages;
 #[cfg(test)]
 mod planning;
+#[cfg(test)]
+mod trees;

@@ -38,6 +38,3 @@ pub use halving::Halving;
 pub use laws::{canonical_law, meaning_law};
 pub use map_blocks::MapBlock;
 pub use trees::{Tree, build};
-
-#[cfg(test)]
-mod tests;

@@ -1,4 +1,4 @@
-use Rattle.prefix_tree.proofs.tests.+same.Given as goal
+use Rattle.map_rows.proofs.trees.+same.Given as goal
 
 abbrev pub decreases-same : goal.decreases-same
 decreases-same l = l.height

@@ -1,7 +1,6 @@
-use super::*;
-use crate::blocks::Summary;
 use permission_map::{MapFault, PermissionMap};
 use pmp_encoding::Perm;
+use prefix_tree::{Block, Parts, Tree, build};
 use std::alloc::Global;
 use std::process::Abort;
 use std::rc::Rc;
@@ -123,15 +122,15 @@ fn versions_are_as_built_afresh(rt: HostRuntime) -> Result<(), Fail> {
     Ok(())
 }
 
-/// The halves of the upper half of the space, if it is split.
-fn upper_halves(tree: &Tree) -> Option<&Rc<(Block, Block, Summary)>> {
-    let Block::Branch(halves) = tree.root() else {
+/// Whether two trees have the same halves of the upper half of the space, where both split it.
+fn share_upper_halves(one: &Tree, other: &Tree) -> Option<bool> {
+    let (Block::Branch(one), Block::Branch(other)) = (one.root(), other.root()) else {
         return None;
     };
-    let Block::Branch(upper) = &halves.1 else {
+    let (Block::Branch(one), Block::Branch(other)) = (&one.1, &other.1) else {
         return None;
     };
-    Some(upper)
+    Some(Rc::ptr_eq(one, other))
 }
 
 #[test]
@@ -139,11 +138,8 @@ fn what_the_range_does_not_meet_is_shared(rt: HostRuntime) -> Result<(), Fail> {
     let old = build(rt.alloc(), &example_map(rt.alloc())?)?;
     let low = old.with_range(3, 5, Perm::Execute)?;
     let high = old.with_range(PAGES - 1, 1, Perm::Execute)?;
-    let shared = upper_halves(&old).ok_or("not split")?;
-    let kept = upper_halves(&low).ok_or("not split")?;
-    let made = upper_halves(&high).ok_or("not split")?;
-    assert!(rt; Rc::ptr_eq(shared, kept));
-    assert!(rt; !Rc::ptr_eq(shared, made));
+    assert_eq!(rt; share_upper_halves(&old, &low), Some(true));
+    assert_eq!(rt; share_upper_halves(&old, &high), Some(false));
     Ok(())
 }
 
