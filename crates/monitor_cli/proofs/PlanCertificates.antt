@@ -1,8 +1,7 @@
 -- The certificate of a plan of a view.
-use Rattle.std.proofs.Common.{◌≡◌, ◌*◌, ◌≤◌, ℕ, List, length, All, arith, refl}
+use Rattle.std.proofs.Common.{◌≡◌, ◌*◌, ◌≤◌, length, All, arith, refl}
 use Rattle.pmp_encoding.specs.declared.limit.Limit.{Limit}
 use Rattle.pmp_encoding.specs.declared.perm.Perm.TheVariants.{NoAccess}
-use Rattle.pmp_encoding.specs.declared.region.Entry.{Entry}
 use Rattle.pmp_match.specs.Bounds.{IsSoundBound, bound_of}
 use Rattle.pmp_match.specs.Meaning.{View, Means}
 use Rattle.prefix_tree.specs.Counts.{splits}
