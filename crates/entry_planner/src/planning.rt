@@ -25,16 +25,18 @@ fn entries_of<H: Halving>(
     alloc: Global,
     root: &H,
     least: u32,
-    halves: &[HalfPerms],
+    halves: Vec<HalfPerms>,
 ) -> Result<Vec<Entry>, Memory>
     requires fits { Fits 44 (H.shape root.now) }
-    requires halves { halves.now ≡ reverse (half_perms_in (H.shape root.now)) }
+    requires halves { halves.items ≡ reverse (half_perms_in (H.shape root.now)) }
     ensures chosen { IfOk result (λ v. AreChosen (H.shape root.now) v.items) }
     ensures order { IfOk result (λ v. AreInOrder v.items) }
 {
     let mut entries = Vec::with_capacity(alloc, least as usize)?;
     let space = Pages { first: 0, log2: 44 };
-    let _ = place(root, space, Perm::NoAccess, halves, &mut entries)?;
+    let _ = place(root, space, Perm::NoAccess, halves.as_slice(), &mut entries)?;
+    // The places that the entries are moved to take memory too.
+    drop(halves);
     put_in_order(&mut entries);
     Ok(entries)
 }
@@ -95,6 +97,6 @@ fn plan_of<H: Halving>(alloc: Global, root: &H, most: usize) -> Result<Plan, Mem
     let mut costs = Vec::with_capacity(alloc, most)?;
     let mut halves = Vec::with_capacity(alloc, most)?;
     let cost = add_costs(root, &mut costs, &mut halves)?;
-    let entries = entries_of(alloc, root, cost.least + 1, halves.as_slice())?;
+    let entries = entries_of(alloc, root, cost.least + 1, halves)?;
     Ok(Plan::new(entries, costs))
 }
