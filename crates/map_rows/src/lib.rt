@@ -1,5 +1,5 @@
 //! Worked rows of the way from a map to its entries and their certificate, as tests alone: pairs and banks, judgements,
-//! maps, trees, plans, and certificates byte by byte.
+//! maps, stretches, trees, plans, and certificates byte by byte.
 //!
 //! They stand apart from the crates that they are of so that the gate proves each of these once.
 #![tactic(auto)]
@@ -8,6 +8,8 @@
 mod certificate_parts;
 #[cfg(test)]
 mod certificates;
+#[cfg(test)]
+mod cuts;
 #[cfg(test)]
 mod encoding;
 #[cfg(test)]

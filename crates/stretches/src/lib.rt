@@ -13,7 +13,5 @@
 mod covering;
 mod standing;
 mod stretch;
-#[cfg(test)]
-mod tests;
 
 pub use stretch::{Stretch, stretches};

@@ -1,11 +1,11 @@
 //! A map and its fewest entries, cut by hand; and a list that begins and ends inside a page.
 
-use crate::{Stretch, stretches};
 use permission_map::PermissionMap;
 use pmp_encoding::{Entry, Perm, Region, SPACE_SIZE};
 use std::alloc::Global;
 use std::process::Abort;
 use std::test::Fail;
+use stretches::{Stretch, stretches};
 
 /// The entry of that block.
 fn entry(rt: &impl Abort, base: u64, log2: u32, perm: Perm) -> Entry {
