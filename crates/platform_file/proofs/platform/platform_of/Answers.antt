@@ -1,4 +1,4 @@
-use Rattle.std.proofs.Common.{◌≡◌, ◌∙◌, sym, Some}
+use Rattle.std.proofs.Common.{◌≡◌, ◌∙◌, sym}
 use Rattle.std.proofs.lemmas.Option.{same_Some}
 use Rattle.toml.specs.View.{table_view}
 use Rattle.platform_file.proofs.platform.platform_of.Goals as goal
