@@ -2,7 +2,7 @@
 //! its failures, so that a contract can say what was read and written, and that a fault comes only
 //! where a device failed.
 
-ghost use Rattle.std.specs.Prelude.{◌≡◌, ℕ, ◌+◌, ◌-◌, ◌^◌, ◌<◌, ◌≤◌, ◌⊎◌, ◌↔◌, List, Bool, IsTrue, Option, Some, Ok, IfOk, IfErr, min, MatchResult, length, take};
+ghost use Rattle.std.specs.Prelude.{◌≡◌, ℕ, ◌+◌, ◌-◌, ◌^◌, ◌<◌, ◌≤◌, List, Option, Some, Ok, IfOk, IfErr, min, MatchResult, length, take};
 ghost use Rattle.std.specs.Io.KnownBytes.{ReadConsumes, WriteAppends, Appends};
 ghost use Rattle.byte_streams.specs.Streams.{CountsFailure, CountsStall, WriteFails, inner_of, failures_of, stalls_of};
 

@@ -21,11 +21,10 @@ pub(crate) const NONE: Begun = Begun {
     },
 };
 
-ghost use Rattle.std.specs.Prelude.{◌≡◌, ℕ, ◌+◌, ◌*◌, ◌/◌, ◌<◌, ◌≤◌, ◌^◌, ◌⊎◌, List, length, slice_index_or, IfSome, IfNone};
+ghost use Rattle.std.specs.Prelude.{◌≡◌, ℕ, ◌*◌, ◌<◌, ◌≤◌, ◌^◌, ◌⊎◌, slice_index_or, IfSome, IfNone};
 ghost use Rattle.certificate_check.specs.declared.entries.Span.{Span};
 ghost use Rattle.certificate_check.specs.declared.begun.Begun.{Begun};
 ghost use Rattle.certificate_check.specs.Spans.{Decides, AreBlocks};
-ghost use Rattle.std.specs.Int.{bit_at};
 ghost use Rattle.certificate_check.specs.InOrder.{key_of, AreBegun, HaveEndedBut, NoneBegins};
 
 /// An entry begins at the page. Of entries with the same pages only the first in the list is kept: it decides where

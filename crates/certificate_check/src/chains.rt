@@ -22,7 +22,7 @@ pub(crate) const BEFORE: Place = Place {
     },
 };
 
-ghost use Rattle.std.specs.Prelude.{◌≡◌, ℕ, ◌+◌, ◌*◌, ◌/◌, ◌<◌, ◌≤◌, ◌^◌, List, length, slice_index, slice_index_or, IfSome};
+ghost use Rattle.std.specs.Prelude.{◌≡◌, ℕ, ◌+◌, ◌*◌, ◌<◌, ◌≤◌, ◌^◌, List, length, slice_index, slice_index_or, IfSome};
 ghost use Rattle.certificate_check.specs.declared.entries.Span.{Span};
 ghost use Rattle.certificate_check.specs.Spans.{ReadsAs, Decides, RiseTo, AreChains, count_in};
 ghost use Rattle.certificate_check.specs.declared.chains.Place.{Place};

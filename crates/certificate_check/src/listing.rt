@@ -1,6 +1,6 @@
-ghost use Rattle.std.specs.Prelude.{◌≡◌, ℕ, ◌<◌, ◌≤◌, ◌^◌, ◌++◌, List, length, IfOk, IfErr, OnOk, IsOk};
+ghost use Rattle.std.specs.Prelude.{◌≡◌, ℕ, ◌<◌, ◌≤◌, ◌++◌, List, length, IfOk, IfErr, OnOk, IsOk};
 ghost use Rattle.pmp_encoding.specs.declared.region.Entry.{Entry};
-ghost use Rattle.certificate_format.specs.Spelling.{pair_bytes, SpellsEntry, SpellsEntries, AreNoSubPages};
+ghost use Rattle.certificate_format.specs.Spelling.{SpellsEntry, SpellsEntries};
 ghost use Rattle.certificate_check.specs.declared.refusal.CheckRefusal.{CheckRefusal};
 ghost use Rattle.certificate_check.specs.Spans.{count_in};
 ghost use Rattle.certificate_check.specs.Listed.{IsListed, EntryFault, ListFault, IsListAnswer};

@@ -1,14 +1,14 @@
-ghost use Rattle.std.specs.Prelude.{◌≡◌, ℕ, ◌+◌, ◌-◌, ◌<◌, ◌≤◌, ◌^◌, ◌∷◌, ◌++◌, List, IfOk, OnOk, IsOk, IfErr, suc};
+ghost use Rattle.std.specs.Prelude.{◌≡◌, ℕ, ◌+◌, ◌-◌, ◌<◌, ◌≤◌, ◌^◌, ◌∷◌, ◌++◌, List, IfOk, OnOk, IsOk, IfErr};
 ghost use Rattle.pmp_encoding.specs.declared.perm.Perm.{Perm};
 ghost use Rattle.pmp_encoding.specs.Perms.{bits_of};
 ghost use Rattle.pmp_match.specs.Bounds.{BoundTree, Leaf, Branch};
 ghost use Rattle.permission_map.specs.Runs.{view_of_runs};
-ghost use Rattle.certificate_format.specs.Spelling.{costs_bytes, node_bytes};
+ghost use Rattle.certificate_format.specs.Spelling.{node_bytes};
 ghost use Rattle.certificate_format.specs.Costs.{cost_of};
 ghost use Rattle.certificate_check.specs.declared.refusal.CheckRefusal.{CheckRefusal};
 ghost use Rattle.page_views.specs.Views.{View, IsUniform};
 ghost use Rattle.certificate_check.specs.Later.{AgreeFrom};
-ghost use Rattle.certificate_check.specs.Nodes.{IsRightNode, AreNumbersOf, IsAllowed, BranchFault, NodeFault, IsNodeRead, IsAnswer};
+ghost use Rattle.certificate_check.specs.Nodes.{IsRightNode, IsAllowed, BranchFault, NodeFault, IsNodeRead, IsAnswer};
 
 use crate::numbers::{are_too_high, costs_of_leaf, sums_of};
 use crate::refusal::CheckRefusal;

@@ -1,7 +1,4 @@
-ghost use Rattle.std.specs.Prelude.{◌≡◌, ℕ, ◌<◌, ◌≤◌, [], None, replicate, length, IfOk, IfErr, List};
-ghost use Rattle.pmp_encoding.specs.Limits.{limit_number};
-ghost use Rattle.pmp_match.specs.Meaning.{Means, Needs};
-ghost use Rattle.prefix_tree.specs.Trees.{TreeMeans};
+ghost use Rattle.std.specs.Prelude.{◌≡◌, ◌<◌, None, replicate, length, IfOk, IfErr};
 ghost use Rattle.enclave_table.specs.Fewest.{FitsIn};
 ghost use Rattle.enclave_table.specs.Views.{host_view};
 ghost use Rattle.enclave_table.specs.Booting.{opening, IsBootFault, boot_fault_number};

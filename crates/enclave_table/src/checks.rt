@@ -1,8 +1,6 @@
-ghost use Rattle.std.specs.Prelude.{◌≡◌, ℕ, ◌+◌, ◌^◌, ◌<◌, ◌≤◌, ◌↔◌, IsTrue, IfOk, IfErr, IfSome, IfNone, true, false};
-ghost use Rattle.enclave_table.specs.Enclaves.{Live, IsFree, IsNextId};
-ghost use Rattle.enclave_table.specs.Requests.{ArePartsApart, is_part, HasCounts, HasPlaces, HasEntry};
-ghost use Rattle.enclave_table.specs.Owners.{IsOwner};
-ghost use Rattle.enclave_table.specs.Platform.{is_monitor};
+ghost use Rattle.std.specs.Prelude.{ℕ, ◌<◌, ◌≤◌, ◌↔◌, IsTrue, IfOk, IfErr, true, false};
+ghost use Rattle.enclave_table.specs.Enclaves.{Live, IsNextId};
+ghost use Rattle.enclave_table.specs.Requests.{ArePartsApart, HasCounts, HasPlaces};
 ghost use Rattle.enclave_table.specs.Refusals.{AllPass, FailsFirst};
 ghost use Rattle.enclave_table.specs.Checks.{IsInRam, IsClear, PassesCreate, create_checks, PassesOn, host_checks, MayDestroy};
 ghost use Rattle.enclave_table.specs.Tables.{IsSound};

@@ -1,10 +1,8 @@
-ghost use Rattle.std.specs.Prelude.{◌≡◌, ◌<◌, ◌≤◌, ◌-◌, IfOk, OnOk, IfErr, OnErr, Some, None, slice_set};
-ghost use Rattle.enclave_table.specs.Enclaves.{with_enclave};
-ghost use Rattle.enclave_table.specs.Tables.{IsCurrent, IsKept, IsHostTree};
+ghost use Rattle.std.specs.Prelude.{◌≡◌, ◌<◌, ◌-◌, IfOk, IfErr, OnErr, Some};
+ghost use Rattle.enclave_table.specs.Tables.{IsCurrent};
 ghost use Rattle.enclave_table.specs.Requests.{HasCounts, HasPlaces};
 ghost use Rattle.enclave_table.specs.Digests.{measured};
 ghost use Rattle.enclave_table.specs.Creating.{Creates, RefusesCreate};
-ghost use Rattle.enclave_table.specs.Destroying.{Destroys, RefusesDestroy};
 
 use crate::digest::{Pages, digest};
 use crate::enclave::{Enclave, State};

@@ -1,7 +1,5 @@
-ghost use Rattle.std.specs.Prelude.{◌≡◌, ◌<◌, ◌≤◌, ◌-◌, IfOk, OnOk, IfErr, OnErr, Some, None, slice_set};
-ghost use Rattle.enclave_table.specs.Enclaves.{with_enclave};
-ghost use Rattle.enclave_table.specs.Tables.{IsCurrent, IsKept, IsHostTree};
-ghost use Rattle.enclave_table.specs.Creating.{Creates, RefusesCreate};
+ghost use Rattle.std.specs.Prelude.{◌≡◌, ◌<◌, ◌-◌, IfOk, IfErr, OnErr, None};
+ghost use Rattle.enclave_table.specs.Tables.{IsCurrent};
 ghost use Rattle.enclave_table.specs.Destroying.{Destroys, RefusesDestroy};
 
 use crate::entry_list::EntryList;

@@ -1,4 +1,4 @@
-ghost use Rattle.std.specs.Prelude.{◌≡◌, ℕ, ◌+◌, ◌<◌, ◌≤◌, ◌==◌, ◌^◌, List, IfSome, true};
+ghost use Rattle.std.specs.Prelude.{◌≡◌, ℕ, ◌+◌, ◌<◌, ◌≤◌, ◌==◌, ◌^◌, List, true};
 ghost use Rattle.std.specs.List.{list_all};
 ghost use Rattle.measurement.specs.Measured.{digest_of};
 ghost use Rattle.enclave_table.specs.Requests.{HasCounts, HasPlaces};

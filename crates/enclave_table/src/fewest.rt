@@ -1,9 +1,8 @@
-ghost use Rattle.std.specs.Prelude.{◌≡◌, ℕ, ◌+◌, ◌/◌, ◌^◌, ◌<◌, ◌≤◌, cond, IfOk, OnOk, IfErr, length};
+ghost use Rattle.std.specs.Prelude.{ℕ, ◌+◌, ◌^◌, ◌<◌, ◌≤◌, IfOk, IfErr, length};
 ghost use Rattle.pmp_encoding.specs.declared.perm.Perm.{Perm};
 ghost use Rattle.pmp_match.specs.Meaning.{Means, Needs};
-ghost use Rattle.permission_map.specs.Runs.{in_range, view_of_runs};
-ghost use Rattle.permission_map.specs.Views.{SameView, overwritten};
-ghost use Rattle.prefix_tree.specs.Trees.{TreeMeans, IsCanonical, view_of_tree};
+ghost use Rattle.permission_map.specs.Views.{overwritten};
+ghost use Rattle.prefix_tree.specs.Trees.{TreeMeans, IsCanonical};
 ghost use Rattle.enclave_table.specs.Requests.{HasCounts, HasPlaces};
 ghost use Rattle.enclave_table.specs.Views.{host_view, enclave_view};
 ghost use Rattle.enclave_table.specs.Fewest.{IsListOf, IsWant};

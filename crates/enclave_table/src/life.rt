@@ -1,9 +1,7 @@
 ghost use Rattle.std.specs.Prelude.{◌≡◌, IfOk, OnOk, IfErr, OnErr, Some};
-ghost use Rattle.enclave_table.specs.Enclaves.{Live, enclave_at};
 ghost use Rattle.enclave_table.specs.Tables.{IsCurrent};
 ghost use Rattle.enclave_table.specs.Checks.{state_before};
 ghost use Rattle.enclave_table.specs.Living.{state_after, Enters, RefusesEnter, Leaves, RefusesLeave};
-ghost use Rattle.enclave_table.specs.Digests.{AnswersWord, RefusesWord};
 
 use crate::enclave::State;
 use crate::refusal::Refusal;

@@ -21,8 +21,7 @@ pub struct HalfPerms {
 ghost use Rattle.std.specs.Prelude.{◌≡◌, ◌+◌, ◌%◌, ◌<◌, ◌≤◌, ◌^◌, ◌++◌, List, [], ◌∷◌, IfOk, OnOk, reverse};
 ghost use Rattle.entry_planner.specs.declared.costs.BlockCost.{BlockCost};
 ghost use Rattle.entry_planner.specs.declared.costs.HalfPerms.{HalfPerms};
-ghost use Rattle.entry_planner.specs.Best.{is_best, least_cost};
-ghost use Rattle.entry_planner.specs.PermSets.{set_of};
+ghost use Rattle.entry_planner.specs.Best.{least_cost};
 ghost use Rattle.entry_planner.specs.Plans.{block_cost, cost_of, half_perms, costs_in, half_perms_in};
 ghost use Rattle.prefix_tree.specs.Counts.{splits};
 ghost use Rattle.prefix_tree.specs.Chains.{IsChain, chained};

@@ -6,7 +6,7 @@ pub struct PermSet {
     pub bits: u8,
 }
 
-ghost use Rattle.std.specs.Prelude.{◌≡◌, ◌<◌, ℕ, bit_and, bit_or, false, true, IfSome, IfNone, ◌==◌};
+ghost use Rattle.std.specs.Prelude.{◌≡◌, ◌<◌, bit_and, bit_or, false, true, IfSome, IfNone, ◌==◌};
 ghost use Rattle.pmp_encoding.specs.declared.perm.Perm.{Perm};
 ghost use Rattle.pmp_encoding.specs.Perms.{index_of, perm_eq};
 ghost use Rattle.entry_planner.specs.PermSets.{has, set_of};

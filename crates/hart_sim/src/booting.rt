@@ -1,6 +1,6 @@
 //! The machine as it is at boot.
 
-ghost use Rattle.std.specs.Prelude.{◌≡◌, ℕ, ◌<◌, ◌≤◌, false, length, IfOk, IfErr, Some, slice_get, slice_index_or};
+ghost use Rattle.std.specs.Prelude.{◌≡◌, ℕ, ◌<◌, ◌≤◌, false, length, IfOk, IfErr, slice_get, slice_index_or};
 ghost use Rattle.pmp_encoding.specs.declared.bank.Bank.{Bank};
 ghost use Rattle.pmp_encoding.specs.Limits.{limit_number};
 ghost use Rattle.pmp_encoding.specs.Banks.{HasList};

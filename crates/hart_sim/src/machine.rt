@@ -18,7 +18,7 @@ pub struct Machine {
 }
 
 impl Machine {
-    ghost use Rattle.std.specs.Prelude.{◌≡◌, ◌≢◌, ℕ, ◌+◌, ◌/◌, ◌^◌, ◌<◌, ◌≤◌, ◌↔◌, List, IfOk, IfErr, true, false, Err, length, replicate, None};
+    ghost use Rattle.std.specs.Prelude.{◌≡◌, ◌≢◌, ℕ, ◌/◌, ◌^◌, ◌<◌, ◌≤◌, ◌↔◌, List, IfOk, IfErr, true, false, Err, length};
     ghost use Rattle.pmp_encoding.specs.declared.bank.Bank.{Bank};
     ghost use Rattle.pmp_encoding.specs.declared.region.Entry.{Entry};
     ghost use Rattle.pmp_encoding.specs.Banks.{HasList, limit_of};

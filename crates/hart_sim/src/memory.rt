@@ -1,7 +1,7 @@
 //! The bytes of the physical address space, kept by pages. A page that was not written has no bytes of its own and
 //! reads as zero.
 
-ghost use Rattle.std.specs.Prelude.{◌≡◌, ℕ, ◌+◌, ◌-◌, ◌*◌, ◌/◌, ◌%◌, ◌^◌, ◌<◌, ◌≤◌, IfOk, OnOk, OnErr, IfSome, None, false, true, not, ◌==◌, ◌||◌, ◌&&◌, if◌then◌else◌, length, slice_index};
+ghost use Rattle.std.specs.Prelude.{◌≡◌, ℕ, ◌+◌, ◌-◌, ◌*◌, ◌/◌, ◌%◌, ◌^◌, ◌<◌, ◌≤◌, IfOk, OnOk, OnErr, IfSome, None, false, true, ◌==◌, if◌then◌else◌, length, slice_index};
 ghost use Rattle.pmp_encoding.specs.Registers.{byte_of};
 ghost use Rattle.hart_sim.specs.Memory.{bytes_at, number_of, in_range, stored, zeroed, byte_at, is_written};
 

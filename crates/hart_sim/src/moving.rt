@@ -8,7 +8,7 @@ ghost use Rattle.enclave_table.specs.Enclaves.{EnclaveTable};
 ghost use Rattle.enclave_table.specs.declared.enclave.Enclave.{Enclave};
 ghost use Rattle.worlds.specs.declared.world.World.TheVariants.{Host as InHost, Enclave as InEnclave};
 ghost use Rattle.hart_sim.specs.States.{SameState};
-ghost use Rattle.hart_sim.specs.Changes.{is_host, answering, back_to_host, into_enclave, forgetting, marking_others};
+ghost use Rattle.hart_sim.specs.Changes.{is_host, answering, back_to_host, into_enclave, marking_others};
 ghost use Rattle.hart_sim.specs.Steps.{entering_with};
 ghost use Rattle.hart_sim.specs.Hardware.{state_on, world_in, BankOn, KeepsBanks};
 

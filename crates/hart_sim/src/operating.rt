@@ -1,7 +1,6 @@
 //! What happens on a hart: each part of an event that does not change the table.
 
-ghost use Rattle.std.specs.Prelude.{◌≡◌, ◌≢◌, ℕ, ◌+◌, ◌%◌, ◌^◌, ◌<◌, ◌≤◌, ◌↔◌, ◌==◌, if◌then◌else◌, List, Bool, true, false, Some, Err, length, slice_get, slice_set, slice_index_or};
-ghost use Rattle.pmp_encoding.specs.declared.perm.Perm.{Perm};
+ghost use Rattle.std.specs.Prelude.{◌≡◌, ◌≢◌, ℕ, ◌+◌, ◌^◌, ◌<◌, ◌≤◌, ◌↔◌, ◌==◌, if◌then◌else◌, List, true, false, Some, Err, length, slice_get, slice_set};
 ghost use Rattle.pmp_encoding.specs.declared.bank.Bank.{Bank};
 ghost use Rattle.pmp_encoding.specs.declared.region.Entry.{Entry};
 ghost use Rattle.pmp_encoding.specs.Limits.{limit_number};
@@ -12,14 +11,13 @@ ghost use Rattle.pmp_match.specs.Judgement.{Judges};
 ghost use Rattle.pmp_match.specs.Meaning.{Means};
 ghost use Rattle.enclave_table.specs.Enclaves.{EnclaveTable};
 ghost use Rattle.worlds.specs.declared.world.World.{World};
-ghost use Rattle.worlds.specs.declared.world.World.TheVariants.{Host as InHost, Enclave as InEnclave};
 ghost use Rattle.context_switch.specs.declared.hart.Hart.{Hart};
-ghost use Rattle.worlds.specs.Runners.{IsWorld, Runner, EnclaveOf, runner_of};
-ghost use Rattle.context_switch.specs.Harts.{number_of, world_of, registers_of, bank_of};
+ghost use Rattle.worlds.specs.Runners.{IsWorld, EnclaveOf, runner_of};
+ghost use Rattle.context_switch.specs.Harts.{number_of, bank_of};
 ghost use Rattle.hart_sim.specs.States.{SameState, current_view, running_registers};
-ghost use Rattle.hart_sim.specs.Changes.{is_host, in_world, with_x, with_running, answering, calling, without_mark, marking_others, back_to_host, into_enclave, with_registers, first_registers, forgetting};
+ghost use Rattle.hart_sim.specs.Changes.{is_host, in_world, with_x, with_running, answering, calling, without_mark, marking_others, with_registers, forgetting};
 ghost use Rattle.hart_sim.specs.Steps.{verdict, Accesses};
-ghost use Rattle.hart_sim.specs.Harts.{AreHarts, runner_on};
+ghost use Rattle.hart_sim.specs.Harts.{runner_on};
 ghost use Rattle.hart_sim.specs.Hardware.{state_on, world_in, BankOn, KeepsBanks};
 
 use crate::acting::{go_past_call, put_answer, put_words, reach};

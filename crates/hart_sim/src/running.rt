@@ -5,7 +5,7 @@ ghost use Rattle.pmp_encoding.specs.declared.bank.Bank.{Bank};
 ghost use Rattle.pmp_encoding.specs.declared.region.Entry.{Entry};
 ghost use Rattle.pmp_encoding.specs.Banks.{HasList};
 ghost use Rattle.pmp_match.specs.Meaning.{Means};
-ghost use Rattle.text_lines.specs.LineLoop.{Does, DoesAll, StopsAt, StopsTooLong, StopsReading, StopsWriting, StopsForMemory, CountsReads, CountsWrites};
+ghost use Rattle.text_lines.specs.LineLoop.{DoesAll, StopsAt, StopsTooLong, StopsReading, StopsWriting, StopsForMemory, CountsReads, CountsWrites};
 ghost use Rattle.hart_sim.specs.declared.reply.Reply.TheVariants.{NoMemory};
 ghost use Rattle.hart_sim.specs.States.{current_view};
 ghost use Rattle.hart_sim.specs.Machines.{state_of, HasBank, KeepsBanksRight};

@@ -1,7 +1,7 @@
 //! The events of a trace that are no accesses, in their plainest spelling, as `reg x10 0x80000ff8`, `ecall 0x10 3` or `irq`, with
 //! or without `@H` before them: one space between two words, and nothing else. They too are read in one pass.
 
-ghost use Rattle.std.specs.Prelude.{◌≡◌, ℕ, ◌<◌, List, ◌∷◌, ◌++◌, [], Some, IfSome, true, length};
+ghost use Rattle.std.specs.Prelude.{◌≡◌, ℕ, ◌<◌, List, ◌∷◌, ◌++◌, Some, IfSome, true};
 ghost use Rattle.std.specs.List.{list_all};
 ghost use Rattle.text_lines.specs.Words.{is_plain, split_words};
 ghost use Rattle.hart_trace.specs.Events.{call_of, meaning_of, register_of};

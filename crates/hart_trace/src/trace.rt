@@ -1,10 +1,10 @@
 //! The lines of a trace.
 
-ghost use Rattle.std.specs.Prelude.{◌≡◌, ℕ, ◌+◌, ◌-◌, ◌^◌, ◌<◌, ◌≤◌, [], ◌∷◌, Some, None, IfOk, IfErr, IfSome, IfNone, MatchOption, MatchResult, true, false, length, refl, option_map, bytes_eq};
+ghost use Rattle.std.specs.Prelude.{◌≡◌, ◌-◌, ◌<◌, Some, None, IfSome, false, refl, option_map, bytes_eq};
 ghost use Rattle.std.specs.Result.{result_ok};
 ghost use Rattle.pmp_match.specs.Kinds.{has_size};
-ghost use Rattle.text_lines.specs.Words.{split_words, words_of};
-ghost use Rattle.hart_trace.specs.Events.{mode_of, sized, access_of, with_no_value, with_value, has_leading_zero, register_of, setting_of, numbers_of, call_of, interrupt_of, event_of, hart_of, on_hart, said_by, meaning_of};
+ghost use Rattle.text_lines.specs.Words.{split_words};
+ghost use Rattle.hart_trace.specs.Events.{mode_of, sized, access_of, with_no_value, with_value, has_leading_zero, register_of, setting_of, call_of, interrupt_of, event_of, hart_of, on_hart, meaning_of};
 
 use crate::event::Event;
 use crate::plain::plain_on_hart;

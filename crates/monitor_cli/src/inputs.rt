@@ -1,6 +1,6 @@
 //! The files that a task reads whole: bytes, maps and platforms.
 
-ghost use Rattle.std.specs.Prelude.{◌≡◌, ◌-◌, ◌^◌, ◌<◌, IfErr, IfOk};
+ghost use Rattle.std.specs.Prelude.{◌-◌, ◌^◌, ◌<◌, IfErr, IfOk};
 ghost use Rattle.monitor_cli.specs.Commands.{reading, HasBytes, HasMap, HasNoBytes, HasNoMap, HasNoPlatform, HasPlatform};
 
 use crate::running::platform_in;

@@ -1,8 +1,7 @@
 //! The parts of `run`: the platform, the machine that boots on it, and the measurements behind its report.
 
-ghost use Rattle.std.specs.Prelude.{◌≡◌, ◌*◌, ◌-◌, ◌^◌, ◌<◌, ◌≤◌, ◌++◌, ◌⊎◌, ℕ, List, Err, IfErr, IfOk, IfSome, None};
+ghost use Rattle.std.specs.Prelude.{◌≡◌, ◌-◌, ◌^◌, ◌<◌, ◌≤◌, ◌++◌, ◌⊎◌, ℕ, List, Err, IfErr, IfOk, IfSome, None};
 ghost use Rattle.std.specs.Io.KnownBytes.{Appends};
-ghost use Rattle.std.specs.Str.{IsUtf8};
 ghost use Rattle.byteorder.specs.Endian.{little_bytes};
 ghost use Rattle.byte_streams.specs.Streams.{WriteFails};
 ghost use Rattle.printed_lines.specs.Plans.{TakesPart};
@@ -12,8 +11,7 @@ ghost use Rattle.enclave_table.specs.declared.enclave.Enclave.{Enclave};
 ghost use Rattle.enclave_table.specs.Digests.{AnswersWord};
 ghost use Rattle.enclave_table.specs.Enclaves.{Live};
 ghost use Rattle.enclave_table.specs.Platform.{Layout};
-ghost use Rattle.hart_sim.specs.Machines.{KeepsBanksRight, state_of};
-ghost use Rattle.platform_file.specs.Document.{IsPlatformText};
+ghost use Rattle.hart_sim.specs.Machines.{KeepsBanksRight};
 ghost use Rattle.program_troubles.specs.Troubles.{boot_trouble};
 ghost use Rattle.monitor_cli.specs.Tasks.{AreMeasures, IsBooted, IsDigest, IsMeasureText, IsPlatformFile};
 

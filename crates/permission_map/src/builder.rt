@@ -1,4 +1,4 @@
-ghost use Rattle.std.specs.Prelude.{◌≡◌, ◌≢◌, ◌≤◌, ◌<◌, ◌+◌, ◌++◌, ◌^◌, ◌↔◌, List, [], length, take, drop, option_to_list, Err, OnOk, OnErr, IfOk, vec_capacity};
+ghost use Rattle.std.specs.Prelude.{◌≡◌, ◌≤◌, ◌<◌, ◌+◌, ◌++◌, ◌^◌, ◌↔◌, List, [], length, Err, OnOk, OnErr, IfOk, vec_capacity};
 ghost use Rattle.permission_map.specs.declared.runs.Run.{Run};
 ghost use Rattle.permission_map.specs.declared.fault.MapFault as MapFault;
 ghost use Rattle.permission_map.specs.Overwriting.{AreOverwritten, Becomes};

@@ -1,9 +1,9 @@
 //! Look-ups in a document.
 
-ghost use Rattle.std.specs.Prelude.{◌≡◌, ℕ, List, map, option_map};
+ghost use Rattle.std.specs.Prelude.{◌≡◌, map, option_map};
 ghost use Rattle.std.specs.Option.{option_and_then};
-ghost use Rattle.toml.specs.Data.{as_array, as_table, get_member};
-ghost use Rattle.toml.specs.View.{array_view, table_view, view};
+ghost use Rattle.toml.specs.Data.{as_table, get_member};
+ghost use Rattle.toml.specs.View.{table_view, view};
 ghost use Rattle.platform_file.specs.Document.{has_only, is_known, number, number_at, number_or, perm_at, perm_of};
 
 use pmp_encoding::Perm;

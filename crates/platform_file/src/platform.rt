@@ -1,10 +1,9 @@
 //! The platform of a text.
 
-ghost use Rattle.std.specs.Prelude.{◌≡◌, ◌<◌, ◌≤◌, Err, IfOk, IfSome, None};
-ghost use Rattle.pmp_encoding.specs.Limits.{limit_number};
+ghost use Rattle.std.specs.Prelude.{◌≡◌, ◌<◌, Err, IfOk, IfSome, None};
 ghost use Rattle.toml.specs.Parse.{parse_document};
 ghost use Rattle.toml.specs.View.{table_view};
-ghost use Rattle.enclave_table.specs.Platform.{Layout, IsPlatform};
+ghost use Rattle.enclave_table.specs.Platform.{Layout};
 ghost use Rattle.platform_file.specs.Document.{IsPlatformText, Builds, Tells};
 
 use crate::TextFault;

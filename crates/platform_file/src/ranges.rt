@@ -4,7 +4,7 @@ ghost use Rattle.std.specs.Prelude.{◌≡◌, Err, IfOk, None, Some, option_map
 ghost use Rattle.std.specs.Option.{option_and_then};
 ghost use Rattle.toml.specs.Data.{as_array, as_table, get_member};
 ghost use Rattle.toml.specs.View.{array_view, items_view, table_view, view};
-ghost use Rattle.platform_file.specs.Document.{all_of, device_in, device_of, devices_at, each, monitor_at, ram_at, range_in, range_of};
+ghost use Rattle.platform_file.specs.Document.{device_in, device_of, devices_at, each, monitor_at, ram_at, range_in, range_of};
 
 use crate::TextFault;
 use crate::document::{has_only, number_at, perm_at, table_at, value_at};

@@ -1,4 +1,4 @@
-ghost use Rattle.std.specs.Prelude.{◌≡◌, ◌%◌, ◌<◌, ◌*◌, MatchOption};
+ghost use Rattle.std.specs.Prelude.{◌%◌, ◌<◌, ◌*◌, MatchOption};
 ghost use Rattle.pmp_encoding.specs.Csrs.{IsCsr, IsFaultlessWord, IsFaultOfWord};
 ghost use Rattle.pmp_encoding.specs.Named.{IsNamed};
 

@@ -1,7 +1,6 @@
-ghost use Rattle.std.specs.Prelude.{◌≡◌, ◌+◌, ◌^◌, ◌≤◌, ◌<◌, true, ◌&&◌, ◌||◌, ◌%◌, ◌==◌, List};
+ghost use Rattle.std.specs.Prelude.{◌≡◌, ◌+◌, ◌^◌, ◌<◌, ◌&&◌, ◌||◌, ◌%◌, ◌==◌, List};
 ghost use Rattle.pmp_encoding.specs.declared.region.Entry.{Entry};
 ghost use Rattle.pmp_encoding.specs.Banks.{HasList};
-ghost use Rattle.pmp_encoding.specs.Perms.{can_read, can_write, can_execute};
 ghost use Rattle.pmp_match.specs.Kinds.{holds};
 ghost use Rattle.pmp_match.specs.Decision.{allows, is_machine};
 ghost use Rattle.pmp_match.specs.Matching.{touches, grants, lets_through};

@@ -1,9 +1,8 @@
 //! What `plan` prints.
 
-ghost use Rattle.std.specs.Prelude.{◌≡◌, ◌+◌, ◌*◌, ◌-◌, ◌^◌, ◌<◌, ◌≤◌, List, ℕ, IfErr, IfOk, length};
+ghost use Rattle.std.specs.Prelude.{◌≡◌, ◌*◌, ◌-◌, ◌^◌, ◌<◌, ◌≤◌, List, ℕ, IfErr, IfOk};
 ghost use Rattle.std.specs.Io.KnownBytes.{Appends};
 ghost use Rattle.byte_streams.specs.Streams.{WriteFails};
-ghost use Rattle.pmp_encoding.specs.Limits.{limit_number};
 ghost use Rattle.printed_lines.specs.Plans.{IsPlanText, TakesPart, entries_text, list_text, words_text};
 
 use crate::texts::{count_line, push_entry, word_line};

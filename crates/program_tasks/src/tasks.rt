@@ -1,6 +1,6 @@
 //! The task that a subcommand with its values is.
 
-ghost use Rattle.std.specs.Prelude.{◌≡◌, ◌≢◌, ◌↔◌, [], ◌∷◌, ℕ, IfErr, IfOk, IfSome, Option, None, Some, codes, true, option_map};
+ghost use Rattle.std.specs.Prelude.{◌≡◌, ◌≢◌, ◌↔◌, [], ◌∷◌, IfErr, IfOk, IfSome, Option, None, Some, codes, true, option_map};
 ghost use Rattle.pmp_encoding.specs.declared.limit.Limit.{Limit};
 ghost use Rattle.program_tasks.specs.declared.task.Format.{Format};
 ghost use Rattle.program_tasks.specs.Faults.{Breaks, IsFaultOf, IsFirst, audit_demands, check_demands, judge_demands, lint_demands, plan_demands, run_demands, show_demands};

@@ -1,6 +1,6 @@
 //! Accesses that entries below eight bytes cut.
 
-ghost use Rattle.std.specs.Prelude.{◌≡◌, ◌+◌, ◌^◌, ◌<◌, ◌≤◌, All, List, MatchOption, ℕ};
+ghost use Rattle.std.specs.Prelude.{◌≡◌, ◌<◌, All, List, MatchOption};
 ghost use Rattle.pmp_encoding.specs.declared.region.Entry.{Entry};
 ghost use Rattle.pmp_encoding.specs.Banks.{HasList};
 ghost use Rattle.pmp_encoding.specs.Perms.{can_read};

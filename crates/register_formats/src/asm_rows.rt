@@ -13,7 +13,7 @@ pub(crate) struct Addresses<'a> {
 }
 
 impl Rows for Addresses<'_> {
-    ghost use Rattle.std.specs.Prelude.{◌≡◌, ◌^◌};
+    ghost use Rattle.std.specs.Prelude.{◌^◌};
     ghost use Rattle.register_formats.specs.AsmTexts.{asm_address_row};
 
     ghost row_text = { λ rows. asm_address_row rows.entries.now };
@@ -43,7 +43,6 @@ pub(crate) struct Words<'a> {
 }
 
 impl Rows for Words<'_> {
-    ghost use Rattle.std.specs.Prelude.{◌≡◌};
     ghost use Rattle.register_formats.specs.AsmTexts.{asm_word_row};
 
     ghost row_text = { λ rows. asm_word_row rows.bank.now };

@@ -1,9 +1,9 @@
 //! The words of a line of a map or a trace, and the numbers among them.
 
-ghost use Rattle.std.specs.Prelude.{◌≡◌, ℕ, ◌+◌, ◌-◌, ◌^◌, ◌<◌, ◌≤◌, ◌==◌, [], ◌∷◌, None, Some, IfOk, IfErr, IfSome, IfNone, OnSome, option_map, slice_index, MatchOption, MatchResult, true, false, length, take, nat_lt};
+ghost use Rattle.std.specs.Prelude.{◌≡◌, ◌+◌, ◌-◌, ◌<◌, ◌≤◌, ◌==◌, [], ◌∷◌, None, Some, IfSome, IfNone, OnSome, option_map, MatchOption, true, length, take, nat_lt};
 ghost use Rattle.std.specs.Result.{result_ok};
 ghost use Rattle.std.specs.List.{list_all, prefix_len, position_or_len};
-ghost use Rattle.text_lines.specs.Words.{is_blank, is_allowed, is_plain, content_of, split_words, words_of};
+ghost use Rattle.text_lines.specs.Words.{is_blank, is_allowed, is_plain, split_words, words_of};
 ghost use Rattle.text_lines.specs.Numbers.{BeginsFour, BeginsNumeral, digit_of, hex_or_more, value_of, numeral_of, number_of, permission_of};
 
 use memchr::memchr;

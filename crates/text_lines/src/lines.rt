@@ -1,6 +1,6 @@
 //! Lines out of a source, through one buffer of fixed size.
 
-ghost use Rattle.std.specs.Prelude.{◌≡◌, ◌⊎◌, ◌+◌, ◌-◌, ◌^◌, ◌<◌, ◌≤◌, ◌==◌, ◌++◌, ℕ, Bool, true, false, List, [], length, take, drop, MatchResult};
+ghost use Rattle.std.specs.Prelude.{◌≡◌, ◌+◌, ◌-◌, ◌^◌, ◌<◌, ◌≤◌, ◌==◌, ℕ, true, false, List, [], length, take, drop};
 ghost use Rattle.std.specs.List.{position_or_len};
 ghost use Rattle.text_lines.specs.Lines.{without_return, EndsInput};
 
@@ -71,7 +71,7 @@ pub struct LineReader {
 }
 
 impl LineReader {
-    ghost use Rattle.text_lines.specs.Lines.{without_return, IsShortLine};
+    ghost use Rattle.text_lines.specs.Lines.{without_return};
     ghost use Rattle.text_lines.specs.LineReaders.{line_of, pending_of, number_of, came_of, most_of, ended_of, NextLine, FailsOnRead, ReadsMore};
 
     /// A reader to which no byte has come, and to which at most 2^40 may.

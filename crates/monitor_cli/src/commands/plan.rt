@@ -1,8 +1,7 @@
 //! `plan`: the fewest entries of a map, and their certificate.
 
-ghost use Rattle.std.specs.Prelude.{◌≡◌, ◌≤◌, ◌-◌, ◌^◌, ◌<◌, ℕ, List, Option, IfErr, IfOk, IfSome, length};
+ghost use Rattle.std.specs.Prelude.{◌≡◌, ◌-◌, ◌^◌, ◌<◌, ℕ, List, Option, IfErr, IfOk, length};
 ghost use Rattle.std.specs.Io.KnownBytes.{Appends};
-ghost use Rattle.pmp_encoding.specs.Limits.{limit_number};
 ghost use Rattle.monitor_cli.specs.Commands.{most_entries, placing, reading, writing, Breaks, IsPrinted, IsWithin, Plans};
 
 use crate::certifying::plan_and_certify;
