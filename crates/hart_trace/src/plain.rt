@@ -14,15 +14,17 @@ use crate::trace::sized;
 use pmp_match::{Access, Kind, Mode};
 use text_lines::{leading_numeral, numeral};
 
+/// The modes that the letters from `s` to `u` name. A branch between two of them would be guessed wrong at every other line.
+static MODES: [Option<Mode>; 3] = [Some(Mode::Supervisor), None, Some(Mode::User)];
+
 fn plain_mode(byte: u8) -> Option<Mode>
     ensures mode { IfSome result (λ mode. mode_of (byte ∷ []) ≡ Some mode) }
     ensures letter { IfSome result (λ _. is_letter byte ≡ true) }
 {
-    match byte {
-        b's' => Some(Mode::Supervisor),
-        b'u' => Some(Mode::User),
-        _ => None,
+    if byte < b's' || byte > b'u' {
+        return None;
     }
+    MODES[usize::from(byte - b's')]
 }
 
 /// The number that a digit spells. Which sizes there are is asked once, with the kind.
