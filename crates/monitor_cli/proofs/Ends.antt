@@ -15,7 +15,7 @@ use Rattle.pmp_encoding.specs.Limits.{limit_number}
 use Rattle.pmp_match.specs.Meaning.{View}
 use Rattle.program_tasks.specs.declared.task.Format.TheVariants as formats
 use Rattle.program_troubles.specs.declared.trouble.Trouble.TheVariants.{Memory}
-use Rattle.monitor_cli.specs.Commands.{Writing, Placing, Breaks, IsMeasured, IsUnplanned, IsUnwritten, IsWithin, NeedsMore, Tells, beyond, most_entries, starved, told, cut}
+use Rattle.monitor_cli.specs.Commands.{Writing, Placing, Breaks, IsMeasured, IsUnplanned, IsUnwritten, IsWithin, NeedsMore, TakesAll, Tells, beyond, most_entries, starved, told, cut}
 use Rattle.monitor_cli.specs.Tasks.{AreMeasures, Stops}
 use Rattle.program_troubles.specs.Troubles.{trouble_text}
 
@@ -50,6 +50,13 @@ pub measured :
     → IsMeasured measure machine before after
 measured true machine before after e written = written
 measured false machine before after e written = cc
+
+-- a text that was written whole
+pub taken :
+    {W X Y : Type 0} (sink : Writing W) (result : Result X Y) (P : List ℕ → Type 0) → IfOk result (λ _. (text : List ℕ) × P text × Appends sink.before sink.after text)
+    → IfOk result (λ _. sink.failed ≡ sink.failures) → IfOk result (λ _. sink.stalled ≡ sink.stalls) → IfOk result (λ _. (text : List ℕ) × P text × TakesAll text sink)
+taken sink (Ok x) P written unfailed unstalled = (written.0, written.1, record { whole = written.2; well = (unfailed, unstalled) })
+taken sink (Err y) P written unfailed unstalled = tt
 
 -- a text that broke off
 pub broken :

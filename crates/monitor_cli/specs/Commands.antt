@@ -87,14 +87,13 @@ writing contents failures stalls old new = record {
   stalled = stalls new;
 }
 
--- a sink whose bytes come to stand in a place, over a call: the bytes that stood there and that stand there, where they are known
+-- a sink whose bytes come to stand in a place, over a call, and the bytes that stand there after it, where they are known
 pub record Placing (C : Type 0) : Type 0 where
   pub sink : Writing C
-  pub stood : Option (List ℕ)
   pub stands : Option (List ℕ)
 
 abbrev pub placing : {C : Type 0} → (C → Option (List ℕ)) → (C → ℕ) → (C → ℕ) → (C → Option (List ℕ)) → C → C → Placing C
-placing contents failures stalls stands old new = record { sink = writing contents failures stalls old new; stood = stands old; stands = stands new }
+placing contents failures stalls stands old new = record { sink = writing contents failures stalls old new; stands = stands new }
 
 -- nothing was read from it
 abbrev pub IsUnread : {R : Type 0} → Reading R → Type 0
@@ -103,6 +102,15 @@ IsUnread source = source.new ≡ source.old
 -- nothing was written to it
 abbrev pub IsUnwritten : {W : Type 0} → Writing W → Type 0
 IsUnwritten sink = sink.new ≡ sink.old
+
+-- no write to it failed or took none of some bytes
+abbrev pub IsWell : {W : Type 0} → Writing W → Type 0
+IsWell sink = (sink.failed ≡ sink.failures) × (sink.stalled ≡ sink.stalls)
+
+-- a text was written whole, and no write failed or took none of some bytes
+pub record TakesAll {W : Type 0} (text : List ℕ) (sink : Writing W) : Type 0 where
+  pub whole : Appends sink.before sink.after text
+  pub well : IsWell sink
 
 -- a beginning of a text was written, not all of it, for the device failed or took none of some bytes
 pub record Breaks {W : Type 0} (text : List ℕ) (sink : Writing W) : Type 0 where
@@ -148,20 +156,34 @@ pub record IsCertificateOf (view : View) (limit : Limit) (entries : List Entry) 
 abbrev pub IsCertified : {C : Type 0} → View → Limit → List Entry → Option (Bor (List ℕ)) → Placing C → Type 0
 IsCertified view limit entries None cert = IsUnwritten cert.sink
 IsCertified view limit entries (Some file) cert =
-    (bytes : List ℕ) × IsCertificateOf view limit entries bytes × Appends cert.sink.before cert.sink.after bytes × (cert.stands ≡ cert.sink.after)
+    (bytes : List ℕ) × IsCertificateOf view limit entries bytes × TakesAll bytes cert.sink × (cert.stands ≡ cert.sink.after)
 
 -- bytes were not written whole, or they were not put in their place
 pub data IsNotPlaced {C : Type 0} (bytes : List ℕ) (cert : Placing C) : Type 0 where
   not_written : Breaks bytes cert.sink → IsNotPlaced bytes cert
-  not_moved : Appends cert.sink.before cert.sink.after bytes → cert.sink.failed ≡ cert.sink.failures + 1 → IsNotPlaced bytes cert
+  not_moved : Appends cert.sink.before cert.sink.after bytes → cert.sink.failed ≡ cert.sink.failures + 1 → cert.sink.stalled ≡ cert.sink.stalls → IsNotPlaced bytes cert
 
--- the certificate could not be written
-pub record BreaksCertificate {C : Type 0} (view : View) (limit : Limit) (file : Option (Bor (List ℕ))) (cert : Placing C) (trouble : Trouble) : Type 0 where
+-- as many entries as that are within the bound, or beyond it
+abbrev pub IsWithin : Option ℕ → ℕ → Type 0
+IsWithin None n = Unit {0}
+IsWithin (Some most) n = n ≤ most
+
+abbrev pub IsBeyond : Option ℕ → ℕ → Type 0
+IsBeyond None n = ⊥
+IsBeyond (Some most) n = most < n
+
+-- the plan of a map: the fewest entries, as many as may be
+pub record IsPlanned (view : View) (most : Option ℕ) (entries : List Entry) : Type 0 where
+  pub fewest : IsFewest view entries
+  pub within : IsWithin most (length entries)
+
+-- the certificate of a plan could not be written
+pub record BreaksCertificate {C : Type 0} (view : View) (limit : Limit) (most : Option ℕ) (file : Option (Bor (List ℕ))) (cert : Placing C) (trouble : Trouble) : Type 0 where
   pub name : Bor (List ℕ)
   pub named : file ≡ Some name
   pub told : trouble ≡ CannotWrite name
   pub entries : List Entry
-  pub fewest : IsFewest view entries
+  pub planned : IsPlanned view most entries
   pub bytes : List ℕ
   pub certificate : IsCertificateOf view limit entries bytes
   pub broken : IsNotPlaced bytes cert
@@ -173,26 +195,12 @@ most_entries limit at_most formats.Json = at_most
 most_entries limit None format = Some (limit_number limit)
 most_entries limit (Some n) format = Some (min n (limit_number limit))
 
--- as many entries as that are within the bound, or beyond it
-abbrev pub IsWithin : Option ℕ → ℕ → Type 0
-IsWithin None n = Unit {0}
-IsWithin (Some most) n = n ≤ most
-
-abbrev pub IsBeyond : Option ℕ → ℕ → Type 0
-IsBeyond None n = ⊥
-IsBeyond (Some most) n = most < n
-
 -- the text of a plan in a format, of the map of that name
 abbrev pub IsPrinted : Format → List ℕ → Limit → List Entry → List ℕ → Type 0
 IsPrinted formats.Text map limit entries text = IsPlanText limit entries text
 IsPrinted formats.C map limit entries text = IsCText limit entries text
 IsPrinted formats.Asm map limit entries text = IsAsmText limit entries text
 IsPrinted formats.Json map limit entries text = IsJsonText map limit entries text
-
--- the plan of a map: the fewest entries, as many as may be
-pub record IsPlanned (view : View) (most : Option ℕ) (entries : List Entry) : Type 0 where
-  pub fewest : IsFewest view entries
-  pub within : IsWithin most (length entries)
 
 -- the plan of a map has more entries than may be
 pub record NeedsMore (view : View) (most : Option ℕ) (trouble : Trouble) : Type 0 where
@@ -205,13 +213,13 @@ pub record NeedsMore (view : View) (most : Option ℕ) (trouble : Trouble) : Typ
 pub data IsUnplanned {C : Type 0} (view : View) (limit : Limit) (most : Option ℕ) (file : Option (Bor (List ℕ))) (cert : Placing C) (trouble : Trouble) : Type 0 where
   starved : trouble ≡ Memory → IsUnwritten cert.sink → IsUnplanned view limit most file cert trouble
   beyond : NeedsMore view most trouble → IsUnwritten cert.sink → IsUnplanned view limit most file cert trouble
-  uncertified : BreaksCertificate view limit file cert trouble → IsUnplanned view limit most file cert trouble
+  uncertified : BreaksCertificate view limit most file cert trouble → IsUnplanned view limit most file cert trouble
 
 -- `plan`: the map is read, the certificate is written where one is asked for, and the plan behind it
 pub data Plans {R C W : Type 0} (map : Bor (List ℕ)) (file : Option (Bor (List ℕ))) (limit : Limit) (at_most : Option ℕ) (format : Format) (first : Reading R) (cert : Placing C) (out : Writing W) : Result ℕ Trouble → Type 0 where
   planned :
       (runs : List Run) (entries : List Entry) (text : List ℕ) → HasMap first runs → IsPlanned (view_of_runs runs) (most_entries limit at_most format) entries
-      → IsCertified (view_of_runs runs) limit entries file cert → IsPrinted format map.now limit entries text → Appends out.before out.after text
+      → IsCertified (view_of_runs runs) limit entries file cert → IsPrinted format map.now limit entries text → TakesAll text out
       → Plans map file limit at_most format first cert out (Ok 0)
   no_map : (trouble : Trouble) → HasNoMap map first trouble → IsUnwritten cert.sink → IsUnwritten out → Plans map file limit at_most format first cert out (Err trouble)
   no_memory : (runs : List Run) → HasMap first runs → IsUnwritten cert.sink → IsUnwritten out → Plans map file limit at_most format first cert out (Err Memory)
@@ -219,7 +227,7 @@ pub data Plans {R C W : Type 0} (map : Bor (List ℕ)) (file : Option (Bor (List
       (runs : List Run) (trouble : Trouble) → HasMap first runs → NeedsMore (view_of_runs runs) (most_entries limit at_most format) trouble → IsUnwritten cert.sink → IsUnwritten out
       → Plans map file limit at_most format first cert out (Err trouble)
   no_certificate :
-      (runs : List Run) (trouble : Trouble) → HasMap first runs → BreaksCertificate (view_of_runs runs) limit file cert trouble → IsUnwritten out
+      (runs : List Run) (trouble : Trouble) → HasMap first runs → BreaksCertificate (view_of_runs runs) limit (most_entries limit at_most format) file cert trouble → IsUnwritten out
       → Plans map file limit at_most format first cert out (Err trouble)
   no_output :
       (runs : List Run) (entries : List Entry) (text : List ℕ) → HasMap first runs → IsPlanned (view_of_runs runs) (most_entries limit at_most format) entries
@@ -230,7 +238,7 @@ pub data Plans {R C W : Type 0} (map : Bor (List ℕ)) (file : Option (Bor (List
 pub data Shows {R W : Type 0} (map : Bor (List ℕ)) (limit : Limit) (at_most : Option ℕ) (first : Reading R) (out : Writing W) : Result ℕ Trouble → Type 0 where
   shown :
       (runs : List Run) (entries : List Entry) (text : List ℕ) → HasMap first runs → IsPlanned (view_of_runs runs) at_most entries → IsTable (view_of_runs runs) entries limit text
-      → Appends out.before out.after text → Shows map limit at_most first out (Ok 0)
+      → TakesAll text out → Shows map limit at_most first out (Ok 0)
   no_map : (trouble : Trouble) → HasNoMap map first trouble → IsUnwritten out → Shows map limit at_most first out (Err trouble)
   no_memory : (runs : List Run) → HasMap first runs → IsUnwritten out → Shows map limit at_most first out (Err Memory)
   too_many : (runs : List Run) (trouble : Trouble) → HasMap first runs → NeedsMore (view_of_runs runs) at_most trouble → IsUnwritten out → Shows map limit at_most first out (Err trouble)
@@ -242,7 +250,7 @@ pub data Shows {R W : Type 0} (map : Bor (List ℕ)) (limit : Limit) (at_most : 
 pub data Judges {R W : Type 0} (map trace : Bor (List ℕ)) (limit : Limit) (first second : Reading R) (out : Writing W) : Result ℕ Trouble → Type 0 where
   judged :
       (runs : List Run) (bank : Bank) → HasMap first runs → IsLoaded (view_of_runs runs) limit bank
-      → DoesAll (judged_by bank) tt tt second.before second.after out.before out.after → Judges map trace limit first second out (Ok 0)
+      → DoesAll (judged_by bank) tt tt second.before second.after out.before out.after → second.failed ≡ second.failures → IsWell out → Judges map trace limit first second out (Ok 0)
   no_map : (trouble : Trouble) → HasNoMap map first trouble → IsUnread second → IsUnwritten out → Judges map trace limit first second out (Err trouble)
   no_memory : (runs : List Run) → HasMap first runs → IsUnread second → IsUnwritten out → Judges map trace limit first second out (Err Memory)
   no_bank :
@@ -258,7 +266,7 @@ pub data Judges {R W : Type 0} (map trace : Bor (List ℕ)) (limit : Limit) (fir
 pub data Checks {R W : Type 0} (map cert : Bor (List ℕ)) (first second : Reading R) (out : Writing W) : Result ℕ Trouble → Type 0 where
   checked :
       (runs : List Run) (bytes line : List ℕ) (status : ℕ) → HasMap first runs → HasBytes (2 ^ 26) second bytes → IsVerdict (view_of_runs runs) bytes line status
-      → Appends out.before out.after line → Checks map cert first second out (Ok status)
+      → TakesAll line out → Checks map cert first second out (Ok status)
   no_map : (trouble : Trouble) → HasNoMap map first trouble → IsUnread second → IsUnwritten out → Checks map cert first second out (Err trouble)
   no_certificate : (runs : List Run) (trouble : Trouble) → HasMap first runs → HasNoBytes (2 ^ 26) cert second trouble → IsUnwritten out → Checks map cert first second out (Err trouble)
   no_output :
@@ -286,7 +294,8 @@ IsMeasured true machine before after = (text : List ℕ) × AreMeasures (kept_of
 pub data Runs {R W : Type 0} (file trace : Bor (List ℕ)) (measure : Bool) (first second : Reading R) (out : Writing W) : Result ℕ Trouble → Type 0 where
   ran :
       (platform : Layout) (booted ended : Machine) (report : Option (List ℕ)) → HasPlatform first platform → IsBooted platform booted
-      → DoesAll DoesLine booted ended second.before second.after out.before report → IsMeasured measure ended report out.after → Runs file trace measure first second out (Ok 0)
+      → DoesAll DoesLine booted ended second.before second.after out.before report → IsMeasured measure ended report out.after → second.failed ≡ second.failures → IsWell out
+      → Runs file trace measure first second out (Ok 0)
   no_platform : (trouble : Trouble) → HasNoPlatform file first trouble → IsUnread second → IsUnwritten out → Runs file trace measure first second out (Err trouble)
   not_booted :
       (platform : Layout) (fault : BootFault) → HasPlatform first platform → IsBootFault platform fault → IsUnread second → IsUnwritten out
@@ -299,7 +308,7 @@ pub data Runs {R W : Type 0} (file trace : Bor (List ℕ)) (measure : Bool) (fir
   not_measured :
       (platform : Layout) (booted ended : Machine) (report : Option (List ℕ)) (n : ℕ) (text : List ℕ) → measure ≡ true → HasPlatform first platform → IsBooted platform booted
       → DoesAll DoesLine booted ended second.before second.after out.before report → n ≤ 64 → AreMeasures (kept_of ended).table n text → TakesPart text report out.after
-      → WriteFails out.failures out.failed out.stalls out.stalled → Runs file trace measure first second out (Err Output)
+      → second.failed ≡ second.failures → WriteFails out.failures out.failed out.stalls out.stalled → Runs file trace measure first second out (Err Output)
 
 -- the status of an answer: 0 for a yes, and 1 for a no
 abbrev pub answer_status : Bool → ℕ
@@ -320,7 +329,7 @@ pub record IsAudited {R : Type 0} (first second : Reading R) (view : View) (list
 pub data Audits {R W : Type 0} (map registers : Bor (List ℕ)) (first second : Reading R) (out : Writing W) : Result ℕ Trouble → Type 0 where
   audited :
       (view : View) (listing text : List ℕ) (fewest : ℕ) (means : Bool) → IsAudited first second view listing fewest → IsAudit view fewest listing text means
-      → Appends out.before out.after text → Audits map registers first second out (Ok (answer_status means))
+      → TakesAll text out → Audits map registers first second out (Ok (answer_status means))
   no_map : (trouble : Trouble) → HasNoMap map first trouble → IsUnread second → IsUnwritten out → Audits map registers first second out (Err trouble)
   no_registers : (runs : List Run) (trouble : Trouble) → HasMap first runs → HasNoBytes (2 ^ 20) registers second trouble → IsUnwritten out → Audits map registers first second out (Err trouble)
   no_memory : (runs : List Run) (listing : List ℕ) → HasMap first runs → HasBytes (2 ^ 20) second listing → IsUnwritten out → Audits map registers first second out (Err Memory)
@@ -335,7 +344,7 @@ pub data Audits {R W : Type 0} (map registers : Bor (List ℕ)) (first second : 
 pub data Lints {R W : Type 0} (map : Bor (List ℕ)) (first : Reading R) (out : Writing W) : Result ℕ Trouble → Type 0 where
   linted :
       (bytes text : List ℕ) (is_map : Bool) → HasBytes (2 ^ 20) first bytes → IsVerdictOfLines bytes is_map → IsLintText map.now bytes is_map text
-      → Appends out.before out.after text → out.failed ≡ out.failures → out.stalled ≡ out.stalls → Lints map first out (Ok (answer_status is_map))
+      → TakesAll text out → Lints map first out (Ok (answer_status is_map))
   no_bytes : (trouble : Trouble) → HasNoBytes (2 ^ 20) map first trouble → IsUnwritten out → Lints map first out (Err trouble)
   no_memory : (bytes : List ℕ) → HasBytes (2 ^ 20) first bytes → IsUnwritten out → Lints map first out (Err Memory)
   no_output :

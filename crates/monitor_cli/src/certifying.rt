@@ -1,7 +1,6 @@
 //! Plans with their certificates.
 
 ghost use Rattle.std.specs.Prelude.{◌≡◌, ◌≤◌, ◌<◌, ◌-◌, ◌^◌, ◌⊎◌, ◌↔◌, List, IfErr, IfOk, IfSome, None, length};
-ghost use Rattle.std.specs.Io.KnownBytes.{Appends};
 ghost use Rattle.pmp_encoding.specs.declared.region.Entry.{Entry};
 ghost use Rattle.pmp_encoding.specs.Banks.{HasList, IsBankOf};
 ghost use Rattle.pmp_encoding.specs.Limits.{limit_number};
@@ -10,7 +9,7 @@ ghost use Rattle.permission_map.specs.Runs.{view_of_runs};
 ghost use Rattle.prefix_tree.specs.Counts.{splits};
 ghost use Rattle.prefix_tree.specs.TreeOf.{tree_of};
 ghost use Rattle.plan_certificate.specs.Written.{certificate_for};
-ghost use Rattle.monitor_cli.specs.Commands.{placing, IsBeyond, IsCertified, IsLoaded, IsNotPlaced, IsPlanned, IsUnplanned, IsWithin, NeedsMore};
+ghost use Rattle.monitor_cli.specs.Commands.{placing, writing, TakesAll, IsBeyond, IsCertified, IsLoaded, IsNotPlaced, IsPlanned, IsUnplanned, IsWithin, NeedsMore};
 ghost use Rattle.monitor_cli.specs.Tasks.{IsFewest};
 
 use byte_streams::DeviceFault;
@@ -79,7 +78,7 @@ fn put<'a, C: WholeSink>(
 ) -> Result<(), Trouble<'a>>
     requires failures { C.failures sink.old < 2 ^ 64 - 1 }
     requires splits { splits (tree_of (view_of_runs map.now)) ≡ length plan.now.costs }
-    ensures put { IfOk result (λ _. Appends (C.contents sink.old) (C.contents sink.new) (certificate_for limit plan.now (tree_of (view_of_runs map.now))) × (C.stands sink.new ≡ C.contents sink.new)) }
+    ensures put { IfOk result (λ _. TakesAll (certificate_for limit plan.now (tree_of (view_of_runs map.now))) (writing C.contents C.failures C.stalls sink.old sink.new) × (C.stands sink.new ≡ C.contents sink.new)) }
     ensures broken { IfErr result (λ trouble. (trouble ≡ Trouble.CannotWrite file.entry) × IsNotPlaced (certificate_for limit plan.now (tree_of (view_of_runs map.now))) (placing C.contents C.failures C.stalls C.stands sink.old sink.new)) }
 {
     let Ok(()) = send_map(map, plan, limit, sink) else {

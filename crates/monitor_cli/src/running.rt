@@ -112,6 +112,8 @@ fn print_measure<W: Sink>(table: &Table, id: u64, out: &mut W) -> Result<(), Dev
 pub fn print_measures<W: Sink>(table: &Table, out: &mut W) -> Result<(), DeviceFault>
     requires { W.failures out.old < 2 ^ 64 - 1 }
     ensures written { IfOk result (λ _. (text : List ℕ) × AreMeasures table.now.table 64 text × Appends (W.contents out.old) (W.contents out.new) text) }
+    ensures well { IfOk result (λ _. W.failures out.new ≡ W.failures out.old) }
+    ensures unstalled { IfOk result (λ _. W.stalls out.new ≡ W.stalls out.old) }
     ensures part { IfErr result (λ _. (n : ℕ) × (n ≤ 64) × (text : List ℕ) × AreMeasures table.now.table n text × TakesPart text (W.contents out.old) (W.contents out.new)) }
     ensures failed { IfErr result (λ _. WriteFails (W.failures out.old) (W.failures out.new) (W.stalls out.old) (W.stalls out.new)) }
 {

@@ -1,9 +1,10 @@
 //! The file that a certificate is written to.
 
 ghost use Rattle.std.specs.Io.{WritesAtMost};
+ghost use Rattle.std.specs.Io.KnownBytes.{WriteAppends};
 ghost use Rattle.byte_streams.specs.Streams.{inner_of};
 ghost use Rattle.std.specs.Path.{path_buf_bytes};
-ghost use Rattle.std.specs.Prelude.{◌≡◌, ◌+◌, ◌-◌, ◌^◌, ◌<◌, ◌⊎◌, ℕ, List, Option, None, true, false, IfErr, IfOk, IfSome, MatchResult, string_bytes};
+ghost use Rattle.std.specs.Prelude.{◌≡◌, ◌+◌, ◌-◌, ◌^◌, ◌<◌, ◌⊎◌, ℕ, List, Option, None, true, false, IfErr, IfOk, IfSome, MatchResult, option_and_then, string_bytes};
 ghost use Rattle.program_files.specs.Beside.{IsNumbered, part_name};
 
 use crate::devices::write_again;
@@ -93,6 +94,7 @@ impl<'a, R: Files> CertificateFile<'a, R> {
 
     fn write_some(&mut self, buf: &[u8]) -> io::Result<usize>
         ensures most { WritesAtMost result buf.now }
+        ensures bytes { WriteAppends (option_and_then R.File.contents self.old.file) (option_and_then R.File.contents self.new.file) result buf.now }
         ensures failures { self.new.failures ≡ self.old.failures }
         ensures stalls { self.new.stalls ≡ self.old.stalls }
     {

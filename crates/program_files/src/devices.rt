@@ -1,8 +1,9 @@
 //! The files and streams that the program lends to a task.
 
-ghost use Rattle.std.specs.Prelude.{◌≡◌, None};
+ghost use Rattle.std.specs.Prelude.{◌≡◌, None, option_and_then};
 ghost use Rattle.std.specs.Io.{ReadsAtMost, WritesAtMost};
 ghost use Rattle.std.specs.Io.KnownBytes.{ReadConsumes, WriteAppends};
+ghost use Rattle.program_files.specs.declared.devices.InputToRead.TheVariants.{File, Standard};
 
 use std::io::{ErrorKind, Read, Write};
 use std::rt::Files;
@@ -31,6 +32,9 @@ impl<'a, R: Files> FileToRead<'a, R> {
 }
 
 impl<R: Files> Read for FileToRead<'_, R> {
+    // What the opened file tells of its bytes; nothing is known of them before its first read.
+    ghost remaining = { λ r. option_and_then R.File.remaining r.file };
+
     fn read(&mut self, buf: &mut [u8]) -> io::Result<usize> {
         if self.file.is_none() {
             self.file = Some(fs::open(self.files, self.name)?);
@@ -52,6 +56,9 @@ pub enum InputToRead<'a, R: Files, S> {
 }
 
 impl<R: Files, S: Read> Read for InputToRead<'_, R, S> {
+    // What the file or the stream tells of its bytes.
+    ghost remaining = { elim [ File file ↦ option_and_then R.File.remaining file.file | Standard input ↦ S.remaining input.inner ] };
+
     fn read(&mut self, buf: &mut [u8]) -> io::Result<usize> {
         match self {
             InputToRead::File(file) => file.read(buf),

@@ -1,8 +1,7 @@
 //! `plan`: the fewest entries of a map, and their certificate.
 
 ghost use Rattle.std.specs.Prelude.{◌≡◌, ◌-◌, ◌^◌, ◌<◌, ℕ, List, Option, IfErr, IfOk, length};
-ghost use Rattle.std.specs.Io.KnownBytes.{Appends};
-ghost use Rattle.monitor_cli.specs.Commands.{most_entries, placing, reading, writing, Breaks, IsPrinted, IsWithin, Plans};
+ghost use Rattle.monitor_cli.specs.Commands.{most_entries, placing, reading, writing, Breaks, IsPrinted, IsWithin, Plans, TakesAll};
 
 use crate::certifying::plan_and_certify;
 use crate::inputs::map_in;
@@ -54,7 +53,7 @@ fn print_as<W: Sink>(
 ) -> Result<(), DeviceFault>
     requires failures { W.failures out.old < 2 ^ 64 - 1 }
     requires fits { (at_most : Option ℕ) × IsWithin (most_entries limit at_most format) (length entries.now) }
-    ensures printed { IfOk result (λ _. (text : List ℕ) × IsPrinted format map.now limit entries.now text × Appends (W.contents out.old) (W.contents out.new) text) }
+    ensures printed { IfOk result (λ _. (text : List ℕ) × IsPrinted format map.now limit entries.now text × TakesAll text (writing W.contents W.failures W.stalls out.old out.new)) }
     ensures broken { IfErr result (λ _. (text : List ℕ) × IsPrinted format map.now limit entries.now text × Breaks text (writing W.contents W.failures W.stalls out.old out.new)) }
 {
     match format {

@@ -42,7 +42,7 @@ pub returns-in-Ok : goal.returns-in-Ok
 returns-in-Ok g c =
     let w = rw c.as_slice.ensures.value at c.in-Ok.ensures.written in
     let made = is_audited _ _ c.in_ok-map.ensures.made c.in_ok-listing.ensures.whole c.in_ok-plan.ensures.means c.in_ok-plan.ensures.least c.entries.ensures in
-    rw c.answer_status.ensures (audited _ _ w.0 _ c.in-Ok.means made w.1 w.2)
+    rw c.answer_status.ensures (audited _ _ w.0 _ c.in-Ok.means made w.1 (record { whole = w.2; well = (c.in-Ok.ensures.well, c.in-Ok.ensures.unstalled) }))
 
 pub returns-in-Err-Line : goal.returns-in-Err-Line
 returns-in-Err-Line g c =

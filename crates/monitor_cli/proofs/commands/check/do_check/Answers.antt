@@ -18,7 +18,7 @@ pub returns-in-Ok : goal.returns-in-Ok
 returns-in-Ok g c =
     let verdict = rw c.as_slice.ensures.value at c.verdict-line.ensures.verdict in
     let whole = rw c.as_slice-2.ensures.value at c.in-Ok.ensures.whole in
-    checked _ _ _ _ c.in_ok-map.ensures.made c.in_ok-bytes.ensures.whole verdict whole
+    checked _ _ _ _ c.in_ok-map.ensures.made c.in_ok-bytes.ensures.whole verdict (record { whole = whole; well = (c.in-Ok.ensures.well, c.in-Ok.ensures.unstalled) })
 
 pub returns : goal.returns
 returns g c =

@@ -20,7 +20,7 @@ returns-in_err-bank g c =
     ])
 
 pub returns-in-Ok : goal.returns-in-Ok
-returns-in-Ok g c = judged _ c.in_ok-bank.bank c.in_ok-map.ensures.made c.in_ok-bank.ensures.loaded c.in-Ok.ensures.all
+returns-in-Ok g c = judged _ c.in_ok-bank.bank c.in_ok-map.ensures.made c.in_ok-bank.ensures.loaded c.in-Ok.ensures.all c.in-Ok.ensures.reads c.in-Ok.ensures.writes
 
 pub returns : goal.returns
 returns g c =

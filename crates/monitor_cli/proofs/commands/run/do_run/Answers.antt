@@ -1,4 +1,4 @@
-use Rattle.std.proofs.Common.{Err, ap, refl}
+use Rattle.std.proofs.Common.{Err, ◌∙◌, ap, refl}
 use Rattle.std.proofs.lemmas.Result.{err_from_is_err_and}
 use Rattle.hart_sim.specs.Reports.{DoesLine, RefusesLine, StarvesLine}
 use Rattle.monitor_cli.specs.Commands.{ran, not_booted, not_measured}
@@ -30,17 +30,19 @@ returns-in-Err g c =
 pub returns-then-not-measure : goal.returns-then-not-measure
 returns-then-not-measure g c =
     ran _ c.in_ok-machine.machine c.run.new.machine _ c.in_ok-platform.ensures.made c.in_ok-machine.ensures.booted (c.in-Ok.ensures.all c.in_ok-machine.ensures.kept)
-    (unmeasured c.args.measure c.run.new.machine _ c.if-not-measure.true)
+    (unmeasured c.args.measure c.run.new.machine _ c.if-not-measure.true) c.in-Ok.ensures.reads c.in-Ok.ensures.writes
 
 pub returns-in-Ok-print_measures : goal.returns-in-Ok-print_measures
 returns-in-Ok-print_measures g c =
     let written = rw c.table.ensures at c.in-Ok-print_measures.ensures.written in
+    let before = c.in-Ok.ensures.writes in
+    let measures = c.in-Ok-print_measures.ensures in
     ran _ c.in_ok-machine.machine c.run.new.machine _ c.in_ok-platform.ensures.made c.in_ok-machine.ensures.booted (c.in-Ok.ensures.all c.in_ok-machine.ensures.kept)
-    (measured c.args.measure c.run.new.machine _ _ c.if-not-measure.false written)
+    (measured c.args.measure c.run.new.machine _ _ c.if-not-measure.false written) c.in-Ok.ensures.reads (measures.well ∙ before.0, measures.unstalled ∙ before.1)
 
 pub returns : goal.returns
 returns g c =
     let w = rw c.table.ensures at c.in-Err-print_measures.ensures.part in
     let writes = c.in-Ok.ensures.writes in
     not_measured _ c.in_ok-machine.machine c.run.new.machine _ w.0 w.2 c.if-not-measure.false c.in_ok-platform.ensures.made c.in_ok-machine.ensures.booted
-    (c.in-Ok.ensures.all c.in_ok-machine.ensures.kept) w.1 w.3 w.4 (rw (writes.0, writes.1) at c.in-Err-print_measures.ensures.failed)
+    (c.in-Ok.ensures.all c.in_ok-machine.ensures.kept) w.1 w.3 w.4 c.in-Ok.ensures.reads (rw (writes.0, writes.1) at c.in-Err-print_measures.ensures.failed)

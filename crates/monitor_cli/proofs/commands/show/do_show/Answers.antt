@@ -23,7 +23,7 @@ print_map-requires-clause-means g c = rw (sym c.entries.ensures) at c.in_ok-plan
 pub returns-in-Ok : goal.returns-in-Ok
 returns-in-Ok g c =
     let w = rw c.entries.ensures at c.in-Ok.ensures.written in
-    shown _ _ w.0 c.in_ok-map.ensures.made c.in_ok-plan.ensures.planned w.1 w.2
+    shown _ _ w.0 c.in_ok-map.ensures.made c.in_ok-plan.ensures.planned w.1 (record { whole = w.2; well = (c.in-Ok.ensures.well, c.in-Ok.ensures.unstalled) })
 
 pub returns-in-Err-Memory : goal.returns-in-Err-Memory
 returns-in-Err-Memory g c = commands.Shows.no_memory _ c.in_ok-map.ensures.made (c.in-Err-Memory.ensures.untouched (ap (λ f. Err f) c.in-Err-Memory.field-0-is))
