@@ -14,8 +14,6 @@ mod idle;
 mod linting;
 mod perms;
 mod reasons;
-#[cfg(test)]
-mod tests;
 mod texts;
 
 pub use linting::{LintFault, lint};

@@ -13,8 +13,6 @@ mod document;
 mod fault;
 mod platform;
 mod ranges;
-#[cfg(test)]
-mod tests;
 
 pub use fault::TextFault;
 pub use platform::platform_of;

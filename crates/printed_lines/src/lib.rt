@@ -12,8 +12,6 @@ mod digests;
 mod fields;
 mod hexadecimal;
 mod printing;
-#[cfg(test)]
-mod tests;
 mod texts;
 
 pub use digests::{digest_text, measure_line};

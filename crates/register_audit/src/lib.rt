@@ -14,8 +14,6 @@ mod auditing;
 mod comparing;
 mod cutting;
 mod decoded;
-#[cfg(test)]
-mod tests;
 mod texts;
 mod verdict;
 

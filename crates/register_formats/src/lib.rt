@@ -14,7 +14,5 @@ mod json_rows;
 mod names;
 mod printing;
 mod rows;
-#[cfg(test)]
-mod tests;
 
 pub use printing::{print_asm, print_c, print_json};

@@ -13,8 +13,6 @@
 mod listing;
 mod register_lines;
 mod registers;
-#[cfg(test)]
-mod tests;
 
 pub use listing::registers_of;
 pub use register_lines::{Setting, line_sets};

@@ -1,8 +1,8 @@
 //! The whole text of each format, by hand from the formats' descriptions and the privileged architecture.
 
-use crate::{print_asm, print_c, print_json};
 use byte_streams::fakes::PieceSink;
 use pmp_encoding::{Entry, Limit, Perm, Region};
+use register_formats::{print_asm, print_c, print_json};
 use std::process::Abort;
 
 /// What is said at the head of C and of assembly.

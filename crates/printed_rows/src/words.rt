@@ -1,8 +1,8 @@
 //! Sizes and permissions in words.
 
-use crate::{letters, perm_name, push_size};
 use arrayvec::ArrayVec;
 use pmp_encoding::Perm;
+use printed_lines::{letters, perm_name, push_size};
 use text_lines::Line;
 
 #[test]

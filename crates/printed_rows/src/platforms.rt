@@ -1,4 +1,4 @@
-use crate::{TextFault, platform_of};
+use platform_file::{TextFault, platform_of};
 use pmp_encoding::Limit;
 use std::test::Fail;
 

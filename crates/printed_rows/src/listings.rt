@@ -1,6 +1,6 @@
 //! Listings as `plan` prints them, as a debugger has them, and lines that are not understood.
 
-use crate::registers_of;
+use register_text::registers_of;
 use std::test::Fail;
 
 #[test]

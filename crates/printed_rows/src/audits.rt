@@ -1,9 +1,9 @@
 //! Listings against maps, with the line and the answer of each.
 
-use crate::{AuditFault, audit};
 use byte_streams::fakes::PieceSink;
 use permission_map::PermissionMap;
 use pmp_encoding::Perm;
+use register_audit::{AuditFault, audit};
 use std::alloc::Global;
 use std::process::Abort;
 use std::test::Fail;

@@ -1,7 +1,7 @@
 //! Maps at fault, with what is said of each line.
 
-use crate::lint;
 use byte_streams::fakes::PieceSink;
+use map_lint::lint;
 use std::alloc::Global;
 use std::process::Abort;
 use std::test::Fail;

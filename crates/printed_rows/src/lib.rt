@@ -1,0 +1,18 @@
+//! Worked rows of the texts that the program reads and prints, as tests alone: maps at fault, platforms, sizes and
+//! permissions in words, audits, registers as C, assembly and JSON, and listings.
+//!
+//! They stand apart from the crates that they are of so that the gate proves each of these once.
+#![tactic(auto)]
+
+#[cfg(test)]
+mod audits;
+#[cfg(test)]
+mod formats;
+#[cfg(test)]
+mod lints;
+#[cfg(test)]
+mod listings;
+#[cfg(test)]
+mod platforms;
+#[cfg(test)]
+mod words;
