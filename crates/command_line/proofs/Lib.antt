@@ -1,2 +1,3 @@
+mod Building
 mod Entered
 mod Program

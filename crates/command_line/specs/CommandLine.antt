@@ -42,12 +42,14 @@ run_app = with_rule
     (with_rule (with_rule (new_app (codes "run")) (file_rule (codes "PLATFORM") true)) (file_rule (codes "TRACE") true))
     measure_rule
 
--- `plan` before its options
-abbrev pub plan_files_app : App
-plan_files_app = with_rule (with_rule (new_app (codes "plan")) (file_rule (codes "MAP") true)) (file_rule (codes "CERT") false)
-
 abbrev pub plan_app : App
-plan_app = with_rule (with_rule (with_rule plan_files_app entries_rule) at_most_rule) format_rule
+plan_app = with_rule
+    (with_rule
+    (with_rule
+    (with_rule (with_rule (new_app (codes "plan")) (file_rule (codes "MAP") true)) (file_rule (codes "CERT") false))
+    entries_rule)
+    at_most_rule)
+    format_rule
 
 abbrev pub judge_app : App
 judge_app = with_rule
@@ -70,28 +72,23 @@ lint_app = with_rule (new_app (codes "lint")) (file_rule (codes "MAP") true)
 abbrev pub bare_app : App
 bare_app = record { top = record (new_app (codes "pmpmon")).top { subcommand_required = true; has_version = true }; subs = [] }
 
-abbrev pub running_app : App
-running_app = with_subcommand bare_app run_app.top
-
--- with the commands that make, use and check a plan
-abbrev pub planning_app : App
-planning_app = with_subcommand (with_subcommand (with_subcommand running_app plan_app.top) judge_app.top) check_app.top
-
--- with those that look at a map
-abbrev pub looking_app : App
-looking_app = with_subcommand (with_subcommand planning_app show_app.top) audit_app.top
-
 abbrev pub program_app : App
-program_app = with_subcommand looking_app lint_app.top
+program_app = with_subcommand
+    (with_subcommand
+    (with_subcommand
+    (with_subcommand (with_subcommand (with_subcommand (with_subcommand bare_app run_app.top) plan_app.top) judge_app.top) check_app.top)
+    show_app.top)
+    audit_app.top)
+    lint_app.top
 
 -- a subcommand as a program of its own, and the whole program where there is none
-abbrev pub app_by : Option Shape → App
-app_by None = program_app
-app_by (Some shape) = record { top = shape; subs = [] }
+abbrev pub app_alone : Option Shape → App
+app_alone None = program_app
+app_alone (Some shape) = record { top = shape; subs = [] }
 
 -- the program's subcommand of that name, and the whole program where it has none of that name
 abbrev pub app_named : Text → App
-app_named name = app_by (find (λ shape. bytes_eq name shape.name) program_app.subs)
+app_named name = app_alone (find (λ shape. bytes_eq name shape.name) program_app.subs)
 
 -- the task is the subcommand that was entered, with the values of its rows
 abbrev pub IsTask : Option (Text × List Row) → Task → Type 0

@@ -9,9 +9,11 @@
 //! ```
 #![tactic(auto)]
 
+mod arguments;
 mod fault;
 mod found;
 mod subcommands;
+mod texts;
 mod words;
 
 pub use fault::takes_place;

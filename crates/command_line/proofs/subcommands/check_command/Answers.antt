@@ -1,0 +1,6 @@
+use Rattle.command_line.specs.Building.{with_arguments}
+use Rattle.command_line.proofs.subcommands.check_command.Goals as goal
+
+pub returns-clause-app : goal.returns-clause-app
+unfolding with_arguments
+returns-clause-app c = c.command.ensures.app

@@ -1,0 +1,37 @@
+-- How the program tells its command line to `clap`, step by step.
+use Rattle.std.specs.Prelude.{List, [], ◌∷◌, true, false}
+use Rattle.clap.specs.Words.{App, Rule, with_rule, with_subcommand}
+use Rattle.command_line.specs.CommandLine.{audit_app, at_most_rule, check_app, entries_rule, file_rule, format_rule, judge_app, lint_app, measure_rule, plan_app, run_app, show_app}
+use Rattle.command_line.specs.declared.arguments.Argument.{Argument}
+use Rattle.command_line.specs.declared.arguments.Argument.TheVariants.{AtMost, Entries, File, Format, MaybeFile, Measure}
+use Rattle.command_line.specs.declared.subcommands.Subcommand.{Subcommand}
+use Rattle.command_line.specs.declared.subcommands.Subcommand.TheVariants.{Audit, Check, Judge, Lint, Plan, Run, Show}
+
+-- the rule of an argument
+abbrev pub rule_by : Argument → Rule
+rule_by (File name help) = file_rule name.now true
+rule_by (MaybeFile name help) = file_rule name.now false
+rule_by Entries = entries_rule
+rule_by AtMost = at_most_rule
+rule_by Format = format_rule
+rule_by Measure = measure_rule
+
+-- with the rules of these arguments, in turn
+unfoldable pub with_arguments : App → List Argument → App
+with_arguments app [] = app
+with_arguments app (argument ∷ rest) = with_arguments (with_rule app (rule_by argument)) rest
+
+-- what a subcommand is told as
+abbrev pub app_by : Subcommand → App
+app_by Run = run_app
+app_by Plan = plan_app
+app_by Judge = judge_app
+app_by Check = check_app
+app_by Show = show_app
+app_by Audit = audit_app
+app_by Lint = lint_app
+
+-- with these subcommands, in turn
+unfoldable pub with_subcommands : App → List Subcommand → App
+with_subcommands app [] = app
+with_subcommands app (subcommand ∷ rest) = with_subcommands (with_subcommand app (app_by subcommand).top) rest

@@ -1,0 +1,103 @@
+//! The arguments of subcommands, as they are told to `clap`.
+
+ghost use Rattle.std.specs.Prelude.{◌≡◌, false};
+ghost use Rattle.clap.specs.Words.{rule_of};
+ghost use Rattle.command_line.specs.CommandLine.{at_most_rule, entries_rule, file_rule, format_rule, measure_rule};
+ghost use Rattle.command_line.specs.Building.{rule_by};
+
+use clap::{Arg, ArgAction};
+use std::alloc::Global;
+
+/// An argument of a subcommand.
+#[derive(Clone, Copy)]
+pub enum Argument<'a> {
+    /// A file by its name and what it is, named by its place among the words.
+    File(&'a str, &'a str),
+    /// Such a file that may be left out.
+    MaybeFile(&'a str, &'a str),
+    /// `--entries`, how many entries the register file has.
+    Entries,
+    /// `--at-most`, how many entries a plan may have.
+    AtMost,
+    /// `--format`, how a plan is printed.
+    Format,
+    /// `--measure`, whether measurements are asked for.
+    Measure,
+}
+
+impl<'a> Argument<'a> {
+    /// The argument as `clap` takes it.
+    pub fn arg(self, alloc: Global) -> Arg<'a>
+        ensures rule { rule_of result ≡ rule_by self.entry }
+        ensures local { result.global ≡ false }
+    {
+        match self {
+            Argument::File(name, help) => file_arg(alloc, name, help, true),
+            Argument::MaybeFile(name, help) => file_arg(alloc, name, help, false),
+            Argument::Entries => entries_arg(alloc),
+            Argument::AtMost => at_most_arg(alloc),
+            Argument::Format => format_arg(alloc),
+            Argument::Measure => measure_arg(alloc),
+        }
+    }
+}
+
+/// The argument that names a file.
+fn file_arg<'a>(alloc: Global, name: &'a str, help: &'a str, is_required: bool) -> Arg<'a>
+    ensures rule { rule_of result ≡ file_rule name.entry.now is_required }
+    ensures local { result.global ≡ false }
+{
+    Arg::new(alloc, name)
+        .help(help)
+        .action(ArgAction::Set)
+        .required(is_required)
+}
+
+/// The option that says how many entries the register file has.
+fn entries_arg<'a>(alloc: Global) -> Arg<'a>
+    ensures rule { rule_of result ≡ entries_rule }
+    ensures local { result.global ≡ false }
+{
+    Arg::new(alloc, "entries")
+        .long("entries")
+        .value_name("16|64")
+        .help("How many PMP entries the hart has")
+        .action(ArgAction::Set)
+        .default_value("16")
+}
+
+/// The option that says how many entries a plan may have.
+fn at_most_arg<'a>(alloc: Global) -> Arg<'a>
+    ensures rule { rule_of result ≡ at_most_rule }
+    ensures local { result.global ≡ false }
+{
+    Arg::new(alloc, "at-most")
+        .long("at-most")
+        .value_name("N")
+        .help("Refuse a map that needs more than N entries, with status 2")
+        .action(ArgAction::Set)
+}
+
+/// The option that says how a plan is printed.
+fn format_arg<'a>(alloc: Global) -> Arg<'a>
+    ensures rule { rule_of result ≡ format_rule }
+    ensures local { result.global ≡ false }
+{
+    Arg::new(alloc, "format")
+        .long("format")
+        .value_name("text|c|asm|json")
+        .help("How the plan is printed")
+        .action(ArgAction::Set)
+        .default_value("text")
+}
+
+/// The flag that asks for measurements.
+fn measure_arg<'a>(alloc: Global) -> Arg<'a>
+    ensures rule { rule_of result ≡ measure_rule }
+    ensures local { result.global ≡ false }
+{
+    Arg::new(alloc, "measure")
+        .long("measure")
+        .help("Print the measurement of each live enclave behind the report")
+        .action(ArgAction::SetTrue)
+}
