@@ -36,6 +36,21 @@ fn read_whole(bytes: &[u8]) -> Result<(Header, usize), ReadFault> {
     Ok((header, reader.rest().len()))
 }
 
+/// The certificate of a map, by its tree.
+fn by_tree(alloc: Global, map: &PermissionMap, limit: Limit) -> Result<Vec<u8>, Fail> {
+    let tree = build(alloc, map)?;
+    let plan = plan(alloc, &tree)?;
+    let bytes = write(alloc, &tree, &plan, limit)?;
+    Ok(bytes)
+}
+
+/// The certificate of a map, without a tree.
+fn by_map(alloc: Global, map: &PermissionMap, limit: Limit) -> Result<Vec<u8>, Fail> {
+    let plan = plan_map(alloc, map)?;
+    let bytes = write_map(alloc, map, &plan, limit)?;
+    Ok(bytes)
+}
+
 /// The certificate of a map of one range, of that many pages, by its tree and without it.
 fn certificate(
     alloc: Global,
@@ -46,11 +61,8 @@ fn certificate(
 ) -> Result<Vec<u8>, Fail> {
     let mut map = PermissionMap::new(alloc);
     map.set_range(first, count, perm)?;
-    let tree = build(alloc, &map)?;
-    let plan = plan(alloc, &tree)?;
-    let bytes = write(alloc, &tree, &plan, limit)?;
-    let of_map = write_map(alloc, &map, &plan_map(alloc, &map)?, limit)?;
-    if bytes != of_map {
+    let bytes = by_tree(alloc, &map, limit)?;
+    if bytes != by_map(alloc, &map, limit)? {
         return Err(Fail::from("the certificate of the map is another"));
     }
     Ok(bytes)
@@ -131,17 +143,29 @@ fn seven_pages_take_two_entries(rt: HostRuntime) -> Result<(), Fail> {
     Ok(())
 }
 
+/// Whether a sink takes the whole certificate of a map, and it is these bytes.
+fn is_sent(alloc: Global, map: &PermissionMap, bytes: &[u8]) -> Result<bool, Fail> {
+    let plan = plan_map(alloc, map)?;
+    let mut sink = PieceSink::new(100, None);
+    Ok(send_map(map, &plan, Limit::SixtyFour, &mut sink).is_ok() && sink.written() == bytes)
+}
+
+/// How many bytes a sink has taken of the certificate of a map where its third write fails. `None` where this isn't told.
+fn taken_of_two_writes(alloc: Global, map: &PermissionMap) -> Result<Option<usize>, Fail> {
+    let plan = plan_map(alloc, map)?;
+    let mut failing = PieceSink::new(100, Some(3));
+    match send_map(map, &plan, Limit::SixtyFour, &mut failing) {
+        Ok(()) => Ok(None),
+        Err(_) => Ok(Some(failing.written().len())),
+    }
+}
+
 #[test]
 fn a_certificate_that_is_sent_is_the_one_that_is_held(rt: HostRuntime) -> Result<(), Fail> {
     let mut map = PermissionMap::new(rt.alloc());
     map.set_range(0x80208, 7, Perm::ReadExecute)?;
-    let plan = plan_map(rt.alloc(), &map)?;
-    let bytes = write_map(rt.alloc(), &map, &plan, Limit::SixtyFour)?;
-    let mut sink = PieceSink::new(100, None);
-    assert!(rt; send_map(&map, &plan, Limit::SixtyFour, &mut sink).is_ok());
-    assert!(rt; sink.written() == bytes.as_slice());
-    let mut failing = PieceSink::new(100, Some(3));
-    assert!(rt; send_map(&map, &plan, Limit::SixtyFour, &mut failing).is_err());
-    assert_eq!(rt; failing.written().len(), 200);
+    let bytes = by_map(rt.alloc(), &map, Limit::SixtyFour)?;
+    assert!(rt; is_sent(rt.alloc(), &map, bytes.as_slice())?);
+    assert_eq!(rt; taken_of_two_writes(rt.alloc(), &map)?, Some(200));
     Ok(())
 }

@@ -118,10 +118,18 @@ fn ranges_past_the_end_are_refused(rt: HostRuntime) {
     assert_eq!(rt; map.set_range(SPACE, 0, Perm::Read), Ok(()));
 }
 
+/// The map of a builder that is given these ranges.
+fn built_of(alloc: Global, ranges: &[Run]) -> Result<PermissionMap, Fail> {
+    let mut built = MapBuilder::new(alloc);
+    for Run { first, count, perm } in ranges {
+        built.set_range(*first, *count, *perm)?;
+    }
+    let map = built.finish()?;
+    Ok(map)
+}
+
 #[test]
 fn a_built_map_is_the_map_of_its_ranges(rt: HostRuntime) -> Result<(), Fail> {
-    let mut built = MapBuilder::new(rt.alloc());
-    let mut map = PermissionMap::new(rt.alloc());
     let over = [
         run(0x80000, 0x8000, Perm::ReadWriteExecute),
         run(0x80000, 0x200, Perm::NoAccess),
@@ -130,13 +138,9 @@ fn a_built_map_is_the_map_of_its_ranges(rt: HostRuntime) -> Result<(), Fail> {
         run(SPACE - 1, 1, Perm::Execute),
         run(0x803FF, 1, Perm::ReadWrite),
     ];
-    for Run { first, count, perm } in &over {
-        built.set_range(*first, *count, *perm)?;
-        map.set_range(*first, *count, *perm)?;
-    }
-    assert_eq!(rt; built.finish()?.ranges(), map.ranges());
-    let empty = MapBuilder::new(rt.alloc());
-    assert_eq!(rt; empty.finish()?.ranges().len(), 0);
+    let map = map_of(rt.alloc(), &over)?;
+    assert_eq!(rt; built_of(rt.alloc(), &over)?.ranges(), map.ranges());
+    assert_eq!(rt; built_of(rt.alloc(), &[])?.ranges().len(), 0);
     Ok(())
 }
 

@@ -1,10 +1,20 @@
 use entry_planner::{Plan, plan, plan_map};
 use permission_map::PermissionMap;
-use pmp_encoding::{Bank, Limit, Perm};
+use pmp_encoding::{Bank, Entry, Limit, Perm};
 use prefix_tree::{Tree, build};
 use std::alloc::Global;
 use std::process::Abort;
 use std::test::Fail;
+
+/// All permissions, in the order of their costs.
+const PERMS: [Perm; 6] = [
+    Perm::NoAccess,
+    Perm::Read,
+    Perm::ReadWrite,
+    Perm::Execute,
+    Perm::ReadExecute,
+    Perm::ReadWriteExecute,
+];
 
 /// The map that gives these ranges their permissions: the first page, the number of pages, the permission.
 fn map_of(alloc: Global, ranges: &[(u64, u64, Perm)]) -> Result<PermissionMap, Fail> {
@@ -21,40 +31,56 @@ fn tree_of(alloc: Global, ranges: &[(u64, u64, Perm)]) -> Result<Tree, Fail> {
     Ok(tree)
 }
 
-/// The costs of all split blocks under all permissions.
-fn all_costs(alloc: Global, plan: &Plan) -> Result<Vec<u32>, Fail> {
-    let mut costs = Vec::new(alloc);
-    for i in 0..plan.branches() {
-        costs.push(plan.cost(i, Perm::NoAccess))?;
-        costs.push(plan.cost(i, Perm::Read))?;
-        costs.push(plan.cost(i, Perm::ReadWrite))?;
-        costs.push(plan.cost(i, Perm::Execute))?;
-        costs.push(plan.cost(i, Perm::ReadExecute))?;
-        costs.push(plan.cost(i, Perm::ReadWriteExecute))?;
+/// Whether entries are written as these pairs, in this order.
+fn are_written(entries: &[Entry], pairs: &[(u8, u64)]) -> bool {
+    for (entry, pair) in entries.iter().zip(pairs) {
+        if entry.encode() != *pair {
+            return false;
+        }
     }
-    Ok(costs)
+    entries.len() == pairs.len()
 }
 
-/// The plan of the ranges has these entries, written as pairs, in this order, and so has that of their map without a tree,
-/// with the same costs.
+/// Whether two plans have the same costs of all split blocks under all permissions.
+fn have_same_costs(one: &Plan, other: &Plan) -> bool {
+    if one.branches() != other.branches() {
+        return false;
+    }
+    for i in 0..one.branches() {
+        for perm in PERMS {
+            if one.cost(i, perm) != other.cost(i, perm) {
+                return false;
+            }
+        }
+    }
+    true
+}
+
+/// Whether a plan without a tree is that of the map's tree, with the same entries and costs.
+fn is_of_tree(alloc: Global, map: &PermissionMap, of_map: &Plan) -> Result<bool, Fail> {
+    let tree = build(alloc, map)?;
+    let plan = plan(alloc, &tree)?;
+    Ok(
+        plan.branches() == tree.branches()
+            && plan.needed() == of_map.needed()
+            && plan.entries() == of_map.entries()
+            && have_same_costs(&plan, of_map),
+    )
+}
+
+/// The plan of the ranges has these entries, written as pairs, in this order, and so has that of their map's tree, with
+/// the same costs.
 fn is_planned(
     ranges: &[(u64, u64, Perm)],
     pairs: &[(u8, u64)],
     alloc: Global,
     rt: &impl Abort,
 ) -> Result<Plan, Fail> {
-    let tree = tree_of(alloc, ranges)?;
-    let plan = plan(alloc, &tree)?;
-    let mut found = Vec::new(alloc);
-    for entry in plan.entries() {
-        found.push(entry.encode())?;
-    }
-    assert_eq!(rt; found.as_slice(), pairs);
+    let map = map_of(alloc, ranges)?;
+    let plan = plan_map(alloc, &map)?;
+    assert!(rt; are_written(plan.entries(), pairs));
     assert_eq!(rt; plan.needed() as usize, pairs.len());
-    assert_eq!(rt; plan.branches(), tree.branches());
-    let of_map = plan_map(alloc, &map_of(alloc, ranges)?)?;
-    assert_eq!(rt; of_map.entries(), plan.entries());
-    assert_eq!(rt; all_costs(alloc, &of_map)?, all_costs(alloc, &plan)?);
+    assert!(rt; is_of_tree(alloc, &map, &plan)?);
     Ok(plan)
 }
 
@@ -213,16 +239,21 @@ fn thirteen_scattered_pages_fit_sixteen_entries(rt: HostRuntime) -> Result<(), F
     Ok(())
 }
 
+/// How many entries the ranges need.
+fn needed(alloc: Global, ranges: &[(u64, u64, Perm)]) -> Result<u32, Fail> {
+    let tree = tree_of(alloc, ranges)?;
+    let plan = plan(alloc, &tree)?;
+    Ok(plan.needed())
+}
+
 #[test]
 fn one_shared_page_more_needs_one_entry_more(rt: HostRuntime) -> Result<(), Fail> {
     let text = (0x804AB, 170, Perm::ReadExecute);
     let data = (0x80555, 342, Perm::ReadWrite);
     let ten = [text, data, (0x81000, 10, Perm::ReadWrite)];
-    let tree = tree_of(rt.alloc(), &ten)?;
-    assert_eq!(rt; plan(rt.alloc(), &tree)?.needed(), 16);
+    assert_eq!(rt; needed(rt.alloc(), &ten)?, 16);
     let eleven = [text, data, (0x81000, 11, Perm::ReadWrite)];
-    let tree = tree_of(rt.alloc(), &eleven)?;
-    assert_eq!(rt; plan(rt.alloc(), &tree)?.needed(), 17);
+    assert_eq!(rt; needed(rt.alloc(), &eleven)?, 17);
     Ok(())
 }
 

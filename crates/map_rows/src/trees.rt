@@ -29,6 +29,12 @@ fn example_map(alloc: Global) -> Result<PermissionMap, Fail> {
     Ok(map)
 }
 
+/// Whether a version is as the tree that is built of the map.
+fn is_built_of(alloc: Global, version: &Tree, map: &PermissionMap) -> Result<bool, Fail> {
+    let tree = build(alloc, map)?;
+    Ok(version.branches() == tree.branches() && same(version.root(), tree.root(), 44))
+}
+
 /// The version with the range is the tree that is built of the map with the range, and both are refused alike.
 fn versions_agree(
     alloc: Global,
@@ -39,14 +45,11 @@ fn versions_agree(
 ) -> Result<(), Fail> {
     let mut map = example_map(alloc)?;
     let old = build(alloc, &map)?;
-    let version = old.with_range(first, count, perm);
     let wanted = map.set_range(first, count, perm);
-    let tree = build(alloc, &map)?;
-    match version {
+    match old.with_range(first, count, perm) {
         Ok(version) => {
             assert!(rt; wanted.is_ok());
-            assert!(rt; same(version.root(), tree.root(), 44));
-            assert_eq!(rt; version.branches(), tree.branches());
+            assert!(rt; is_built_of(alloc, &version, &map)?);
         }
         Err(fault) => assert_eq!(rt; wanted.err(), Some(fault)),
     }
@@ -133,14 +136,29 @@ fn share_upper_halves(one: &Tree, other: &Tree) -> Option<bool> {
     Some(Rc::ptr_eq(one, other))
 }
 
+/// Whether the version with the range shares the upper half of the upper half with the tree, where both split it.
+fn shares(tree: &Tree, first: u64, count: u64) -> Result<Option<bool>, Fail> {
+    let version = tree.with_range(first, count, Perm::Execute)?;
+    Ok(share_upper_halves(tree, &version))
+}
+
+/// The tree of the example map.
+fn example_tree(alloc: Global) -> Result<Tree, Fail> {
+    let tree = build(alloc, &example_map(alloc)?)?;
+    Ok(tree)
+}
+
 #[test]
 fn what_the_range_does_not_meet_is_shared(rt: HostRuntime) -> Result<(), Fail> {
-    let old = build(rt.alloc(), &example_map(rt.alloc())?)?;
-    let low = old.with_range(3, 5, Perm::Execute)?;
-    let high = old.with_range(PAGES - 1, 1, Perm::Execute)?;
-    assert_eq!(rt; share_upper_halves(&old, &low), Some(true));
-    assert_eq!(rt; share_upper_halves(&old, &high), Some(false));
+    let tree = example_tree(rt.alloc())?;
+    assert_eq!(rt; shares(&tree, 3, 5)?, Some(true));
+    assert_eq!(rt; shares(&tree, PAGES - 1, 1)?, Some(false));
     Ok(())
+}
+
+/// Why there is no version with the range, where there is none.
+fn refusal(tree: &Tree, first: u64, count: u64, perm: Perm) -> Option<MapFault> {
+    tree.with_range(first, count, perm).err()
 }
 
 #[test]
@@ -152,28 +170,31 @@ fn most_ranges_build_and_one_more_is_refused(rt: HostRuntime) -> Result<(), Fail
     let tree = build(rt.alloc(), &map)?;
     assert_eq!(rt; tree.branches(), 4095 + 4096 * 32);
     assert_eq!(rt;
-        tree.with_range(2, 1, Perm::Read).err(),
+        refusal(&tree, 2, 1, Perm::Read),
         Some(MapFault::TooManyRanges)
     );
     assert_eq!(rt;
         map.set_range(2, 1, Perm::Read).err(),
         Some(MapFault::TooManyRanges)
     );
-    assert!(rt; tree.with_range(1, 1, Perm::Read).is_ok());
-    assert!(rt; tree.with_range(0, 2, Perm::NoAccess).is_ok());
+    assert_eq!(rt; refusal(&tree, 1, 1, Perm::Read), None);
+    assert_eq!(rt; refusal(&tree, 0, 2, Perm::NoAccess), None);
     Ok(())
+}
+
+/// A version of the last tree, in which one page more can be read.
+fn next_version(versions: &[Tree], page: u64) -> Result<Tree, Fail> {
+    let last = versions.last().ok_or("no version")?;
+    let next = last.with_range(page, 1, Perm::Read)?;
+    Ok(next)
 }
 
 #[test]
 fn many_versions_are_kept_and_let_go(rt: HostRuntime) -> Result<(), Fail> {
     let mut versions = Vec::new(rt.alloc());
-    versions.push(build(rt.alloc(), &example_map(rt.alloc())?)?)?;
+    versions.push(example_tree(rt.alloc())?)?;
     for i in 0..1000u64 {
-        let Some(last) = versions.last() else {
-            return Err(Fail::from("no version"));
-        };
-        let next = last.with_range(64 + i, 1, Perm::Read)?;
-        versions.push(next)?;
+        versions.push(next_version(versions.as_slice(), 64 + i)?)?;
     }
     assert_eq!(rt; versions.len(), 1001);
     Ok(())
