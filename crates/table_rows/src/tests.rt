@@ -7,8 +7,8 @@ mod refusals;
 mod scattered;
 mod views;
 
-use enclave_table::{Create, Owner, Pages, Platform, Refusal, Table, World};
-use pmp_encoding::{Entry, Perm};
+use enclave_table::{Create, Owner, Pages, Platform, PlatformFault, Refusal, Table, World};
+use pmp_encoding::{Bank, Entry, Perm};
 use std::alloc::Global;
 use std::process::Abort;
 use std::test::Fail;
@@ -26,14 +26,19 @@ impl Pages for Zeros {
     }
 }
 
-/// The table of the example platform, with that many entries to a hart.
-fn example_table(alloc: Global, entries: u8) -> Result<Table, Fail> {
-    let platform = Platform::new(
+/// The example platform, with that many entries to a hart.
+fn example_platform(entries: u8) -> Result<Platform, PlatformFault> {
+    Platform::new(
         (0x8000_0000, 0x20_0000),
         [(0x8000_0000, 0x800_0000)].as_slice(),
         [(0x1000_0000, 0x1000, Perm::ReadWrite)].as_slice(),
     )?
-    .with_entries(entries)?;
+    .with_entries(entries)
+}
+
+/// The table of the example platform, with that many entries to a hart.
+fn example_table(alloc: Global, entries: u8) -> Result<Table, Fail> {
+    let platform = example_platform(entries)?;
     let table = Table::boot(alloc, platform)?;
     Ok(table)
 }
@@ -50,13 +55,19 @@ fn page_at(base: u64) -> Create {
     }
 }
 
-/// The table with enclaves of one page each, the next a step behind the last.
-fn table_of(alloc: Global, entries: u8, count: u64, step: u64) -> Result<Table, Fail> {
-    let mut table = example_table(alloc, entries)?;
+/// The host creates enclaves of one page each, the next so far behind the last.
+fn creates_pages(table: &mut Table, count: u64, apart: u64) -> Result<(), Refusal> {
     for i in 0..count.min(64) {
-        let asked = page_at(0x8020_0000 + i * step.min(0x1_0000));
+        let asked = page_at(0x8020_0000 + i * apart.min(0x1_0000));
         let _id = table.create(World::Host, &Zeros {}, asked)?;
     }
+    Ok(())
+}
+
+/// The table with enclaves of one page each, the next so far behind the last.
+fn table_of(alloc: Global, entries: u8, count: u64, apart: u64) -> Result<Table, Fail> {
+    let mut table = example_table(alloc, entries)?;
+    creates_pages(&mut table, count, apart)?;
     Ok(table)
 }
 
@@ -77,24 +88,80 @@ fn uses(rt: &impl Abort, table: &Table, wanted: usize) {
 }
 
 /// A page has that owner.
-fn owns(rt: &impl Abort, table: &Table, page: u64, wanted: Owner)
-    requires { page < 2 ^ 44 }
-{
-    assert_eq!(rt; table.owner(page), wanted, "page {page:#x}");
+fn owns(rt: &impl Abort, table: &Table, page: u32, wanted: Owner) {
+    assert_eq!(rt; table.owner(u64::from(page)), wanted, "page {page:#x}");
 }
 
-/// The entries have these numbers in their address registers.
-fn addresses(rt: &impl Abort, entries: &[Entry], wanted: &[u64]) {
-    assert_eq!(rt; entries.len(), wanted.len());
-    for (entry, address) in entries.iter().zip(wanted) {
-        assert_eq!(rt; entry.encode().1, *address);
+/// The bank of the host's entries has this first configuration word.
+fn configures(rt: &impl Abort, table: &Table, wanted: u64) {
+    let bank = Bank::of(table.host_entries(), table.limit());
+    assert_eq!(rt; bank.cfg0(), wanted);
+}
+
+/// What the host does with a table, or what is so then.
+#[derive(Clone, Copy)]
+enum Step {
+    Creates(Create, Result<u64, Refusal>),
+    /// That many enclaves, and the tree as if built anew behind each.
+    CreatesSideBySide(u64),
+    /// From the first number on as many as the second one says, and the tree as if built anew behind each.
+    DestroysEverySecond(u64, u64),
+    Keeps(u64),
+    Uses(usize),
+    Owns(u32, Owner),
+    Configures(u64),
+}
+
+/// Takes the steps, one behind the other.
+///
+/// The tests hand their steps to this one and own no table meanwhile: each call beside a table that is owned has one
+/// more way out to prove, on which the table is dropped.
+fn takes(rt: &impl Abort, alloc: Global, table: &mut Table, steps: &[Step]) -> Result<(), Fail> {
+    for step in steps {
+        match *step {
+            Step::Creates(asked, wanted) => creates(rt, table, asked, wanted),
+            Step::CreatesSideBySide(count) => {
+                anew::creates_side_by_side(rt, alloc, table, count)?
+            }
+            Step::DestroysEverySecond(first, count) => {
+                anew::destroys_every_second(rt, alloc, table, first, count)?
+            }
+            Step::Keeps(id) => anew::keeps(rt, table, id),
+            Step::Uses(wanted) => uses(rt, table, wanted),
+            Step::Owns(page, wanted) => owns(rt, table, page, wanted),
+            Step::Configures(wanted) => configures(rt, table, wanted),
+        }
     }
+    Ok(())
 }
 
-/// The list of an enclave has these numbers in its address registers.
-fn lists(rt: &impl Abort, table: &Table, id: u64, wanted: &[u64]) {
+/// Takes the steps on a new table with enclaves of one page each, the next so far behind the last.
+fn takes_on(
+    rt: &impl Abort,
+    alloc: Global,
+    entries: u8,
+    count: u64,
+    apart: u64,
+    steps: &[Step],
+) -> Result<(), Fail> {
+    let mut table = table_of(alloc, entries, count, apart)?;
+    takes(rt, alloc, &mut table, steps)
+}
+
+/// Whether the entries have these numbers in their address registers.
+fn have_addresses(entries: &[Entry], wanted: &[u64]) -> bool {
+    for (entry, address) in entries.iter().zip(wanted) {
+        if entry.encode().1 != *address {
+            return false;
+        }
+    }
+    entries.len() == wanted.len()
+}
+
+/// Whether the list of an enclave has these numbers in its address registers.
+fn lists(table: &Table, id: u64, wanted: &[u64]) -> bool {
     match table.enclave_entries(id) {
-        Some(entries) => addresses(rt, entries, wanted),
-        None => panic!(rt; "no enclave {id}"),
+        Some(entries) => have_addresses(entries, wanted),
+        None => false,
     }
 }

@@ -12,18 +12,22 @@ fn certificate(alloc: Global, table: &Table, tree: &Tree) -> Result<Vec<u8>, Fai
     Ok(bytes)
 }
 
-/// The tree that is kept has the certificate of one that is built anew of the host's view, and so the same plan.
-fn is_as_built_anew(rt: &impl Abort, alloc: Global, table: &Table) -> Result<(), Fail> {
+/// The certificate of a tree that is built anew of the host's view.
+fn certificate_anew(alloc: Global, table: &Table) -> Result<Vec<u8>, Fail> {
     let map = table.host_view()?;
     let tree = build(alloc, &map)?;
-    let anew = certificate(alloc, table, &tree)?;
+    certificate(alloc, table, &tree)
+}
+
+/// Whether the tree that is kept has the certificate of one that is built anew of the host's view, and so the same plan.
+fn is_as_built_anew(alloc: Global, table: &Table) -> Result<bool, Fail> {
+    let anew = certificate_anew(alloc, table)?;
     let kept = certificate(alloc, table, table.host_tree())?;
-    assert!(rt; anew.as_slice() == kept.as_slice());
-    Ok(())
+    Ok(anew.as_slice() == kept.as_slice())
 }
 
 /// Destroys every second enclave from the id `first` on; each call leaves the tree as if built anew.
-fn destroys_every_second(
+pub fn destroys_every_second(
     rt: &impl Abort,
     alloc: Global,
     table: &mut Table,
@@ -33,7 +37,21 @@ fn destroys_every_second(
     for k in 0..count.min(16) {
         let place = first.min(32) + 2 * k;
         destroys(rt, table, place, Ok(0x801FF + place));
-        is_as_built_anew(rt, alloc, table)?;
+        assert!(rt; is_as_built_anew(alloc, table)?);
+    }
+    Ok(())
+}
+
+/// Creates enclaves of one page each, side by side; each call leaves the tree as if built anew.
+pub fn creates_side_by_side(
+    rt: &impl Abort,
+    alloc: Global,
+    table: &mut Table,
+    count: u64,
+) -> Result<(), Fail> {
+    for i in 0..count.min(64) {
+        creates(rt, table, page_at(0x8020_0000 + i * 0x1000), Ok(i + 1));
+        assert!(rt; is_as_built_anew(alloc, table)?);
     }
     Ok(())
 }
@@ -43,45 +61,42 @@ fn first_word(table: &Table, id: u64) -> Option<u64> {
     table.word(id, 0).ok()
 }
 
+/// An enclave is not destroyed, for want of entries, and keeps its digest.
+pub fn keeps(rt: &impl Abort, table: &mut Table, id: u64) {
+    let first = first_word(table, id);
+    destroys(rt, table, id, Err(Refusal::NoEntries));
+    assert!(rt; first_word(table, id) == first);
+}
+
 #[test]
 fn destroying_every_second_page_is_refused_at_seventeen(rt: HostRuntime) -> Result<(), Fail> {
-    let mut table = table_of(rt.alloc(), 16, 32, 0x1000)?;
-    uses(&rt, &table, 4);
-    destroys_every_second(&rt, rt.alloc(), &mut table, 1, 12)?;
-    uses(&rt, &table, 16);
-    let first = first_word(&table, 25);
-    destroys(&rt, &mut table, 25, Err(Refusal::NoEntries));
-    uses(&rt, &table, 16);
-    owns(&rt, &table, 0x80218, Owner::Private(25));
-    assert_eq!(rt; first_word(&table, 25), first);
-    Ok(())
+    let steps = [
+        Step::Uses(4),
+        Step::DestroysEverySecond(1, 12),
+        Step::Uses(16),
+        Step::Keeps(25),
+        Step::Uses(16),
+        Step::Owns(0x80218, Owner::Private(25)),
+    ];
+    takes_on(&rt, rt.alloc(), 16, 32, 0x1000, steps.as_slice())
 }
 
 #[test]
 fn all_of_every_second_page_fit_sixty_four_entries(rt: HostRuntime) -> Result<(), Fail> {
-    let mut table = table_of(rt.alloc(), 64, 32, 0x1000)?;
-    uses(&rt, &table, 4);
-    destroys_every_second(&rt, rt.alloc(), &mut table, 1, 13)?;
-    uses(&rt, &table, 17);
-    destroys_every_second(&rt, rt.alloc(), &mut table, 27, 3)?;
-    uses(&rt, &table, 19);
-    Ok(())
+    let steps = [
+        Step::Uses(4),
+        Step::DestroysEverySecond(1, 13),
+        Step::Uses(17),
+        Step::DestroysEverySecond(27, 3),
+        Step::Uses(19),
+    ];
+    takes_on(&rt, rt.alloc(), 64, 32, 0x1000, steps.as_slice())
 }
 
 #[test]
 fn each_of_thirty_two_creations_leaves_the_tree_as_if_built_anew(
     rt: HostRuntime,
 ) -> Result<(), Fail> {
-    let mut table = example_table(rt.alloc(), 16)?;
-    for i in 0..32u64 {
-        creates(
-            &rt,
-            &mut table,
-            page_at(0x8020_0000 + i * 0x1000),
-            Ok(i + 1),
-        );
-        is_as_built_anew(&rt, rt.alloc(), &table)?;
-    }
-    uses(&rt, &table, 4);
-    Ok(())
+    let steps = [Step::CreatesSideBySide(32), Step::Uses(4)];
+    takes_on(&rt, rt.alloc(), 16, 0, 0, steps.as_slice())
 }

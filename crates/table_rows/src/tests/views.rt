@@ -5,11 +5,8 @@ use super::*;
 #[test]
 fn boot_of_the_example_platform_uses_three_entries(rt: HostRuntime) -> Result<(), Fail> {
     let table = example_table(rt.alloc(), 16)?;
-    addresses(
-        &rt,
-        table.host_entries(),
-        &[0x0400_01FF, 0x2003_FFFF, 0x20FF_FFFF],
-    );
+    let wanted = [0x0400_01FF, 0x2003_FFFF, 0x20FF_FFFF];
+    assert!(rt; have_addresses(table.host_entries(), wanted.as_slice()));
     assert!(rt; table.enclave_entries(1).is_none());
     owns(&rt, &table, 0x80000, Owner::Monitor);
     owns(&rt, &table, 0x80200, Owner::Host);
@@ -22,7 +19,7 @@ fn seven_pages_need_two_entries(rt: HostRuntime) -> Result<(), Fail> {
     let mut asked = page_at(0x8020_8000);
     asked.text_pages = 7;
     creates(&rt, &mut table, asked, Ok(1));
-    lists(&rt, &table, 1, &[0x2008_3DFF, 0x2008_2FFF]);
+    assert!(rt; lists(&table, 1, &[0x2008_3DFF, 0x2008_2FFF]));
     uses(&rt, &table, 5);
     Ok(())
 }
@@ -41,7 +38,7 @@ fn with_three_pages(rt: &impl Abort, alloc: Global) -> Result<Table, Fail> {
 #[test]
 fn lists_and_owners_of_text_data_and_shared_pages(rt: HostRuntime) -> Result<(), Fail> {
     let table = with_three_pages(&rt, rt.alloc())?;
-    lists(&rt, &table, 1, &[0x2008_01FF, 0x2008_05FF, 0x2010_01FF]);
+    assert!(rt; lists(&table, 1, &[0x2008_01FF, 0x2008_05FF, 0x2010_01FF]));
     uses(&rt, &table, 4);
     owns(&rt, &table, 0x80201, Owner::Private(1));
     owns(&rt, &table, 0x80400, Owner::Shared(1));
