@@ -310,6 +310,11 @@ pub data Runs {R W : Type 0} (file trace : Bor (List ℕ)) (measure : Bool) (fir
       → DoesAll DoesLine booted ended second.before second.after out.before report → n ≤ 64 → AreMeasures (kept_of ended).table n text → TakesPart text report out.after
       → second.failed ≡ second.failures → WriteFails out.failures out.failed out.stalls out.stalled → Runs file trace measure first second out (Err Output)
 
+-- what `run` comes to on a machine, whichever file it was booted from
+abbrev pub RunsOn : {R W : Type 0} → Machine → Bor (List ℕ) → Bool → Reading R → Writing W → Result ℕ Trouble → Type 0
+RunsOn booted trace measure second out done =
+    (file : Bor (List ℕ)) (first : Reading _) (platform : Layout) → HasPlatform first platform → IsBooted platform booted → Runs file trace measure first second out done
+
 -- the status of an answer: 0 for a yes, and 1 for a no
 abbrev pub answer_status : Bool → ℕ
 answer_status true = 0

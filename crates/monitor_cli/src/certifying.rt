@@ -30,6 +30,14 @@ pub fn planned(alloc: Global, map: &PermissionMap) -> Result<Plan, Memory>
     Ok(plan)
 }
 
+/// How many entries mean a map at the fewest.
+pub fn fewest_in(alloc: Global, map: &PermissionMap) -> Result<u64, Memory>
+    ensures { IfOk result (λ fewest. (entries : List Entry) × IsFewest (view_of_runs map.now) entries × (length entries ≡ fewest)) }
+{
+    let plan = planned(alloc, map)?;
+    Ok(plan.entries().len() as u64)
+}
+
 /// The bank of a list of entries; none exactly where there are more than the limit.
 pub fn bank_of(entries: &[Entry], limit: Limit) -> Option<Bank>
     ensures registers { IfSome result (λ bank. IsBankOf bank limit entries.now) }

@@ -3,7 +3,7 @@
 ghost use Rattle.std.specs.Prelude.{◌-◌, ◌^◌, ◌<◌};
 ghost use Rattle.monitor_cli.specs.Commands.{reading, writing, Audits};
 
-use crate::certifying::planned;
+use crate::certifying::fewest_in;
 use crate::commands::answer_status;
 use crate::inputs::{bytes_in, map_in};
 use byte_streams::{Sink, Source};
@@ -30,8 +30,7 @@ pub fn do_audit<'a, R: Source, W: Sink>(
 {
     let map = map_in(alloc, map, first)?;
     let listing = bytes_in(alloc, registers, second, REGISTER_BYTES)?;
-    let plan = planned(alloc, &map)?;
-    let fewest = plan.entries().len() as u64;
+    let fewest = fewest_in(alloc, &map)?;
     match audit(alloc, &map, fewest, listing.as_slice(), out) {
         Ok(means) => Ok(answer_status(means)),
         Err(AuditFault::Line(line)) => Err(Trouble::NotUnderstood {

@@ -1,14 +1,41 @@
 //! `run`: a trace on a machine that boots on a platform.
 
 ghost use Rattle.std.specs.Prelude.{◌-◌, ◌^◌, ◌<◌};
-ghost use Rattle.monitor_cli.specs.Commands.{reading, writing, Runs};
+ghost use Rattle.hart_sim.specs.Machines.{KeepsBanksRight};
+ghost use Rattle.monitor_cli.specs.Commands.{reading, writing, Runs, RunsOn};
 
 use crate::inputs::read_platform;
 use crate::running::{booted, print_measures};
 use byte_streams::{DeviceFault, Sink, Source};
-use hart_sim::run;
+use hart_sim::{Machine, run};
 use program_troubles::Trouble;
 use std::alloc::Global;
+
+/// Runs a trace on a machine, and prints the measurements where they are asked for.
+fn run_on<'a, R: Source, W: Sink>(
+    machine: &mut Machine,
+    trace: &'a str,
+    measure: bool,
+    second: &mut R,
+    out: &mut W,
+) -> Result<u8, Trouble<'a>>
+    requires kept { KeepsBanksRight machine.old }
+    requires second { R.failures second.old < 2 ^ 64 - 1 }
+    requires out { W.failures out.old < 2 ^ 64 - 1 }
+    ensures { RunsOn machine.old trace.entry measure (reading R.remaining R.failures second.old second.new) (writing W.contents W.failures W.stalls out.old out.new) result }
+{
+    match run(machine, second, out) {
+        Ok(()) => {}
+        Err(fault) => return Err(Trouble::of_run(trace, fault)),
+    }
+    if !measure {
+        return Ok(0);
+    }
+    match print_measures(machine.table(), out) {
+        Ok(()) => Ok(0),
+        Err(DeviceFault) => Err(Trouble::Output),
+    }
+}
 
 /// Boots a platform, runs a trace on it, and prints the measurements where they are asked for.
 pub fn do_run<'a, R: Source, W: Sink>(
@@ -27,15 +54,5 @@ pub fn do_run<'a, R: Source, W: Sink>(
 {
     let platform = read_platform(alloc, platform, first)?;
     let mut machine = booted(alloc, platform)?;
-    match run(&mut machine, second, out) {
-        Ok(()) => {}
-        Err(fault) => return Err(Trouble::of_run(trace, fault)),
-    }
-    if !measure {
-        return Ok(0);
-    }
-    match print_measures(machine.table(), out) {
-        Ok(()) => Ok(0),
-        Err(DeviceFault) => Err(Trouble::Output),
-    }
+    run_on(&mut machine, trace, measure, second, out)
 }

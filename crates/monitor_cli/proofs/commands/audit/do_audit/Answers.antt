@@ -1,26 +1,25 @@
-use Rattle.std.proofs.Common.{◌≡◌, ◌≤◌, ◌^◌, ℕ, List, Err, ap, length, refl, sym}
+use Rattle.std.proofs.Common.{◌≡◌, ◌^◌, ℕ, List, Err, ap, length, refl}
 use Rattle.std.proofs.lemmas.Result.{err_from_is_err_and}
 use Rattle.pmp_encoding.specs.declared.region.Entry.{Entry}
-use Rattle.pmp_match.specs.Meaning.{Means}
 use Rattle.permission_map.specs.declared.runs.Run.{Run}
 use Rattle.permission_map.specs.Runs.{view_of_runs}
 use Rattle.monitor_cli.specs.Commands.{HasBytes, HasMap, IsAudited, Reading, audited, no_registers, not_understood}
 use Rattle.monitor_cli.specs.Commands as commands
+use Rattle.monitor_cli.specs.Tasks.{IsFewest}
 use Rattle.monitor_cli.proofs.commands.audit.do_audit.Goals as goal
 
 -- an audit is made of the map, the listing and the fewest entries
 is_audited :
-    {R : Type 0} {first second : Reading R} {runs : List Run} {listing : List ℕ} (entries counted : List Entry) → HasMap first runs → HasBytes (2 ^ 20) second listing
-    → Means entries (view_of_runs runs) → ((others : List Entry) → Means others (view_of_runs runs) → length entries ≤ length others) → counted ≡ entries
-    → IsAudited first second (view_of_runs runs) listing (length counted)
-is_audited entries counted has_map read means least same = record {
+    {R : Type 0} {first second : Reading R} {runs : List Run} {listing : List ℕ} {fewest : ℕ} → HasMap first runs → HasBytes (2 ^ 20) second listing
+    → (entries : List Entry) × IsFewest (view_of_runs runs) entries × (length entries ≡ fewest) → IsAudited first second (view_of_runs runs) listing fewest
+is_audited has_map read planned = record {
   runs = _;
   has_map = has_map;
   is_view = refl;
   read = read;
-  entries = entries;
-  is_fewest = record { means = means; least = least };
-  count = sym (ap length same);
+  entries = planned.0;
+  is_fewest = planned.1;
+  count = planned.2;
 }
 
 pub returns-in_err-map : goal.returns-in_err-map
@@ -33,21 +32,21 @@ returns-in_err-listing g c =
     let p = err_from_is_err_and c.from_residual-in_err-listing.result c.from_residual-in_err-listing.ensures.1 in
     rw (p.1, p.2) (no_registers _ _ c.in_ok-map.ensures.made c.in_err-listing.ensures.refused refl)
 
-pub returns-in_err-plan : goal.returns-in_err-plan
-returns-in_err-plan g c =
-    let p = err_from_is_err_and c.from_residual-in_err-plan.result c.from_residual-in_err-plan.ensures.1 in
+pub returns-in_err-fewest : goal.returns-in_err-fewest
+returns-in_err-fewest g c =
+    let p = err_from_is_err_and c.from_residual-in_err-fewest.result c.from_residual-in_err-fewest.ensures.1 in
     rw (p.1, p.2) (commands.Audits.no_memory _ _ c.in_ok-map.ensures.made c.in_ok-listing.ensures.whole refl)
 
 pub returns-in-Ok : goal.returns-in-Ok
 returns-in-Ok g c =
     let w = rw c.as_slice.ensures.value at c.in-Ok.ensures.written in
-    let made = is_audited _ _ c.in_ok-map.ensures.made c.in_ok-listing.ensures.whole c.in_ok-plan.ensures.means c.in_ok-plan.ensures.least c.entries.ensures in
+    let made = is_audited c.in_ok-map.ensures.made c.in_ok-listing.ensures.whole c.in_ok-fewest.ensures in
     rw c.answer_status.ensures (audited _ _ w.0 _ c.in-Ok.means made w.1 (record { whole = w.2; well = (c.in-Ok.ensures.well, c.in-Ok.ensures.unstalled) }))
 
 pub returns-in-Err-Line : goal.returns-in-Err-Line
 returns-in-Err-Line g c =
     let unknown = rw c.as_slice.ensures.value at c.in-Err-Line.ensures.line c.in-Err-Line.line (ap (λ f. Err f) c.in-Err-Line.field-0-is) in
-    let made = is_audited _ _ c.in_ok-map.ensures.made c.in_ok-listing.ensures.whole c.in_ok-plan.ensures.means c.in_ok-plan.ensures.least c.entries.ensures in
+    let made = is_audited c.in_ok-map.ensures.made c.in_ok-listing.ensures.whole c.in_ok-fewest.ensures in
     not_understood _ _ _ c.in-Err-Line.line made unknown.0 unknown.1
 
 pub returns-in-Err-Memory : goal.returns-in-Err-Memory
@@ -57,5 +56,5 @@ pub returns : goal.returns
 returns g c =
     let device = ap (λ f. Err f) c.in-Err-Device.field-0-is in
     let w = rw c.as_slice.ensures.value at c.in-Err-Device.ensures.part device in
-    let made = is_audited _ _ c.in_ok-map.ensures.made c.in_ok-listing.ensures.whole c.in_ok-plan.ensures.means c.in_ok-plan.ensures.least c.entries.ensures in
+    let made = is_audited c.in_ok-map.ensures.made c.in_ok-listing.ensures.whole c.in_ok-fewest.ensures in
     commands.Audits.no_output _ _ w.0 _ w.1 made w.2 (record { part = w.3; fails = c.in-Err-Device.ensures.failed device })
