@@ -4,6 +4,9 @@
 ghost use Rattle.std.specs.Prelude.{◌≡◌};
 ghost use Rattle.hart_sim.specs.Streams.{failures_of};
 
+mod places;
+
+use crate::places::{Place, cert_of, first_of, second_of};
 use clap::Error;
 use clap::error::ErrorKind;
 use command_line::{command_of, takes_place};
@@ -20,11 +23,8 @@ use std::{env, fs, io};
 /// What a task reads.
 type Input<'a> = Counted<InputToRead<'a, HostRuntime, Stdin>>;
 
-/// The name of the file that a certificate is written to where none is.
+/// The name of a file that is not read or written.
 const NO_FILE: &str = "";
-
-/// The word that standard input stands for.
-const STANDARD_INPUT: &str = "-";
 
 /// Standard error, where a write that a signal interrupted is tried again.
 fn standard_error(rt: &HostRuntime) -> Counted<RetryInterrupted<Stderr>>
@@ -64,43 +64,16 @@ fn words_in(rt: &HostRuntime) -> io::Result<Vec<String>> {
     Ok(words)
 }
 
-/// The file of that name, or standard input where its word may stand and does.
-fn input<'a>(rt: &'a HostRuntime, name: &'a str, may_be_standard: bool) -> Input<'a>
+/// What reads at that place, which is opened at the first read; where there is none, a name that no file has.
+fn input<'a>(rt: &'a HostRuntime, place: Option<Place<'a>>) -> Input<'a>
     ensures { failures_of result ≡ 0 }
 {
-    if may_be_standard && name == STANDARD_INPUT {
-        return Counted::new(InputToRead::Standard(RetryInterrupted::new(rt.stdin())));
-    }
-    Counted::new(InputToRead::File(FileToRead::new(rt, name)))
-}
-
-/// The inputs of a task, and the file of the certificate that it writes, with empty names where it has none.
-fn files_of<'a>(rt: &'a HostRuntime, task: &Task<'a>) -> (Input<'a>, Input<'a>, &'a str)
-    ensures first { failures_of result.0 ≡ 0 }
-    ensures second { failures_of result.1 ≡ 0 }
-{
-    let none = NO_FILE;
-    match task {
-        Task::Run {
-            platform,
-            trace,
-            ..
-        } => (input(rt, *platform, false), input(rt, *trace, true), none),
-        Task::Plan { map, cert, .. } => (
-            input(rt, *map, true),
-            input(rt, none, false),
-            cert.unwrap_or(none),
-        ),
-        Task::Judge { map, trace, .. } => (input(rt, *map, true), input(rt, *trace, true), none),
-        Task::Check { map, cert } => (input(rt, *map, true), input(rt, *cert, false), none),
-        Task::Audit { map, registers } => (
-            input(rt, *map, true),
-            input(rt, *registers, true),
-            none,
-        ),
-        Task::Show { map, .. } | Task::Lint { map } => {
-            (input(rt, *map, true), input(rt, none, false), none)
+    match place {
+        Some(Place::StandardInput) => {
+            Counted::new(InputToRead::Standard(RetryInterrupted::new(rt.stdin())))
         }
+        Some(Place::File(name)) => Counted::new(InputToRead::File(FileToRead::new(rt, name))),
+        None => Counted::new(InputToRead::File(FileToRead::new(rt, NO_FILE))),
     }
 }
 
@@ -136,7 +109,9 @@ fn done(rt: &HostRuntime, task: &Task<'_>) -> ExitCode {
     if let Some(code) = refused(rt, task) {
         return code;
     }
-    let (mut first, mut second, cert) = files_of(rt, task);
+    let mut first = input(rt, Some(first_of(task)));
+    let mut second = input(rt, second_of(task));
+    let cert = cert_of(task).unwrap_or(NO_FILE);
     let Ok(mut cert) = CertificateFile::new(rt, rt.alloc(), cert) else {
         return stopped(rt, Trouble::Memory);
     };

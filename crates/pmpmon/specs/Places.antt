@@ -1,0 +1,35 @@
+-- What a task reads and writes, by name.
+use Rattle.std.specs.Prelude.{List, ℕ, Option, Some, None, bytes_eq, if◌then◌else◌}
+use Rattle.std.specs.Borrow.{Bor}
+use Rattle.program_tasks.specs.Tasks.{input_word}
+use Rattle.program_tasks.specs.declared.task.Task.{Task}
+use Rattle.program_tasks.specs.declared.task.Task.TheVariants as tasks
+use Rattle.pmpmon.specs.declared.places.Place.{Place}
+use Rattle.pmpmon.specs.declared.places.Place.TheVariants.{File, StandardInput}
+
+-- the file of a name, or standard input under its word
+abbrev pub place_of : Bor (List ℕ) → Place
+place_of name = if bytes_eq name.now input_word then StandardInput else File name
+
+-- the file of the certificate that a task writes
+abbrev pub cert_of : Task → Option (Bor (List ℕ))
+cert_of (tasks.Plan map cert limit at_most format) = cert
+cert_of task = None
+
+-- what a task reads first; a platform is a file, whatever its name
+abbrev pub first_of : Task → Place
+first_of (tasks.Run platform trace measure) = File platform
+first_of (tasks.Plan map cert limit at_most format) = place_of map
+first_of (tasks.Judge map trace limit) = place_of map
+first_of (tasks.Check map cert) = place_of map
+first_of (tasks.Audit map registers) = place_of map
+first_of (tasks.Lint map) = place_of map
+first_of (tasks.Show map limit at_most) = place_of map
+
+-- what it reads behind that; a certificate is a file, whatever its name
+abbrev pub second_of : Task → Option Place
+second_of (tasks.Run platform trace measure) = Some (place_of trace)
+second_of (tasks.Judge map trace limit) = Some (place_of trace)
+second_of (tasks.Check map cert) = Some (File cert)
+second_of (tasks.Audit map registers) = Some (place_of registers)
+second_of task = None

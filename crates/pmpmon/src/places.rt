@@ -1,0 +1,65 @@
+//! What a task reads and writes, by name.
+
+ghost use Rattle.std.specs.Prelude.{◌≡◌};
+ghost use Rattle.pmpmon.specs.Places.{cert_of, first_of, place_of, second_of};
+
+use monitor_cli::Task;
+
+/// The word that standard input stands for.
+const STANDARD_INPUT: &str = "-";
+
+/// Where an input comes from.
+#[derive(Clone, Copy)]
+pub enum Place<'a> {
+    /// Standard input.
+    StandardInput,
+    /// The file of that name.
+    File(&'a str),
+}
+
+/// The file of that name, or standard input under its word.
+fn place_of(name: &str) -> Place<'_>
+    ensures { result ≡ place_of name.entry }
+{
+    if name == STANDARD_INPUT {
+        return Place::StandardInput;
+    }
+    Place::File(name)
+}
+
+/// What a task reads first. A platform is a file, whatever its name.
+pub fn first_of<'a>(task: &Task<'a>) -> Place<'a>
+    ensures { result ≡ first_of task.now }
+{
+    match *task {
+        Task::Run { platform, .. } => Place::File(platform),
+        Task::Plan { map, .. }
+        | Task::Judge { map, .. }
+        | Task::Check { map, .. }
+        | Task::Audit { map, .. }
+        | Task::Lint { map }
+        | Task::Show { map, .. } => place_of(map),
+    }
+}
+
+/// What a task reads behind that, where it does. A certificate is a file, whatever its name.
+pub fn second_of<'a>(task: &Task<'a>) -> Option<Place<'a>>
+    ensures { result ≡ second_of task.now }
+{
+    match *task {
+        Task::Run { trace, .. } | Task::Judge { trace, .. } => Some(place_of(trace)),
+        Task::Check { cert, .. } => Some(Place::File(cert)),
+        Task::Audit { registers, .. } => Some(place_of(registers)),
+        Task::Plan { .. } | Task::Lint { .. } | Task::Show { .. } => None,
+    }
+}
+
+/// The file of the certificate that a task writes, where it writes one.
+pub fn cert_of<'a>(task: &Task<'a>) -> Option<&'a str>
+    ensures { result ≡ cert_of task.now }
+{
+    match *task {
+        Task::Plan { cert, .. } => cert,
+        _ => None,
+    }
+}
