@@ -1,14 +1,16 @@
 -- The subcommand that was entered, by its name and its rows, and the tasks that it may be.
-use Rattle.std.proofs.Common.{List, Option, Some, None, Result, Ok, Err, IfOk, IfErr, Box, ◌≡◌, ◌∙◌, ap, sym, option_map}
+use Rattle.std.proofs.Common.{List, Option, Some, None, Result, Ok, Err, IfOk, IfErr, Box, ◌≡◌, ◌∙◌, ap, subst, sym, option_map}
 use Rattle.std.specs.Option.{option_map_or}
 use Rattle.std.specs.Box.{box_value}
 use Rattle.clap.specs.Words.{Row, Text, first_of, one_of, subcommand_rows, subcommand_rows_of, subcommand_name_of}
 use Rattle.clap.specs.declared.parser.matches.ArgMatches.{ArgMatches}
 use Rattle.clap.specs.declared.parser.matches.ArgMatches.TheViews.{out-ArgMatches, out-SubCommand}
 use Rattle.clap.specs.declared.parser.matches.SubCommand.{SubCommand}
+use Rattle.program_tasks.specs.declared.fault.Fault.{Fault}
 use Rattle.program_tasks.specs.declared.task.Task.{Task}
+use Rattle.program_tasks.specs.Faults.{IsFaultOf}
 use Rattle.program_tasks.specs.Tasks.{word_of, HasValues, NamesNone}
-use Rattle.command_line.specs.CommandLine.{AreNone, IsTask}
+use Rattle.command_line.specs.CommandLine.{AreNone, IsFaultIn, IsTask}
 
 joined : {Z : Type 0} (sub : Option (Box SubCommand Z)) (name : Text) (rows : List Row) → Some name ≡ option_map (λ b. (out-SubCommand (box_value b)).name.now) sub → Some rows ≡ option_map (λ p. p.1) (subcommand_rows sub) → subcommand_rows sub ≡ Some (name, rows)
 joined None name rows p q = cc
@@ -33,6 +35,11 @@ pub with_rows :
     → IfOk result (λ task. word_of task ≡ name) → IfOk result (HasValues (λ id. first_of id rows) (λ id. one_of id rows)) → IfOk result (IsTask found)
 with_rows (Ok task) found name rows e word values = (rows, rw (sym word) at e, values)
 with_rows (Err error) found name rows e word values = tt
+
+pub fault_with_rows :
+    {E : Type 0} (result : Result E Fault) (found : Option (Text × List Row)) (name : Text) (rows : List Row) → found ≡ Some (name, rows)
+    → IfErr result (IsFaultOf name (λ id. first_of id rows)) → IfErr result (IsFaultIn found)
+fault_with_rows result found name rows e is = subst (λ it. IfErr result (IsFaultIn it)) (sym e) is
 
 same_name : (found : Option (Text × List Row)) (name word : Text) (rows others : List Row) → found ≡ Some (name, rows) → found ≡ Some (word, others) → word ≡ name
 same_name found name word rows others e f = ap (λ o. option_map_or (λ p. p.0) o name) (sym f ∙ e)

@@ -5,7 +5,9 @@ use Rattle.clap.specs.Words.{App, HasMatchesOf, Text, fault_of, is_simple, is_si
 use Rattle.clap.specs.declared.error.kind.ErrorKind.{ErrorKind}
 use Rattle.clap.specs.declared.error.kind.ErrorKind.TheVariants.{OutOfMemory}
 use Rattle.clap.specs.declared.parser.matches.ArgMatches.{ArgMatches}
-use Rattle.command_line.specs.CommandLine.{program_app, AreNone, Refuses}
+use Rattle.command_line.specs.CommandLine.{program_app, AreNone, IsFaultIn, Refuses}
+use Rattle.command_line.specs.Faults.{fault_kind}
+use Rattle.program_tasks.specs.declared.fault.Fault.{Fault}
 
 program_told : is_simple_and_free program_app ≡ true
 program_told = refl
@@ -24,7 +26,8 @@ some_kind app words kind e h =
     ⊎_elim (λ m. inl m) (λ k. inr (inl k)) told
 
 pub no_task :
-    (app : App) (words : List Text) (m : ArgMatches) (kind : ErrorKind) → app ≡ program_app → HasMatchesOf app words m → AreNone (subcommand_rows_of m) → Refuses words kind
-no_task app words m kind e h none =
+    (app : App) (words : List Text) (m : ArgMatches) (kind : ErrorKind) (fault : Fault) → app ≡ program_app → HasMatchesOf app words m → AreNone (subcommand_rows_of m)
+    → IsFaultIn (subcommand_rows_of m) fault → kind ≡ fault_kind fault → Refuses words kind
+no_task app words m kind fault e h none first told =
     let same = (subst (λ a. HasMatchesOf a words m) e h program_simple).1 in
-    inr (inr (subst AreNone same none))
+    inr (inr (record { none = subst AreNone same none; fault = fault; first = subst (λ found. IsFaultIn found fault) same first; told = told }))

@@ -5,8 +5,12 @@ use Rattle.clap.specs.Words.{App, Row, Rule, Shape, Text, fault_of, first_of, on
 use Rattle.clap.specs.declared.builder.ArgAction.TheVariants.{Set, SetTrue}
 use Rattle.clap.specs.declared.error.kind.ErrorKind.{ErrorKind}
 use Rattle.clap.specs.declared.error.kind.ErrorKind.TheVariants.{OutOfMemory}
+use Rattle.program_tasks.specs.declared.fault.Fault.{Fault}
+use Rattle.program_tasks.specs.declared.fault.Fault.TheVariants.{Missing}
 use Rattle.program_tasks.specs.declared.task.Task.{Task}
+use Rattle.program_tasks.specs.Faults.{IsFaultOf}
 use Rattle.program_tasks.specs.Tasks.{word_of, HasValues, IsSound}
+use Rattle.command_line.specs.Faults.{fault_kind}
 
 -- a file that is named by its place among the words
 abbrev pub file_rule : Text → Bool → Rule
@@ -98,7 +102,19 @@ IsTask found task = (rows : List Row) × (found ≡ Some (word_of task, rows)) �
 abbrev pub AreNone : Option (Text × List Row) → Type 0
 AreNone found = (task : Task) → IsTask found task → ¬ IsSound task
 
+-- the fault of what was entered: the first demand of the subcommand that its rows lack, or that there is no subcommand
+abbrev pub IsFaultIn : Option (Text × List Row) → Fault → Type 0
+IsFaultIn None fault = fault ≡ Missing
+IsFaultIn (Some (name, rows)) fault = IsFaultOf name (λ id. first_of id rows) fault
+
+-- no sound task was entered, and this is the kind of the fault of what was
+pub record IsUnsound (found : Option (Text × List Row)) (kind : ErrorKind) : Type 0 where
+  pub none : AreNone found
+  pub fault : Fault
+  pub first : IsFaultIn found fault
+  pub told : kind ≡ fault_kind fault
+
 -- words are refused by an error of this kind: for want of memory, by a kind that `clap` has for them, or where no sound
--- task is the subcommand that they enter
+-- task is the subcommand that they enter, by the kind of its fault
 abbrev pub Refuses : List Text → ErrorKind → Type 0
-Refuses words kind = (kind ≡ OutOfMemory) ⊎ (IsAmong kind (fault_of program_app words) ⊎ AreNone (subcommand_of program_app words))
+Refuses words kind = (kind ≡ OutOfMemory) ⊎ (IsAmong kind (fault_of program_app words) ⊎ IsUnsound (subcommand_of program_app words) kind)

@@ -3,7 +3,7 @@
 ghost use Rattle.std.specs.Prelude.{◌≡◌, IfErr, IfOk, [], map};
 ghost use Rattle.clap.specs.Words.{fault_of, kind_of, subcommand_of, subcommand_rows_of};
 ghost use Rattle.program_tasks.specs.Tasks.{IsSound};
-ghost use Rattle.command_line.specs.CommandLine.{program_app, AreNone, IsTask, Refuses};
+ghost use Rattle.command_line.specs.CommandLine.{program_app, AreNone, IsFaultIn, IsTask, Refuses};
 
 use crate::fault::explained;
 use crate::found::Found;
@@ -17,6 +17,7 @@ fn task_in<'a>(matches: &ArgMatches<'a>) -> Result<Task<'a>, Fault<'a>>
     ensures task { IfOk result (IsTask (subcommand_rows_of matches.now)) }
     ensures sound { IfOk result IsSound }
     ensures refused { IfErr result (λ _. AreNone (subcommand_rows_of matches.now)) }
+    ensures fault { IfErr result (IsFaultIn (subcommand_rows_of matches.now)) }
 {
     let Some((name, found)) = matches.subcommand() else {
         return Err(Fault::Missing);

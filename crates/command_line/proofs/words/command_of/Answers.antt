@@ -11,4 +11,4 @@ pub returns-in-Ok-clause-taken : goal.returns-in-Ok-clause-taken
 returns-in-Ok-clause-taken c = no_kind _ _ c.in_ok-program.ensures.app c.in_ok-matches.ensures.kinds
 
 pub returns-clause-refused : goal.returns-clause-refused
-returns-clause-refused c = no_task _ _ _ _ c.in_ok-program.ensures.app c.in_ok-matches.ensures.ok.2 c.in-Err.ensures.refused
+returns-clause-refused c = no_task _ _ _ _ _ c.in_ok-program.ensures.app c.in_ok-matches.ensures.ok.2 c.in-Err.ensures.refused c.in-Err.ensures.fault c.in_ok-explained-in-Err.ensures
