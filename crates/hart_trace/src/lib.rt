@@ -18,4 +18,4 @@ mod trace;
 
 pub use event::Event;
 pub use plain::plain_access;
-pub use trace::parse_line;
+pub use trace::{parse_by_words, parse_line};

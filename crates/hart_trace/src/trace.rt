@@ -194,6 +194,13 @@ pub fn parse_line(line: &[u8], harts: u8) -> Result<Option<(u8, Event)>, NotUnde
     if let Some((hart, event)) = plain_event_on_hart(line, harts) {
         return Ok(Some((hart, event)));
     }
+    parse_by_words(line, harts)
+}
+
+/// The same as [`parse_line`], word by word in any case: for those who know that the line is not plain.
+pub fn parse_by_words(line: &[u8], harts: u8) -> Result<Option<(u8, Event)>, NotUnderstood>
+    ensures { result_ok result ≡ meaning_of harts line.now }
+{
     let words = Words::of(line)?;
     let mut behind = words;
     let Some(first) = behind.next_word() else {

@@ -1,5 +1,5 @@
 use pmp_encoding::{Bank, Entry, Limit, Perm, Region};
-use pmp_match::{Access, Cause, Kind, Mode, judge};
+use pmp_match::{Access, Cause, Kind, Mode, Segments, judge};
 use std::test::Fail;
 
 /// The entry on the block, where there is such a block.
@@ -38,6 +38,23 @@ fn a_partial_match_fails_in_every_mode(rt: HostRuntime) -> Result<(), Fail> {
             Some(Err(Cause::LoadFault))
         );
     }
+    Ok(())
+}
+
+#[test]
+fn the_list_judges_what_no_segment_has_whole(rt: HostRuntime) -> Result<(), Fail> {
+    let bank = word_before_page().ok_or("no block")?;
+    let segments = Segments::of(&bank);
+    let word = Access::new(Mode::User, Kind::Load, 4, 0x8000_0000).ok_or("no access")?;
+    assert!(rt; segments.judge(&word) == Ok(()));
+    let over_its_end = Access::new(Mode::User, Kind::Load, 8, 0x8000_0000).ok_or("no access")?;
+    assert!(rt; segments.judge(&over_its_end) == Err(Cause::LoadFault));
+    let behind_it = Access::new(Mode::User, Kind::Load, 8, 0x8000_0008).ok_or("no access")?;
+    assert!(rt; segments.judge(&behind_it) == Ok(()));
+    let behind_the_page = Access::new(Mode::User, Kind::Load, 8, 0x8000_1000).ok_or("no access")?;
+    assert!(rt; segments.judge(&behind_the_page) == Err(Cause::LoadFault));
+    let off_its_size = Access::new(Mode::User, Kind::Load, 8, 0x8000_0004).ok_or("no access")?;
+    assert!(rt; segments.judge(&off_its_size) == Err(Cause::LoadMisaligned));
     Ok(())
 }
 

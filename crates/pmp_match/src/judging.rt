@@ -11,7 +11,7 @@ use crate::cause::Cause;
 use page_views::SPACE_SIZE;
 use pmp_encoding::{Bank, Extent, Perm};
 
-fn holds(perm: Perm, kind: Kind) -> bool
+pub(crate) fn holds(perm: Perm, kind: Kind) -> bool
     ensures { result ≡ holds perm kind }
 {
     match kind {
@@ -24,7 +24,7 @@ fn holds(perm: Perm, kind: Kind) -> bool
     }
 }
 
-fn is_machine(mode: Mode) -> bool
+pub(crate) fn is_machine(mode: Mode) -> bool
     ensures { result ≡ is_machine mode }
 {
     mode == Mode::Machine
@@ -90,7 +90,7 @@ fn is_allowed(bank: &Bank, access: &Access) -> bool
 }
 
 /// Whether the access is at a multiple of its size, a power of two.
-fn is_aligned(access: &Access) -> bool
+pub(crate) fn is_aligned(access: &Access) -> bool
     ensures { result ≡ (access.now.address % access.now.size == 0) }
 {
     access.address & (u64::from(access.size) - 1) == 0
@@ -106,7 +106,7 @@ fn misaligned(kind: Kind) -> Cause
     }
 }
 
-fn access_fault(kind: Kind) -> Cause
+pub(crate) fn access_fault(kind: Kind) -> Cause
     ensures { result ≡ access_fault kind }
 {
     match kind {

@@ -7,9 +7,9 @@ ghost use Rattle.trace_judge.specs.Judging.{access_on, is_no_access, judged_by};
 
 use crate::answers::push_answer;
 use byte_streams::{Sink, Source};
-use hart_trace::{Event, parse_line, plain_access};
+use hart_trace::{Event, parse_by_words, plain_access};
 use pmp_encoding::Bank;
-use pmp_match::{Access, judge};
+use pmp_match::{Access, Segments};
 use text_lines::{Interpreter, Line, NotUnderstood, Refusal, RunFault, interpret_lines};
 
 /// The same access, field by field. As a whole it would be read in one piece while its fields, written just before, are on
@@ -39,7 +39,7 @@ fn plain_access_in(line: &[u8]) -> Option<Access>
 fn access_in(line: &[u8]) -> Result<Option<Access>, NotUnderstood>
     ensures { result_ok result ≡ access_on line.now }
 {
-    match parse_line(line, 0) {
+    match parse_by_words(line, 0) {
         Ok(None) => Ok(None),
         Ok(Some((_, Event::Access(access, _)))) => Ok(Some(access)),
         _ => Err(NotUnderstood),
@@ -49,14 +49,15 @@ fn access_in(line: &[u8]) -> Result<Option<Access>, NotUnderstood>
 /// What judges the access of each line by a bank.
 #[derive(Drop)]
 struct Judge<'a> {
-    bank: &'a Bank,
+    segments: Segments<'a>,
 }
 
 impl Interpreter for Judge<'_> {
     ghost use Rattle.std.specs.Prelude.{◌≡◌};
+    ghost use Rattle.pmp_match.specs.SegmentedBank.{bank_of};
     ghost use Rattle.trace_judge.specs.Judging.{is_no_access, judged_by};
 
-    ghost does = { λ old n line answer new. judged_by old.bank.now tt n line answer tt × (new ≡ old) };
+    ghost does = { λ old n line answer new. judged_by (bank_of old.segments) tt n line answer tt × (new ≡ old) };
 
     ghost refuses = { λ now line. is_no_access tt line };
 
@@ -66,7 +67,7 @@ impl Interpreter for Judge<'_> {
 
     fn interpret(&mut self, line: &[u8], count: u64, answer: &mut Line) -> Result<bool, Refusal> {
         if let Some(access) = plain_access_in(line) {
-            push_answer(answer, count + 1, judge(self.bank, &access));
+            push_answer(answer, count + 1, self.segments.judge(&access));
             return Ok(true);
         }
         let Ok(found) = access_in(line) else {
@@ -75,7 +76,7 @@ impl Interpreter for Judge<'_> {
         let Some(access) = found else {
             return Ok(false);
         };
-        push_answer(answer, count + 1, judge(self.bank, &access));
+        push_answer(answer, count + 1, self.segments.judge(&access));
         Ok(true)
     }
 }
@@ -98,6 +99,7 @@ pub fn judge_trace<R: Source, W: Sink>(
     ensures reads { CountsReads result (R.failures source.old) (R.failures source.new) }
     ensures writes { CountsWrites result (W.failures sink.old) (W.failures sink.new) (W.stalls sink.old) (W.stalls sink.new) }
 {
-    let mut by_bank = Judge { bank };
+    let segments = Segments::of(bank);
+    let mut by_bank = Judge { segments };
     interpret_lines(&mut by_bank, source, sink)
 }

@@ -1,0 +1,6 @@
+-- The bank whose list is cut into segments.
+use Rattle.pmp_encoding.specs.declared.bank.Bank.{Bank}
+use Rattle.pmp_match.specs.declared.segments.Segments.{Segments}
+
+abbrev pub bank_of : Segments → Bank
+bank_of segments = segments.bank.now

@@ -1,0 +1,154 @@
+//! A bank's list as segments of the space, for those who judge many accesses by it.
+
+ghost use Rattle.std.specs.Prelude.{◌≡◌, ◌||◌, if◌then◌else◌, true, Ok, Err, IfSome, All, List};
+ghost use Rattle.pmp_encoding.specs.declared.region.Entry.{Entry};
+ghost use Rattle.pmp_encoding.specs.Banks.{HasList};
+ghost use Rattle.pmp_match.specs.Kinds.{holds};
+ghost use Rattle.pmp_match.specs.Decision.{is_machine};
+ghost use Rattle.pmp_match.specs.Judgement.{Judges, access_fault};
+ghost use Rattle.pmp_match.specs.Segments.{IsWithin, Decides, IsSegmentOf};
+
+use crate::access::Access;
+use crate::cause::Cause;
+use crate::judging::{access_fault, holds, is_aligned, is_machine, judge};
+use page_views::SPACE_SIZE;
+use pmp_encoding::{Bank, Extent, Perm};
+
+/// How many segments are kept. The edges of sixty-four extents may leave one more, whose accesses the list itself decides.
+const SEGMENTS: usize = 128;
+
+/// How many edges there are: two for each of sixty-four extents, and those of the space.
+const EDGES: usize = 130;
+
+/// Addresses from `base` to before `end` on which the list says one thing: the first extent with any of them has them
+/// all, and is of this permission, or no extent has any.
+#[derive(Clone, Copy)]
+struct Segment {
+    base: u64,
+    end: u64,
+    perm: Perm,
+}
+
+/// What stands behind the segments of a bank.
+const NOWHERE: Segment = Segment {
+    base: SPACE_SIZE,
+    end: SPACE_SIZE,
+    perm: Perm::NoAccess,
+};
+
+/// The permission that decides each access from `base` to before `end`, where there is one.
+fn deciding_perm(extents: &[Extent], base: u64, end: u64) -> Option<Perm>
+    ensures { IfSome result (λ perm. Decides extents.now base end perm) }
+{
+    for extent in extents {
+        if extent.base < end && base < extent.end {
+            if base < extent.base || extent.end < end {
+                return None;
+            }
+            return Some(extent.perm);
+        }
+    }
+    Some(Perm::NoAccess)
+}
+
+/// Where an extent or the space begins or ends, in rising order.
+fn edges_of(extents: &[Extent]) -> [u64; EDGES] {
+    let mut edges = [SPACE_SIZE; EDGES];
+    edges[0] = 0;
+    let count = extents.len().min(64);
+    for i in 0..count {
+        edges[2 * i + 1] = extents[i].base;
+        edges[2 * i + 2] = extents[i].end;
+    }
+    edges.sort_unstable();
+    edges
+}
+
+impl Segment {
+    /// The segment between two edges, where one permission decides each access within it.
+    fn between(bank: &Bank, base: u64, end: u64) -> Option<Segment>
+        ensures { IfSome result (λ segment. IsSegmentOf bank.now segment) }
+    {
+        if base >= end || end > SPACE_SIZE {
+            return None;
+        }
+        let perm = deciding_perm(bank.extents(), base, end)?;
+        Some(Segment { base, end, perm })
+    }
+
+    /// Whether each byte of the access is in the segment.
+    fn has(&self, access: &Access) -> bool
+        ensures { result ≡ true → IsWithin self.now.base self.now.end access.now }
+    {
+        self.base <= access.address
+            && access.address <= self.end
+            && u64::from(access.size) <= self.end - access.address
+    }
+
+    /// What becomes of an aligned access within the segment.
+    fn judge(&self, access: &Access) -> Result<(), Cause>
+        ensures { result ≡ (if is_machine access.now.mode || holds self.now.perm access.now.kind then Ok tt else Err (access_fault access.now.kind)) }
+    {
+        if is_machine(access.mode) || holds(self.perm, access.kind) {
+            return Ok(());
+        }
+        Err(access_fault(access.kind))
+    }
+}
+
+/// The list of a bank, cut into the segments of the space on which it says one thing.
+#[derive(Drop)]
+pub struct Segments<'a> {
+    bank: &'a Bank,
+    segments: [Segment; SEGMENTS],
+    ghost right: { All (IsSegmentOf bank.now) segments },
+}
+
+impl<'a> Segments<'a> {
+    ghost use Rattle.pmp_match.specs.SegmentedBank.{bank_of};
+
+    /// The segments of the bank's list. It takes no memory.
+    pub fn of(bank: &'a Bank) -> Segments<'a>
+        ensures { bank_of result ≡ bank.now }
+    {
+        let edges = edges_of(bank.extents());
+        let mut segments = [NOWHERE; SEGMENTS];
+        let mut used = 0;
+        for i in 1..EDGES {
+            if let Some(segment) = Segment::between(bank, edges[i - 1], edges[i]) {
+                if used < SEGMENTS {
+                    segments[used] = segment;
+                    used += 1;
+                }
+            }
+        }
+        Segments { bank, segments }
+    }
+
+    /// The last segment that begins at the address or below it, or the first of all. There is no branch on what is compared: it
+    /// would be guessed wrong every other time.
+    fn near(&self, address: u64) -> Segment
+        ensures { IsSegmentOf (bank_of self.now) result }
+    {
+        let mut at = 0;
+        let mut step = SEGMENTS / 2;
+        while step > 0 {
+            at += step * usize::from(self.segments[at + step].base <= address);
+            step /= 2;
+        }
+        self.segments[at]
+    }
+
+    /// What becomes of the access under the entries that the bank's registers mean, as [`judge`](crate::judge) says it. It
+    /// takes no memory.
+    pub fn judge(&self, access: &Access) -> Result<(), Cause>
+        ensures by_its_list { (entries : List Entry) × HasList (bank_of self.now) entries × Judges entries access.now result }
+        ensures by_no_other { (entries : List Entry) → HasList (bank_of self.now) entries → Judges entries access.now result }
+    {
+        let segment = self.near(access.address);
+        if segment.has(access) && is_aligned(access) {
+            return segment.judge(access);
+        }
+        judge(self.bank, access)
+    }
+}
