@@ -18,9 +18,9 @@ use Rattle.pmp_match.proofs.Judged.{Judges-from_computed}
 -- no access is within a segment without addresses
 pub nowhere : (bank : Bank) → IsSegmentOf bank (record { base = 2 ^ 56; end = 2 ^ 56; perm = NoAccess })
 nowhere bank = record {
-    inside = omega arith;
-    decides = λ entries list a within. let some : 0 < a.size = size_positive a.kind a.size a.sized in absurd (omega arith);
-  }
+  inside = omega arith;
+  decides = λ entries list a within. let some : 0 < a.size = size_positive a.kind a.size a.sized in absurd (omega arith);
+}
 
 pub judged_within :
     (bank : Bank) (segment : Segment) (a : Access) (answer : Result (Unit {0}) Cause) → IsSegmentOf bank segment → IsWithin segment.base segment.end a
