@@ -6,8 +6,8 @@
 //! what the view lets them do, at every aligned access; a view needs n entries if some list of n means it and no list
 //! of fewer does. Nothing here takes memory.
 //!
-//! What the layers above use: `judge` is the judgement of an access by the bank's list, and no list that means a view
-//! has fewer entries than a sound bound of the view says.
+//! What the layers above use: `judge` is the judgement of an access by the bank's list, `Segments::judge` the same for
+//! many accesses by one bank, and no list that means a view has fewer entries than a sound bound of the view says.
 //!
 //! ```
 //! let bank = Bank::of(entries, Limit::Sixteen);

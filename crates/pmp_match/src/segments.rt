@@ -1,6 +1,8 @@
 //! A bank's list as segments of the space, for those who judge many accesses by it.
 
 ghost use Rattle.std.specs.Prelude.{◌≡◌, ◌||◌, if◌then◌else◌, true, Ok, Err, IfSome, All, List};
+ghost use Rattle.std.specs.List.Sorted.{IsSorted};
+ghost use Rattle.std.specs.Ordering.{nat_cmp};
 ghost use Rattle.pmp_encoding.specs.declared.region.Entry.{Entry};
 ghost use Rattle.pmp_encoding.specs.Banks.{HasList};
 ghost use Rattle.pmp_match.specs.Kinds.{holds};
@@ -52,7 +54,9 @@ fn deciding_perm(extents: &[Extent], base: u64, end: u64) -> Option<Perm>
 }
 
 /// Where an extent or the space begins or ends, in rising order.
-fn edges_of(extents: &[Extent]) -> [u64; EDGES] {
+fn edges_of(extents: &[Extent]) -> [u64; EDGES]
+    ensures { IsSorted nat_cmp result }
+{
     let mut edges = [SPACE_SIZE; EDGES];
     edges[0] = 0;
     let count = extents.len().min(64);
