@@ -49,6 +49,6 @@ int main(int count, char **words)
         if (used.ru_maxrss > peak)
             peak = used.ru_maxrss;
     }
-    printf("%.4f %ld %d\n", least, peak, WIFEXITED(status) ? WEXITSTATUS(status) : 128 + WTERMSIG(status));
+    printf("%.6f %ld %d\n", least, peak, WIFEXITED(status) ? WEXITSTATUS(status) : 128 + WTERMSIG(status));
     return 0;
 }

@@ -1,6 +1,6 @@
 //! A bank's list as segments of the space, for those who judge many accesses by it.
 
-ghost use Rattle.std.specs.Prelude.{◌≡◌, ◌||◌, if◌then◌else◌, true, Ok, Err, IfSome, All, List};
+ghost use Rattle.std.specs.Prelude.{◌≡◌, ◌≤◌, ◌<◌, ◌||◌, if◌then◌else◌, true, Ok, Err, IfSome, All, List};
 ghost use Rattle.std.specs.List.Sorted.{IsSorted};
 ghost use Rattle.std.specs.Ordering.{nat_cmp};
 ghost use Rattle.pmp_encoding.specs.declared.region.Entry.{Entry};
@@ -105,6 +105,7 @@ impl Segment {
 pub struct Segments<'a> {
     bank: &'a Bank,
     segments: [Segment; SEGMENTS],
+    used: usize,
     ghost right: { All (IsSegmentOf bank.now) segments },
 }
 
@@ -126,20 +127,39 @@ impl<'a> Segments<'a> {
                 }
             }
         }
-        Segments { bank, segments }
+        Segments {
+            bank,
+            segments,
+            used,
+        }
     }
 
-    /// The last segment that begins at the address or below it, or the first of all. There is no branch on what is compared: it
-    /// would be guessed wrong every other time.
-    fn near(&self, address: u64) -> Segment
-        ensures { IsSegmentOf (bank_of self.now) result }
+    /// Where the last of so many segments is that begins at the address or below it, or the first of all. There is no branch
+    /// on what is compared: it would be guessed wrong every other time.
+    #[inline(always)]
+    fn last_begun(&self, address: u64, count: usize) -> usize
+        requires { count ≤ 128 }
+        ensures { result < 128 }
     {
         let mut at = 0;
-        let mut step = SEGMENTS / 2;
+        let mut step = count / 2;
         while step > 0 {
             at += step * usize::from(self.segments[at + step].base <= address);
             step /= 2;
         }
+        at
+    }
+
+    /// The segment that the address is in, where it is in one. A list with few extents is asked in fewer steps, each of which
+    /// waits for the one before it.
+    fn near(&self, address: u64) -> Segment
+        ensures { IsSegmentOf (bank_of self.now) result }
+    {
+        let at = match self.used {
+            0..=16 => self.last_begun(address, 16),
+            17..=64 => self.last_begun(address, 64),
+            _ => self.last_begun(address, SEGMENTS),
+        };
         self.segments[at]
     }
 

@@ -1,5 +1,5 @@
 use Rattle.std.proofs.Common.{◌+◌, ◌*◌, ◌<◌, ◌≤◌}
-use Rattle.pmp_match.proofs.segments.Segments.near.Given as goal
+use Rattle.pmp_match.proofs.segments.Segments.last_begun.Given as goal
 
 -- the steps that are left stay among the segments
 abbrev pub invariant-loop-step : goal.invariant-loop-step
