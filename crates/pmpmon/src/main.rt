@@ -1,8 +1,13 @@
 //! The program: the words of its command line, done on real files.
 #![tactic(auto)]
 
-ghost use Rattle.std.specs.Prelude.{◌≡◌};
+ghost use Rattle.std.specs.Prelude.{◌≡◌, ◌≢◌, ◌≤◌, ◌<◌, ◌⊎◌, IfSome, None, true, false};
+ghost use Rattle.std.specs.Process.{exit_status};
+ghost use Rattle.clap.specs.Words.{kind_of};
+ghost use Rattle.clap.specs.declared.error.kind.ErrorKind.TheVariants as kind;
 ghost use Rattle.hart_sim.specs.Streams.{failures_of};
+ghost use Rattle.pmpmon.specs.Places.{cert_of};
+ghost use Rattle.program_troubles.specs.Troubles.{trouble_status};
 
 mod places;
 
@@ -34,14 +39,20 @@ fn standard_error(rt: &HostRuntime) -> Counted<RetryInterrupted<Stderr>>
 }
 
 /// Says what went wrong, and with which status the program ends.
-fn stopped(rt: &HostRuntime, trouble: Trouble<'_>) -> ExitCode {
+fn stopped(rt: &HostRuntime, trouble: Trouble<'_>) -> ExitCode
+    ensures { exit_status result ≡ trouble_status trouble.entry }
+{
     let mut err = standard_error(rt);
     let _ = trouble.print(&mut err);
     ExitCode::from(trouble.status())
 }
 
 /// Help or the version on standard output, or a fault of the command line on standard error.
-fn explained(rt: &HostRuntime, error: &Error) -> ExitCode {
+fn explained(rt: &HostRuntime, error: &Error) -> ExitCode
+    ensures memory { kind_of error.now ≡ kind.OutOfMemory → exit_status result ≡ 4 }
+    ensures mistake { kind_of error.now ≢ kind.OutOfMemory → kind_of error.now ≢ kind.DisplayHelp → kind_of error.now ≢ kind.DisplayVersion → exit_status result ≡ 2 }
+    ensures shown { kind_of error.now ≡ kind.DisplayHelp ⊎ kind_of error.now ≡ kind.DisplayVersion → exit_status result ≡ 0 ⊎ exit_status result ≡ 3 }
+{
     if error.kind() == ErrorKind::OutOfMemory {
         return stopped(rt, Trouble::Memory);
     }
@@ -86,7 +97,10 @@ fn is_same_file(rt: &HostRuntime, one: &str, other: &str) -> bool {
 }
 
 /// Refuses a task whose certificate would take the place of its map, under another name of the same file.
-fn refused(rt: &HostRuntime, task: &Task<'_>) -> Option<ExitCode> {
+fn refused(rt: &HostRuntime, task: &Task<'_>) -> Option<ExitCode>
+    ensures status { IfSome result (λ code. exit_status code ≡ 2 ⊎ exit_status code ≡ 4) }
+    ensures others { cert_of task.now ≡ None → result ≡ None }
+{
     let Task::Plan {
         map,
         cert: Some(cert),
@@ -102,6 +116,18 @@ fn refused(rt: &HostRuntime, task: &Task<'_>) -> Option<ExitCode> {
         Ok(error) => Some(explained(rt, &error)),
         Err(AllocError) => Some(stopped(rt, Trouble::Memory)),
     }
+}
+
+/// With which status the program ends behind a task of that status, when standard output took all, or refused the last of it.
+fn closed(rt: &HostRuntime, status: u8, is_whole: bool) -> ExitCode
+    ensures whole { is_whole ≡ true → exit_status result ≡ status }
+    ensures cut { is_whole ≡ false → status < 2 → exit_status result ≡ 3 }
+    ensures told { is_whole ≡ false → 2 ≤ status → exit_status result ≡ status }
+{
+    if is_whole || status >= 2 {
+        return ExitCode::from(status);
+    }
+    stopped(rt, Trouble::Output)
 }
 
 /// Does the task on its files. Each is opened or made at its first read or write.
@@ -130,14 +156,12 @@ fn done(rt: &HostRuntime, task: &Task<'_>) -> ExitCode {
         &mut err,
     );
     let mut out = out.into_inner();
-    if out.flush().is_err() {
+    let is_whole = out.flush().is_ok();
+    if !is_whole {
         // What could not be written is let go of, not tried again.
         let _ = out.into_parts();
-        if status < 2 {
-            return stopped(rt, Trouble::Output);
-        }
     }
-    ExitCode::from(status)
+    closed(rt, status, is_whole)
 }
 
 fn main(rt: HostRuntime) -> ExitCode {
