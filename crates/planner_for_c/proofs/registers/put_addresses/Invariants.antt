@@ -1,0 +1,6 @@
+use Rattle.std.proofs.Common.{◌≡◌, ◌<◌, ℕ, slice_index}
+use Rattle.pmp_encoding.specs.Banks.{address_at}
+use Rattle.planner_for_c.proofs.registers.put_addresses.Given as goal
+
+abbrev pub invariant-loop-i : goal.invariant-loop-i
+invariant-loop-i l = (j : ℕ) → j < l.i → slice_index l.addr j ≡ address_at l.bank j

@@ -1,0 +1,4 @@
+pub mod Settings
+pub mod Codes
+pub mod Registers
+pub mod Plans

@@ -1,0 +1,36 @@
+-- What it is to plan settings, and what C is answered.
+use Rattle.std.specs.Prelude.{◌≡◌, ℕ, ℤ, pos, ◌<◌, ◌≤◌, List, [], length, min}
+use Rattle.pmp_encoding.specs.declared.region.Entry.{Entry}
+use Rattle.pmp_match.specs.Meaning.{Means, Needs}
+use Rattle.permission_map.specs.declared.runs.Run.{Run}
+use Rattle.permission_map.specs.Runs.{view_of_runs}
+use Rattle.planner_for_c.specs.declared.settings.Setting.{Setting}
+use Rattle.planner_for_c.specs.declared.settings.SettingFault.{SettingFault}
+use Rattle.planner_for_c.specs.declared.registers.Registers.{Registers}
+use Rattle.planner_for_c.specs.Codes.{fault_code, no_memory}
+use Rattle.planner_for_c.specs.Registers.{HoldsList}
+use Rattle.planner_for_c.specs.Settings.{FaultIn, LeadTo}
+
+-- the settings make a map, and the entries mean its view and are fewest
+pub record IsPlanOf (settings : List Setting) (entries : List Entry) : Type 0 where
+  pub runs : List Run
+  pub made : LeadTo [] settings runs
+  pub means : Means entries (view_of_runs runs)
+  pub fewest : Needs (view_of_runs runs) (length entries)
+
+-- the number of fewest entries; or the code of the fault of the first setting that is refused, with its place; or that memory was refused
+pub data IsNumberOf (settings : List Setting) (old_place new_place : ℕ) : ℤ → Type 0 where
+  number : (entries : List Entry) → IsPlanOf settings entries → new_place ≡ old_place → IsNumberOf settings old_place new_place (pos (length entries))
+  no_number : (fault : SettingFault) → FaultIn [] settings new_place fault → IsNumberOf settings old_place new_place (fault_code fault)
+  number_without_memory : new_place ≡ old_place → IsNumberOf settings old_place new_place no_memory
+
+-- as the number, with registers that hold the fewest entries where there is room for them; in each other case the registers stay as they were
+pub data IsPlanned (settings : List Setting) (room : ℕ) (old new : Registers) (old_place new_place : ℕ) : ℤ → Type 0 where
+  fits :
+      (entries : List Entry) → IsPlanOf settings entries → length entries ≤ min room 64 → HoldsList new entries → new_place ≡ old_place
+      → IsPlanned settings room old new old_place new_place (pos (length entries))
+  too_many :
+      (entries : List Entry) → IsPlanOf settings entries → min room 64 < length entries → new ≡ old → new_place ≡ old_place
+      → IsPlanned settings room old new old_place new_place (pos (length entries))
+  refused : (fault : SettingFault) → FaultIn [] settings new_place fault → new ≡ old → IsPlanned settings room old new old_place new_place (fault_code fault)
+  memory : new ≡ old → new_place ≡ old_place → IsPlanned settings room old new old_place new_place no_memory
