@@ -48,8 +48,13 @@ pub record IsCutBy (view : View) (entries : List Entry) (e : Entry) (at : ℕ) :
 abbrev pub IsUncut : View → List Entry → Entry → Type 0
 IsUncut view entries e = e.region.log2 ≡ 2 → can_read (view ((e.region.base - e.region.base % 8) / 4096)) ≡ true → Allows entries (load_of_eight (e.region.base - e.region.base % 8))
 
--- entry i of a list is the first by which eight bytes are cut
+-- the list gives each byte of the space the view's permission
+abbrev pub IsSame : View → List Entry → Type 0
+IsSame view entries = (byte : ℕ) → byte < 2 ^ 56 → perm_at NoAccess entries byte ≡ view (byte / 4096)
+
+-- entry i of a list that gives each byte the view's permission is the first by which eight bytes are cut
 pub record IsFirstCut (view : View) (entries : List Entry) (i at : ℕ) : Type 0 where
+  pub same : IsSame view entries
   pub entry : Entry
   pub is : slice_get entries i ≡ Some entry
   pub by : IsCutBy view entries entry at
