@@ -1,9 +1,9 @@
 //! The files and streams that the program lends to a task.
 
-ghost use Rattle.std.specs.Prelude.{◌≡◌, None, option_and_then};
+ghost use Rattle.std.specs.Prelude.{◌≡◌, ◌≢◌, None, OnOk, option_and_then};
 ghost use Rattle.std.specs.Io.{ReadsAtMost, WritesAtMost};
 ghost use Rattle.std.specs.Io.KnownBytes.{ReadConsumes, WriteAppends};
-ghost use Rattle.program_files.specs.declared.devices.InputToRead.TheVariants.{File, Standard};
+ghost use Rattle.program_files.specs.Inputs.{IsOfFile, IsOfStream, IsOpen, remaining_of};
 
 use std::io::{ErrorKind, Read, Write};
 use std::rt::Files;
@@ -35,7 +35,13 @@ impl<R: Files> Read for FileToRead<'_, R> {
     // What the opened file tells of its bytes; nothing is known of them before its first read.
     ghost remaining = { λ r. option_and_then R.File.remaining r.file };
 
-    fn read(&mut self, buf: &mut [u8]) -> io::Result<usize> {
+    // A file that could not be opened is no file without bytes: where a read is done, a file is open.
+    fn read(&mut self, buf: &mut [u8]) -> io::Result<usize>
+        ensures bound { ReadsAtMost result buf.new }
+        ensures bytes { ReadConsumes (option_and_then R.File.remaining self.old.file) (option_and_then R.File.remaining self.new.file) result buf.new }
+        ensures opened { OnOk result (self.new.file ≢ None) }
+        ensures place { self.new.name ≡ self.old.name }
+    {
         if self.file.is_none() {
             self.file = Some(fs::open(self.files, self.name)?);
         }
@@ -55,11 +61,31 @@ pub enum InputToRead<'a, R: Files, S> {
     Standard(RetryInterrupted<S>),
 }
 
+impl<'a, R: Files, S> InputToRead<'a, R, S> {
+    /// The file of that name, which is opened at its first read.
+    pub fn of_file(files: &'a R, name: &'a str) -> InputToRead<'a, R, S>
+        ensures { IsOfFile name.entry result }
+    {
+        InputToRead::File(FileToRead::new(files, name))
+    }
+
+    /// A stream, whose interrupted calls are tried again.
+    pub fn of_stream(stream: S) -> InputToRead<'a, R, S>
+        ensures { IsOfStream stream result }
+    {
+        InputToRead::Standard(RetryInterrupted::new(stream))
+    }
+}
+
 impl<R: Files, S: Read> Read for InputToRead<'_, R, S> {
     // What the file or the stream tells of its bytes.
-    ghost remaining = { elim [ File file ↦ option_and_then R.File.remaining file.file | Standard input ↦ S.remaining input.inner ] };
+    ghost remaining = { remaining_of R.File.remaining S.remaining };
 
-    fn read(&mut self, buf: &mut [u8]) -> io::Result<usize> {
+    fn read(&mut self, buf: &mut [u8]) -> io::Result<usize>
+        ensures bound { ReadsAtMost result buf.new }
+        ensures bytes { ReadConsumes (remaining_of R.File.remaining S.remaining self.old) (remaining_of R.File.remaining S.remaining self.new) result buf.new }
+        ensures opened { OnOk result (IsOpen self.new) }
+    {
         match self {
             InputToRead::File(file) => file.read(buf),
             InputToRead::Standard(input) => input.read(buf),

@@ -39,11 +39,11 @@ verdict_yes view registers (verdicts.NoEntry fault) is meant = absurd cc
 pub verdict_no : (view : View) (registers : Registers) (v : Verdict) → IsVerdict view registers v → false ≡ is_meant v → ¬ MeanView registers view
 verdict_no view registers (verdicts.Means count) is no' = absurd cc
 verdict_no view registers (verdicts.Differs stretch place) is no' = same_not view registers is.0 is.2.list (differs_not view is.0 stretch is.3)
-verdict_no view registers (verdicts.Cuts place at) is no' = same_not view registers is.0 is.2.list (cut_not view is.0 at is.4.by.cut)
+verdict_no view registers (verdicts.Cuts place at) is no' = same_not view registers is.0 is.2.list (cut_not view is.0 at is.4.first.by.cut)
 verdict_no view registers (verdicts.NoEntry fault) is no' = λ m. (faultless registers 64 m.entries m.list fault.place is.inside).none fault.fault is.fault_is.has
 
 pub writable : (view : View) (registers : Registers) (v : Verdict) → IsVerdict view registers v → IsWritable v
 writable view registers (verdicts.Means count) is = tt
 writable view registers (verdicts.Differs stretch place) is = let s = is.3.stretch in omega (arith, s.some)
-writable view registers (verdicts.Cuts place at) is = let c = is.4.by.cut in omega (arith, c.inside)
+writable view registers (verdicts.Cuts place at) is = let c = is.4.first.by.cut in omega (arith, c.inside)
 writable view registers (verdicts.NoEntry fault) is = is.inside

@@ -55,6 +55,11 @@ pub record IsFirstCut (view : View) (entries : List Entry) (i at : ℕ) : Type 0
   pub by : IsCutBy view entries entry at
   pub before : All (IsUncut view entries) (take i entries)
 
+-- the list gives each byte of the space the view's permission, and cuts eight bytes, by entry i first
+pub record CutsAlone (view : View) (entries : List Entry) (i at : ℕ) : Type 0 where
+  pub same : (byte : ℕ) → byte < 2 ^ 56 → perm_at NoAccess entries byte ≡ view (byte / 4096)
+  pub first : IsFirstCut view entries i at
+
 -- a stretch on which the list gives another permission than the view, where it gives each byte below it the view's
 pub record IsFirstDifference (view : View) (entries : List Entry) (s : Stretch) : Type 0 where
   pub stretch : IsStretch view entries s
@@ -65,4 +70,4 @@ pub record IsFirstDifference (view : View) (entries : List Entry) (s : Stretch) 
 abbrev pub IsFinding : View → List Entry → Finding → Type 0
 IsFinding view entries findings.Means = Means entries view
 IsFinding view entries (findings.Differs s) = IsFirstDifference view entries s
-IsFinding view entries (findings.Cuts entry at) = IsFirstCut view entries entry at
+IsFinding view entries (findings.Cuts entry at) = CutsAlone view entries entry at

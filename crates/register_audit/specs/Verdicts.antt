@@ -9,7 +9,7 @@ use Rattle.register_text.specs.declared.registers.Registers.{Registers}
 use Rattle.register_audit.specs.declared.verdict.Verdict.{Verdict}
 use Rattle.register_audit.specs.declared.verdict.Verdict.TheVariants as verdicts
 use Rattle.register_audit.specs.Registers.{AreAt, IsFirstFault, pairs_of}
-use Rattle.register_audit.specs.Findings.{IsFirstCut, IsFirstDifference}
+use Rattle.register_audit.specs.Findings.{CutsAlone, IsFirstDifference}
 
 -- the entries that registers mean, those that are OFF left out, and the numbers of their pairs
 pub record AreEntries (registers : Registers) (entries : List Entry) (places : List ℕ) : Type 0 where
@@ -21,7 +21,7 @@ abbrev pub IsVerdict : View → Registers → Verdict → Type 0
 IsVerdict view registers (verdicts.Means count) = (entries : List Entry) × (places : List ℕ) × AreEntries registers entries places × Means entries view × (length entries ≡ count)
 IsVerdict view registers (verdicts.Differs stretch place) =
     (entries : List Entry) × (places : List ℕ) × AreEntries registers entries places × IsFirstDifference view entries stretch × (place ≡ option_and_then (slice_get places) stretch.entry)
-IsVerdict view registers (verdicts.Cuts place at) = (entries : List Entry) × (places : List ℕ) × AreEntries registers entries places × (i : ℕ) × IsFirstCut view entries i at × (place ≡ slice_get places i)
+IsVerdict view registers (verdicts.Cuts place at) = (entries : List Entry) × (places : List ℕ) × AreEntries registers entries places × (i : ℕ) × CutsAlone view entries i at × (place ≡ slice_get places i)
 IsVerdict view registers (verdicts.NoEntry fault) = IsFirstFault registers fault
 
 -- whether a verdict is yes
