@@ -21,3 +21,8 @@ mod Promised
 mod WorldsKept
 mod Respects
 mod Opened
+mod Banks
+mod SoundTables
+mod Promises
+mod Headlined
+mod GoneOn

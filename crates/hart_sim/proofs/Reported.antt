@@ -12,7 +12,9 @@ use Rattle.hart_sim.specs.declared.reply.Reply.TheVariants.{NoMemory}
 use Rattle.hart_sim.specs.Machines.{state_of, HasBank}
 use Rattle.hart_sim.specs.Steps.{Run, still, step}
 use Rattle.hart_sim.specs.Texts.{reply_text, lines_from, report_text}
-use Rattle.hart_sim.specs.Reports.{harts_of, DoesLine, none, blank, one, Happens, AreAnswered, AreElsewhere, LastOwn, Report, IsReported}
+use Rattle.enclave_table.specs.Platform.{Layout}
+use Rattle.hart_sim.specs.After.{After, happened, Happens}
+use Rattle.hart_sim.specs.Reports.{harts_of, DoesLine, none, blank, one, AreAnswered, AreElsewhere, LastOwn, Report, IsReported}
 use Rattle.hart_sim.proofs.Alike.{itself}
 use Rattle.hart_sim.proofs.Layouts.{layout_stays}
 use Rattle.hart_sim.proofs.Awake.{awake_then}
@@ -99,15 +101,22 @@ last_then old mid new events replies there event reply run x hart was = both (ha
       | inr l ↦ inr (last_further old mid new hart events replies there event reply other x l)
     ])
 
--- what is known on the way: the harts are as many as at first, and there is an answer for each reply
-record Way (old : Machine) (lines answers : List (List ℕ)) (new : Machine) : Type 0 where
-  report : Report old lines (concat answers) new
-  counted : length answers ≡ length report.replies
-  harts : harts_of new ≡ harts_of old
+-- the machine after one event more
+pub one_more : (platform : Layout) (before events : List (ℕ × Event)) (answered replies : List Reply) (mid new : Machine) (hart : ℕ) (event : Event) (reply : Reply) → After platform (before ++ events) (answered ++ replies) mid → Happens mid hart event reply new
+    → After platform (before ++ (events ++ (hart, event) ∷ [])) (answered ++ (replies ++ reply ∷ [])) new
+one_more platform before events answered replies mid new hart event reply a x =
+    subst (λ rs. After platform (before ++ (events ++ (hart, event) ∷ [])) rs new) (append_assoc answered replies (reply ∷ []))
+    (subst (λ es. After platform es ((answered ++ replies) ++ reply ∷ []) new) (append_assoc before events ((hart, event) ∷ [])) (happened a hart event reply x))
 
-way : (old new : Machine) (lines answers : List (List ℕ)) → Does DoesLine old lines answers new → Way old lines answers new
+-- what is known on the way: the harts are as many as at first, and there is an answer for each reply
+pub record Way (old : Machine) (lines answers : List (List ℕ)) (new : Machine) : Type 0 where
+  pub report : Report old lines (concat answers) new
+  pub counted : length answers ≡ length report.replies
+  pub harts : harts_of new ≡ harts_of old
+
+pub way : (old new : Machine) (lines answers : List (List ℕ)) → Does DoesLine old lines answers new → Way old lines answers new
 way old new _ _ loop.none = record {
-  report = record { events = []; replies = []; spelled = none; run = still (itself (state_of old)); told = refl; each = tt; idle = λ hart bank other has. has; last = λ hart. inl tt };
+  report = record { events = []; replies = []; spelled = none; run = still (itself (state_of old)); told = refl; each = tt; idle = λ hart bank other has. has; last = λ hart. inl tt; after = λ platform before answered a. subst (λ rs. After platform (before ++ []) rs old) (sym (append-nil answered)) (subst (λ es. After platform es answered old) (sym (append-nil before)) a) };
   counted = refl;
   harts = refl;
 }
@@ -124,6 +133,7 @@ way old new _ _ (loop.silent {lines} {answers} {mid} done line short _ x) =
         each = w.report.each;
         idle = λ hart bank other has. subst (λ m. HasBank m hart bank) (sym x.1) (w.report.idle hart bank other has);
         last = λ hart. subst (λ m. AreElsewhere hart w.report.events ⊎ LastOwn old hart w.report.events w.report.replies m) (sym x.1) (w.report.last hart);
+        after = λ platform before answered a. subst (After platform (before ++ w.report.events) (answered ++ w.report.replies)) (sym x.1) (w.report.after platform before answered a);
       };
       counted = w.counted;
       harts = ap harts_of x.1 ∙ w.harts;
@@ -142,6 +152,7 @@ way old new _ _ (loop.answer {lines} {answers} {mid} done line short _ text x) =
         each = answered-snoc w.report.replies x.2 w.report.each x.5;
         idle = λ hart bank other has. let p = elsewhere_parts hart w.report.events x.0 x.1 other in x.4.others hart bank p.1 (w.report.idle hart bank p.0 has);
         last = λ hart. last_then old mid new w.report.events w.report.replies x.0 x.1 x.2 w.report.run x.4 hart (w.report.last hart);
+        after = λ platform before answered a. one_more platform before w.report.events answered w.report.replies mid new x.0 x.1 x.2 (w.report.after platform before answered a) x.4;
       };
       counted = length-append answers (text ∷ []) ∙ ap (λ n. n + 1) w.counted ∙ sym (length-append w.report.replies (x.2 ∷ []));
       harts = ap (λ l. l.harts) (layout_stays (state_of mid) x.0 x.1 x.2 (state_of new) x.4.happened) ∙ w.harts;

@@ -1,10 +1,17 @@
 -- The machine as its caller sees it: its state, and the PMP registers that are loaded on each hart.
-use Rattle.std.specs.Prelude.{◌≡◌, ◌≢◌, ◌⊎◌, ℕ, ◌<◌, true, false, List}
+use Rattle.std.specs.Prelude.{◌≡◌, ◌≢◌, ◌⊎◌, ◌↔◌, ℕ, ◌<◌, true, false, List, Err}
 use Rattle.pmp_encoding.specs.declared.bank.Bank.{Bank}
 use Rattle.pmp_encoding.specs.declared.region.Entry.{Entry}
 use Rattle.pmp_encoding.specs.Banks.{HasList}
+use Rattle.pmp_match.specs.declared.access.Access.{Access}
+use Rattle.pmp_match.specs.declared.cause.Cause.{Cause}
+use Rattle.pmp_match.specs.Judgement.{Judges}
 use Rattle.enclave_table.specs.Tables.{Kept}
+use Rattle.hart_trace.specs.declared.event.Event.{Event}
+use Rattle.hart_trace.specs.declared.event.Event.TheVariants as events
 use Rattle.hart_sim.specs.declared.machine.Machine.{Machine}
+use Rattle.hart_sim.specs.declared.reply.Reply.{Reply}
+use Rattle.hart_sim.specs.declared.reply.Reply.TheVariants as replies
 use Rattle.hart_sim.specs.Hardware.{BankOn}
 use Rattle.hart_sim.specs.Parts.{machine_state, LoadsFewest}
 use Rattle.hart_sim.specs.States.{State, current_view}
@@ -26,6 +33,12 @@ abbrev pub MeetsList : Machine → ℕ → List Entry → Type 0
 MeetsList machine hart list =
     (((state_of machine).marked hart ≡ true) × (list ≡ (kept_of machine).host_list))
     ⊎ (((state_of machine).marked hart ≡ false) × (bank : Bank) × HasBank machine hart bank × HasList bank list)
+
+-- an access is a fault exactly where the list that it meets says so, and with the cause that it says
+abbrev pub IsJudged : Machine → ℕ → Event → Reply → Type 0
+IsJudged machine hart event reply =
+    (access : Access) (value : ℕ) (list : List Entry) (cause : Cause) → event ≡ events.Access access value → MeetsList machine hart list
+    → (reply ≡ replies.Fault cause) ↔ Judges list access (Err cause)
 
 -- what boot makes and every step keeps, and what holds no more once another bank was put in place:
 -- the bank of each hart that is not marked means the view of its world by the fewest entries

@@ -1,28 +1,22 @@
 -- What a run over a trace does and writes.
-use Rattle.std.specs.Prelude.{◌≡◌, ◌≢◌, ◌⊎◌, ℕ, ◌+◌, ◌<◌, List, [], ◌∷◌, ◌++◌, Option, Some, None}
+use Rattle.std.specs.Prelude.{◌≡◌, ◌≢◌, ◌⊎◌, ℕ, ◌+◌, List, [], ◌∷◌, ◌++◌, Option, Some, None}
 use Rattle.std.specs.List.{concat}
+use Rattle.std.specs.Io.KnownBytes.{Consumes}
 use Rattle.pmp_encoding.specs.declared.bank.Bank.{Bank}
+use Rattle.enclave_table.specs.Platform.{Layout}
 use Rattle.hart_trace.specs.declared.event.Event.{Event}
 use Rattle.hart_trace.specs.Events.{meaning_of}
-use Rattle.text_lines.specs.Lines.{IsShortLine, without_return}
-use Rattle.text_lines.specs.LineLoop.{Does}
+use Rattle.text_lines.specs.Lines.{AreLines, IsShortLine, without_return}
+use Rattle.text_lines.specs.LineLoop.{Does, ended}
 use Rattle.hart_sim.specs.declared.machine.Machine.{Machine}
 use Rattle.hart_sim.specs.declared.reply.Reply.{Reply}
 use Rattle.hart_sim.specs.declared.reply.Reply.TheVariants.{NoMemory}
-use Rattle.hart_sim.specs.Machines.{state_of, HasBank, KeepsBanksRight, KeepsOtherBanks}
+use Rattle.hart_sim.specs.Machines.{state_of, HasBank}
+use Rattle.hart_sim.specs.After.{After, Happens}
 use Rattle.hart_sim.specs.Parts.{LoadsFewest}
 use Rattle.hart_sim.specs.States.{current_view}
-use Rattle.hart_sim.specs.Steps.{IsEvent, Step, Run}
+use Rattle.hart_sim.specs.Steps.{Run}
 use Rattle.hart_sim.specs.Texts.{reply_text, report_text}
-
--- an event happens on a hart of the machine: it is a step of its state, the banks of the other harts stay, and those of the
--- harts that are not marked mean what they should by the fewest entries
-pub record Happens (old : Machine) (hart : ℕ) (event : Event) (reply : Reply) (new : Machine) : Type 0 where
-  pub known : hart < (state_of old).table.layout.harts
-  pub possible : IsEvent event
-  pub happened : Step (state_of old) hart event reply (state_of new)
-  pub others : KeepsOtherBanks old new hart
-  pub kept : KeepsBanksRight new
 
 -- how many harts a line may name
 abbrev pub harts_of : Machine → ℕ
@@ -78,7 +72,8 @@ pub record LastOwn (old : Machine) (hart : ℕ) (events : List (ℕ × Event)) (
   pub stays : (bank : Bank) → HasBank mid hart bank → HasBank new hart bank
 
 -- the events that lines say are a run from one state to the other, the text tells the replies, none of which wanted memory,
--- and a hart on which none of them was has the bank that it had, and each other one that which its own last event left it
+-- and a hart on which none of them was has the bank that it had, and each other one that which its own last event left it. Where
+-- the machine came of boot and events, it comes of these and those after them
 pub record Report (old : Machine) (lines : List (List ℕ)) (text : List ℕ) (new : Machine) : Type 0 where
   pub events : List (ℕ × Event)
   pub replies : List Reply
@@ -88,7 +83,23 @@ pub record Report (old : Machine) (lines : List (List ℕ)) (text : List ℕ) (n
   pub each : AreAnswered replies
   pub idle : (hart : ℕ) (bank : Bank) → AreElsewhere hart events → HasBank old hart bank → HasBank new hart bank
   pub last : (hart : ℕ) → AreElsewhere hart events ⊎ LastOwn old hart events replies new
+  pub after : (platform : Layout) (before : List (ℕ × Event)) (answered : List Reply) → After platform before answered old → After platform (before ++ events) (answered ++ replies) new
 
 -- so it is wherever lines were done in turn
 abbrev pub IsReported : Type 0
 IsReported = (old new : Machine) (lines answers : List (List ℕ)) → Does DoesLine old lines answers new → Report old lines (concat answers) new
+
+-- with these lines the bytes begin, each before its LF, or they are all of its lines
+abbrev pub BeginsWith : List ℕ → List (List ℕ) → Type 0
+BeginsWith bytes lines = ((rest : List ℕ) × (bytes ≡ ended lines ++ rest)) ⊎ AreLines bytes lines
+
+-- of what was read the first lines say events, and the machine is the one after these and those before them
+pub record GoesOn (platform : Layout) (events : List (ℕ × Event)) (replies : List Reply) (old new : Machine) (before after : Option (List ℕ)) : Type 0 where
+  pub bytes : List ℕ
+  pub consumed : Consumes before after bytes
+  pub lines : List (List ℕ)
+  pub begins : BeginsWith bytes lines
+  pub more : List (ℕ × Event)
+  pub spelled : Spells (harts_of old) lines more
+  pub answered : List Reply
+  pub went : After platform (events ++ more) (replies ++ answered) new

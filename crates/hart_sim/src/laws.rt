@@ -4,9 +4,25 @@ ghost use Rattle.hart_trace.specs.declared.event.Event.{Event};
 ghost use Rattle.hart_sim.specs.declared.reply.Reply.{Reply};
 ghost use Rattle.hart_sim.specs.States.{State};
 ghost use Rattle.hart_sim.specs.Steps.{Step};
+ghost use Rattle.hart_sim.specs.Headline.{HeadlineHolds};
 ghost use Rattle.hart_sim.specs.Privacy.{IsPrivate, KeepsPrivate};
+ghost use Rattle.hart_sim.specs.Promises.{StepsPromise};
 ghost use Rattle.hart_sim.specs.Wants.{CreatesByNeed, DestroysByNeed};
 ghost use Rattle.hart_sim.specs.Worlds.{RunsKeepWorlds};
+
+/// The headline: what holds of a machine after boot and any list of events. The replies are a run of the small machine,
+/// on each hart that is not marked the loaded list means the view of its world and none that does so is shorter, each
+/// event was judged and answered as it should, and the worlds and the table are sound.
+pub fn headline_law()
+    ensures { HeadlineHolds }
+{}
+
+/// What holds of each step from a table that is sound: accesses are answered by the view, private bytes are kept, others'
+/// accesses of them are denied, destroyed pages are zero, entries are wanting only where they are, and the table is sound
+/// after it.
+pub fn step_law()
+    ensures { StepsPromise }
+{}
 
 /// Where an enclave runs in two states that it cannot tell apart, its accesses and settings of registers may be answered
 /// alike in both, and then it cannot tell them apart either; nothing else changes in them.

@@ -18,24 +18,24 @@ pub struct Machine {
 }
 
 impl Machine {
-    ghost use Rattle.std.specs.Prelude.{◌≡◌, ◌≢◌, ℕ, ◌/◌, ◌^◌, ◌<◌, ◌≤◌, ◌↔◌, List, IfOk, IfErr, true, false, Err, length};
+    ghost use Rattle.std.specs.Prelude.{◌≡◌, ℕ, ◌^◌, ◌<◌, ◌≤◌, List, [], ◌∷◌, ◌++◌, IfOk, IfErr, false, length};
     ghost use Rattle.pmp_encoding.specs.declared.bank.Bank.{Bank};
     ghost use Rattle.pmp_encoding.specs.declared.region.Entry.{Entry};
     ghost use Rattle.pmp_encoding.specs.Banks.{HasList, limit_of};
     ghost use Rattle.pmp_encoding.specs.Limits.{limit_number};
     ghost use Rattle.pmp_match.specs.declared.access.Access.{Access};
-    ghost use Rattle.pmp_match.specs.declared.cause.Cause.{Cause};
-    ghost use Rattle.pmp_match.specs.Accesses.{IsAligned};
-    ghost use Rattle.pmp_match.specs.Kinds.{holds};
-    ghost use Rattle.pmp_match.specs.Judgement.{Judges};
     ghost use Rattle.pmp_match.specs.Meaning.{Means};
     ghost use Rattle.enclave_table.specs.Booting.{IsBootFault, opening as opening_table};
     ghost use Rattle.enclave_table.specs.Fewest.{FitsIn};
+    ghost use Rattle.enclave_table.specs.Platform.{Layout};
     ghost use Rattle.enclave_table.specs.Views.{host_view};
     ghost use Rattle.hart_trace.specs.declared.event.Event.{Event};
     ghost use Rattle.hart_sim.specs.declared.reply.Reply.{Reply};
-    ghost use Rattle.hart_sim.specs.Machines.{state_of, kept_of, HasBank, MeetsList, KeepsBanksRight, KeepsOtherBanks, KeepsOwnBank};
+    ghost use Rattle.hart_sim.specs.Machines.{state_of, kept_of, HasBank, MeetsList, IsJudged, KeepsBanksRight, KeepsOtherBanks, KeepsOwnBank};
     ghost use Rattle.hart_sim.specs.Privacy.{KeepsPrivate, DeniesOthers, ZeroesDestroyed};
+    ghost use Rattle.hart_sim.specs.After.{After};
+    ghost use Rattle.hart_sim.specs.Promises.{AnswersByView};
+    ghost use Rattle.hart_sim.specs.Wants.{RefusesByNeed};
     ghost use Rattle.hart_sim.specs.States.{SameState, opening, current_view, running_registers};
     ghost use Rattle.hart_sim.specs.Steps.{IsEvent, Step};
 
@@ -112,6 +112,7 @@ impl Machine {
     /// The machine of a platform: no enclave, each hart in the host's world with the fewest entries of its view. It is
     /// refused where that view needs more entries than the platform has, and where memory is.
     pub fn boot(alloc: Global, platform: Platform) -> Result<Machine, BootFault>
+        ensures after { IfOk result (λ m. After platform [] [] m) }
         ensures state { IfOk result (λ m. SameState (state_of m) (opening platform)) }
         ensures kept { IfOk result (λ m. KeepsBanksRight m) }
         ensures banks { IfOk result (λ m. (h : ℕ) (bank : Bank) → h < (state_of m).table.layout.harts → (state_of m).marked h ≡ false → HasBank m h bank → (list : List Entry) → HasList bank list → Means list (current_view (state_of m) h) × ((others : List Entry) → Means others (current_view (state_of m) h) → length list ≤ length others)) }
@@ -119,7 +120,10 @@ impl Machine {
         ensures fault { IfErr result (λ fault. IsBootFault platform fault) }
     {
         match Parts::boot(alloc, platform) {
-            Ok(parts) => Ok(Machine { parts }),
+            Ok(parts) => {
+                parts.table.rules();
+                Ok(Machine { parts })
+            }
             Err(fault) => Err(fault),
         }
     }
@@ -130,7 +134,7 @@ impl Machine {
     pub fn step(&mut self, hart: u8, event: Event) -> Reply
         requires hart { hart < (state_of self.old).table.layout.harts }
         requires event { IsEvent event }
-        ensures judged { (access : Access) (value : ℕ) (list : List Entry) (cause : Cause) → event ≡ Event.Access access value → MeetsList self.old hart list → (result ≡ Reply.Fault cause) ↔ Judges list access (Err cause) }
+        ensures judged { IsJudged self.old hart event result }
         ensures loaded { (access : Access) (value : ℕ) (list : List Entry) (bank : Bank) → event ≡ Event.Access access value → MeetsList self.old hart list → HasBank self.new hart bank → HasList bank list }
         ensures step { KeepsBanksRight self.old → Step (state_of self.old) hart event result (state_of self.new) }
         ensures kept { KeepsBanksRight self.old → KeepsBanksRight self.new }
@@ -138,10 +142,12 @@ impl Machine {
         ensures others { KeepsOtherBanks self.old self.new hart }
         ensures stays { KeepsOwnBank self.old self.new hart }
         ensures platform { (state_of self.new).table.layout ≡ (state_of self.old).table.layout }
-        ensures allowed { KeepsBanksRight self.old → (access : Access) (value : ℕ) → event ≡ Event.Access access value → IsAligned access → access.address < 2 ^ 56 → ((cause : Cause) → result ≢ Reply.Fault cause) ↔ (holds (current_view (state_of self.old) hart (access.address / 4096)) access.kind ≡ true) }
+        ensures allowed { KeepsBanksRight self.old → AnswersByView (state_of self.old) hart event result }
         ensures denied { KeepsBanksRight self.old → DeniesOthers (state_of self.old) hart event result }
         ensures destroyed { KeepsBanksRight self.old → ZeroesDestroyed (state_of self.old) (state_of self.new) }
         ensures private { KeepsBanksRight self.old → KeepsPrivate (state_of self.old) hart event result (state_of self.new) }
+        ensures entries { KeepsBanksRight self.old → RefusesByNeed (state_of self.old) hart event result }
+        ensures after { (platform : Layout) (events : List (ℕ × Event)) (replies : List Reply) → After platform events replies self.old → After platform (events ++ (hart, event) ∷ []) (replies ++ result ∷ []) self.new }
     {
         self.parts.table.rules();
         self.parts.step(hart, event)

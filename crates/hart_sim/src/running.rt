@@ -6,10 +6,14 @@ ghost use Rattle.pmp_encoding.specs.declared.region.Entry.{Entry};
 ghost use Rattle.pmp_encoding.specs.Banks.{HasList};
 ghost use Rattle.pmp_match.specs.Meaning.{Means};
 ghost use Rattle.text_lines.specs.LineLoop.{DoesAll, StopsAt, StopsTooLong, StopsReading, StopsWriting, StopsForMemory, CountsReads, CountsWrites};
+ghost use Rattle.enclave_table.specs.Platform.{Layout};
+ghost use Rattle.hart_trace.specs.declared.event.Event.{Event};
+ghost use Rattle.hart_sim.specs.declared.reply.Reply.{Reply};
 ghost use Rattle.hart_sim.specs.declared.reply.Reply.TheVariants.{NoMemory};
 ghost use Rattle.hart_sim.specs.States.{current_view};
 ghost use Rattle.hart_sim.specs.Machines.{state_of, HasBank, KeepsBanksRight};
-ghost use Rattle.hart_sim.specs.Reports.{DoesLine, RefusesLine, StarvesLine, IsReported};
+ghost use Rattle.hart_sim.specs.After.{After};
+ghost use Rattle.hart_sim.specs.Reports.{DoesLine, RefusesLine, StarvesLine, IsReported, GoesOn};
 
 use crate::machine::Machine;
 use crate::reply::Reply;
@@ -70,6 +74,7 @@ pub fn run<R: Source, W: Sink>(
     ensures write { KeepsBanksRight machine.old → result ≡ Err RunFault.Write → StopsWriting DoesLine machine.old machine.new (R.remaining source.old) (R.remaining source.new) (W.contents sink.old) (W.contents sink.new) }
     ensures memory { KeepsBanksRight machine.old → result ≡ Err RunFault.Memory → StopsForMemory DoesLine StarvesLine machine.old machine.new (R.remaining source.old) (R.remaining source.new) (W.contents sink.old) (W.contents sink.new) }
     ensures kept { KeepsBanksRight machine.old → KeepsBanksRight machine.new }
+    ensures after { (platform : Layout) (events : List (ℕ × Event)) (replies : List Reply) → After platform events replies machine.old → GoesOn platform events replies machine.old machine.new (R.remaining source.old) (R.remaining source.new) }
     ensures banks { KeepsBanksRight machine.old → (h : ℕ) (bank : Bank) → h < (state_of machine.new).table.layout.harts → (state_of machine.new).marked h ≡ false → HasBank machine.new h bank → (list : List Entry) → HasList bank list → Means list (current_view (state_of machine.new) h) × ((others : List Entry) → Means others (current_view (state_of machine.new) h) → length list ≤ length others) }
     ensures reads { CountsReads result (R.failures source.old) (R.failures source.new) }
     ensures writes { CountsWrites result (W.failures sink.old) (W.failures sink.new) (W.stalls sink.old) (W.stalls sink.new) }

@@ -1,5 +1,7 @@
 use Rattle.hart_sim.proofs.Opened.{each_list}
 use Rattle.hart_sim.proofs.Reported.{is_reported}
+use Rattle.hart_sim.proofs.GoneOn.{goes_on}
+use Rattle.hart_sim.proofs.Headlined.{banks_of}
 use Rattle.hart_sim.proofs.running.run.Goals as goal
 
 pub returns-clause-reported : goal.returns-clause-reported
@@ -7,3 +9,9 @@ returns-clause-reported g c = is_reported
 
 pub returns-clause-banks : goal.returns-clause-banks
 returns-clause-banks g c = λ right. each_list c.interpret_lines.new.interpreter.parts.table c.interpret_lines.new.interpreter.parts.hardware (c.interpret_lines.ensures.keeps right)
+
+pub returns-clause-after : goal.returns-clause-after
+returns-clause-after g c = λ platform events replies a.
+    let e = c.interpret_lines.ensures in
+    let right = banks_of platform events replies c.args.machine.now a in
+    goes_on platform events replies c.args.machine.now c.interpret_lines.new.interpreter _ _ _ _ c.interpret_lines.result a (e.all right) (e.line right) (e.too_long right) (e.read right) (e.write right) (e.memory right)

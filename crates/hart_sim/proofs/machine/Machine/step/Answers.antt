@@ -1,9 +1,11 @@
-use Rattle.std.proofs.Common.{subst}
 use Rattle.hart_sim.specs.Parts.{machine_state}
 use Rattle.hart_sim.proofs.Opened.{each_list}
 use Rattle.hart_sim.proofs.PrivateBytes.{keeps_private}
-use Rattle.hart_sim.specs.Steps.{Step}
-use Rattle.hart_sim.proofs.Promised.{allowed_by_view, denies_others, zeroes_destroyed}
+use Rattle.hart_sim.specs.After.{happened}
+use Rattle.hart_sim.proofs.Promised.{denies_others, zeroes_destroyed}
+use Rattle.hart_sim.proofs.Promises.{answers_by_view}
+use Rattle.hart_sim.proofs.Wanted.{refuses_by_need}
+use Rattle.hart_sim.proofs.Headlined.{banks_of}
 use Rattle.hart_sim.proofs.machine.Machine.step.Goals as goal
 
 pub returns-clause-banks : goal.returns-clause-banks
@@ -16,11 +18,10 @@ returns-clause-private c = λ right.
     keeps_private (machine_state old.table old.hardware) c.args.hart c.args.event c.step.result (machine_state new.table new.hardware) c.rules.ensures.table (c.step.ensures.step right)
 
 pub returns-clause-allowed : goal.returns-clause-allowed
-returns-clause-allowed c = λ right access value is aligned inside.
+returns-clause-allowed c = λ right.
     let old = c.args.self.now.parts in
     let new = c.step.new.self in
-    allowed_by_view (machine_state old.table old.hardware) c.args.hart access value c.step.result (machine_state new.table new.hardware) aligned inside
-    (subst (λ e. Step (machine_state old.table old.hardware) c.args.hart e c.step.result (machine_state new.table new.hardware)) is (c.step.ensures.step right))
+    answers_by_view (machine_state old.table old.hardware) c.args.hart c.args.event c.step.result (machine_state new.table new.hardware) (c.step.ensures.step right)
 
 pub returns-clause-denied : goal.returns-clause-denied
 returns-clause-denied c = λ right.
@@ -33,3 +34,21 @@ returns-clause-destroyed c = λ right.
     let old = c.args.self.now.parts in
     let new = c.step.new.self in
     zeroes_destroyed (machine_state old.table old.hardware) c.args.hart c.args.event c.step.result (machine_state new.table new.hardware) (c.step.ensures.step right)
+
+pub returns-clause-entries : goal.returns-clause-entries
+returns-clause-entries c = λ right.
+    let old = c.args.self.now.parts in
+    let new = c.step.new.self in
+    refuses_by_need (machine_state old.table old.hardware) c.args.hart c.args.event c.step.result (machine_state new.table new.hardware) c.rules.ensures.table (c.step.ensures.step right)
+
+pub returns-clause-after : goal.returns-clause-after
+returns-clause-after c = λ platform events replies a.
+    let right = banks_of platform events replies c.args.self.now a in
+    happened a c.args.hart c.args.event c.step.result (record {
+      known = c.requires.hart;
+      possible = c.requires.event;
+      happened = c.step.ensures.step right;
+      judged = c.step.ensures.judged;
+      others = c.step.ensures.others;
+      kept = c.step.ensures.banks right;
+    })

@@ -1,6 +1,6 @@
 use Rattle.std.proofs.Common.{◌≡◌, ◌≢◌, ◌∙◌, Some, ap, sym, subst, arith}
 use Rattle.hart_trace.specs.Events.{meaning_of}
-use Rattle.hart_sim.specs.Reports.{Happens}
+use Rattle.hart_sim.specs.After.{Happens}
 use Rattle.hart_sim.specs.declared.reply.Reply.TheVariants.{NoMemory}
 use Rattle.hart_sim.proofs.KnownEvents.{line_known}
 use Rattle.hart_sim.proofs.running.MachineInterpreter.interpret.Goals as goal
@@ -24,6 +24,7 @@ returns-then-wants_memory-clause-starved c = λ is k.
       known = omega (arith, known.0, c.harts.ensures.value);
       possible = known.1;
       happened = c.step-reply.ensures.step k;
+      judged = c.step-reply.ensures.judged;
       others = c.step-reply.ensures.others;
       kept = c.step-reply.ensures.kept k;
     } in (
@@ -46,6 +47,7 @@ returns-clause-done c = λ k.
         known = omega (arith, known.0, c.harts.ensures.value);
         possible = known.1;
         happened = c.step-reply.ensures.step k;
+        judged = c.step-reply.ensures.judged;
         others = c.step-reply.ensures.others;
         kept = c.step-reply.ensures.kept k;
       },

@@ -1,0 +1,26 @@
+-- What holds of each step from a table that is sound.
+use Rattle.std.proofs.Common.{ℕ, subst}
+use Rattle.hart_trace.specs.declared.event.Event.{Event}
+use Rattle.hart_sim.specs.declared.reply.Reply.{Reply}
+use Rattle.hart_sim.specs.States.{State}
+use Rattle.hart_sim.specs.Steps.{Step}
+use Rattle.hart_sim.specs.Promises.{AnswersByView, StepsPromise}
+use Rattle.hart_sim.proofs.PrivateBytes.{keeps_private}
+use Rattle.hart_sim.proofs.Promised.{allowed_by_view, denies_others, zeroes_destroyed}
+use Rattle.hart_sim.proofs.Wanted.{refuses_by_need}
+use Rattle.hart_sim.proofs.SoundTables.{table_step}
+use Rattle.hart_sim.proofs.Layouts.{layout_stays}
+
+pub answers_by_view : (old : State) (hart : ℕ) (event : Event) (reply : Reply) (new : State) → Step old hart event reply new → AnswersByView old hart event reply
+answers_by_view old hart event reply new x = λ a value is aligned inside. allowed_by_view old hart a value reply new aligned inside (subst (λ e. Step old hart e reply new) is x)
+
+pub promised : StepsPromise
+promised old hart event reply new t x = record {
+  allowed = answers_by_view old hart event reply new x;
+  private = keeps_private old hart event reply new t x;
+  denied = denies_others old hart event reply new t x;
+  destroyed = zeroes_destroyed old hart event reply new x;
+  wants = refuses_by_need old hart event reply new t x;
+  table = table_step old hart event reply new x t;
+  platform = layout_stays old hart event reply new x;
+}
