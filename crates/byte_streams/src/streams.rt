@@ -2,7 +2,7 @@
 //! its failures, so that a contract can say what was read and written, and that a fault comes only
 //! where a device failed.
 
-ghost use Rattle.std.specs.Prelude.{◌≡◌, ℕ, ◌+◌, ◌-◌, ◌^◌, ◌<◌, ◌≤◌, List, Option, Some, Ok, IfOk, IfErr, min, MatchResult, length, take};
+ghost use Rattle.std.specs.Prelude.{◌≡◌, ℕ, ◌<◌, ◌≤◌, List, Option, Some, Ok, IfOk, IfErr, min, length, take};
 ghost use Rattle.std.specs.Io.KnownBytes.{ReadConsumes, WriteAppends, Appends};
 ghost use Rattle.byte_streams.specs.Streams.{CountsFailure, CountsStall, WriteFails, inner_of, failures_of, stalls_of};
 
@@ -19,16 +19,15 @@ pub trait Source {
     /// The bytes that are still to come, where they are known.
     ghost remaining: { Self → Option (List ℕ) };
 
-    /// How often a read has failed.
+    /// How often a read has failed, in 64 bits: the count stays at its greatest.
     ghost failures: { Self → ℕ };
 
     /// Reads some bytes to the front of `buf`, and says how many. None into a buffer that is not
     /// empty is the end of the input.
     fn read(&mut self, buf: &mut [u8]) -> Result<usize, DeviceFault>
-        requires { failures self.old < 2 ^ 64 - 1 }
         ensures bound { IfOk result (λ n. n ≤ length buf.new) }
         ensures bytes { ReadConsumes (remaining self.old) (remaining self.new) result buf.new }
-        ensures failures { MatchResult result (λ _. failures self.new ≡ failures self.old) (λ _. failures self.new ≡ failures self.old + 1) };
+        ensures failures { CountsFailure result (failures self.old) (failures self.new) };
 }
 
 /// A device that bytes go to.
@@ -36,7 +35,7 @@ pub trait Sink {
     /// The bytes that it has taken, where they are known.
     ghost contents: { Self → Option (List ℕ) };
 
-    /// How often a write has failed.
+    /// How often a write has failed, in 64 bits: the count stays at its greatest.
     ghost failures: { Self → ℕ };
 
     /// How often a write took none of some bytes, in 64 bits.
@@ -44,10 +43,9 @@ pub trait Sink {
 
     /// Takes some bytes of the front of `buf`, and says how many.
     fn write(&mut self, buf: &[u8]) -> Result<usize, DeviceFault>
-        requires { failures self.old < 2 ^ 64 - 1 }
         ensures bound { IfOk result (λ n. n ≤ length buf.now) }
         ensures bytes { WriteAppends (contents self.old) (contents self.new) result buf.now }
-        ensures failures { MatchResult result (λ _. failures self.new ≡ failures self.old) (λ _. failures self.new ≡ failures self.old + 1) }
+        ensures failures { CountsFailure result (failures self.old) (failures self.new) }
         ensures stalls { CountsStall result buf.now (stalls self.old) (stalls self.new) };
 }
 
@@ -110,11 +108,12 @@ impl<T: Read> Source for Counted<T> {
 
     ghost failures = { failures_of };
 
+    #[tactic(auto, unfolding(crate::specs::Streams::one_failure_more))]
     fn read(&mut self, buf: &mut [u8]) -> Result<usize, DeviceFault> {
         match self.inner.read(buf) {
             Ok(n) => Ok(n),
             Err(_) => {
-                self.failures += 1;
+                self.failures = self.failures.saturating_add(1);
                 Err(DeviceFault)
             }
         }
@@ -128,6 +127,7 @@ impl<T: Write> Sink for Counted<T> {
 
     ghost stalls = { stalls_of };
 
+    #[tactic(auto, unfolding(crate::specs::Streams::one_failure_more))]
     fn write(&mut self, buf: &[u8]) -> Result<usize, DeviceFault> {
         match self.inner.write(buf) {
             Ok(n) => {
@@ -137,7 +137,7 @@ impl<T: Write> Sink for Counted<T> {
                 Ok(n)
             }
             Err(_) => {
-                self.failures += 1;
+                self.failures = self.failures.saturating_add(1);
                 Err(DeviceFault)
             }
         }
@@ -146,7 +146,6 @@ impl<T: Write> Sink for Counted<T> {
 
 /// Writes all of the bytes. A write that takes none of some bytes is a fault too.
 pub fn write_whole<W: Sink>(sink: &mut W, bytes: &[u8]) -> Result<(), DeviceFault>
-    requires { W.failures sink.old < 2 ^ 64 - 1 }
     ensures whole { IfOk result (λ _. Appends (W.contents sink.old) (W.contents sink.new) bytes.now) }
     ensures well { IfOk result (λ _. W.failures sink.new ≡ W.failures sink.old) }
     ensures unstalled { IfOk result (λ _. W.stalls sink.new ≡ W.stalls sink.old) }

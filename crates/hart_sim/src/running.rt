@@ -64,8 +64,6 @@ pub fn run<R: Source, W: Sink>(
     source: &mut R,
     sink: &mut W,
 ) -> Result<(), RunFault>
-    requires source { R.failures source.old < 2 ^ 64 - 1 }
-    requires sink { W.failures sink.old < 2 ^ 64 - 1 }
     ensures reported { IsReported }
     ensures all { KeepsBanksRight machine.old → IfOk result (λ _. DoesAll DoesLine machine.old machine.new (R.remaining source.old) (R.remaining source.new) (W.contents sink.old) (W.contents sink.new)) }
     ensures line { KeepsBanksRight machine.old → (n : ℕ) → result ≡ Err (RunFault.Line n) → StopsAt n DoesLine RefusesLine machine.old machine.new (R.remaining source.old) (R.remaining source.new) (W.contents sink.old) (W.contents sink.new) }

@@ -47,7 +47,6 @@ pub fn lint<W: Sink>(
     bytes: &[u8],
     out: &mut W,
 ) -> Result<bool, LintFault>
-    requires failures { W.failures out.old < 2 ^ 64 - 1 }
     requires short { length bytes.now < 2 ^ 64 - 1 }
     ensures map { result ≡ Ok true → (map : List Run) × Makes bytes.now map }
     ensures fault { result ≡ Ok false → IsAtFault bytes.now }

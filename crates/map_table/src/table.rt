@@ -66,7 +66,6 @@ pub fn print_map<W: Sink>(
     limit: Limit,
     out: &mut W,
 ) -> Result<(), TableFault>
-    requires failures { W.failures out.old < 2 ^ 64 - 1 }
     requires means { Means entries.now (view_of_runs map.now) }
     requires least { (others : List Entry) → Means others (view_of_runs map.now) → length entries.now ≤ length others }
     ensures written { OnOk result ((text : List ℕ) × IsTable (view_of_runs map.now) entries.now limit text × Appends (W.contents out.old) (W.contents out.new) text) }

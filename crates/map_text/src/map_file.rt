@@ -34,6 +34,7 @@ enum LineFault {
 }
 
 /// Hands out the next line of bytes that are all there, or says that there is none; or which line is too long.
+#[tactic(auto, unfolding(byte_streams::specs::Streams::one_failure_more))]
 pub fn next_line(lines: &mut LineReader, rest: &mut &[u8]) -> Result<bool, u64>
     requires limit { most_of lines.old ≡ 2 ^ 64 - 1 }
     requires few { came_of lines.old + length rest.old.now < 2 ^ 64 - 1 }

@@ -2,6 +2,7 @@
 use Rattle.std.proofs.Common.{ℕ, ◌≡◌, ◌≢◌, ◌+◌, ◌^◌, ◌<◌, ◌⊎◌, inl, inr, List, length, refl, Result, Ok, Err, IfErr}
 use Rattle.std.specs.Borrow.{Bor}
 use Rattle.std.specs.Io.KnownBytes.{Consumes}
+use Rattle.byte_streams.specs.Streams.{one_failure_more}
 use Rattle.map_text.specs.declared.map_file.MapFileFault.{MapFileFault}
 use Rattle.map_text.specs.declared.map_file.MapFileFault.TheVariants as maps
 use Rattle.map_text.specs.MapFile.{FaultAt, IsUnknown, MakesFirst, MakesTooMany}
@@ -18,7 +19,7 @@ use Rattle.program_troubles.specs.Troubles.{whole_trouble}
 pub no_bytes :
     {R : Type 0} (most : ℕ) (file : Bor (List ℕ)) (source : Reading R) (fault : WholeFault)
     → (fault ≡ whole.TooLarge → (bytes : List ℕ) × Consumes source.before source.after bytes × (most < length bytes))
-    → (fault ≡ whole.Read → source.failed ≡ source.failures + 1)
+    → (fault ≡ whole.Read → source.failed ≡ one_failure_more source.failures)
     → (fault ≢ whole.Read → source.failed ≡ source.failures)
     → HasNoBytes most file source (whole_trouble file fault)
 no_bytes most file source whole.TooLarge large failed well = let b = large refl in too_large b.0 b.1 b.2

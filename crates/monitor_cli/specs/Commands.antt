@@ -2,7 +2,7 @@
 use Rattle.std.specs.Prelude.{◌≡◌, ℕ, ◌+◌, ◌^◌, ◌<◌, ◌≤◌, min, Bool, true, false, List, Option, Some, None, Result, Ok, Err, length}
 use Rattle.std.specs.Borrow.{Bor}
 use Rattle.std.specs.Io.KnownBytes.{Appends, Consumes}
-use Rattle.byte_streams.specs.Streams.{WriteFails}
+use Rattle.byte_streams.specs.Streams.{WriteFails, one_failure_more}
 use Rattle.pmp_encoding.specs.declared.bank.Bank.{Bank}
 use Rattle.pmp_encoding.specs.declared.limit.Limit.{Limit}
 use Rattle.pmp_encoding.specs.declared.region.Entry.{Entry}
@@ -125,7 +125,7 @@ pub record HasBytes {R : Type 0} (most : ℕ) (source : Reading R) (bytes : List
 -- why a file could not be had
 pub data HasNoBytes {R : Type 0} (most : ℕ) (file : Bor (List ℕ)) (source : Reading R) : Trouble → Type 0 where
   too_large : (bytes : List ℕ) → Consumes source.before source.after bytes → most < length bytes → HasNoBytes most file source (TooLarge file)
-  cannot_read : source.failed ≡ source.failures + 1 → HasNoBytes most file source (CannotRead file)
+  cannot_read : source.failed ≡ one_failure_more source.failures → HasNoBytes most file source (CannotRead file)
   memory : source.failed ≡ source.failures → HasNoBytes most file source Memory
 
 -- the bytes of a file make the map
@@ -161,7 +161,7 @@ IsCertified view limit entries (Some file) cert =
 -- bytes were not written whole, or they were not put in their place
 pub data IsNotPlaced {C : Type 0} (bytes : List ℕ) (cert : Placing C) : Type 0 where
   not_written : Breaks bytes cert.sink → IsNotPlaced bytes cert
-  not_moved : Appends cert.sink.before cert.sink.after bytes → cert.sink.failed ≡ cert.sink.failures + 1 → cert.sink.stalled ≡ cert.sink.stalls → IsNotPlaced bytes cert
+  not_moved : Appends cert.sink.before cert.sink.after bytes → cert.sink.failed ≡ one_failure_more cert.sink.failures → cert.sink.stalled ≡ cert.sink.stalls → IsNotPlaced bytes cert
 
 -- as many entries as that are within the bound, or beyond it
 abbrev pub IsWithin : Option ℕ → ℕ → Type 0

@@ -84,7 +84,6 @@ fn put<'a, C: WholeSink>(
     file: &'a str,
     sink: &mut C,
 ) -> Result<(), Trouble<'a>>
-    requires failures { C.failures sink.old < 2 ^ 64 - 1 }
     requires splits { splits (tree_of (view_of_runs map.now)) ≡ length plan.now.costs }
     ensures put { IfOk result (λ _. TakesAll (certificate_for limit plan.now (tree_of (view_of_runs map.now))) (writing C.contents C.failures C.stalls sink.old sink.new) × (C.stands sink.new ≡ C.contents sink.new)) }
     ensures broken { IfErr result (λ trouble. (trouble ≡ Trouble.CannotWrite file.entry) × IsNotPlaced (certificate_for limit plan.now (tree_of (view_of_runs map.now))) (placing C.contents C.failures C.stalls C.stands sink.old sink.new)) }
@@ -107,7 +106,6 @@ pub fn plan_and_certify<'a, C: WholeSink>(
     cert: Option<&'a str>,
     sink: &mut C,
 ) -> Result<Plan, Trouble<'a>>
-    requires { C.failures sink.old < 2 ^ 64 - 1 }
     ensures planned { IfOk result (λ plan. IsPlanned (view_of_runs map.now) most plan.entries) }
     ensures certified { IfOk result (λ plan. IsCertified (view_of_runs map.now) limit plan.entries cert.entry (placing C.contents C.failures C.stalls C.stands sink.old sink.new)) }
     ensures refused { IfErr result (λ trouble. IsUnplanned (view_of_runs map.now) limit most cert.entry (placing C.contents C.failures C.stalls C.stands sink.old sink.new) trouble) }

@@ -26,7 +26,6 @@ pub fn bytes_in<'a, R: Source>(
     source: &mut R,
     most: usize,
 ) -> Result<Vec<u8>, Trouble<'a>>
-    requires failures { R.failures source.old < 2 ^ 64 - 1 }
     requires most { most < 2 ^ 32 }
     ensures whole { IfOk result (λ bytes. HasBytes most (reading R.remaining R.failures source.old source.new) bytes.items) }
     ensures refused { IfErr result (HasNoBytes most file.entry (reading R.remaining R.failures source.old source.new)) }
@@ -43,7 +42,6 @@ pub fn map_in<'a, R: Source>(
     file: &'a str,
     source: &mut R,
 ) -> Result<PermissionMap, Trouble<'a>>
-    requires { R.failures source.old < 2 ^ 64 - 1 }
     ensures made { IfOk result (HasMap (reading R.remaining R.failures source.old source.new)) }
     ensures refused { IfErr result (HasNoMap file.entry (reading R.remaining R.failures source.old source.new)) }
 {
@@ -60,7 +58,6 @@ pub fn read_platform<'a, R: Source>(
     file: &'a str,
     source: &mut R,
 ) -> Result<Platform, Trouble<'a>>
-    requires { R.failures source.old < 2 ^ 64 - 1 }
     ensures made { IfOk result (HasPlatform (reading R.remaining R.failures source.old source.new)) }
     ensures refused { IfErr result (HasNoPlatform file.entry (reading R.remaining R.failures source.old source.new)) }
 {

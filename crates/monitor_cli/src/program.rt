@@ -15,7 +15,6 @@ use std::alloc::Global;
 
 /// The status of a task, whose trouble is told on standard error.
 fn ended<E: Sink>(done: Result<u8, Trouble<'_>>, err: &mut E) -> u8
-    requires { E.failures err.old < 2 ^ 64 - 1 }
     ensures status { result ≡ status_of done.entry }
     ensures quiet { IfOk done.entry (λ _. err.new ≡ err.old) }
     ensures told { IfErr done.entry (λ trouble. Appends (E.contents err.old) (E.contents err.new) (trouble_text trouble) ⊎ TakesPart (trouble_text trouble) (E.contents err.old) (E.contents err.new)) }
@@ -39,10 +38,6 @@ fn done<'a, R: Source, C: WholeSink, W: Sink>(
     cert: &mut C,
     out: &mut W,
 ) -> Result<u8, Trouble<'a>>
-    requires first { R.failures first.old < 2 ^ 64 - 1 }
-    requires second { R.failures second.old < 2 ^ 64 - 1 }
-    requires cert { C.failures cert.old < 2 ^ 64 - 1 }
-    requires out { W.failures out.old < 2 ^ 64 - 1 }
     ensures { let source = reading R.remaining R.failures in Performs task.now (source first.old first.new) (source second.old second.new) (placing C.contents C.failures C.stalls C.stands cert.old cert.new) (writing W.contents W.failures W.stalls out.old out.new) result }
 {
     match task {
@@ -93,11 +88,6 @@ pub fn perform<R: Source, C: WholeSink, W: Sink, E: Sink>(
     out: &mut W,
     err: &mut E,
 ) -> u8
-    requires first { R.failures first.old < 2 ^ 64 - 1 }
-    requires second { R.failures second.old < 2 ^ 64 - 1 }
-    requires cert { C.failures cert.old < 2 ^ 64 - 1 }
-    requires out { W.failures out.old < 2 ^ 64 - 1 }
-    requires err { E.failures err.old < 2 ^ 64 - 1 }
     ensures { let source = reading R.remaining R.failures in Ends task.now (source first.old first.new) (source second.old second.new) (placing C.contents C.failures C.stalls C.stands cert.old cert.new) (writing W.contents W.failures W.stalls out.old out.new) (writing E.contents E.failures E.stalls err.old err.new) result }
 {
     let done = done(alloc, task, first, second, cert, out);

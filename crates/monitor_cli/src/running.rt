@@ -93,7 +93,6 @@ fn digest_of(table: &Table, id: u64) -> Option<[u8; 32]>
 
 /// Writes the line of an enclave, where it is live.
 fn print_measure<W: Sink>(table: &Table, id: u64, out: &mut W) -> Result<(), DeviceFault>
-    requires { W.failures out.old < 2 ^ 64 - 1 }
     ensures written { IfOk result (λ _. (text : List ℕ) × IsMeasureText table.now.table id text × Appends (W.contents out.old) (W.contents out.new) text) }
     ensures well { IfOk result (λ _. W.failures out.new ≡ W.failures out.old) }
     ensures unstalled { IfOk result (λ _. W.stalls out.new ≡ W.stalls out.old) }
@@ -110,7 +109,6 @@ fn print_measure<W: Sink>(table: &Table, id: u64, out: &mut W) -> Result<(), Dev
 
 /// Writes a line for each live enclave, by rising id.
 pub fn print_measures<W: Sink>(table: &Table, out: &mut W) -> Result<(), DeviceFault>
-    requires { W.failures out.old < 2 ^ 64 - 1 }
     ensures written { IfOk result (λ _. (text : List ℕ) × AreMeasures table.now.table 64 text × Appends (W.contents out.old) (W.contents out.new) text) }
     ensures well { IfOk result (λ _. W.failures out.new ≡ W.failures out.old) }
     ensures unstalled { IfOk result (λ _. W.stalls out.new ≡ W.stalls out.old) }

@@ -114,7 +114,6 @@ fn make_room<W: Sink>(
     room: usize,
     sink: &mut W,
 ) -> Result<(), DeviceFault>
-    requires failures { W.failures sink.old < 2 ^ 64 - 1 }
     requires small { room ≤ 32768 }
     ensures room { OnOk result (length piece.new.items + room ≤ 32768) }
     ensures put { IfOk result (λ _. IsPut piece.old.items piece.new.items (taken W.contents W.failures W.stalls sink.old) (taken W.contents W.failures W.stalls sink.new) []) }
@@ -136,7 +135,6 @@ fn put<W: Sink>(
     bytes: &[u8],
     sink: &mut W,
 ) -> Result<(), DeviceFault>
-    requires failures { W.failures sink.old < 2 ^ 64 - 1 }
     requires small { length bytes.now ≤ 32768 }
     ensures put { IfOk result (λ _. IsPut piece.old.items piece.new.items (taken W.contents W.failures W.stalls sink.old) (taken W.contents W.failures W.stalls sink.new) bytes.now) }
     ensures cut { IfErr result (λ _. IsCut piece.old.items (taken W.contents W.failures W.stalls sink.old) (taken W.contents W.failures W.stalls sink.new) bytes.now) }
@@ -154,7 +152,6 @@ fn put_entries<W: Sink>(
     entries: &[Entry],
     sink: &mut W,
 ) -> Result<(), DeviceFault>
-    requires failures { W.failures sink.old < 2 ^ 64 - 1 }
     ensures put { IfOk result (λ _. IsPut piece.old.items piece.new.items (taken W.contents W.failures W.stalls sink.old) (taken W.contents W.failures W.stalls sink.new) (flat_map entry_bytes entries.now)) }
     ensures cut { IfErr result (λ _. IsCut piece.old.items (taken W.contents W.failures W.stalls sink.old) (taken W.contents W.failures W.stalls sink.new) (flat_map entry_bytes entries.now)) }
 {
@@ -219,7 +216,6 @@ fn put_heads<W: Sink>(
     i: usize,
     sink: &mut W,
 ) -> Result<(), DeviceFault>
-    requires failures { W.failures sink.old < 2 ^ 64 - 1 }
     requires chain { IsChain chain }
     requires counted { i + chain.levels ≤ length plan.now.costs }
     requires small { length plan.now.costs < 2 ^ 64 }
@@ -240,7 +236,6 @@ fn put_tails<W: Sink>(
     chain: Chain,
     sink: &mut W,
 ) -> Result<(), DeviceFault>
-    requires failures { W.failures sink.old < 2 ^ 64 - 1 }
     requires chain { IsChain chain }
     ensures put { IfOk result (λ _. IsPut piece.old.items piece.new.items (taken W.contents W.failures W.stalls sink.old) (taken W.contents W.failures W.stalls sink.new) (tail_bytes chain.levels chain.place chain.behind)) }
     ensures cut { IfErr result (λ _. (bytes : List ℕ) → IsCut piece.old.items (taken W.contents W.failures W.stalls sink.old) (taken W.contents W.failures W.stalls sink.new) bytes) }
@@ -260,7 +255,6 @@ fn put_node<H: Halving, W: Sink>(
     i: usize,
     sink: &mut W,
 ) -> Result<usize, DeviceFault>
-    requires failures { W.failures sink.old < 2 ^ 64 - 1 }
     requires counted { i + splits (H.shape block.now) ≤ length plan.now.costs }
     requires small { length plan.now.costs < 2 ^ 64 }
     ensures next { IfOk result (λ next. next ≡ i + splits (H.shape block.now)) }
@@ -308,7 +302,6 @@ pub(crate) fn send<H: Halving, W: Sink>(
     limit: Limit,
     sink: &mut W,
 ) -> Result<(), DeviceFault>
-    requires failures { W.failures sink.old < 2 ^ 64 - 1 }
     requires splits { splits (H.shape root.now) ≡ length plan.now.costs }
     requires small { length plan.now.costs < 2 ^ 64 }
     ensures whole { IfOk result (λ _. Appends (W.contents sink.old) (W.contents sink.new) (certificate_for limit plan.now (H.shape root.now))) }

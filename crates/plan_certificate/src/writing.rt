@@ -74,7 +74,6 @@ pub fn send_map<W: Sink>(
     limit: Limit,
     sink: &mut W,
 ) -> Result<(), DeviceFault>
-    requires failures { W.failures sink.old < 2 ^ 64 - 1 }
     requires splits { splits (tree_of (view_of_runs map.now)) ≡ length plan.now.costs }
     ensures whole { IfOk result (λ _. Appends (W.contents sink.old) (W.contents sink.new) (certificate_for limit plan.now (tree_of (view_of_runs map.now)))) }
     ensures well { IfOk result (λ _. W.failures sink.new ≡ W.failures sink.old) }

@@ -12,7 +12,6 @@ use pmp_encoding::{Bank, Entry, Limit};
 
 /// Writes a line for each entry.
 fn print_entries<W: Sink>(entries: &[Entry], out: &mut W) -> Result<(), DeviceFault>
-    requires { W.failures out.old < 2 ^ 64 - 1 }
     ensures well { IfOk result (λ _. W.failures out.new ≡ W.failures out.old) }
     ensures unstalled { IfOk result (λ _. W.stalls out.new ≡ W.stalls out.old) }
     ensures written { IfOk result (λ _. Appends (W.contents out.old) (W.contents out.new) (entries_text 0 entries.now)) }
@@ -30,7 +29,6 @@ fn print_entries<W: Sink>(entries: &[Entry], out: &mut W) -> Result<(), DeviceFa
 
 /// Writes the number of entries, and a line for each.
 fn print_list<W: Sink>(entries: &[Entry], out: &mut W) -> Result<(), DeviceFault>
-    requires { W.failures out.old < 2 ^ 64 - 1 }
     ensures well { IfOk result (λ _. W.failures out.new ≡ W.failures out.old) }
     ensures unstalled { IfOk result (λ _. W.stalls out.new ≡ W.stalls out.old) }
     ensures written { IfOk result (λ _. Appends (W.contents out.old) (W.contents out.new) (list_text entries.now)) }
@@ -45,7 +43,6 @@ fn print_list<W: Sink>(entries: &[Entry], out: &mut W) -> Result<(), DeviceFault
 
 /// Writes the first words of a bank, a line for each.
 fn print_words<W: Sink>(bank: &Bank, count: usize, out: &mut W) -> Result<(), DeviceFault>
-    requires failures { W.failures out.old < 2 ^ 64 - 1 }
     requires count { count ≤ 8 }
     ensures well { IfOk result (λ _. W.failures out.new ≡ W.failures out.old) }
     ensures unstalled { IfOk result (λ _. W.stalls out.new ≡ W.stalls out.old) }
@@ -66,7 +63,6 @@ fn print_words<W: Sink>(bank: &Bank, count: usize, out: &mut W) -> Result<(), De
 /// On an `Err` a beginning of this text was written, not all of it, and the device failed, or took none of some bytes, in
 /// this call.
 pub fn print_plan<W: Sink>(entries: &[Entry], limit: Limit, out: &mut W) -> Result<(), DeviceFault>
-    requires { W.failures out.old < 2 ^ 64 - 1 }
     ensures written { IfOk result (λ _. (text : List ℕ) × IsPlanText limit entries.now text × Appends (W.contents out.old) (W.contents out.new) text) }
     ensures well { IfOk result (λ _. W.failures out.new ≡ W.failures out.old) }
     ensures unstalled { IfOk result (λ _. W.stalls out.new ≡ W.stalls out.old) }

@@ -2,7 +2,7 @@
 
 ghost use Rattle.std.specs.Io.{WritesAtMost};
 ghost use Rattle.std.specs.Io.KnownBytes.{WriteAppends};
-ghost use Rattle.byte_streams.specs.Streams.{inner_of};
+ghost use Rattle.byte_streams.specs.Streams.{CountsFailure, inner_of};
 ghost use Rattle.std.specs.Path.{path_buf_bytes};
 ghost use Rattle.std.specs.Prelude.{◌≡◌, ◌+◌, ◌-◌, ◌^◌, ◌<◌, ◌⊎◌, ℕ, List, Option, None, true, false, IfErr, IfOk, IfSome, MatchResult, option_and_then, string_bytes};
 ghost use Rattle.program_files.specs.Beside.{IsNumbered, part_name};
@@ -23,11 +23,10 @@ pub trait WholeSink: Sink {
 
     /// Puts what was written in its place.
     fn put_in_place(&mut self) -> Result<(), DeviceFault>
-        requires { Self.failures self.old < 2 ^ 64 - 1 }
         ensures placed { IfOk result (λ _. stands self.new ≡ Self.contents self.old) }
         ensures stays { IfErr result (λ _. stands self.new ≡ stands self.old) }
         ensures contents { Self.contents self.new ≡ Self.contents self.old }
-        ensures failures { MatchResult result (λ _. Self.failures self.new ≡ Self.failures self.old) (λ _. Self.failures self.new ≡ Self.failures self.old + 1) }
+        ensures failures { CountsFailure result (Self.failures self.old) (Self.failures self.new) }
         ensures stalls { Self.stalls self.new ≡ Self.stalls self.old };
 }
 
@@ -199,12 +198,13 @@ impl<R: Files> Sink for CertificateFile<'_, R> {
 
     ghost stalls = { λ c. c.stalls };
 
+    #[tactic(auto, unfolding(byte_streams::specs::Streams::one_failure_more))]
     fn write(&mut self, buf: &[u8]) -> Result<usize, DeviceFault> {
         match self.write_some(buf) {
             Ok(n) if n > 0 || buf.is_empty() => Ok(n),
             _ => {
                 self.discard();
-                self.failures += 1;
+                self.failures = self.failures.saturating_add(1);
                 Err(DeviceFault)
             }
         }
@@ -214,12 +214,13 @@ impl<R: Files> Sink for CertificateFile<'_, R> {
 impl<R: Files> WholeSink for CertificateFile<'_, R> {
     ghost stands = { λ _. None };
 
+    #[tactic(auto, unfolding(byte_streams::specs::Streams::one_failure_more))]
     fn put_in_place(&mut self) -> Result<(), DeviceFault> {
         match self.move_in() {
             Ok(()) => Ok(()),
             Err(_) => {
                 self.discard();
-                self.failures += 1;
+                self.failures = self.failures.saturating_add(1);
                 Err(DeviceFault)
             }
         }

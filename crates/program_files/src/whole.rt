@@ -2,6 +2,7 @@
 
 ghost use Rattle.std.specs.Prelude.{◌≡◌, ◌≢◌, ℕ, ◌+◌, ◌-◌, ◌^◌, ◌<◌, ◌≤◌, List, IfOk, Err, length};
 ghost use Rattle.std.specs.Io.KnownBytes.{Consumes, IsAtEnd};
+ghost use Rattle.byte_streams.specs.Streams.{one_failure_more};
 
 use byte_streams::Source;
 use std::alloc::Global;
@@ -27,13 +28,12 @@ pub fn read_whole<R: Source>(
     source: &mut R,
     most: usize,
 ) -> Result<Vec<u8>, WholeFault>
-    requires failures { R.failures source.old < 2 ^ 64 - 1 }
     requires most { most < 2 ^ 32 }
     ensures whole { IfOk result (λ bytes. Consumes (R.remaining source.old) (R.remaining source.new) bytes.items) }
     ensures at_end { IfOk result (λ bytes. IsAtEnd (R.remaining source.new)) }
     ensures most { IfOk result (λ bytes. length bytes.items ≤ most) }
     ensures large { result ≡ Err WholeFault.TooLarge → (bytes : List ℕ) × Consumes (R.remaining source.old) (R.remaining source.new) bytes × (most < length bytes) }
-    ensures failed { result ≡ Err WholeFault.Read → R.failures source.new ≡ R.failures source.old + 1 }
+    ensures failed { result ≡ Err WholeFault.Read → R.failures source.new ≡ one_failure_more (R.failures source.old) }
     ensures well { result ≢ Err WholeFault.Read → R.failures source.new ≡ R.failures source.old }
 {
     let mut bytes = Vec::new(alloc);

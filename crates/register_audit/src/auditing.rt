@@ -45,7 +45,6 @@ pub fn audit<W: Sink>(
     listing: &[u8],
     out: &mut W,
 ) -> Result<bool, AuditFault>
-    requires failures { W.failures out.old < 2 ^ 64 - 1 }
     requires short { length listing.now < 2 ^ 64 - 1 }
     ensures written { IfOk result (λ means. (text : List ℕ) × IsAudit (view_of_runs map.now) fewest listing.now text means × Appends (W.contents out.old) (W.contents out.new) text) }
     ensures means { result ≡ Ok true → (registers : Registers) × (listed listing.now ≡ Some registers) × MeanView registers (view_of_runs map.now) }

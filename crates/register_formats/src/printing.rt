@@ -37,7 +37,6 @@ fn head() -> &'static [u8]
 /// On an `Err` a beginning of this text was written, not all of it, and the device failed, or took none of some bytes, in
 /// this call.
 pub fn print_c<W: Sink>(entries: &[Entry], limit: Limit, out: &mut W) -> Result<(), DeviceFault>
-    requires failures { W.failures out.old < 2 ^ 64 - 1 }
     requires fits { length entries.now ≤ limit_number limit }
     ensures written { IfOk result (λ _. (text : List ℕ) × IsCText limit entries.now text × Appends (W.contents out.old) (W.contents out.new) text) }
     ensures well { IfOk result (λ _. W.failures out.new ≡ W.failures out.old) }
@@ -66,7 +65,6 @@ pub fn print_c<W: Sink>(entries: &[Entry], limit: Limit, out: &mut W) -> Result<
 /// On an `Err` a beginning of this text was written, not all of it, and the device failed, or took none of some bytes, in
 /// this call.
 pub fn print_asm<W: Sink>(entries: &[Entry], limit: Limit, out: &mut W) -> Result<(), DeviceFault>
-    requires failures { W.failures out.old < 2 ^ 64 - 1 }
     requires fits { length entries.now ≤ limit_number limit }
     ensures written { IfOk result (λ _. (text : List ℕ) × IsAsmText limit entries.now text × Appends (W.contents out.old) (W.contents out.new) text) }
     ensures well { IfOk result (λ _. W.failures out.new ≡ W.failures out.old) }
@@ -97,7 +95,6 @@ fn print_object<W: Sink>(
     count: usize,
     out: &mut W,
 ) -> Result<(), DeviceFault>
-    requires failures { W.failures out.old < 2 ^ 64 - 1 }
     requires count { count ≤ 8 }
     ensures written { IfOk result (λ _. Appends (W.contents out.old) (W.contents out.new) (json_text name.now entries.now bank.now count)) }
     ensures well { IfOk result (λ _. W.failures out.new ≡ W.failures out.old) }
@@ -131,7 +128,6 @@ pub fn print_json<W: Sink>(
     limit: Limit,
     out: &mut W,
 ) -> Result<(), DeviceFault>
-    requires { W.failures out.old < 2 ^ 64 - 1 }
     ensures written { IfOk result (λ _. (text : List ℕ) × IsJsonText map.now limit entries.now text × Appends (W.contents out.old) (W.contents out.new) text) }
     ensures well { IfOk result (λ _. W.failures out.new ≡ W.failures out.old) }
     ensures unstalled { IfOk result (λ _. W.stalls out.new ≡ W.stalls out.old) }

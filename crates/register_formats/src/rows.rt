@@ -32,7 +32,6 @@ pub(crate) trait Rows {
 
 /// Writes a row.
 fn print_row<W: Sink>(row: &Row, out: &mut W) -> Result<(), DeviceFault>
-    requires { W.failures out.old < 2 ^ 64 - 1 }
     ensures well { IfOk result (λ _. W.failures out.new ≡ W.failures out.old) }
     ensures unstalled { IfOk result (λ _. W.stalls out.new ≡ W.stalls out.old) }
     ensures written { IfOk result (λ _. Appends (W.contents out.old) (W.contents out.new) (row.now.front.items ++ row.now.back.items)) }
@@ -46,7 +45,6 @@ fn print_row<W: Sink>(row: &Row, out: &mut W) -> Result<(), DeviceFault>
 
 /// Writes rows from the first on.
 fn print_rows<R: Rows, W: Sink>(rows: &R, count: usize, out: &mut W) -> Result<(), DeviceFault>
-    requires failures { W.failures out.old < 2 ^ 64 - 1 }
     requires most { count ≤ R.most rows.now }
     ensures well { IfOk result (λ _. W.failures out.new ≡ W.failures out.old) }
     ensures unstalled { IfOk result (λ _. W.stalls out.new ≡ W.stalls out.old) }
@@ -68,7 +66,6 @@ pub(crate) fn print_section<R: Rows, W: Sink>(
     count: usize,
     out: &mut W,
 ) -> Result<(), DeviceFault>
-    requires failures { W.failures out.old < 2 ^ 64 - 1 }
     requires most { count ≤ R.most rows.now }
     ensures well { IfOk result (λ _. W.failures out.new ≡ W.failures out.old) }
     ensures unstalled { IfOk result (λ _. W.stalls out.new ≡ W.stalls out.old) }

@@ -3,7 +3,7 @@ use Rattle.std.specs.Prelude.{◌≡◌, ◌⊎◌, ℕ, ◌+◌, ◌^◌, ◌<�
 use Rattle.std.specs.List.{concat}
 use Rattle.std.specs.Io.KnownBytes.{Appends, Consumes, IsAtEnd}
 use Rattle.arrayvec.specs.declared.array_vec.ArrayVec.{ArrayVec}
-use Rattle.byte_streams.specs.Streams.{WriteFails}
+use Rattle.byte_streams.specs.Streams.{WriteFails, one_failure_more}
 use Rattle.text_lines.specs.declared.fault.RunFault.{RunFault}
 use Rattle.text_lines.specs.declared.fault.RunFault.TheVariants as faults
 use Rattle.text_lines.specs.Lines.{AreLines, BeginsLongLine, IsShortLine, without_return}
@@ -120,7 +120,7 @@ pub record StopsForMemory {S : Type 0} (does : Meaning S) (starves : S → List 
 
 -- a read failed where the run ended so, and else none did
 abbrev pub CountsReads : Result (Unit {0}) RunFault → ℕ → ℕ → Type 0
-CountsReads (Err faults.Read) before after = after ≡ before + 1
+CountsReads (Err faults.Read) before after = after ≡ one_failure_more before
 CountsReads _ before after = after ≡ before
 
 -- a write failed or took none where the run ended so, and else none did

@@ -2,6 +2,7 @@
 use Rattle.std.specs.Prelude.{◌≡◌, ◌⊎◌, ℕ, ◌+◌, ◌-◌, ◌<◌, ◌≤◌, ◌==◌, Bool, true, not, List, [], ◌∷◌, ◌++◌, length, take, slice_index, if◌then◌else◌, Option, Result, Ok, Err}
 use Rattle.std.specs.List.{list_all}
 use Rattle.std.specs.Io.KnownBytes.{Consumes, IsAtEnd}
+use Rattle.byte_streams.specs.Streams.{one_failure_more}
 use Rattle.text_lines.specs.declared.fault.ReadFault.{ReadFault}
 use Rattle.text_lines.specs.declared.fault.ReadFault.TheVariants.{LongLine, TooManyBytes, Device}
 
@@ -38,5 +39,5 @@ OneListOfLines = (input : List ℕ) (lines others : List (List ℕ)) → AreLine
 abbrev pub EndsInput : Result (Unit {0}) ReadFault → Option (List ℕ) → Option (List ℕ) → ℕ → ℕ → Type 0
 EndsInput (Ok done) before after failures failed = Consumes before after [] × IsAtEnd after × (failed ≡ failures)
 EndsInput (Err TooManyBytes) before after failures failed = ((beyond : List ℕ) × (length beyond ≡ 1) × Consumes before after beyond) × (failed ≡ failures)
-EndsInput (Err Device) before after failures failed = Consumes before after [] × (failed ≡ failures + 1)
+EndsInput (Err Device) before after failures failed = Consumes before after [] × (failed ≡ one_failure_more failures)
 EndsInput (Err (LongLine n)) before after failures failed = ⊥

@@ -2,6 +2,7 @@
 
 ghost use Rattle.std.specs.Prelude.{◌≡◌, ◌+◌, ◌-◌, ◌^◌, ◌<◌, ◌≤◌, ◌++◌, ℕ, List, [], length, drop, MatchResult};
 ghost use Rattle.std.specs.Io.KnownBytes.{Consumes, Keeps, IsAtEnd};
+ghost use Rattle.byte_streams.specs.Streams.{CountsFailure};
 
 use byte_streams::{DeviceFault, Source};
 use std::marker::Model;
@@ -60,11 +61,10 @@ impl Buffer {
     ) -> Result<usize, DeviceFault>
         requires room { length self.old < 65536 }
         requires some { 0 < most }
-        requires failures { R.failures source.old < 2 ^ 64 - 1 }
         ensures read { MatchResult result
             (λ n. (n ≤ most) × ((bytes : List ℕ) × (length bytes ≡ n) × Consumes (R.remaining source.old) (R.remaining source.new) bytes × (self.new ≡ self.old ++ bytes)) × (n ≡ 0 → IsAtEnd (R.remaining source.new)))
             (λ _. Keeps (R.remaining source.old) (R.remaining source.new) × (self.new ≡ self.old)) }
-        ensures failures { MatchResult result (λ _. R.failures source.new ≡ R.failures source.old) (λ _. R.failures source.new ≡ R.failures source.old + 1) }
+        ensures failures { CountsFailure result (R.failures source.old) (R.failures source.new) }
     {
         let held = self.end - self.start;
         self.bytes.copy_within(self.start..self.end, 0);

@@ -58,7 +58,6 @@ fn write_answer<W: Sink>(
     sink: &mut W,
 ) -> Result<u64, DeviceFault>
     requires count { count < 2 ^ 64 - 1 }
-    requires failures { W.failures sink.old < 2 ^ 64 - 1 }
     ensures counted { IfOk result (λ n. n ≡ counted count (text_of answered answer.now)) }
     ensures whole { IfOk result (λ _. Appends (W.contents sink.old) (W.contents sink.new) (told (text_of answered answer.now))) }
     ensures well { IfOk result (λ _. W.failures sink.new ≡ W.failures sink.old) }
@@ -80,8 +79,6 @@ pub fn interpret_lines<I: Interpreter, R: Source, W: Sink>(
     source: &mut R,
     sink: &mut W,
 ) -> Result<(), RunFault>
-    requires source { R.failures source.old < 2 ^ 64 - 1 }
-    requires sink { W.failures sink.old < 2 ^ 64 - 1 }
     ensures all { I.keeps interpreter.old → IfOk result (λ _. DoesAll I.does interpreter.old interpreter.new (R.remaining source.old) (R.remaining source.new) (W.contents sink.old) (W.contents sink.new)) }
     ensures line { I.keeps interpreter.old → (n : ℕ) → result ≡ Err (RunFault.Line n) → StopsAt n I.does I.refuses interpreter.old interpreter.new (R.remaining source.old) (R.remaining source.new) (W.contents sink.old) (W.contents sink.new) }
     ensures too_long { I.keeps interpreter.old → result ≡ Err RunFault.TooLong → StopsTooLong I.does interpreter.old interpreter.new (R.remaining source.old) (R.remaining source.new) (W.contents sink.old) (W.contents sink.new) }

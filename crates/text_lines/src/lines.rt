@@ -43,7 +43,6 @@ pub fn without_return(line: &[u8]) -> &[u8]
 
 /// Reads where no further byte may come.
 fn read_end<R: Source>(source: &mut R) -> Result<(), ReadFault>
-    requires { R.failures source.old < 2 ^ 64 - 1 }
     ensures { EndsInput result (R.remaining source.old) (R.remaining source.new) (R.failures source.old) (R.failures source.new) }
 {
     let mut byte = [0];
@@ -166,7 +165,6 @@ impl LineReader {
     fn read_more<R: Source>(&mut self, source: &mut R) -> Result<bool, ReadFault>
         requires taken { self.old.taken ≡ 0 }
         requires room { length self.old.buffer < 65536 }
-        requires failures { R.failures source.old < 2 ^ 64 - 1 }
         ensures read { (bytes : List ℕ) × ReadsMore result self.old self.new (R.remaining source.old) (R.remaining source.new) bytes }
         ensures failures { FailsOnRead result (R.failures source.old) (R.failures source.new) }
         ensures taken { self.new.taken ≡ 0 }
@@ -190,7 +188,6 @@ impl LineReader {
     /// read while a whole line is there. A line of more than 1023 bytes before its LF is too long, and more bytes than the
     /// limit are too many.
     pub fn next_line<R: Source>(&mut self, source: &mut R) -> Result<bool, ReadFault>
-        requires { R.failures source.old < 2 ^ 64 - 1 }
         ensures line { NextLine result self.old self.new (R.remaining source.old) (R.remaining source.new) }
         ensures failures { FailsOnRead result (R.failures source.old) (R.failures source.new) }
         ensures few { came_of self.new ≤ most_of self.new }

@@ -88,8 +88,6 @@ pub fn judge_trace<R: Source, W: Sink>(
     source: &mut R,
     sink: &mut W,
 ) -> Result<(), RunFault>
-    requires source { R.failures source.old < 2 ^ 64 - 1 }
-    requires sink { W.failures sink.old < 2 ^ 64 - 1 }
     ensures all { IfOk result (λ _. DoesAll (judged_by bank.now) tt tt (R.remaining source.old) (R.remaining source.new) (W.contents sink.old) (W.contents sink.new)) }
     ensures line { (n : ℕ) → result ≡ Err (RunFault.Line n) → StopsAt n (judged_by bank.now) is_no_access tt tt (R.remaining source.old) (R.remaining source.new) (W.contents sink.old) (W.contents sink.new) }
     ensures too_long { result ≡ Err RunFault.TooLong → StopsTooLong (judged_by bank.now) tt tt (R.remaining source.old) (R.remaining source.new) (W.contents sink.old) (W.contents sink.new) }

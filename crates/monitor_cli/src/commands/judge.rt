@@ -21,9 +21,6 @@ pub fn do_judge<'a, R: Source, W: Sink>(
     second: &mut R,
     out: &mut W,
 ) -> Result<u8, Trouble<'a>>
-    requires first { R.failures first.old < 2 ^ 64 - 1 }
-    requires second { R.failures second.old < 2 ^ 64 - 1 }
-    requires out { W.failures out.old < 2 ^ 64 - 1 }
     ensures { let source = reading R.remaining R.failures in Judges map.entry trace.entry limit (source first.old first.new) (source second.old second.new) (writing W.contents W.failures W.stalls out.old out.new) result }
 {
     let map = map_in(alloc, map, first)?;

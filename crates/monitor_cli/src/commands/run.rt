@@ -20,8 +20,6 @@ fn run_on<'a, R: Source, W: Sink>(
     out: &mut W,
 ) -> Result<u8, Trouble<'a>>
     requires kept { KeepsBanksRight machine.old }
-    requires second { R.failures second.old < 2 ^ 64 - 1 }
-    requires out { W.failures out.old < 2 ^ 64 - 1 }
     ensures { RunsOn machine.old trace.entry measure (reading R.remaining R.failures second.old second.new) (writing W.contents W.failures W.stalls out.old out.new) result }
 {
     match run(machine, second, out) {
@@ -47,9 +45,6 @@ pub fn do_run<'a, R: Source, W: Sink>(
     second: &mut R,
     out: &mut W,
 ) -> Result<u8, Trouble<'a>>
-    requires first { R.failures first.old < 2 ^ 64 - 1 }
-    requires second { R.failures second.old < 2 ^ 64 - 1 }
-    requires out { W.failures out.old < 2 ^ 64 - 1 }
     ensures { let source = reading R.remaining R.failures in Runs platform.entry trace.entry measure (source first.old first.new) (source second.old second.new) (writing W.contents W.failures W.stalls out.old out.new) result }
 {
     let platform = read_platform(alloc, platform, first)?;

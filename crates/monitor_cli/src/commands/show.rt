@@ -20,8 +20,6 @@ pub fn do_show<'a, R: Source, W: Sink>(
     first: &mut R,
     out: &mut W,
 ) -> Result<u8, Trouble<'a>>
-    requires first { R.failures first.old < 2 ^ 64 - 1 }
-    requires out { W.failures out.old < 2 ^ 64 - 1 }
     ensures { Shows map.entry limit at_most (reading R.remaining R.failures first.old first.new) (writing W.contents W.failures W.stalls out.old out.new) result }
 {
     let map = map_in(alloc, map, first)?;

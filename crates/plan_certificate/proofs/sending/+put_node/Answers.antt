@@ -70,7 +70,7 @@ pub put_node-requires : goal.put_node-requires
 put_node-requires g t c = λ κs lives.
     let is = c.in-Some-chain.ensures in
     let count = splits-chained _ (g.H.Halving.shape c.in-Some-chain.smallest) c.in-Some-chain.chain is.1 in
-    (omega (arith, c.decreases, is.0.some, count), (lives.0, (lives.1, (omega (arith, c.in-Ok-put_heads.ensures.put.well, c.requires.failures), (omega (arith, c.requires.counted, count), c.requires.small)))))
+    (omega (arith, c.decreases, is.0.some, count), (lives.0, (lives.1, (omega (arith, c.requires.counted, count), c.requires.small))))
 
 pub returns-in_default-put_heads-clause-cut : goal.returns-in_default-put_heads-clause-cut
 returns-in_default-put_heads-clause-cut g t c = c.in_default-put_heads.ensures.cut _

@@ -19,8 +19,8 @@ returns-in_err-plan g c =
       | uncertified broken ↦ commands.Plans.no_certificate _ _ c.in_ok-map.ensures.made broken refl
     ])
 
-pub print_as-requires-clause-fits : goal.print_as-requires-clause-fits
-print_as-requires-clause-fits g c = (_, rw (sym c.entries.ensures) at (rw c.most-most.ensures at c.in_ok-plan.ensures.planned).within)
+pub print_as-requires : goal.print_as-requires
+print_as-requires g c = record { fits = (_, rw (sym c.entries.ensures) at (rw c.most-most.ensures at c.in_ok-plan.ensures.planned).within) }
 
 pub returns-in-Ok : goal.returns-in-Ok
 returns-in-Ok g c =

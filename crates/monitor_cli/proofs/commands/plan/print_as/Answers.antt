@@ -29,8 +29,8 @@ returns-in-Json-clause-printed g c = rw c.in-Json.is (taken _ c.print_json.resul
 pub returns-in-Json-clause-broken : goal.returns-in-Json-clause-broken
 returns-in-Json-clause-broken g c = rw c.in-Json.is (broken _ c.print_json.result (IsJsonText c.args.map.now c.args.limit c.args.entries.now) c.print_json.ensures.part c.print_json.ensures.failed)
 
-pub print_c-requires-clause-fits : goal.print_c-requires-clause-fits
-print_c-requires-clause-fits g c = let fits = c.requires.fits in fits_c c.args.limit fits.0 _ (rw c.in-C.is at fits.1)
+pub print_c-requires : goal.print_c-requires
+print_c-requires g c = let fits = c.requires.fits in record { fits = fits_c c.args.limit fits.0 _ (rw c.in-C.is at fits.1) }
 
-pub print_asm-requires-clause-fits : goal.print_asm-requires-clause-fits
-print_asm-requires-clause-fits g c = let fits = c.requires.fits in fits_asm c.args.limit fits.0 _ (rw c.in-Asm.is at fits.1)
+pub print_asm-requires : goal.print_asm-requires
+print_asm-requires g c = let fits = c.requires.fits in record { fits = fits_asm c.args.limit fits.0 _ (rw c.in-Asm.is at fits.1) }
