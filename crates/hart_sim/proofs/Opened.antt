@@ -1,5 +1,5 @@
 -- The machine at boot, and what is true of it as truth values.
-use Rattle.std.proofs.Common.{◌≡◌, ◌∙◌, ℕ, zero, suc, ◌-◌, ◌<◌, ◌≤◌, true, false, List, replicate, length, Option, Some, None, slice_get, slice_index_or, refl, ap, sym, subst, arith}
+use Rattle.std.proofs.Common.{◌≡◌, ◌∙◌, ℕ, zero, suc, ◌-◌, ◌<◌, ◌≤◌, true, false, replicate, Option, Some, None, slice_get, slice_index_or, refl, ap, sym, arith}
 use Rattle.enclave_table.specs.Platform.{Layout}
 use Rattle.enclave_table.specs.Enclaves.{EnclaveTable, Live, enclave_at}
 use Rattle.enclave_table.specs.Tables.{Kept, IsCurrent}
@@ -15,14 +15,7 @@ use Rattle.hart_sim.specs.declared.hardware.Hardware.{Hardware}
 use Rattle.hart_sim.specs.States.{HasRegisters, opening}
 use Rattle.hart_sim.specs.Changes.{is_host}
 use Rattle.hart_sim.specs.Hardware.{world_in}
-use Rattle.hart_sim.specs.Parts.{machine_state, IsWhole, HoldsTogether, AreBanksRight, is_run, is_running, is_current}
-use Rattle.pmp_encoding.specs.declared.bank.Bank.{Bank}
-use Rattle.pmp_encoding.specs.declared.region.Entry.{Entry}
-use Rattle.pmp_encoding.specs.Banks.{HasList}
-use Rattle.pmp_encoding.proofs.Pairs.{one_list}
-use Rattle.pmp_match.specs.Meaning.{Means}
-use Rattle.hart_sim.specs.States.{current_view}
-use Rattle.hart_sim.specs.Hardware.{BankOn}
+use Rattle.hart_sim.specs.Parts.{IsWhole, HoldsTogether, is_run, is_running, is_current}
 
 abbrev absent : Option Enclave
 absent = None
@@ -81,11 +74,3 @@ whole_to kept h x = record {
   idle = λ i past. ap is_host (x.idle i past);
   marked = λ i on. ap is_host (x.marked i on);
 }
-
--- each list that a bank holds is the one that was loaded
-pub each_list : (kept : Kept) (h : Hardware) → AreBanksRight kept h → (i : ℕ) (bank : Bank) → i < kept.table.layout.harts → slice_index_or h.marked i false ≡ false → BankOn h i bank → (list : List Entry) → HasList bank list
-    → Means list (current_view (machine_state kept h) i) × ((others : List Entry) → Means others (current_view (machine_state kept h) i) → length list ≤ length others)
-each_list kept h right i bank low off has list loaded =
-    let l = right i bank low off has in
-    let same : l.list ≡ list = one_list _ l.list list l.loaded loaded in
-    (subst (λ x. Means x (current_view (machine_state kept h) i)) same l.means, λ others m. subst (λ x. length x ≤ length others) same (l.least others m))

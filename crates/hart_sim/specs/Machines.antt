@@ -1,5 +1,5 @@
 -- The machine as its caller sees it: its state, and the PMP registers that are loaded on each hart.
-use Rattle.std.specs.Prelude.{◌≡◌, ◌≢◌, ◌⊎◌, ◌↔◌, ℕ, ◌<◌, true, false, List, Err}
+use Rattle.std.specs.Prelude.{◌≡◌, ◌≢◌, ◌⊎◌, ◌↔◌, ℕ, ◌<◌, true, false, List, Err, Option, Some, option_map, slice_get}
 use Rattle.pmp_encoding.specs.declared.bank.Bank.{Bank}
 use Rattle.pmp_encoding.specs.declared.region.Entry.{Entry}
 use Rattle.pmp_encoding.specs.Banks.{HasList}
@@ -12,21 +12,25 @@ use Rattle.hart_trace.specs.declared.event.Event.TheVariants as events
 use Rattle.hart_sim.specs.declared.machine.Machine.{Machine}
 use Rattle.hart_sim.specs.declared.reply.Reply.{Reply}
 use Rattle.hart_sim.specs.declared.reply.Reply.TheVariants as replies
-use Rattle.hart_sim.specs.Hardware.{BankOn}
+use Rattle.context_switch.specs.Harts.{bank_of}
 use Rattle.hart_sim.specs.Parts.{machine_state, LoadsFewest}
 use Rattle.hart_sim.specs.States.{State, current_view}
 
--- the state of the machine
-abbrev pub state_of : Machine → State
+-- the state of the machine. What it is, its observers show: its table, the world and the registers on each hart, the marks, and the
+-- byte at each address
+unfoldable pub state_of : Machine → State
 state_of machine = machine_state machine.parts.table machine.parts.hardware
 
--- its table of enclaves, with the list of entries that is kept for each view
-abbrev pub kept_of : Machine → Kept
+-- its table of enclaves, with the list of entries that is kept for each view, which `table` shows
+unfoldable pub kept_of : Machine → Kept
 kept_of machine = machine.parts.table
 
--- the PMP registers that are loaded on a hart
+-- the PMP registers that are loaded on a hart, which `bank` shows
+unfoldable pub bank_on : Machine → ℕ → Option Bank
+bank_on machine hart = option_map bank_of (slice_get machine.parts.hardware.harts hart)
+
 abbrev pub HasBank : Machine → ℕ → Bank → Type 0
-HasBank machine hart bank = BankOn machine.parts.hardware hart bank
+HasBank machine hart bank = bank_on machine hart ≡ Some bank
 
 -- the list that an event on a hart meets: the host's where it is marked, for it loads them first; else what is loaded
 abbrev pub MeetsList : Machine → ℕ → List Entry → Type 0

@@ -7,6 +7,7 @@ ghost use Rattle.hart_sim.specs.Steps.{Step};
 ghost use Rattle.hart_sim.specs.Headline.{HeadlineHolds};
 ghost use Rattle.hart_sim.specs.Privacy.{IsPrivate, KeepsPrivate};
 ghost use Rattle.hart_sim.specs.Promises.{StepsPromise};
+ghost use Rattle.hart_sim.specs.Reports.{IsReported};
 ghost use Rattle.hart_sim.specs.Wants.{CreatesByNeed, DestroysByNeed};
 ghost use Rattle.hart_sim.specs.Worlds.{RunsKeepWorlds};
 
@@ -22,6 +23,12 @@ pub fn headline_law()
 /// after it.
 pub fn step_law()
     ensures { StepsPromise }
+{}
+
+/// What lines did in turn is a run of the events that they say, the text tells its replies, each bank is the one that the
+/// hart's own last event left, and after boot and other events the machine is the one after these too.
+pub fn report_law()
+    ensures { IsReported }
 {}
 
 /// Where an enclave runs in two states that it cannot tell apart, its accesses and settings of registers may be answered

@@ -47,7 +47,7 @@ pub use byte_streams::{Counted, DeviceFault, Sink, Source, fakes, write_whole};
 pub use hart_trace::{Event, parse_line};
 pub use laws::{
     creation_law, destruction_law, headline_law, platform_law, privacy_law, private_bytes_law,
-    step_law, worlds_law,
+    report_law, step_law, worlds_law,
 };
 pub use machine::Machine;
 pub use reply::Reply;

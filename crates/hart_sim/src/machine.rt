@@ -18,16 +18,15 @@ pub struct Machine {
 }
 
 impl Machine {
-    ghost use Rattle.std.specs.Prelude.{◌≡◌, ℕ, ◌^◌, ◌<◌, ◌≤◌, List, [], ◌∷◌, ◌++◌, IfOk, IfErr, false, length};
+    ghost use Rattle.std.specs.Prelude.{◌≡◌, ℕ, ◌^◌, ◌<◌, ◌≤◌, List, [], ◌∷◌, ◌++◌, IfOk, IfErr};
     ghost use Rattle.pmp_encoding.specs.declared.bank.Bank.{Bank};
     ghost use Rattle.pmp_encoding.specs.declared.region.Entry.{Entry};
     ghost use Rattle.pmp_encoding.specs.Banks.{HasList, limit_of};
     ghost use Rattle.pmp_encoding.specs.Limits.{limit_number};
     ghost use Rattle.pmp_match.specs.declared.access.Access.{Access};
-    ghost use Rattle.pmp_match.specs.Meaning.{Means};
     ghost use Rattle.enclave_table.specs.Booting.{IsBootFault, opening as opening_table};
     ghost use Rattle.enclave_table.specs.Fewest.{FitsIn};
-    ghost use Rattle.enclave_table.specs.Platform.{Layout};
+    ghost use Rattle.enclave_table.specs.Platform.{Layout, IsLayout};
     ghost use Rattle.enclave_table.specs.Views.{host_view};
     ghost use Rattle.hart_trace.specs.declared.event.Event.{Event};
     ghost use Rattle.hart_sim.specs.declared.reply.Reply.{Reply};
@@ -36,7 +35,7 @@ impl Machine {
     ghost use Rattle.hart_sim.specs.After.{After};
     ghost use Rattle.hart_sim.specs.Promises.{AnswersByView};
     ghost use Rattle.hart_sim.specs.Wants.{RefusesByNeed};
-    ghost use Rattle.hart_sim.specs.States.{SameState, opening, current_view, running_registers};
+    ghost use Rattle.hart_sim.specs.States.{SameState, opening, running_registers};
     ghost use Rattle.hart_sim.specs.Steps.{IsEvent, Step};
 
     /// The PMP registers that are loaded on a hart.
@@ -49,6 +48,7 @@ impl Machine {
     }
 
     /// The world that runs on a hart.
+    #[tactic(auto, unfolding(crate::specs::Machines::state_of, crate::specs::Machines::kept_of))]
     pub fn world(&self, hart: u8) -> World
         requires { hart < 4 }
         ensures { result ≡ (state_of self.now).worlds hart }
@@ -73,6 +73,7 @@ impl Machine {
     }
 
     /// The byte at an address.
+    #[tactic(auto, unfolding(crate::specs::Machines::state_of, crate::specs::Machines::kept_of))]
     pub fn byte(&self, address: u64) -> u8
         requires { address < 2 ^ 56 }
         ensures { result ≡ (state_of self.now).bytes address }
@@ -81,13 +82,16 @@ impl Machine {
     }
 
     /// The table of enclaves.
+    #[tactic(auto, unfolding(crate::specs::Machines::state_of, crate::specs::Machines::kept_of))]
     pub fn table(&self) -> &Table
-        ensures { result.now ≡ kept_of self.now }
+        ensures kept { result.now ≡ kept_of self.now }
+        ensures state { result.now.table ≡ (state_of self.now).table }
     {
         &self.parts.table
     }
 
     /// How many harts there are.
+    #[tactic(auto, unfolding(crate::specs::Machines::state_of, crate::specs::Machines::kept_of))]
     pub fn harts(&self) -> u8
         ensures value { result ≡ (state_of self.now).table.layout.harts }
         ensures some { 0 < result }
@@ -98,6 +102,7 @@ impl Machine {
 
     /// Puts another bank in place on a hart, as faulty hardware might. Nothing else changes. What boot promises of the
     /// entries on that hart holds no more.
+    #[tactic(auto, unfolding(crate::specs::Machines::state_of, crate::specs::Machines::kept_of))]
     pub fn set_bank(&mut self, hart: u8, bank: Bank)
         requires hart { hart < 4 }
         requires limit { limit_number (limit_of bank) ≡ limit_number (state_of self.old).table.layout.limit }
@@ -113,9 +118,9 @@ impl Machine {
     /// refused where that view needs more entries than the platform has, and where memory is.
     pub fn boot(alloc: Global, platform: Platform) -> Result<Machine, BootFault>
         ensures after { IfOk result (λ m. After platform [] [] m) }
+        ensures rules { IfOk result (λ _. IsLayout platform) }
         ensures state { IfOk result (λ m. SameState (state_of m) (opening platform)) }
         ensures kept { IfOk result (λ m. KeepsBanksRight m) }
-        ensures banks { IfOk result (λ m. (h : ℕ) (bank : Bank) → h < (state_of m).table.layout.harts → (state_of m).marked h ≡ false → HasBank m h bank → (list : List Entry) → HasList bank list → Means list (current_view (state_of m) h) × ((others : List Entry) → Means others (current_view (state_of m) h) → length list ≤ length others)) }
         ensures fits { IfOk result (λ _. FitsIn platform.limit (host_view (opening_table platform))) }
         ensures fault { IfErr result (λ fault. IsBootFault platform fault) }
     {
@@ -138,7 +143,6 @@ impl Machine {
         ensures loaded { (access : Access) (value : ℕ) (list : List Entry) (bank : Bank) → event ≡ Event.Access access value → MeetsList self.old hart list → HasBank self.new hart bank → HasList bank list }
         ensures step { KeepsBanksRight self.old → Step (state_of self.old) hart event result (state_of self.new) }
         ensures kept { KeepsBanksRight self.old → KeepsBanksRight self.new }
-        ensures banks { KeepsBanksRight self.old → (h : ℕ) (bank : Bank) → h < (state_of self.new).table.layout.harts → (state_of self.new).marked h ≡ false → HasBank self.new h bank → (list : List Entry) → HasList bank list → Means list (current_view (state_of self.new) h) × ((others : List Entry) → Means others (current_view (state_of self.new) h) → length list ≤ length others) }
         ensures others { KeepsOtherBanks self.old self.new hart }
         ensures stays { KeepsOwnBank self.old self.new hart }
         ensures platform { (state_of self.new).table.layout ≡ (state_of self.old).table.layout }

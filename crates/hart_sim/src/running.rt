@@ -1,19 +1,14 @@
 //! A trace that happens to a machine, line by line, each reply written before the next line is read.
 
-ghost use Rattle.std.specs.Prelude.{◌≡◌, ◌≢◌, ℕ, ◌-◌, ◌^◌, ◌<◌, ◌≤◌, List, Err, IfOk, true, false, length};
-ghost use Rattle.pmp_encoding.specs.declared.bank.Bank.{Bank};
-ghost use Rattle.pmp_encoding.specs.declared.region.Entry.{Entry};
-ghost use Rattle.pmp_encoding.specs.Banks.{HasList};
-ghost use Rattle.pmp_match.specs.Meaning.{Means};
+ghost use Rattle.std.specs.Prelude.{◌≡◌, ◌≢◌, ℕ, ◌-◌, ◌^◌, ◌<◌, List, Err, IfOk, true, false};
 ghost use Rattle.text_lines.specs.LineLoop.{DoesAll, StopsAt, StopsTooLong, StopsReading, StopsWriting, StopsForMemory, CountsReads, CountsWrites};
 ghost use Rattle.enclave_table.specs.Platform.{Layout};
 ghost use Rattle.hart_trace.specs.declared.event.Event.{Event};
 ghost use Rattle.hart_sim.specs.declared.reply.Reply.{Reply};
 ghost use Rattle.hart_sim.specs.declared.reply.Reply.TheVariants.{NoMemory};
-ghost use Rattle.hart_sim.specs.States.{current_view};
-ghost use Rattle.hart_sim.specs.Machines.{state_of, HasBank, KeepsBanksRight};
+ghost use Rattle.hart_sim.specs.Machines.{KeepsBanksRight};
 ghost use Rattle.hart_sim.specs.After.{After};
-ghost use Rattle.hart_sim.specs.Reports.{DoesLine, RefusesLine, StarvesLine, IsReported, GoesOn};
+ghost use Rattle.hart_sim.specs.Reports.{DoesLine, RefusesLine, StarvesLine, GoesOn};
 
 use crate::machine::Machine;
 use crate::reply::Reply;
@@ -64,7 +59,6 @@ pub fn run<R: Source, W: Sink>(
     source: &mut R,
     sink: &mut W,
 ) -> Result<(), RunFault>
-    ensures reported { IsReported }
     ensures all { KeepsBanksRight machine.old → IfOk result (λ _. DoesAll DoesLine machine.old machine.new (R.remaining source.old) (R.remaining source.new) (W.contents sink.old) (W.contents sink.new)) }
     ensures line { KeepsBanksRight machine.old → (n : ℕ) → result ≡ Err (RunFault.Line n) → StopsAt n DoesLine RefusesLine machine.old machine.new (R.remaining source.old) (R.remaining source.new) (W.contents sink.old) (W.contents sink.new) }
     ensures too_long { KeepsBanksRight machine.old → result ≡ Err RunFault.TooLong → StopsTooLong DoesLine machine.old machine.new (R.remaining source.old) (R.remaining source.new) (W.contents sink.old) (W.contents sink.new) }
@@ -73,7 +67,6 @@ pub fn run<R: Source, W: Sink>(
     ensures memory { KeepsBanksRight machine.old → result ≡ Err RunFault.Memory → StopsForMemory DoesLine StarvesLine machine.old machine.new (R.remaining source.old) (R.remaining source.new) (W.contents sink.old) (W.contents sink.new) }
     ensures kept { KeepsBanksRight machine.old → KeepsBanksRight machine.new }
     ensures after { (platform : Layout) (events : List (ℕ × Event)) (replies : List Reply) → After platform events replies machine.old → GoesOn platform events replies machine.old machine.new (R.remaining source.old) (R.remaining source.new) }
-    ensures banks { KeepsBanksRight machine.old → (h : ℕ) (bank : Bank) → h < (state_of machine.new).table.layout.harts → (state_of machine.new).marked h ≡ false → HasBank machine.new h bank → (list : List Entry) → HasList bank list → Means list (current_view (state_of machine.new) h) × ((others : List Entry) → Means others (current_view (state_of machine.new) h) → length list ≤ length others) }
     ensures reads { CountsReads result (R.failures source.old) (R.failures source.new) }
     ensures writes { CountsWrites result (W.failures sink.old) (W.failures sink.new) (W.stalls sink.old) (W.stalls sink.new) }
 {

@@ -25,6 +25,7 @@ use Rattle.enclave_table.specs.Booting.{IsBootFault}
 use Rattle.enclave_table.specs.Platform.{Layout}
 use Rattle.enclave_table.specs.declared.boot.BootFault.{BootFault}
 use Rattle.hart_sim.specs.declared.machine.Machine.{Machine}
+use Rattle.hart_sim.specs.After.{IsBooted}
 use Rattle.hart_sim.specs.Machines.{kept_of}
 use Rattle.hart_sim.specs.Reports.{DoesLine, RefusesLine, StarvesLine}
 use Rattle.trace_judge.specs.Judging.{is_no_access, judged_by}
@@ -41,7 +42,7 @@ use Rattle.program_tasks.specs.declared.task.Task.{Task}
 use Rattle.program_tasks.specs.declared.task.Task.TheVariants as tasks
 use Rattle.program_troubles.specs.declared.trouble.Trouble.{Trouble}
 use Rattle.program_troubles.specs.declared.trouble.Trouble.TheVariants.{NotUnderstood, TooLarge, NotAPlatform, NeedsEntries, CannotRead, CannotWrite, Output, Memory}
-use Rattle.monitor_cli.specs.Tasks.{AreMeasures, IsBooted, IsFewest, IsMapFault, IsPlatformFile, IsWhole, Stops}
+use Rattle.monitor_cli.specs.Tasks.{AreMeasures, IsFewest, IsMapFault, IsPlatformFile, IsWhole, Stops}
 use Rattle.program_troubles.specs.Troubles.{boot_trouble, map_trouble, run_trouble, status_of, trouble_text}
 use Rattle.check_verdicts.specs.Verdicts.{IsVerdict}
 

@@ -7,9 +7,6 @@ use Rattle.enclave_table.specs.Enclaves.{EnclaveTable, Live}
 use Rattle.enclave_table.specs.Digests.{AnswersWord}
 use Rattle.enclave_table.specs.Platform.{Layout}
 use Rattle.enclave_table.specs.declared.enclave.Enclave.{Enclave}
-use Rattle.hart_sim.specs.declared.machine.Machine.{Machine}
-use Rattle.hart_sim.specs.Machines.{KeepsBanksRight, state_of}
-use Rattle.hart_sim.specs.States.{SameState, opening}
 use Rattle.map_text.specs.declared.map_file.MapFileFault.{MapFileFault}
 use Rattle.map_text.specs.declared.map_file.MapFileFault.TheVariants as maps
 use Rattle.map_text.specs.MapFile.{FaultAt, IsUnknown, MakesFirst, MakesTooMany}
@@ -46,11 +43,6 @@ Stops does refuses starves old new before after held holds runs.TooLong = StopsT
 Stops does refuses starves old new before after held holds runs.Read = StopsReading does old new before after held holds
 Stops does refuses starves old new before after held holds runs.Write = StopsWriting does old new before after held holds
 Stops does refuses starves old new before after held holds runs.Memory = StopsForMemory does starves old new before after held holds
-
--- the machine stands as the platform's boot leaves it, and each hart has the fewest entries of its world's view
-pub record IsBooted (platform : Layout) (machine : Machine) : Type 0 where
-  pub state : SameState (state_of machine) (opening platform)
-  pub banks : KeepsBanksRight machine
 
 -- the bytes of a file are the platform: they are a text of UTF-8 that is
 pub record IsPlatformFile (bytes : List ℕ) (platform : Layout) : Type 0 where

@@ -11,9 +11,10 @@ ghost use Rattle.enclave_table.specs.declared.enclave.Enclave.{Enclave};
 ghost use Rattle.enclave_table.specs.Digests.{AnswersWord};
 ghost use Rattle.enclave_table.specs.Enclaves.{Live};
 ghost use Rattle.enclave_table.specs.Platform.{Layout};
+ghost use Rattle.hart_sim.specs.After.{IsBooted};
 ghost use Rattle.hart_sim.specs.Machines.{KeepsBanksRight};
 ghost use Rattle.program_troubles.specs.Troubles.{boot_trouble};
-ghost use Rattle.monitor_cli.specs.Tasks.{AreMeasures, IsBooted, IsDigest, IsMeasureText, IsPlatformFile};
+ghost use Rattle.monitor_cli.specs.Tasks.{AreMeasures, IsDigest, IsMeasureText, IsPlatformFile};
 
 use byte_streams::{DeviceFault, Sink, write_whole};
 use byteorder::{ByteOrder, LittleEndian};

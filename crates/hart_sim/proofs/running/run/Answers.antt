@@ -1,14 +1,6 @@
-use Rattle.hart_sim.proofs.Opened.{each_list}
-use Rattle.hart_sim.proofs.Reported.{is_reported}
 use Rattle.hart_sim.proofs.GoneOn.{goes_on}
 use Rattle.hart_sim.proofs.Headlined.{banks_of}
 use Rattle.hart_sim.proofs.running.run.Goals as goal
-
-pub returns-clause-reported : goal.returns-clause-reported
-returns-clause-reported g c = is_reported
-
-pub returns-clause-banks : goal.returns-clause-banks
-returns-clause-banks g c = λ right. each_list c.interpret_lines.new.interpreter.parts.table c.interpret_lines.new.interpreter.parts.hardware (c.interpret_lines.ensures.keeps right)
 
 pub returns-clause-after : goal.returns-clause-after
 returns-clause-after g c = λ platform events replies a.

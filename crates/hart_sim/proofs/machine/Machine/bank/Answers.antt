@@ -1,10 +1,14 @@
 use Rattle.std.proofs.Common.{◌∙◌, sym, ap}
 use Rattle.pmp_encoding.specs.Banks.{limit_of}
 use Rattle.pmp_encoding.specs.Limits.{limit_number}
+use Rattle.hart_sim.specs.Machines.{state_of, bank_on}
+use Rattle.hart_sim.proofs.Banks.{has_to}
 use Rattle.hart_sim.proofs.machine.Machine.bank.Goals as goal
 
 pub returns-clause-bank : goal.returns-clause-bank
-returns-clause-bank c = (c.hart.result.now, c.hart.ensures.value, sym c.bank.ensures)
+unfolding bank_on
+returns-clause-bank c = has_to c.args.self.now.parts.hardware c.args.hart c.bank.result.now (c.hart.result.now, c.hart.ensures.value, sym c.bank.ensures)
 
 pub returns-clause-limit : goal.returns-clause-limit
+unfolding state_of
 returns-clause-limit c = ap (λ b. limit_number (limit_of b)) c.bank.ensures ∙ c.hart.ensures.limit ∙ c.args.self.now.whole.limit
