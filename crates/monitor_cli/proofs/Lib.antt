@@ -1,3 +1,4 @@
+mod Below
 mod Ends
 pub mod Live
 pub mod Refusals

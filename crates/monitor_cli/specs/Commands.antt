@@ -12,6 +12,9 @@ use Rattle.pmp_match.specs.Meaning.{View}
 use Rattle.pmp_match.specs.Bounds.{BoundTree}
 use Rattle.permission_map.specs.declared.runs.Run.{Run}
 use Rattle.permission_map.specs.Runs.{view_of_runs}
+use Rattle.prefix_tree.specs.TreeOf.{tree_of}
+use Rattle.entry_planner.specs.Choice.{AreChosen}
+use Rattle.entry_planner.specs.Order.{AreInOrder}
 use Rattle.text_lines.specs.declared.fault.RunFault.{RunFault}
 use Rattle.text_lines.specs.LineLoop.{CountsReads, CountsWrites, DoesAll}
 use Rattle.map_text.specs.declared.map_file.MapFileFault.{MapFileFault}
@@ -173,9 +176,11 @@ abbrev pub IsBeyond : Option ℕ → ℕ → Type 0
 IsBeyond None n = ⊥
 IsBeyond (Some most) n = most < n
 
--- the plan of a map: the fewest entries, as many as may be
+-- the plan of a map: of the lists of fewest entries the one that is chosen, in its order, as many as may be
 pub record IsPlanned (view : View) (most : Option ℕ) (entries : List Entry) : Type 0 where
   pub fewest : IsFewest view entries
+  pub chosen : AreChosen (tree_of view) entries
+  pub order : AreInOrder entries
   pub within : IsWithin most (length entries)
 
 -- the certificate of a plan could not be written

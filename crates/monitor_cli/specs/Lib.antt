@@ -1,3 +1,4 @@
 pub use Rattle.trace_judge.specs.Judging
+pub mod Closing
 pub mod Commands
 pub mod Tasks

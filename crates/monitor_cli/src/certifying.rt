@@ -8,6 +8,8 @@ ghost use Rattle.pmp_match.specs.Meaning.{Means};
 ghost use Rattle.permission_map.specs.Runs.{view_of_runs};
 ghost use Rattle.prefix_tree.specs.Counts.{splits};
 ghost use Rattle.prefix_tree.specs.TreeOf.{tree_of};
+ghost use Rattle.entry_planner.specs.Choice.{AreChosen};
+ghost use Rattle.entry_planner.specs.Order.{AreInOrder};
 ghost use Rattle.plan_certificate.specs.Written.{certificate_for};
 ghost use Rattle.monitor_cli.specs.Commands.{placing, writing, TakesAll, IsBeyond, IsCertified, IsLoaded, IsNotPlaced, IsPlanned, IsUnplanned, IsWithin, NeedsMore};
 ghost use Rattle.monitor_cli.specs.Tasks.{IsFewest};
@@ -21,10 +23,12 @@ use program_files::WholeSink;
 use program_troubles::Trouble;
 use std::alloc::Global;
 
-/// The fewest entries that mean a map.
+/// The plan of a map: the fewest entries that mean it, of the lists of so many the one that the planner chooses.
 pub fn planned(alloc: Global, map: &PermissionMap) -> Result<Plan, Memory>
     ensures means { IfOk result (λ plan. Means plan.entries (view_of_runs map.now)) }
     ensures least { IfOk result (λ plan. (others : List Entry) → Means others (view_of_runs map.now) → length plan.entries ≤ length others) }
+    ensures choice { IfOk result (λ plan. AreChosen (tree_of (view_of_runs map.now)) plan.entries) }
+    ensures order { IfOk result (λ plan. AreInOrder plan.entries) }
 {
     let plan = plan_map(alloc, map)?;
     Ok(plan)

@@ -12,6 +12,7 @@
 #![tactic(auto)]
 
 mod certifying;
+mod closing;
 mod commands;
 mod inputs;
 mod program;
@@ -19,6 +20,7 @@ mod running;
 
 pub use certifying::{bank_of, plan_and_certify, planned};
 pub use check_verdicts::verdict;
+pub use closing::{closed, perform_and_close};
 pub use map_text::{MapFileFault, map_of, raw_says};
 pub use platform_file::{TextFault, platform_of};
 pub use printed_lines::{
@@ -27,7 +29,8 @@ pub use printed_lines::{
 };
 pub use program::perform;
 pub use program_files::{
-    CertificateFile, FileToRead, InputToRead, RetryInterrupted, WholeFault, WholeSink, read_whole,
+    CertificateFile, FileToRead, InputToRead, RetryInterrupted, WholeFault, WholeSink,
+    is_same_file, read_whole,
 };
 pub use program_tasks::{Format, Task};
 pub use program_troubles::Trouble;

@@ -1,11 +1,13 @@
 -- What a task reads and writes, by name.
-use Rattle.std.specs.Prelude.{List, ℕ, Option, Some, None, bytes_eq, if◌then◌else◌}
+use Rattle.std.specs.Prelude.{◌≡◌, List, [], ℕ, Option, Some, None, bytes_eq, if◌then◌else◌}
 use Rattle.std.specs.Borrow.{Bor}
 use Rattle.program_tasks.specs.Tasks.{input_word}
 use Rattle.program_tasks.specs.declared.task.Task.{Task}
 use Rattle.program_tasks.specs.declared.task.Task.TheVariants as tasks
 use Rattle.pmpmon.specs.declared.places.Place.{Place}
 use Rattle.pmpmon.specs.declared.places.Place.TheVariants.{File, StandardInput}
+use Rattle.program_files.specs.declared.devices.InputToRead.{InputToRead}
+use Rattle.program_files.specs.Inputs.{IsOfFile, IsOfStream}
 
 -- the file of a name, or standard input under its word
 abbrev pub place_of : Bor (List ℕ) → Place
@@ -15,6 +17,12 @@ place_of name = if bytes_eq name.now input_word then StandardInput else File nam
 abbrev pub cert_of : Task → Option (Bor (List ℕ))
 cert_of (tasks.Plan map cert limit at_most format) = cert
 cert_of task = None
+
+-- an input reads at a place; where there is none, the file of no name, which is not there
+abbrev pub IsAt : {R S F D : Type 0} → Option Place → InputToRead R S F D → Type 0
+IsAt (Some (File name)) input = IsOfFile name input
+IsAt {S = S} (Some StandardInput) input = (stream : S) × IsOfStream stream input
+IsAt None input = (name : Bor (List ℕ)) × (name.now ≡ []) × IsOfFile name input
 
 -- what a task reads first; a platform is a file, whatever its name
 abbrev pub first_of : Task → Place

@@ -5,25 +5,24 @@ ghost use Rattle.std.specs.Prelude.{◌≡◌, ◌≢◌, ◌≤◌, ◌<◌, �
 ghost use Rattle.std.specs.Process.{exit_status};
 ghost use Rattle.clap.specs.Words.{kind_of};
 ghost use Rattle.clap.specs.declared.error.kind.ErrorKind.TheVariants as kind;
-ghost use Rattle.hart_sim.specs.Streams.{failures_of};
-ghost use Rattle.pmpmon.specs.Places.{cert_of};
+ghost use Rattle.byte_streams.specs.Streams.{failures_of, inner_of};
+ghost use Rattle.pmpmon.specs.Places.{IsAt, cert_of};
 ghost use Rattle.program_troubles.specs.Troubles.{trouble_status};
 
 mod places;
 
 use crate::places::{Place, cert_of, first_of, second_of};
+use byte_streams::Counted;
 use clap::Error;
 use clap::error::ErrorKind;
 use command_line::{command_of, takes_place};
-use hart_sim::Counted;
 use monitor_cli::{
-    CertificateFile, FileToRead, InputToRead, RetryInterrupted, Task, Trouble, perform,
+    CertificateFile, InputToRead, RetryInterrupted, Task, Trouble, is_same_file, perform_and_close,
 };
 use std::alloc::AllocError;
-use std::io::{BufWriter, Stderr, Stdin, Write};
-use std::os::unix::fs::MetadataExt;
+use std::io::{BufWriter, Stderr, Stdin};
 use std::process::ExitCode;
-use std::{env, fs, io};
+use std::{env, io};
 
 /// What a task reads.
 type Input<'a> = Counted<InputToRead<'a, HostRuntime, Stdin>>;
@@ -77,22 +76,13 @@ fn words_in(rt: &HostRuntime) -> io::Result<Vec<String>> {
 
 /// What reads at that place, which is opened at the first read; where there is none, a name that no file has.
 fn input<'a>(rt: &'a HostRuntime, place: Option<Place<'a>>) -> Input<'a>
-    ensures { failures_of result ≡ 0 }
+    ensures failures { failures_of result ≡ 0 }
+    ensures place { IsAt place.entry (inner_of result) }
 {
     match place {
-        Some(Place::StandardInput) => {
-            Counted::new(InputToRead::Standard(RetryInterrupted::new(rt.stdin())))
-        }
-        Some(Place::File(name)) => Counted::new(InputToRead::File(FileToRead::new(rt, name))),
-        None => Counted::new(InputToRead::File(FileToRead::new(rt, NO_FILE))),
-    }
-}
-
-/// Whether two names are of one file.
-fn is_same_file(rt: &HostRuntime, one: &str, other: &str) -> bool {
-    match (fs::metadata(rt, one), fs::metadata(rt, other)) {
-        (Ok(one), Ok(other)) => one.dev() == other.dev() && one.ino() == other.ino(),
-        _ => false,
+        Some(Place::StandardInput) => Counted::new(InputToRead::of_stream(rt.stdin())),
+        Some(Place::File(name)) => Counted::new(InputToRead::of_file(rt, name)),
+        None => Counted::new(InputToRead::of_file(rt, NO_FILE)),
     }
 }
 
@@ -118,18 +108,6 @@ fn refused(rt: &HostRuntime, task: &Task<'_>) -> Option<ExitCode>
     }
 }
 
-/// With which status the program ends behind a task of that status, when standard output took all, or refused the last of it.
-fn closed(rt: &HostRuntime, status: u8, is_whole: bool) -> ExitCode
-    ensures whole { is_whole ≡ true → exit_status result ≡ status }
-    ensures cut { is_whole ≡ false → status < 2 → exit_status result ≡ 3 }
-    ensures told { is_whole ≡ false → 2 ≤ status → exit_status result ≡ status }
-{
-    if is_whole || status >= 2 {
-        return ExitCode::from(status);
-    }
-    stopped(rt, Trouble::Output)
-}
-
 /// Does the task on its files. Each is opened or made at its first read or write.
 fn done(rt: &HostRuntime, task: &Task<'_>) -> ExitCode {
     if let Some(code) = refused(rt, task) {
@@ -144,24 +122,17 @@ fn done(rt: &HostRuntime, task: &Task<'_>) -> ExitCode {
     let Ok(out) = BufWriter::new(rt.alloc(), RetryInterrupted::new(rt.stdout())) else {
         return stopped(rt, Trouble::Memory);
     };
-    let mut out = Counted::new(out);
     let mut err = standard_error(rt);
-    let status = perform(
+    let (status, _) = perform_and_close(
         rt.alloc(),
         task,
         &mut first,
         &mut second,
         &mut cert,
-        &mut out,
+        Counted::new(out),
         &mut err,
     );
-    let mut out = out.into_inner();
-    let is_whole = out.flush().is_ok();
-    if !is_whole {
-        // What could not be written is let go of, not tried again.
-        let _ = out.into_parts();
-    }
-    closed(rt, status, is_whole)
+    ExitCode::from(status)
 }
 
 fn main(rt: HostRuntime) -> ExitCode {

@@ -11,8 +11,10 @@
 
 mod certificate_file;
 mod devices;
+mod same_file;
 mod whole;
 
 pub use certificate_file::{CertificateFile, WholeSink};
 pub use devices::{FileToRead, InputToRead, RetryInterrupted};
+pub use same_file::is_same_file;
 pub use whole::{WholeFault, read_whole};

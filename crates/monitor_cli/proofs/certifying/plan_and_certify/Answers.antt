@@ -38,7 +38,7 @@ returns-in_err-put-clause-refused g c =
       named = c.in-Some.is;
       told = b.0;
       entries = c.in_ok-plan.plan.entries;
-      planned = record { fewest = record { means = made.means; least = made.least }; within = rw c.entries.ensures at c.in_ok-within.ensures.within };
+      planned = record { fewest = record { means = made.means; least = made.least }; chosen = made.choice; order = made.order; within = rw c.entries.ensures at c.in_ok-within.ensures.within };
       bytes = certificate_for c.args.limit c.in_ok-plan.plan (tree_of view);
       certificate = certificate_is view c.args.limit c.in_ok-plan.plan made.branches made.most made.bound made.root made.pages made.means;
       broken = b.1;

@@ -1,0 +1,18 @@
+-- How a task ends whose output is held in part until its end.
+use Rattle.std.specs.Prelude.{ℕ, ◌<◌, ◌≤◌, List, Option}
+use Rattle.std.specs.Io.Buffered.{writer_contents}
+use Rattle.std.specs.Io.KnownBytes.{Keeps}
+use Rattle.std.specs.declared.io.buffered.BufWriter.{BufWriter}
+use Rattle.byte_streams.specs.declared.streams.Counted.{Counted}
+use Rattle.byte_streams.specs.Streams.{inner_of}
+
+-- the bytes that a stream has, and then those that are still held for it, where they are known
+abbrev pub held_by : {T A : Type 0} → (T → Option (List ℕ)) → Counted (BufWriter T A) → Option (List ℕ)
+held_by contents device = writer_contents contents (inner_of device)
+
+-- a task of that status ended: the stream has all that was held, or the last of it was refused. That is told, and is status 3,
+-- where no trouble was told before
+pub data IsClosed (held has : Option (List ℕ)) (quiet told : Type 0) (status : ℕ) : ℕ → Type 0 where
+  whole : Keeps held has → quiet → IsClosed held has quiet told status status
+  refused : status < 2 → told → IsClosed held has quiet told status 3
+  stopped : 2 ≤ status → quiet → IsClosed held has quiet told status status
