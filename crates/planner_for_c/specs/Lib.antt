@@ -2,3 +2,5 @@ pub mod Settings
 pub mod Codes
 pub mod Registers
 pub mod Plans
+pub mod Accesses
+pub mod Judgements
