@@ -4,3 +4,4 @@ pub mod Told
 pub mod Pairs
 pub mod Said
 pub mod Judged
+pub mod Certified

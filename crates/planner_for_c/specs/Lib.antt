@@ -4,3 +4,4 @@ pub mod Registers
 pub mod Plans
 pub mod Accesses
 pub mod Judgements
+pub mod Checks
