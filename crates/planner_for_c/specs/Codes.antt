@@ -1,5 +1,9 @@
--- The numbers that C gets for refusals.
-use Rattle.std.specs.Prelude.{ℕ, ℤ, negsuc}
+-- The numbers that C gets: of refusals, and of what becomes of an access.
+use Rattle.std.specs.Prelude.{ℕ, ℤ, negsuc, pos, Result, Ok, Err}
+use Rattle.pmp_encoding.specs.declared.fault.EncodingFault.{EncodingFault}
+use Rattle.pmp_encoding.specs.declared.fault.EncodingFault.TheVariants.{ReservedPerm, Tor, Locked, ReservedBits, AddressBits, NoSuchCsr}
+use Rattle.pmp_match.specs.declared.cause.Cause.{Cause}
+use Rattle.pmp_match.specs.Causes.{cause_number}
 use Rattle.planner_for_c.specs.declared.settings.SettingFault.{SettingFault}
 use Rattle.planner_for_c.specs.declared.settings.SettingFault.TheVariants.{UnalignedBase, UnalignedSize, UnknownPerm, PastEnd, TooManyRanges}
 use Rattle.planner_for_c.specs.declared.settings.Refusal.{Refusal}
@@ -25,3 +29,21 @@ refusal_code Memory = no_memory
 abbrev pub place_of : Refusal → ℕ → ℕ
 place_of (Setting i fault) old = i
 place_of Memory old = old
+
+-- no access has these words
+abbrev pub unknown_access : ℤ
+unknown_access = negsuc 6
+
+-- the faults of a pair; that a CSR is not there is no fault of a pair
+abbrev pub pair_code : EncodingFault → ℤ
+pair_code ReservedPerm = negsuc 10
+pair_code Tor = negsuc 11
+pair_code Locked = negsuc 12
+pair_code ReservedBits = negsuc 13
+pair_code AddressBits = negsuc 14
+pair_code NoSuchCsr = negsuc 15
+
+-- 64, which is no exception code, where an access is allowed; else the exception code
+abbrev pub answer_code : Result (Unit {0}) Cause → ℤ
+answer_code (Ok done) = pos 64
+answer_code (Err cause) = pos (cause_number cause)

@@ -1,0 +1,173 @@
+/*
+ * pmpmon.h - the fewest PMP entries for a memory map, for firmware and build tools in C and C++.
+ *
+ * PMP is the Physical Memory Protection of the RISC-V Privileged Architecture (volume II), for RV64. The functions are
+ * proved: crates/planner_for_c has the source, and README.md says what is proved and what is only tested.
+ *
+ *   static const struct pmpmon_setting map[] = {
+ *       {0x80000000, 0x8000000, PMPMON_RWX},    128 MiB of RAM
+ *       {0x80000000, 0x200000, PMPMON_NONE},    of which firmware keeps the first 2 MiB
+ *   };
+ *   struct pmpmon_registers registers;
+ *   uint64_t at_fault;
+ *   int64_t needed = pmpmon_plan(map, 2, 16, &registers, &at_fault);
+ *   if (needed < 0 || needed > 16)
+ *       ..                                      refused, or too many
+ *
+ * Loading the registers, in machine mode: write pmpaddr0, pmpaddr1, .. from addr[0], addr[1], .., then pmpcfg0 from
+ * cfg[0], pmpcfg2 from cfg[1], and so on, then execute sfence.vma. A hart with 16 entries has addr[0] to addr[15], cfg[0]
+ * and cfg[1]. Write all of them, since those past the list are zero, which turns what stood there off. Nothing here is
+ * locked, so machine mode keeps all access while they are written.
+ *
+ * Calls: each function keeps nothing between calls, reads and writes what its pointers point to during the call alone, and
+ * may be called from several threads at a time. No pointer may be null, and nothing that is written may overlap anything
+ * else that is passed. pmpmon_plan, pmpmon_needed and pmpmon_check take memory (malloc, realloc, free on Linux) and give
+ * all of it back; pmpmon_judge takes none.
+ *
+ * Compiling for RV64: every parameter and every result has 64 bits, and this has to stay so in whatever is added. The
+ * object for a hart is made from a module that was lowered for x86-64, and in such a module a shorter integer is not
+ * extended as the calling convention of RV64 wants it.
+ */
+#ifndef PMPMON_H
+#define PMPMON_H
+
+#include <stddef.h>
+#include <stdint.h>
+
+#ifdef __cplusplus
+extern "C" {
+#endif
+
+/* Permissions of supervisor and user mode: read, write, execute and their sums. Writing without reading is reserved. */
+#define PMPMON_NONE 0
+#define PMPMON_R 1
+#define PMPMON_RW 3
+#define PMPMON_X 4
+#define PMPMON_RX 5
+#define PMPMON_RWX 7
+
+/* One permission on whole pages. A later setting overrides an earlier one; what no setting names has no access. */
+struct pmpmon_setting {
+    uint64_t base; /* the first address: a multiple of 4096 */
+    uint64_t size; /* the number of bytes: a multiple of 4096; 0 changes nothing */
+    uint64_t perm; /* PMPMON_NONE, _R, _RW, _X, _RX or _RWX */
+};
+
+/* The PMP registers of a hart with up to 64 entries. */
+struct pmpmon_registers {
+    uint64_t cfg[8];   /* cfg[i] is pmpcfg(2 * i): pmpcfg0, pmpcfg2, .. pmpcfg14 */
+    uint64_t addr[64]; /* addr[i] is pmpaddr(i) */
+};
+
+/* Why settings make no map, or a call is not answered. */
+#define PMPMON_UNALIGNED_BASE (-1)  /* the base of a setting is no multiple of 4096 */
+#define PMPMON_UNALIGNED_SIZE (-2)  /* its size is no multiple of 4096 */
+#define PMPMON_UNKNOWN_PERM (-3)    /* its perm is none of the six */
+#define PMPMON_PAST_END (-4)        /* its last byte is at 2^56 or above */
+#define PMPMON_TOO_MANY_RANGES (-5) /* with it the map has more than 4096 ranges of one permission other than none */
+#define PMPMON_OUT_OF_MEMORY (-6)   /* memory was refused; nothing is wrong with the settings so far */
+
+/*
+ * How many entries the map of `count` settings needs: the length of the shortest list of entries, of any regions in any
+ * order, that lets supervisor and user do just what the map lets them do. It is 0 or above, and may be above 64.
+ *
+ * A negative number is a refusal. From PMPMON_UNALIGNED_BASE to PMPMON_TOO_MANY_RANGES it is that of the first setting
+ * that is at fault, whose number, from 0, goes to *at_fault; of several faults of one setting it is the first in the order
+ * of the list above. With any other result *at_fault stays as it was.
+ */
+int64_t pmpmon_needed(const struct pmpmon_setting *settings, size_t count, uint64_t *at_fault);
+
+/*
+ * As pmpmon_needed. Where the number is at most `entries` and at most 64, *registers get these entries, from entry 0 on,
+ * and zero past them: with them loaded, a hart lets supervisor and user do just what the map lets them do. With any other
+ * result, a refusal or too many, *registers stay as they were. `entries` is how many entries the hart has, or how many of
+ * them may be used.
+ */
+int64_t pmpmon_plan(const struct pmpmon_setting *settings, size_t count, uint64_t entries,
+                    struct pmpmon_registers *registers, uint64_t *at_fault);
+
+/* Who makes an access, and what it does. */
+#define PMPMON_USER 0
+#define PMPMON_SUPERVISOR 1
+#define PMPMON_MACHINE 3
+#define PMPMON_LOAD 1
+#define PMPMON_STORE 2
+#define PMPMON_FETCH 4
+
+struct pmpmon_access {
+    uint64_t mode;    /* PMPMON_USER, PMPMON_SUPERVISOR or PMPMON_MACHINE */
+    uint64_t kind;    /* PMPMON_LOAD, PMPMON_STORE or PMPMON_FETCH */
+    uint64_t size;    /* the number of bytes: 1, 2, 4 or 8, of a fetch 2 or 4 */
+    uint64_t address; /* the lowest address */
+};
+
+/* What becomes of an access: it is allowed, or ends with an exception, whose code in mcause the others are. */
+#define PMPMON_FETCH_MISALIGNED 0
+#define PMPMON_FETCH_FAULT 1
+#define PMPMON_LOAD_MISALIGNED 4
+#define PMPMON_LOAD_FAULT 5
+#define PMPMON_STORE_MISALIGNED 6
+#define PMPMON_STORE_FAULT 7
+#define PMPMON_ALLOWED 64
+
+/* Why an access is not judged. The five last are what pmpmon_judge does not know in registers: TOR and locked entries may
+   well be loaded on a hart, but this library has no list for them. */
+#define PMPMON_UNKNOWN_ACCESS (-7) /* no access has this mode, kind and size */
+#define PMPMON_RESERVED_PERM (-11) /* W without R */
+#define PMPMON_TOR (-12)           /* the mode TOR */
+#define PMPMON_LOCKED (-13)        /* the bit L */
+#define PMPMON_RESERVED_BITS (-14) /* a bit of 6:5 of a configuration byte */
+#define PMPMON_ADDRESS_BITS (-15)  /* a bit of 63:54 of an address register */
+
+/*
+ * What becomes of the access on a hart that has loaded the registers and has `entries` entries: 64 at most, and the
+ * registers past them are not looked at. PMPMON_ALLOWED, or the exception code of its fault. An access off a multiple of
+ * its size is misaligned before all else; one at 2^56 or above is a fault in every mode.
+ *
+ * A negative number is a refusal: PMPMON_UNKNOWN_ACCESS, or the fault of the first pair of a configuration byte and an
+ * address register that has one, and of several of one pair the first in the order of the list above.
+ */
+int64_t pmpmon_judge(const struct pmpmon_registers *registers, uint64_t entries, const struct pmpmon_access *access);
+
+/* Why a certificate is refused, by the names that `pmpmon check` prints. */
+#define PMPMON_BAD_MAGIC (-101)        /* the first four bytes are not "PMPC" */
+#define PMPMON_BAD_VERSION (-102)      /* the version is neither 1 nor 2 */
+#define PMPMON_TRUNCATED (-103)        /* the bytes end within a part */
+#define PMPMON_BAD_TAG (-104)          /* a node begins with neither a leaf's tag nor a branch's */
+#define PMPMON_BAD_PERM (-105)         /* a leaf has a byte that is no permission */
+#define PMPMON_BAD_ENTRY (-106)        /* the nine bytes of an entry mean none */
+#define PMPMON_SUB_PAGE_ENTRY (-107)   /* the region of an entry is less than a page */
+#define PMPMON_TOO_DEEP (-108)         /* a page is split */
+#define PMPMON_LEAF_NOT_UNIFORM (-109) /* a leaf's block has not one permission throughout */
+#define PMPMON_WRONG_LEAF (-110)       /* a leaf's block has another permission throughout */
+#define PMPMON_COST_TOO_HIGH (-111)    /* a cost of a split block is above what its halves' costs allow */
+#define PMPMON_COST_OVERFLOW (-112)    /* the costs of a split block's halves have a sum that is too large */
+#define PMPMON_ENTRIES_TOO_MANY (-113) /* there are more entries than the root's cost says are needed */
+#define PMPMON_WRONG_MEANING (-114)    /* the entries do not mean the map */
+#define PMPMON_TRAILING (-115)         /* bytes stand after the root */
+#define PMPMON_BAD_LIMIT (-116)        /* the limit of a version 2 certificate is neither 16 nor 64 */
+
+/*
+ * Checks a certificate, as `pmpmon plan MAP CERTIFICATE` writes it: how many entries it holds, where it shows that these
+ * mean the map of the settings and that no shorter list does. A negative number is a refusal: of a setting, as that of
+ * pmpmon_needed, with its number in *at_fault; PMPMON_OUT_OF_MEMORY; or the first of those above, in the order of reading.
+ * With any result but that of a setting *at_fault stays as it was.
+ */
+int64_t pmpmon_check(const struct pmpmon_setting *settings, size_t count, const uint8_t *certificate, size_t size,
+                     uint64_t *at_fault);
+#ifdef __cplusplus
+}
+#define PMPMON_LAYOUT(condition) static_assert(condition, #condition)
+#elif defined(__STDC_VERSION__) && __STDC_VERSION__ >= 201112L
+#define PMPMON_LAYOUT(condition) _Static_assert(condition, #condition)
+#else
+#define PMPMON_LAYOUT_NAME(line) pmpmon_layout_##line
+#define PMPMON_LAYOUT_AT(condition, line) typedef char PMPMON_LAYOUT_NAME(line)[(condition) ? 1 : -1]
+#define PMPMON_LAYOUT(condition) PMPMON_LAYOUT_AT(condition, __LINE__)
+#endif
+PMPMON_LAYOUT(sizeof(void *) == 8 && sizeof(size_t) == 8);
+PMPMON_LAYOUT(sizeof(struct pmpmon_setting) == 24 && offsetof(struct pmpmon_setting, perm) == 16);
+PMPMON_LAYOUT(sizeof(struct pmpmon_registers) == 576 && offsetof(struct pmpmon_registers, addr) == 64);
+PMPMON_LAYOUT(sizeof(struct pmpmon_access) == 32 && offsetof(struct pmpmon_access, address) == 24);
+
+#endif
