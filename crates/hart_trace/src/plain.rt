@@ -17,6 +17,7 @@ use text_lines::{leading_numeral, numeral};
 /// The modes that the letters from `s` to `u` name. A branch between two of them would be guessed wrong at every other line.
 static MODES: [Option<Mode>; 3] = [Some(Mode::Supervisor), None, Some(Mode::User)];
 
+#[inline(always)]
 fn plain_mode(byte: u8) -> Option<Mode>
     ensures mode { IfSome result (λ mode. mode_of (byte ∷ []) ≡ Some mode) }
     ensures letter { IfSome result (λ _. is_letter byte ≡ true) }
@@ -28,6 +29,7 @@ fn plain_mode(byte: u8) -> Option<Mode>
 }
 
 /// The number that a digit spells. Which sizes there are is asked once, with the kind.
+#[inline(always)]
 fn plain_size(byte: u8) -> Option<u64>
     ensures size { IfSome result (λ size. number_of (byte ∷ []) ≡ Some size) }
     ensures letter { IfSome result (λ _. is_letter byte ≡ true) }
@@ -39,6 +41,7 @@ fn plain_size(byte: u8) -> Option<u64>
 }
 
 /// The mode and size of an access, and what stands behind the `0x` or `0X` of its address.
+#[inline(always)]
 fn plain_start(rest: &[u8]) -> Option<(Mode, u64, &[u8])>
     ensures { IfSome result (λ start. Starts rest.now start.0 start.1 start.2.now) }
 {
@@ -51,6 +54,7 @@ fn plain_start(rest: &[u8]) -> Option<(Mode, u64, &[u8])>
 }
 
 /// A fetch or a load.
+#[inline(always)]
 fn plain_look(kind: Kind, rest: &[u8]) -> Option<Access>
     ensures access { IfSome result (λ access. access_of kind (split_words rest.now) ≡ Some (access, [])) }
     ensures plain { IfSome result (λ _. list_all is_plain rest.now ≡ true) }
@@ -61,6 +65,7 @@ fn plain_look(kind: Kind, rest: &[u8]) -> Option<Access>
 }
 
 /// What stands behind ` 0x`.
+#[inline(always)]
 fn behind_blank(text: &[u8]) -> Option<&[u8]>
     ensures { IfSome result (λ digits. text.now ≡ 32 ∷ 48 ∷ 120 ∷ digits.now) }
 {
@@ -71,6 +76,7 @@ fn behind_blank(text: &[u8]) -> Option<&[u8]>
 }
 
 /// A store and its value.
+#[inline(always)]
 fn plain_store(rest: &[u8]) -> Option<(Access, u64)>
     ensures access { IfSome result (λ store. (word : List ℕ) × (access_of Kind.Store (split_words rest.now) ≡ Some (store.0, word ∷ [])) × (number_of word ≡ Some store.1)) }
     ensures plain { IfSome result (λ _. list_all is_plain rest.now ≡ true) }
@@ -84,6 +90,7 @@ fn plain_store(rest: &[u8]) -> Option<(Access, u64)>
 }
 
 /// What stands behind the keyword of an access and its blank.
+#[inline(always)]
 fn behind_keyword(line: &[u8]) -> Option<(Kind, &[u8])>
     ensures { IfSome result (λ said. line.now ≡ keyword said.0 ++ 32 ∷ said.1.now) }
 {
@@ -99,6 +106,7 @@ fn behind_keyword(line: &[u8]) -> Option<(Kind, &[u8])>
 ///
 /// For those who ask for accesses alone: an [`Event`](crate::Event) has room for a call's eight words, which
 /// [`parse_line`](crate::parse_line) hands on with each.
+#[inline(always)]
 pub fn plain_access(line: &[u8]) -> Option<(Access, u64)>
     ensures { IfSome result (λ found. (harts : ℕ) → meaning_of harts line.now ≡ Some (Some (0, events.Access found.0 found.1))) }
 {

@@ -23,6 +23,7 @@ fn mode_of(word: &[u8]) -> Option<Mode>
     }
 }
 
+#[inline(always)]
 fn has_size(kind: Kind, size: u64) -> bool
     ensures { result ≡ has_size kind size }
 {
@@ -32,6 +33,7 @@ fn has_size(kind: Kind, size: u64) -> bool
     }
 }
 
+#[inline(always)]
 pub(crate) fn sized(mode: Mode, kind: Kind, size: u64, address: u64) -> Option<Access>
     ensures { result ≡ sized mode kind size address (has_size kind size) refl }
 {

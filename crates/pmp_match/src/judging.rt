@@ -11,6 +11,7 @@ use crate::cause::Cause;
 use page_views::SPACE_SIZE;
 use pmp_encoding::{Bank, Extent, Perm};
 
+#[inline(always)]
 pub(crate) fn holds(perm: Perm, kind: Kind) -> bool
     ensures { result ≡ holds perm kind }
 {
@@ -24,6 +25,7 @@ pub(crate) fn holds(perm: Perm, kind: Kind) -> bool
     }
 }
 
+#[inline(always)]
 pub(crate) fn is_machine(mode: Mode) -> bool
     ensures { result ≡ is_machine mode }
 {
@@ -90,6 +92,7 @@ fn is_allowed(bank: &Bank, access: &Access) -> bool
 }
 
 /// Whether the access is at a multiple of its size, a power of two.
+#[inline(always)]
 pub(crate) fn is_aligned(access: &Access) -> bool
     ensures { result ≡ (access.now.address % access.now.size == 0) }
 {
@@ -106,6 +109,7 @@ fn misaligned(kind: Kind) -> Cause
     }
 }
 
+#[inline(always)]
 pub(crate) fn access_fault(kind: Kind) -> Cause
     ensures { result ≡ access_fault kind }
 {

@@ -81,6 +81,7 @@ impl Segment {
     }
 
     /// Whether each byte of the access is in the segment.
+    #[inline(always)]
     fn has(&self, access: &Access) -> bool
         ensures { result ≡ true → IsWithin self.now.base self.now.end access.now }
     {
@@ -90,6 +91,7 @@ impl Segment {
     }
 
     /// What becomes of an aligned access within the segment.
+    #[inline(always)]
     fn judge(&self, access: &Access) -> Result<(), Cause>
         ensures { result ≡ (if is_machine access.now.mode || holds self.now.perm access.now.kind then Ok tt else Err (access_fault access.now.kind)) }
     {
@@ -152,6 +154,7 @@ impl<'a> Segments<'a> {
 
     /// The segment that the address is in, where it is in one. A list with few extents is asked in fewer steps, each of which
     /// waits for the one before it.
+    #[inline(always)]
     fn near(&self, address: u64) -> Segment
         ensures { IsSegmentOf (bank_of self.now) result }
     {
@@ -165,6 +168,7 @@ impl<'a> Segments<'a> {
 
     /// What becomes of the access under the entries that the bank's registers mean, as [`judge`](crate::judge) says it. It
     /// takes no memory.
+    #[inline(always)]
     pub fn judge(&self, access: &Access) -> Result<(), Cause>
         ensures by_its_list { (entries : List Entry) × HasList (bank_of self.now) entries × Judges entries access.now result }
         ensures by_no_other { (entries : List Entry) → HasList (bank_of self.now) entries → Judges entries access.now result }

@@ -37,6 +37,7 @@ impl Buffer {
         }
     }
 
+    #[inline(always)]
     pub(crate) fn as_slice(&self) -> &[u8]
         ensures value { result.now ≡ self.now }
         ensures most { length self.now ≤ 65536 }
@@ -45,6 +46,7 @@ impl Buffer {
     }
 
     /// Lets go of the first bytes.
+    #[inline(always)]
     pub(crate) fn consume(&mut self, count: usize)
         requires { count ≤ length self.old }
         ensures { self.new ≡ drop count self.old }

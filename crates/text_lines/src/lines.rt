@@ -16,6 +16,7 @@ const LIMIT: u64 = 1 << 40;
 pub const LONGEST: usize = 1023;
 
 /// How many bytes come before the first LF.
+#[inline(always)]
 fn line_len(bytes: &[u8]) -> usize
     ensures within { result ≤ length bytes.now }
     ensures len { result ≡ position_or_len (λ b. b == 10) bytes.now }
@@ -24,6 +25,7 @@ fn line_len(bytes: &[u8]) -> usize
 }
 
 /// How many bytes a line has without the CR at its end.
+#[inline(always)]
 fn text_len(line: &[u8]) -> usize
     ensures within { result ≤ length line.now }
     ensures text { take result line.now ≡ without_return line.now }
@@ -128,6 +130,7 @@ impl LineReader {
     }
 
     /// Lets go of the line that was handed out.
+    #[inline(always)]
     fn let_go(&mut self)
         ensures taken { self.new.taken ≡ 0 }
         ensures pending { self.new.buffer ≡ pending_of self.old }
@@ -143,6 +146,7 @@ impl LineReader {
     }
 
     /// Hands out the first `len` bytes that have come. It ends with byte `end`.
+    #[inline(always)]
     fn hand_out(&mut self, len: usize, end: usize)
         requires taken { self.old.taken ≡ 0 }
         requires inside { len ≤ end }
@@ -162,6 +166,8 @@ impl LineReader {
     }
 
     /// Reads some bytes behind those that have come, and says whether there were any.
+    #[cold]
+    #[inline(never)]
     fn read_more<R: Source>(&mut self, source: &mut R) -> Result<bool, ReadFault>
         requires taken { self.old.taken ≡ 0 }
         requires room { length self.old.buffer < 65536 }
@@ -187,6 +193,7 @@ impl LineReader {
     /// Hands out the next line: true where there was one, false at the end of the input. Nothing is
     /// read while a whole line is there. A line of more than 1023 bytes before its LF is too long, and more bytes than the
     /// limit are too many.
+    #[inline(always)]
     pub fn next_line<R: Source>(&mut self, source: &mut R) -> Result<bool, ReadFault>
         ensures line { NextLine result self.old self.new (R.remaining source.old) (R.remaining source.new) }
         ensures failures { FailsOnRead result (R.failures source.old) (R.failures source.new) }

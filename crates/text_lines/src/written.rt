@@ -99,6 +99,7 @@ fn push_short(line: &mut Line, n: u64)
 }
 
 /// Appends a number in decimal. The digits of a number below 10^8 are written where they stay; those of a larger one are copied.
+#[inline(always)]
 pub fn push_decimal(line: &mut Line, n: u64)
     requires { array_vec_len line.old + 20 ≤ 128 }
     ensures items { line.new.items ≡ line.old.items ++ decimal n }

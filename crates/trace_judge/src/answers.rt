@@ -8,6 +8,7 @@ use pmp_match::Cause;
 use text_lines::{Line, push_decimal, push_text};
 
 /// Writes `N ok`, or `N fault CAUSE`, to an empty line.
+#[inline(always)]
 pub fn push_answer(line: &mut Line, n: u64, answer: Result<(), Cause>)
     requires { line.old.items ≡ [] }
     ensures { line.new.items ≡ answer_text n answer }

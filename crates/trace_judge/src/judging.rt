@@ -14,6 +14,7 @@ use text_lines::{Interpreter, Line, NotUnderstood, Refusal, RunFault, interpret_
 
 /// The same access, field by field. As a whole it would be read in one piece while its fields, written just before, are on
 /// their way to memory, and the processor would wait for them.
+#[inline(always)]
 fn taken_apart(access: Access) -> Access
     ensures { result ≡ access }
 {
@@ -26,6 +27,7 @@ fn taken_apart(access: Access) -> Access
 }
 
 /// The access of a plain line. None says nothing of the line.
+#[inline(always)]
 fn plain_access_in(line: &[u8]) -> Option<Access>
     ensures { IfSome result (λ access. access_on line.now ≡ Some (Some access)) }
 {
@@ -36,6 +38,7 @@ fn plain_access_in(line: &[u8]) -> Option<Access>
 }
 
 /// The access of a line, and none where it has no words.
+#[inline(never)]
 fn access_in(line: &[u8]) -> Result<Option<Access>, NotUnderstood>
     ensures { result_ok result ≡ access_on line.now }
 {
