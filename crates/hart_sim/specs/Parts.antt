@@ -69,6 +69,10 @@ abbrev pub StaysLoaded : Kept → Hardware → Kept → Hardware → ℕ → Typ
 StaysLoaded kept old now new hart =
     now.table ≡ kept.table → world_in (slice_get new.harts hart) ≡ world_in (slice_get old.harts hart) → (bank : Bank) → BankOn old hart bank → BankOn new hart bank
 
+-- where the table stays, so does every list that is kept
+abbrev pub KeepsLists : Kept → Kept → Type 0
+KeepsLists kept now = now.table ≡ kept.table → now ≡ kept
+
 -- the list that an event on a hart meets: the host's where it is marked, else what is loaded
 abbrev pub MeetsOn : Kept → Hardware → ℕ → List Entry → Type 0
 MeetsOn kept h hart list =

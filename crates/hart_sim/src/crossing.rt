@@ -7,7 +7,7 @@ ghost use Rattle.hart_sim.specs.declared.reply.Reply.{Reply};
 ghost use Rattle.hart_sim.specs.Changes.{back_to_host};
 ghost use Rattle.enclave_table.specs.Living.{Leaves, RefusesLeave};
 ghost use Rattle.hart_sim.specs.Hardware.{state_on, KeepsBanks};
-ghost use Rattle.hart_sim.specs.Parts.{machine_state, IsWhole, AreBanksRight, StaysLoaded};
+ghost use Rattle.hart_sim.specs.Parts.{machine_state, IsWhole, AreBanksRight, StaysLoaded, KeepsLists};
 
 use crate::parts::Parts;
 use crate::refusing::number_of;
@@ -25,6 +25,7 @@ impl Parts {
         ensures banks { AreBanksRight self.old.table self.old.hardware → AreBanksRight self.new.table self.new.hardware }
         ensures others { KeepsBanks self.old.hardware self.new.hardware hart }
         ensures stays { StaysLoaded self.old.table self.old.hardware self.new.table self.new.hardware hart }
+        ensures lists { KeepsLists self.old.table self.new.table }
     {
         let world = self.hardware.hart(hart).world();
         match self.table.enter(world, id, entering) {
@@ -60,6 +61,7 @@ impl Parts {
         ensures banks { AreBanksRight self.old.table self.old.hardware → AreBanksRight self.new.table self.new.hardware }
         ensures others { KeepsBanks self.old.hardware self.new.hardware hart }
         ensures stays { StaysLoaded self.old.table self.old.hardware self.new.table self.new.hardware hart }
+        ensures lists { KeepsLists self.old.table self.new.table }
     {
         let world = self.hardware.hart(hart).world();
         match self.table.leave(world, leaving) {
@@ -80,6 +82,7 @@ impl Parts {
         ensures banks { AreBanksRight self.old.table self.old.hardware → AreBanksRight self.new.table self.new.hardware }
         ensures others { KeepsBanks self.old.hardware self.new.hardware hart }
         ensures stays { StaysLoaded self.old.table self.old.hardware self.new.table self.new.hardware hart }
+        ensures lists { KeepsLists self.old.table self.new.table }
     {
         match self.leave(hart, Leaving::Exit, 0, value) {
             Ok(()) => self.told(hart, 0, value),
@@ -96,6 +99,7 @@ impl Parts {
         ensures banks { AreBanksRight self.old.table self.old.hardware → AreBanksRight self.new.table self.new.hardware }
         ensures others { KeepsBanks self.old.hardware self.new.hardware hart }
         ensures stays { StaysLoaded self.old.table self.old.hardware self.new.table self.new.hardware hart }
+        ensures lists { KeepsLists self.old.table self.new.table }
     {
         match self.hardware.hart(hart).world() {
             World::Host => self.refuse(hart, 101),
@@ -118,6 +122,7 @@ impl Parts {
         ensures banks { AreBanksRight self.old.table self.old.hardware → AreBanksRight self.new.table self.new.hardware }
         ensures others { KeepsBanks self.old.hardware self.new.hardware hart }
         ensures stays { StaysLoaded self.old.table self.old.hardware self.new.table self.new.hardware hart }
+        ensures lists { KeepsLists self.old.table self.new.table }
     {
         if self.hardware.hart(hart).world() == World::Host {
             return self.told_of_irq(hart);

@@ -8,7 +8,7 @@ ghost use Rattle.sbi_decode.specs.Calls.{call_of};
 ghost use Rattle.hart_sim.specs.Changes.{calling};
 ghost use Rattle.enclave_table.specs.Enclaves.{EnclaveTable};
 ghost use Rattle.hart_sim.specs.Hardware.{state_on, KeepsBanks};
-ghost use Rattle.hart_sim.specs.Parts.{machine_state, IsWhole, AreBanksRight, StaysLoaded};
+ghost use Rattle.hart_sim.specs.Parts.{machine_state, IsWhole, AreBanksRight, StaysLoaded, KeepsLists};
 
 use crate::parts::Parts;
 use crate::reply::Reply;
@@ -49,6 +49,7 @@ impl Parts {
         ensures banks { AreBanksRight self.old.table self.old.hardware → AreBanksRight self.new.table self.new.hardware }
         ensures others { KeepsBanks self.old.hardware self.new.hardware hart }
         ensures stays { StaysLoaded self.old.table self.old.hardware self.new.table self.new.hardware hart }
+        ensures lists { KeepsLists self.old.table self.new.table }
     {
         let Ok(call) = decode(self.registers(hart)) else {
             return self.refuse(hart, 2);
@@ -92,6 +93,7 @@ impl Parts {
         ensures banks { AreBanksRight self.old.table self.old.hardware → AreBanksRight self.new.table self.new.hardware }
         ensures others { KeepsBanks self.old.hardware self.new.hardware hart }
         ensures stays { StaysLoaded self.old.table self.old.hardware self.new.table self.new.hardware hart }
+        ensures lists { KeepsLists self.old.table self.new.table }
     {
         self.call(hart, words);
         self.serve(hart)

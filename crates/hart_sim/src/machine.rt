@@ -145,6 +145,7 @@ impl Machine {
         ensures kept { KeepsBanksRight self.old → KeepsBanksRight self.new }
         ensures others { KeepsOtherBanks self.old self.new hart }
         ensures stays { KeepsOwnBank self.old self.new hart }
+        ensures lists { (state_of self.new).table ≡ (state_of self.old).table → kept_of self.new ≡ kept_of self.old }
         ensures platform { (state_of self.new).table.layout ≡ (state_of self.old).table.layout }
         ensures allowed { KeepsBanksRight self.old → AnswersByView (state_of self.old) hart event result }
         ensures denied { KeepsBanksRight self.old → DeniesOthers (state_of self.old) hart event result }

@@ -4,7 +4,7 @@ ghost use Rattle.std.specs.Prelude.{◌<◌, Err};
 ghost use Rattle.hart_sim.specs.Steps.{DoesMeasure, DoesCreate, DoesDestroy};
 ghost use Rattle.hart_sim.specs.declared.reply.Reply.{Reply};
 ghost use Rattle.hart_sim.specs.Hardware.{KeepsBanks};
-ghost use Rattle.hart_sim.specs.Parts.{machine_state, IsWhole, AreBanksRight, StaysLoaded};
+ghost use Rattle.hart_sim.specs.Parts.{machine_state, IsWhole, AreBanksRight, StaysLoaded, KeepsLists};
 
 use crate::parts::Parts;
 use crate::refusing::number_of;
@@ -21,6 +21,7 @@ impl Parts {
         ensures banks { AreBanksRight self.old.table self.old.hardware → AreBanksRight self.new.table self.new.hardware }
         ensures others { KeepsBanks self.old.hardware self.new.hardware hart }
         ensures stays { StaysLoaded self.old.table self.old.hardware self.new.table self.new.hardware hart }
+        ensures lists { KeepsLists self.old.table self.new.table }
     {
         self.table.rules();
         let world = self.hardware.hart(hart).world();
@@ -42,6 +43,7 @@ impl Parts {
         ensures banks { AreBanksRight self.old.table self.old.hardware → AreBanksRight self.new.table self.new.hardware }
         ensures others { KeepsBanks self.old.hardware self.new.hardware hart }
         ensures stays { StaysLoaded self.old.table self.old.hardware self.new.table self.new.hardware hart }
+        ensures lists { KeepsLists self.old.table self.new.table }
     {
         self.table.rules();
         let world = self.hardware.hart(hart).world();
@@ -64,6 +66,7 @@ impl Parts {
         ensures banks { AreBanksRight self.old.table self.old.hardware → AreBanksRight self.new.table self.new.hardware }
         ensures others { KeepsBanks self.old.hardware self.new.hardware hart }
         ensures stays { StaysLoaded self.old.table self.old.hardware self.new.table self.new.hardware hart }
+        ensures lists { KeepsLists self.old.table self.new.table }
     {
         match self.table.word(id, k) {
             Ok(word) => {

@@ -11,7 +11,7 @@ ghost use Rattle.hart_trace.specs.declared.event.Event.{Event};
 ghost use Rattle.hart_sim.specs.declared.reply.Reply.{Reply};
 ghost use Rattle.pmp_match.specs.declared.access.Access.{Access};
 ghost use Rattle.hart_sim.specs.Hardware.{BankOn, KeepsBanks};
-ghost use Rattle.hart_sim.specs.Parts.{machine_state, IsWhole, AreBanksRight, MeetsOn, StaysLoaded};
+ghost use Rattle.hart_sim.specs.Parts.{machine_state, IsWhole, AreBanksRight, MeetsOn, StaysLoaded, KeepsLists};
 
 use crate::parts::Parts;
 use crate::reply::Reply;
@@ -30,6 +30,7 @@ impl Parts {
         ensures banks { AreBanksRight self.old.table self.old.hardware → AreBanksRight self.new.table self.new.hardware }
         ensures others { KeepsBanks self.old.hardware self.new.hardware hart }
         ensures stays { StaysLoaded self.old.table self.old.hardware self.new.table self.new.hardware hart }
+        ensures lists { KeepsLists self.old.table self.new.table }
     {
         self.hardware.set_register(hart, n, value);
         Reply::Done
@@ -49,6 +50,7 @@ impl Parts {
         ensures banks { AreBanksRight self.old.table self.old.hardware → AreBanksRight self.new.table self.new.hardware }
         ensures others { KeepsBanks self.old.hardware self.new.hardware hart }
         ensures stays { StaysLoaded self.old.table self.old.hardware self.new.table self.new.hardware hart }
+        ensures lists { KeepsLists self.old.table self.new.table }
     {
         match event {
             Event::Access(access, value) => self.access(hart, &access, value),
@@ -71,6 +73,7 @@ impl Parts {
         ensures banks { AreBanksRight self.old.table self.old.hardware → AreBanksRight self.new.table self.new.hardware }
         ensures others { KeepsBanks self.old.hardware self.new.hardware hart }
         ensures stays { (machine_state self.old.table self.old.hardware).marked hart ≡ false → StaysLoaded self.old.table self.old.hardware self.new.table self.new.hardware hart }
+        ensures lists { KeepsLists self.old.table self.new.table }
     {
         self.wake(hart);
         self.happen(hart, event)

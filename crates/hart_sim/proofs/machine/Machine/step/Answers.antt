@@ -99,3 +99,7 @@ returns-clause-after c = λ platform events replies a.
       others = others_to old.hardware new.hardware c.args.hart c.step.ensures.others;
       kept = right_to new.table new.hardware (c.step.ensures.banks right);
     })
+
+pub returns-clause-lists : goal.returns-clause-lists
+unfolding state_of kept_of
+returns-clause-lists c = c.step.ensures.lists

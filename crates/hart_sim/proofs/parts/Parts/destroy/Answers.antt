@@ -75,3 +75,12 @@ returns-in-Ok-clause-stays c = λ table world bank has.
     let old = c.args.self.now in
     let done = c.in-Ok.ensures.done in
     absurd (not_removed old.table.table c.destroy.new.self.table c.args.id done.passes.1.0.0 done.passes.1.0.1 done.removed (ap (λ k. k.table) (sym c.reload.ensures.table) ∙ table))
+
+pub returns-in-Err-clause-lists : goal.returns-in-Err-clause-lists
+returns-in-Err-clause-lists c = λ table. c.refuse.ensures.table ∙ c.in-Err.ensures.kept
+
+pub returns-in-Ok-clause-lists : goal.returns-in-Ok-clause-lists
+returns-in-Ok-clause-lists c = λ table.
+    let old = c.args.self.now in
+    let done = c.in-Ok.ensures.done in
+    absurd (not_removed old.table.table c.destroy.new.self.table c.args.id done.passes.1.0.0 done.passes.1.0.1 done.removed (ap (λ k. k.table) (sym c.reload.ensures.table) ∙ table))

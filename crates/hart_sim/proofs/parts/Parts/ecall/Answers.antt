@@ -1,3 +1,4 @@
+use Rattle.hart_sim.proofs.Stayed.{lists_after}
 use Rattle.std.proofs.Common.{◌∙◌, ap, sym, subst, slice_get}
 use Rattle.sbi_decode.specs.Calls.{call_of}
 use Rattle.hart_sim.specs.Changes.{calling}
@@ -38,3 +39,6 @@ returns-clause-stays c = λ table world bank has.
     let same = ap (λ k. k.table) c.call.ensures.table in
     let still = (c.call.ensures.state old.table.table).worlds c.args.hart c.requires.hart in
     c.serve.ensures.stays (table ∙ sym same) (world ∙ sym still) bank (c.call.ensures.stays same still bank has)
+
+pub returns-clause-lists : goal.returns-clause-lists
+returns-clause-lists c = lists_after c.args.self.now.table c.call.new.self.table c.serve.new.self.table c.call.ensures.table c.serve.ensures.lists

@@ -1,3 +1,4 @@
+use Rattle.hart_sim.proofs.Stayed.{lists_turned}
 use Rattle.hart_sim.proofs.Moved.{not_there, went_there}
 use Rattle.std.proofs.Common.{◌≡◌, ◌∙◌, inl, ap, sym, subst, slice_get}
 use Rattle.enclave_table.specs.Living.{Enters}
@@ -59,3 +60,9 @@ returns-clause-stays c = λ table world bank has.
     let old = c.args.self.now in
     absurd (not_there old.table old.hardware c.world-world.result c.args.id c.args.entering c.enter.new.self.table c.requires.whole c.in-Ok.ensures.done c.args.hart
     (sym world ∙ went_there old.hardware c.into_enclave.new.self c.args.hart (InEnclave c.args.id) c.into_enclave.ensures.worlds))
+
+pub returns-in-Err-clause-lists : goal.returns-in-Err-clause-lists
+returns-in-Err-clause-lists c = λ table. c.refuse.ensures.table ∙ c.in-Err.ensures.kept
+
+pub returns-clause-lists : goal.returns-clause-lists
+returns-clause-lists c = lists_turned c.args.self.now.table c.enter.new.self c.in-Ok.ensures.lists

@@ -30,3 +30,6 @@ returns-in-Irq-clause-layout c =
     let old = c.args.self.now in
     let s = machine_state old.table old.hardware in
     interrupted (s.worlds c.args.hart) s c.args.hart c.interrupt.result (machine_state c.interrupt.new.self.table c.interrupt.new.self.hardware) c.interrupt.ensures.step
+
+pub returns-in-Access-clause-lists : goal.returns-in-Access-clause-lists
+returns-in-Access-clause-lists c = λ table. c.access.ensures.table

@@ -1,3 +1,4 @@
+use Rattle.hart_sim.proofs.Stayed.{lists_turned}
 use Rattle.worlds.specs.declared.world.World.TheVariants.{Enclave as InEnclave}
 use Rattle.hart_sim.proofs.Moved.{went_there}
 use Rattle.std.proofs.Common.{◌≡◌, ◌∙◌, ◌<◌, ap, sym, subst, slice_get}
@@ -40,3 +41,9 @@ returns-clause-stays c = λ table world bank has.
     let at : c.world-world.result ≡ world_in (slice_get old.hardware.harts c.args.hart) = c.world-world.ensures.value ∙ sym (ap world_in c.hart.ensures.value) in
     let host = went_there old.hardware c.back_to_host.new.self c.args.hart Host c.back_to_host.ensures.worlds in
     let z : Host ≡ InEnclave c.in-Ok.field-0 = sym host ∙ world ∙ sym at ∙ c.in-Ok.ensures.done.left in absurd cc
+
+pub returns-in-Err-clause-lists : goal.returns-in-Err-clause-lists
+returns-in-Err-clause-lists c = λ table. c.in-Err.ensures.kept
+
+pub returns-clause-lists : goal.returns-clause-lists
+returns-clause-lists c = lists_turned c.args.self.now.table c.leave.new.self c.in-Ok.ensures.lists

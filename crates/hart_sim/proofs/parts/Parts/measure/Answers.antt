@@ -20,3 +20,9 @@ returns-in-Ok-clause-stays c = c.answer.ensures.stays
 
 pub returns-in-Err-clause-stays : goal.returns-in-Err-clause-stays
 returns-in-Err-clause-stays c = c.refuse.ensures.stays
+
+pub returns-in-Ok-clause-lists : goal.returns-in-Ok-clause-lists
+returns-in-Ok-clause-lists c = λ table. c.answer.ensures.table
+
+pub returns-in-Err-clause-lists : goal.returns-in-Err-clause-lists
+returns-in-Err-clause-lists c = λ table. c.refuse.ensures.table

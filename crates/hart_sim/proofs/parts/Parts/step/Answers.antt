@@ -1,3 +1,4 @@
+use Rattle.hart_sim.proofs.Stayed.{lists_after}
 use Rattle.std.proofs.Common.{◌∙◌, if◌then◌else◌, false, ap, sym, subst, slice_get, slice_index_or, refl}
 use Rattle.std.proofs.lemmas.Bool.{eq-eqb}
 use Rattle.hart_sim.specs.Changes.{without_mark}
@@ -51,3 +52,6 @@ pub returns-clause-stays : goal.returns-clause-stays
 returns-clause-stays c = λ off table world bank has.
     let still = c.wake.ensures.asleep off in
     c.happen.ensures.stays (table ∙ sym (ap (λ k. k.table) c.wake.ensures.table)) (world ∙ ap (λ h. world_in (slice_get h.harts c.args.hart)) (sym still)) bank (subst (λ h. BankOn h c.args.hart bank) (sym still) has)
+
+pub returns-clause-lists : goal.returns-clause-lists
+returns-clause-lists c = lists_after c.args.self.now.table c.wake.new.self.table c.happen.new.self.table c.wake.ensures.table c.happen.ensures.lists

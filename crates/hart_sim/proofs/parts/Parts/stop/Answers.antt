@@ -1,3 +1,4 @@
+use Rattle.hart_sim.proofs.Stayed.{lists_after}
 use Rattle.std.proofs.Common.{◌≡◌, ◌∙◌, ◌<◌, inl, inr, refl, ap, sym, subst, slice_get}
 use Rattle.enclave_table.specs.Living.{Leaves}
 use Rattle.enclave_table.specs.declared.life.Leaving.TheVariants.{Stop}
@@ -55,3 +56,9 @@ returns-in-Ok-clause-stays c = λ table world bank has.
     let same = ap (λ k. k.table) c.answer.ensures.table in
     let still = (c.answer.ensures.state old.table.table).worlds c.args.hart c.requires.hart in
     c.in-Ok.ensures.stays (table ∙ sym same) (world ∙ sym still) bank (c.answer.ensures.stays same still bank has)
+
+pub returns-in-Host-clause-lists : goal.returns-in-Host-clause-lists
+returns-in-Host-clause-lists c = λ table. c.refuse.ensures.table
+
+pub returns-in-Ok-clause-lists : goal.returns-in-Ok-clause-lists
+returns-in-Ok-clause-lists c = lists_after c.args.self.now.table c.answer.new.self.table c.leave.new.self.table c.answer.ensures.table c.in-Ok.ensures.lists

@@ -22,7 +22,7 @@ returns-then-not-measure g c =
 
 pub returns-in-Ok-print_measures : goal.returns-in-Ok-print_measures
 returns-in-Ok-print_measures g c =
-    let written = rw c.table.ensures at c.in-Ok-print_measures.ensures.written in
+    let written = rw c.table.ensures.kept at c.in-Ok-print_measures.ensures.written in
     let before = c.in-Ok.ensures.writes in
     let measures = c.in-Ok-print_measures.ensures in
     λ file first platform has is. ran platform c.args.machine.now c.run.new.machine _ has is (c.in-Ok.ensures.all c.requires.kept)
@@ -30,7 +30,7 @@ returns-in-Ok-print_measures g c =
 
 pub returns-in-Err-print_measures : goal.returns-in-Err-print_measures
 returns-in-Err-print_measures g c =
-    let w = rw c.table.ensures at c.in-Err-print_measures.ensures.part in
+    let w = rw c.table.ensures.kept at c.in-Err-print_measures.ensures.part in
     let writes = c.in-Ok.ensures.writes in
     λ file first platform has is. not_measured platform c.args.machine.now c.run.new.machine _ w.0 w.2 c.if-not-measure.false has is
     (c.in-Ok.ensures.all c.requires.kept) w.1 w.3 w.4 c.in-Ok.ensures.reads (rw (writes.0, writes.1) at c.in-Err-print_measures.ensures.failed)
