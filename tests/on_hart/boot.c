@@ -121,5 +121,8 @@ void plan_at_boot(void)
     note("refusals-wrong", refusals_wrong());
     note("judged", COUNT(answers));
     note("judged-wrong", judged_wrong());
+    note("accepted", pmpmon_check(settings, COUNT(settings), certificate, sizeof certificate, &at_fault));
+    note("cut", -pmpmon_check(settings, COUNT(settings), certificate, sizeof certificate - 1, &at_fault));
     note("left", heap_blocks);
+    note("deepest", stack_used());
 }
