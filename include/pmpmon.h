@@ -19,14 +19,18 @@
  * and cfg[1]. Write all of them, since those past the list are zero, which turns what stood there off. Nothing here is
  * locked, so machine mode keeps all access while they are written.
  *
- * Calls: each function keeps nothing between calls, reads and writes what its pointers point to during the call alone, and
- * may be called from several threads at a time. No pointer may be null, and nothing that is written may overlap anything
- * else that is passed. pmpmon_plan, pmpmon_needed and pmpmon_check take memory (malloc, realloc, free on Linux) and give
- * all of it back; pmpmon_judge takes none.
+ * Calls: each function keeps nothing between calls, and reads and writes what its pointers point to during the call alone.
+ * No pointer may be null, also where a count is 0. Nothing that is written may overlap anything else that is passed.
+ * pmpmon_plan, pmpmon_needed and pmpmon_check take memory and give all of it back; pmpmon_judge takes none. On Linux the
+ * memory is that of malloc, realloc and free: so call them from no signal handler, and not in the child of a fork of a
+ * process with threads.
  *
  * Compiling for RV64: every parameter and every result has 64 bits, and this has to stay so in whatever is added. The
  * object for a hart is made from a module that was lowered for x86-64, and in such a module a shorter integer is not
- * extended as the calling convention of RV64 wants it.
+ * extended as the calling convention of RV64 wants it. That object is tested on QEMU (tests/on_hart), and the verdict of
+ * the proofs does not cover it. A firmware supplies rattle_alloc, rattle_realloc and rattle_dealloc, memcpy, memmove and
+ * memset, of which tests/on_hart has an example. The maps of that test, of up to 16 entries, took at most 12 KB of heap and
+ * 16 KB of stack to plan.
  */
 #ifndef PMPMON_H
 #define PMPMON_H
@@ -69,7 +73,8 @@ struct pmpmon_registers {
 
 /*
  * How many entries the map of `count` settings needs: the length of the shortest list of entries, of any regions in any
- * order, that lets supervisor and user do just what the map lets them do. It is 0 or above, and may be above 64.
+ * order, that lets supervisor and user do just what the map lets them do, at every naturally aligned access. It is 0 or
+ * above, and may be above 64.
  *
  * A negative number is a refusal. From PMPMON_UNALIGNED_BASE to PMPMON_TOO_MANY_RANGES it is that of the first setting
  * that is at fault, whose number, from 0, goes to *at_fault; of several faults of one setting it is the first in the order
