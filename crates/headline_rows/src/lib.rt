@@ -2,7 +2,7 @@
 //! what is known of the machine after it.
 #![tactic(auto)]
 
-ghost use Rattle.std.specs.Prelude.{◌≡◌, ℕ, ◌-◌, ◌^◌, ◌<◌, List, [], ◌∷◌, ◌++◌};
+ghost use Rattle.std.specs.Prelude.{◌≡◌, ℕ, List, [], ◌∷◌, ◌++◌};
 ghost use Rattle.enclave_table.specs.Platform.{Layout};
 ghost use Rattle.hart_trace.specs.declared.event.Event.{Event};
 ghost use Rattle.hart_sim.specs.After.{After};
@@ -49,10 +49,6 @@ pub fn runs_on<R: Source, W: Sink>(
     report: &mut W,
     other: &mut W,
 ) -> Reply
-    requires first { R.failures first.old < 2 ^ 64 - 1 }
-    requires second { R.failures second.old < 2 ^ 64 - 1 }
-    requires report { W.failures report.old < 2 ^ 64 - 1 }
-    requires other { W.failures other.old < 2 ^ 64 - 1 }
     ensures { (platform : Layout) (events : List (ℕ × Event)) (replies : List Reply) → After platform events replies machine.old → (more : List (ℕ × Event)) × (answered : List Reply) × Headline platform (events ++ more ++ (0, Event.Irq) ∷ []) (replies ++ answered ++ result ∷ []) machine.new }
 {
     let _ = run(machine, first, report);
