@@ -1,4 +1,3 @@
-mod Below
 mod Ends
 pub mod Live
 pub mod Refusals

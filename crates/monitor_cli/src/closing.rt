@@ -1,6 +1,6 @@
 //! A task whose output is held in part until its end.
 
-ghost use Rattle.std.specs.Prelude.{◌≡◌, ◌-◌, ◌^◌, ◌<◌, ℕ, Err, true};
+ghost use Rattle.std.specs.Prelude.{◌≡◌, ℕ, Err, true};
 ghost use Rattle.std.specs.Io.KnownBytes.{Keeps};
 ghost use Rattle.byte_streams.specs.Streams.{failures_of, stalls_of};
 ghost use Rattle.monitor_cli.specs.Closing.{IsClosed, held_by};
@@ -35,7 +35,6 @@ pub fn closed<T: Write + Drop, E: Sink>(
     out: Counted<BufWriter<T>>,
     err: &mut E,
 ) -> (u8, T)
-    requires { status < 2 → E.failures err.old < 2 ^ 64 - 1 }
     ensures { IsClosed (held_by T.contents out) (T.contents result.1) (err.new ≡ err.old) (Tells (writing E.contents E.failures E.stalls err.old err.new) (Err Output)) status result.0 }
 {
     let (is_whole, stream) = handed_on(out);
@@ -56,11 +55,6 @@ pub fn perform_and_close<R: Source, C: WholeSink, T: Write + Drop, E: Sink>(
     out: Counted<BufWriter<T>>,
     err: &mut E,
 ) -> (u8, T)
-    requires first { R.failures first.old < 2 ^ 64 - 1 }
-    requires second { R.failures second.old < 2 ^ 64 - 1 }
-    requires cert { C.failures cert.old < 2 ^ 64 - 1 }
-    requires out { failures_of out < 2 ^ 64 - 1 }
-    requires err { E.failures err.old < 2 ^ 64 - 1 }
     ensures { let source = reading R.remaining R.failures in
         let telling = writing E.contents E.failures E.stalls in
         (held : Counted (BufWriter T _)) × (told : E) × (ended : ℕ)
