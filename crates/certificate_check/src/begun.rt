@@ -38,9 +38,15 @@ pub(crate) fn begin(
 )
     requires small { span.size < 45 }
     requires some { span.first < span.end }
-    ensures begun { (spans : ℕ → Span) (count below later : ℕ) → AreBlocks spans count → AreBegun spans count below page slots.old → number < count → span ≡ spans number → span.first ≡ page → ((j : ℕ) → j < count → key_of spans j < later → (key_of spans j < below) ⊎ (j ≡ number)) → AreBegun spans count later page slots.new }
+    ensures begun { (spans : ℕ → Span) (count below later : ℕ) → AreBlocks spans count
+        → AreBegun spans count below page slots.old → number < count → span ≡ spans number
+        → span.first ≡ page
+        → ((j : ℕ) → j < count → key_of spans j < later
+        → (key_of spans j < below) ⊎ (j ≡ number))
+        → AreBegun spans count later page slots.new }
     ensures few { sizes.old.bits < 2 ^ 45 → sizes.new.bits < 2 ^ 45 }
-    ensures ended { HaveEndedBut sizes.old page slots.old → HaveEndedBut sizes.new page slots.new }
+    ensures ended { HaveEndedBut sizes.old page slots.old
+        → HaveEndedBut sizes.new page slots.new }
 {
     sizes.insert(span.size);
     let slot = slots[span.size];
@@ -55,9 +61,13 @@ fn first_open(slots: &[Begun; SIZES], sizes: &mut Sizes, page: u64) -> Option<Be
     requires few { sizes.old.bits < 2 ^ 45 }
     requires ended { HaveEndedBut sizes.old page slots.now }
     ensures open { IfSome result (λ entry. page < entry.span.end) }
-    ensures one { IfSome result (λ entry. (k : ℕ) × (k < 45) × ((d : Begun) → slice_index_or slots.now k d ≡ entry)) }
-    ensures least { IfSome result (λ entry. (k : ℕ) (d : Begun) → k < 45 → page < (slice_index_or slots.now k d).span.end → entry.number ≤ (slice_index_or slots.now k d).number) }
-    ensures none { IfNone result ((k : ℕ) (d : Begun) → k < 45 → (slice_index_or slots.now k d).span.end ≤ page) }
+    ensures one { IfSome result (λ entry.
+        (k : ℕ) × (k < 45) × ((d : Begun) → slice_index_or slots.now k d ≡ entry)) }
+    ensures least { IfSome result (λ entry.
+        (k : ℕ) (d : Begun) → k < 45 → page < (slice_index_or slots.now k d).span.end
+        → entry.number ≤ (slice_index_or slots.now k d).number) }
+    ensures none { IfNone result
+        ((k : ℕ) (d : Begun) → k < 45 → (slice_index_or slots.now k d).span.end ≤ page) }
     ensures few { sizes.new.bits < 2 ^ 45 }
     ensures ended { HaveEndedBut sizes.new page slots.now }
 {
@@ -86,7 +96,9 @@ pub(crate) fn piece_of_begun(slots: &[Begun; SIZES], sizes: &mut Sizes, page: u6
     requires ended { HaveEndedBut sizes.old page slots.now }
     ensures some { page < result.end }
     ensures inside { result.end ≤ to }
-    ensures value { (spans : ℕ → Span) (count below : ℕ) → AreBlocks spans count → AreBegun spans count below page slots.now → NoneBegins spans count below to → (at : ℕ) → page ≤ at → at < result.end → Decides spans count at result.perm }
+    ensures value { (spans : ℕ → Span) (count below : ℕ) → AreBlocks spans count
+        → AreBegun spans count below page slots.now → NoneBegins spans count below to → (at : ℕ)
+        → page ≤ at → at < result.end → Decides spans count at result.perm }
     ensures few { sizes.new.bits < 2 ^ 45 }
     ensures ended { HaveEndedBut sizes.new page slots.now }
 {

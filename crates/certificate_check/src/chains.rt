@@ -32,7 +32,9 @@ ghost use Rattle.certificate_check.specs.Places.{IsPlace, start_of, ArePlaces};
 fn next_in_chain(entries: &Entries, place: Place, from: usize, to: usize, page: u64) -> Place
     requires inside { to ≤ count_in entries.now }
     ensures all { result.span.end ≤ page → to ≤ result.next }
-    ensures value { (spans : ℕ → Span) → ReadsAs entries.now spans → IsPlace spans from to page place → IsPlace spans from to page result }
+    ensures value { (spans : ℕ → Span) → ReadsAs entries.now spans
+        → IsPlace spans from to page place
+        → IsPlace spans from to page result }
 {
     let mut next = place.next.max(from);
     let mut span = place.span;
@@ -55,8 +57,12 @@ fn go_on(
 )
     requires place { i < 45 }
     requires inside { to ≤ count_in entries.now }
-    ensures all { (d : Place) → (slice_index_or places.new i d).span.end ≤ page → to ≤ (slice_index_or places.new i d).next }
-    ensures value { (spans : ℕ → Span) → ReadsAs entries.now spans → (ends : List ℕ) → start_of ends i ≡ from → slice_index ends i ≡ to → i < length ends → ArePlaces spans ends page places.old → ArePlaces spans ends page places.new }
+    ensures all { (d : Place) → (slice_index_or places.new i d).span.end ≤ page
+        → to ≤ (slice_index_or places.new i d).next }
+    ensures value { (spans : ℕ → Span) → ReadsAs entries.now spans → (ends : List ℕ)
+        → start_of ends i ≡ from
+        → slice_index ends i ≡ to → i < length ends → ArePlaces spans ends page places.old
+        → ArePlaces spans ends page places.new }
 {
     if places[i].span.end <= page {
         places[i] = next_in_chain(entries, places[i], from, to, page);
@@ -73,12 +79,17 @@ pub(crate) fn piece_of_chains(
     requires few { length ends.now ≤ 45 }
     requires page { page < 2 ^ 44 }
     requires rise { RiseTo 0 ends.now (count_in entries.now) }
-    requires chains { (spans : ℕ → Span) → ReadsAs entries.now spans → AreChains spans 0 ends.now (count_in entries.now) }
-    requires placed { (spans : ℕ → Span) → ReadsAs entries.now spans → ArePlaces spans ends.now page places.old }
+    requires chains { (spans : ℕ → Span) → ReadsAs entries.now spans
+        → AreChains spans 0 ends.now (count_in entries.now) }
+    requires placed { (spans : ℕ → Span) → ReadsAs entries.now spans
+        → ArePlaces spans ends.now page places.old }
     ensures some { page < result.end }
     ensures inside { result.end ≤ 2 ^ 44 }
-    ensures value { (spans : ℕ → Span) → ReadsAs entries.now spans → (at : ℕ) → page ≤ at → at < result.end → Decides spans (count_in entries.now) at result.perm }
-    ensures places { (spans : ℕ → Span) → ReadsAs entries.now spans → ArePlaces spans ends.now page places.new }
+    ensures value { (spans : ℕ → Span) → ReadsAs entries.now spans → (at : ℕ)
+        → page ≤ at → at < result.end
+        → Decides spans (count_in entries.now) at result.perm }
+    ensures places { (spans : ℕ → Span) → ReadsAs entries.now spans
+        → ArePlaces spans ends.now page places.new }
 {
     let mut end = SPACE_PAGES;
     let mut from = 0;
@@ -105,7 +116,9 @@ pub(crate) fn piece_of_chains(
 pub(crate) fn chains_of(entries: &Entries) -> Option<ArrayVec<usize, SIZES>>
     ensures few { IfSome result (λ ends. length ends.items ≤ 45) }
     ensures rise { IfSome result (λ ends. RiseTo 0 ends.items (count_in entries.now)) }
-    ensures chains { IfSome result (λ ends. (spans : ℕ → Span) → ReadsAs entries.now spans → AreChains spans 0 ends.items (count_in entries.now)) }
+    ensures chains { IfSome result (λ ends.
+        (spans : ℕ → Span) → ReadsAs entries.now spans
+        → AreChains spans 0 ends.items (count_in entries.now)) }
 {
     let mut ends = ArrayVec::new();
     let mut last = 0;

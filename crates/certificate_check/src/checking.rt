@@ -41,9 +41,11 @@ fn read_whole(map: &PermissionMap, bytes: &[u8]) -> Result<u32, CheckRefusal>
 /// entries, nodes in preorder, and then the number of entries, their meaning and bytes behind the root.
 pub fn check(map: &PermissionMap, bytes: &[u8]) -> Result<u32, CheckRefusal>
     ensures fewest { IfOk result (HoldsFewest (view_of_runs map.now) bytes.now) }
-    ensures least { IfOk result (λ n. (others : List Entry) → Means others (view_of_runs map.now) → n ≤ length others) }
+    ensures least { IfOk result (λ n.
+        (others : List Entry) → Means others (view_of_runs map.now) → n ≤ length others) }
     ensures right { (n : ℕ) → (result ≡ Ok n) ↔ IsRight (view_of_runs map.now) bytes.now n }
-    ensures fault { (refusal : CheckRefusal) → (result ≡ Err refusal) ↔ RefusalStands (view_of_runs map.now) bytes.now refusal }
+    ensures fault { (refusal : CheckRefusal)
+        → (result ≡ Err refusal) ↔ RefusalStands (view_of_runs map.now) bytes.now refusal }
 {
     read_whole(map, bytes)
 }

@@ -66,7 +66,8 @@ impl<'a> Entries<'a> {
     pub(crate) fn first(&self, i: usize) -> u64
         requires { i < count_in self.now }
         ensures inside { result < 2 ^ 44 }
-        ensures value { (spans : ℕ → Span) → ReadsAs self.now spans → result ≡ (spans i).first }
+        ensures value { (spans : ℕ → Span) → ReadsAs self.now spans
+            → result ≡ (spans i).first }
     {
         let bytes = self.bytes;
         let at = 9 * i;

@@ -12,8 +12,12 @@ use pmp_encoding::decode;
 
 /// Reads the nine bytes of an entry of at least a page.
 fn entry(reader: &mut Reader) -> Result<(), CheckRefusal>
-    ensures read { OnOk result ((e : Entry) × (front : List ℕ) × (reader.old ≡ front ++ reader.new) × SpellsEntry front e × (12 ≤ e.region.log2)) }
-    ensures given { (e : Entry) (front rest : List ℕ) → reader.old ≡ front ++ rest → SpellsEntry front e → 12 ≤ e.region.log2 → IsOk result × (reader.new ≡ rest) }
+    ensures read { OnOk result ((e : Entry) × (front : List ℕ)
+        × (reader.old ≡ front ++ reader.new)
+        × SpellsEntry front e × (12 ≤ e.region.log2)) }
+    ensures given { (e : Entry) (front rest : List ℕ) → reader.old ≡ front ++ rest
+        → SpellsEntry front e
+        → 12 ≤ e.region.log2 → IsOk result × (reader.new ≡ rest) }
     ensures fault { IfErr result (EntryFault reader.old) }
 {
     let pair = reader.entry()?;
@@ -28,8 +32,11 @@ fn entry(reader: &mut Reader) -> Result<(), CheckRefusal>
 
 /// Reads that many entries of at least a page.
 pub(crate) fn entries(reader: &mut Reader, count: u32) -> Result<(), CheckRefusal>
-    ensures read { OnOk result ((es : List Entry) × IsListed reader.old reader.new es × (length es ≡ count)) }
-    ensures given { (es : List Entry) (rest : List ℕ) → IsListed reader.old rest es → length es ≡ count → IsOk result × (reader.new ≡ rest) }
+    ensures read { OnOk result ((es : List Entry) × IsListed reader.old reader.new es
+        × (length es ≡ count)) }
+    ensures given { (es : List Entry) (rest : List ℕ) → IsListed reader.old rest es
+        → length es ≡ count
+        → IsOk result × (reader.new ≡ rest) }
     ensures fault { IfErr result (ListFault reader.old count) }
 {
     for _ in 0..count {
@@ -40,9 +47,13 @@ pub(crate) fn entries(reader: &mut Reader, count: u32) -> Result<(), CheckRefusa
 
 /// Reads that many entries of at least a page, and answers their bytes.
 pub(crate) fn listed<'a>(reader: &mut Reader<'a>, count: u32) -> Result<Entries<'a>, CheckRefusal>
-    ensures read { IfOk result (λ list. (es : List Entry) × IsListed reader.old reader.new es × (length es ≡ count) × SpellsEntries list es) }
+    ensures read { IfOk result (λ list.
+        (es : List Entry) × IsListed reader.old reader.new es × (length es ≡ count)
+        × SpellsEntries list es) }
     ensures count { IfOk result (λ list. count_in list ≡ count) }
-    ensures given { (es : List Entry) (rest : List ℕ) → IsListed reader.old rest es → length es ≡ count → IsListAnswer es rest result reader.new }
+    ensures given { (es : List Entry) (rest : List ℕ) → IsListed reader.old rest es
+        → length es ≡ count
+        → IsListAnswer es rest result reader.new }
     ensures fault { IfErr result (ListFault reader.old count) }
 {
     let whole = reader.rest();

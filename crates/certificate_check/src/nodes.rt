@@ -26,9 +26,15 @@ fn leaf(
 ) -> Result<SixCosts, CheckRefusal>
     requires depth { log2 ≤ 44 }
     requires inside { first + 2 ^ log2 ≤ 2 ^ 44 }
-    ensures read { (view : View) → AgreeFrom first (view_of_runs runs.old) view → IfOk result (λ numbers. IsNodeRead view log2 first (0 ∷ reader.old) reader.new numbers) }
-    ensures given { (view : View) → AgreeFrom first (view_of_runs runs.old) view → (perm : Perm) (rest : List ℕ) → IsUniform view log2 first perm → reader.old ≡ bits_of perm ∷ rest → IsAnswer (Leaf perm) rest result reader.new }
-    ensures fault { (view : View) → AgreeFrom first (view_of_runs runs.old) view → IfErr result (NodeFault view log2 first (0 ∷ reader.old)) }
+    ensures read { (view : View) → AgreeFrom first (view_of_runs runs.old) view
+        → IfOk result (λ numbers.
+        IsNodeRead view log2 first (0 ∷ reader.old) reader.new numbers) }
+    ensures given { (view : View) → AgreeFrom first (view_of_runs runs.old) view
+        → (perm : Perm) (rest : List ℕ)
+        → IsUniform view log2 first perm → reader.old ≡ bits_of perm ∷ rest
+        → IsAnswer (Leaf perm) rest result reader.new }
+    ensures fault { (view : View) → AgreeFrom first (view_of_runs runs.old) view
+        → IfErr result (NodeFault view log2 first (0 ∷ reader.old)) }
     ensures same { OnOk result (AgreeFrom first (view_of_runs runs.new) (view_of_runs runs.old)) }
 {
     let perm = reader.perm()?;
@@ -44,10 +50,14 @@ fn leaf(
 
 /// The numbers of a split block, where they are what the halves allow.
 fn branch(costs: &SixCosts, lower: &SixCosts, upper: &SixCosts) -> Result<SixCosts, CheckRefusal>
-    ensures numbers { IfOk result (λ numbers. (p : Perm) → cost_of numbers p ≡ cost_of costs.now p) }
-    ensures allowed { OnOk result (IsAllowed (cost_of costs.now) (cost_of lower.now) (cost_of upper.now)) }
-    ensures given { IsAllowed (cost_of costs.now) (cost_of lower.now) (cost_of upper.now) → IsOk result }
-    ensures fault { IfErr result (BranchFault (cost_of costs.now) (cost_of lower.now) (cost_of upper.now)) }
+    ensures numbers { IfOk result (λ numbers.
+        (p : Perm) → cost_of numbers p ≡ cost_of costs.now p) }
+    ensures allowed { OnOk result (IsAllowed (cost_of costs.now) (cost_of lower.now)
+        (cost_of upper.now)) }
+    ensures given { IsAllowed (cost_of costs.now) (cost_of lower.now) (cost_of upper.now)
+        → IsOk result }
+    ensures fault { IfErr result (BranchFault (cost_of costs.now) (cost_of lower.now)
+        (cost_of upper.now)) }
 {
     let Some(sums) = sums_of(lower, upper) else {
         return Err(CheckRefusal::CostOverflow);
@@ -68,10 +78,15 @@ fn node(
 ) -> Result<SixCosts, CheckRefusal>
     requires depth { log2 ≤ 44 }
     requires inside { first + 2 ^ log2 ≤ 2 ^ 44 }
-    ensures read { (view : View) → AgreeFrom first (view_of_runs runs.old) view → IfOk result (λ numbers. IsNodeRead view log2 first reader.old reader.new numbers) }
-    ensures given { (view : View) → AgreeFrom first (view_of_runs runs.old) view → (tree : BoundTree) (rest : List ℕ) → IsRightNode view log2 first tree → reader.old ≡ node_bytes tree ++ rest → IsAnswer tree rest result reader.new }
-    ensures fault { (view : View) → AgreeFrom first (view_of_runs runs.old) view → IfErr result (NodeFault view log2 first reader.old) }
-    ensures same { OnOk result (AgreeFrom (first + 2 ^ log2) (view_of_runs runs.new) (view_of_runs runs.old)) }
+    ensures read { (view : View) → AgreeFrom first (view_of_runs runs.old) view
+        → IfOk result (λ numbers. IsNodeRead view log2 first reader.old reader.new numbers) }
+    ensures given { (view : View) → AgreeFrom first (view_of_runs runs.old) view
+        → (tree : BoundTree) (rest : List ℕ) → IsRightNode view log2 first tree
+        → reader.old ≡ node_bytes tree ++ rest → IsAnswer tree rest result reader.new }
+    ensures fault { (view : View) → AgreeFrom first (view_of_runs runs.old) view
+        → IfErr result (NodeFault view log2 first reader.old) }
+    ensures same { OnOk result (AgreeFrom (first + 2 ^ log2) (view_of_runs runs.new)
+        (view_of_runs runs.old)) }
 {
     match reader.tag()? {
         Tag::Leaf => leaf(reader, runs, log2, first),
@@ -92,8 +107,11 @@ fn node(
 /// Reads the root's node, and answers its numbers: how many entries the map needs at least. With the most runs that a
 /// map can have those are fewer than 2^19.
 pub(crate) fn root(reader: &mut Reader, map: &PermissionMap) -> Result<SixCosts, CheckRefusal>
-    ensures read { IfOk result (λ numbers. IsNodeRead (view_of_runs map.now) 44 0 reader.old reader.new numbers) }
-    ensures given { (tree : BoundTree) (rest : List ℕ) → IsRightNode (view_of_runs map.now) 44 0 tree → reader.old ≡ node_bytes tree ++ rest → IsAnswer tree rest result reader.new }
+    ensures read { IfOk result (λ numbers.
+        IsNodeRead (view_of_runs map.now) 44 0 reader.old reader.new numbers) }
+    ensures given { (tree : BoundTree) (rest : List ℕ)
+        → IsRightNode (view_of_runs map.now) 44 0 tree
+        → reader.old ≡ node_bytes tree ++ rest → IsAnswer tree rest result reader.new }
     ensures fault { IfErr result (NodeFault (view_of_runs map.now) 44 0 reader.old) }
     ensures few { IfOk result (λ numbers. numbers.no_access < 2 ^ 19) }
 {

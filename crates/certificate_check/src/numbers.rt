@@ -40,9 +40,11 @@ fn sum(lower: u32, upper: u32) -> Option<u32>
 
 /// The sums of the costs of two halves, unless one more than some sum has no four bytes.
 pub(crate) fn sums_of(lower: &SixCosts, upper: &SixCosts) -> Option<SixCosts>
-    ensures sums { IfSome result (λ sums. (p : Perm) → cost_of sums p ≡ cost_of lower.now p + cost_of upper.now p) }
+    ensures sums { IfSome result (λ sums.
+        (p : Perm) → cost_of sums p ≡ cost_of lower.now p + cost_of upper.now p) }
     ensures small { IfSome result (λ sums. (p : Perm) → cost_of sums p + 1 < 2 ^ 32) }
-    ensures large { IfNone result ((p : Perm) × (2 ^ 32 ≤ cost_of lower.now p + cost_of upper.now p + 1)) }
+    ensures large { IfNone result ((p : Perm)
+        × (2 ^ 32 ≤ cost_of lower.now p + cost_of upper.now p + 1)) }
 {
     let no_access = sum(lower.no_access, upper.no_access)?;
     let read = sum(lower.read, upper.read)?;
@@ -101,9 +103,13 @@ fn above(costs: &SixCosts, other: &SixCosts) -> Option<Perm>
 /// Whether some number is above the same sum of the halves' numbers, or above one more than any sum.
 pub(crate) fn are_too_high(costs: &SixCosts, sums: &SixCosts) -> bool
     requires { (p : Perm) → cost_of sums.now p + 1 < 2 ^ 32 }
-    ensures high { IsTrue result → (p : Perm) × (q : Perm) × ((cost_of sums.now p < cost_of costs.now p) ⊎ (1 + cost_of sums.now q < cost_of costs.now p)) }
+    ensures high { IsTrue result
+        → (p : Perm) × (q : Perm)
+        × ((cost_of sums.now p < cost_of costs.now p)
+        ⊎ (1 + cost_of sums.now q < cost_of costs.now p)) }
     ensures same { result ≡ false → (p : Perm) → cost_of costs.now p ≤ cost_of sums.now p }
-    ensures any { result ≡ false → (p q : Perm) → cost_of costs.now p ≤ 1 + cost_of sums.now q }
+    ensures any { result ≡ false → (p q : Perm)
+        → cost_of costs.now p ≤ 1 + cost_of sums.now q }
 {
     if above(costs, sums).is_some() {
         return true;

@@ -12,7 +12,8 @@ use std::marker::Model;
 pub(crate) fn runs_from<'a>(runs: &'a [Run], page: u64) -> &'a [Run]
     requires { AreLaterRuns runs.now }
     ensures later { AreLaterRuns result.now }
-    ensures same { (at : ℕ) → page ≤ at → view_of_runs result.now at ≡ view_of_runs runs.now at }
+    ensures same { (at : ℕ) → page ≤ at → view_of_runs result.now at
+        ≡ view_of_runs runs.now at }
     ensures behind { StartsBehind page result.now }
 {
     let mut rest = runs;
@@ -32,7 +33,8 @@ pub(crate) fn piece_of_runs(runs: &[Run], page: u64) -> Piece
     requires behind { StartsBehind page runs.now }
     ensures some { page < result.end }
     ensures inside { result.end ≤ 2 ^ 44 }
-    ensures value { (at : ℕ) → page ≤ at → at < result.end → view_of_runs runs.now at ≡ result.perm }
+    ensures value { (at : ℕ) → page ≤ at → at < result.end
+        → view_of_runs runs.now at ≡ result.perm }
     ensures whole { result.end < 2 ^ 44 → view_of_runs runs.now result.end ≢ result.perm }
 {
     match runs {
@@ -89,8 +91,10 @@ impl<'a> RunsAhead<'a> {
         requires some { first < end }
         requires inside { end ≤ 2 ^ 44 }
         ensures same { AgreeFrom first (view_of_runs self.new) (view_of_runs self.old) }
-        ensures some { IfSome result (λ perm. (at : ℕ) → first ≤ at → at < end → view_of_runs self.old at ≡ perm) }
-        ensures none { IfNone result ((at : ℕ) × (first ≤ at) × (at < end) × (view_of_runs self.old at ≢ view_of_runs self.old first)) }
+        ensures some { IfSome result (λ perm.
+            (at : ℕ) → first ≤ at → at < end → view_of_runs self.old at ≡ perm) }
+        ensures none { IfNone result ((at : ℕ) × (first ≤ at) × (at < end)
+            × (view_of_runs self.old at ≢ view_of_runs self.old first)) }
     {
         let runs = runs_from(self.runs, first);
         let piece = piece_of_runs(runs, first);

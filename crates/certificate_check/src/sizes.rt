@@ -20,7 +20,8 @@ impl Sizes {
         requires small { size < 45 }
         ensures few { self.old.bits < 2 ^ 45 → self.new.bits < 2 ^ 45 }
         ensures has { bit_at self.new.bits size ≡ 1 }
-        ensures others { (k : ℕ) → k ≢ size → bit_at self.new.bits k ≡ bit_at self.old.bits k }
+        ensures others { (k : ℕ) → k ≢ size
+            → bit_at self.new.bits k ≡ bit_at self.old.bits k }
     {
         self.bits |= 1 << size;
     }
@@ -31,7 +32,8 @@ impl Sizes {
         requires has { bit_at self.old.bits size ≡ 1 }
         ensures fewer { self.new.bits < self.old.bits }
         ensures lacks { bit_at self.new.bits size ≡ 0 }
-        ensures others { (k : ℕ) → k < 45 → k ≢ size → bit_at self.new.bits k ≡ bit_at self.old.bits k }
+        ensures others { (k : ℕ) → k < 45 → k ≢ size
+            → bit_at self.new.bits k ≡ bit_at self.old.bits k }
     {
         self.bits &= !(1 << size);
     }

@@ -22,8 +22,12 @@ fn agrees_in_chains(entries: &Entries, ends: &[usize], runs: &[Run]) -> bool
     requires later { AreLaterRuns runs.now }
     requires few { length ends.now ≤ 45 }
     requires rise { RiseTo 0 ends.now (count_in entries.now) }
-    requires chains { (spans : ℕ → Span) → ReadsAs entries.now spans → AreChains spans 0 ends.now (count_in entries.now) }
-    ensures { (spans : ℕ → Span) → ReadsAs entries.now spans → IsTrue result ↔ ((page : ℕ) → page < 2 ^ 44 → Decides spans (count_in entries.now) page (view_of_runs runs.now page)) }
+    requires chains { (spans : ℕ → Span) → ReadsAs entries.now spans
+        → AreChains spans 0 ends.now (count_in entries.now) }
+    ensures { (spans : ℕ → Span) → ReadsAs entries.now spans
+        → IsTrue result
+        ↔ ((page : ℕ) → page < 2 ^ 44
+        → Decides spans (count_in entries.now) page (view_of_runs runs.now page)) }
 {
     let mut places = [BEFORE; SIZES];
     let mut rest = runs;
@@ -55,11 +59,21 @@ fn agreed<'a>(
     requires inside { to ≤ 2 ^ 44 }
     requires later { AreLaterRuns runs.now }
     ensures later { IfSome result (λ rest. AreLaterRuns rest.now) }
-    ensures same { IfSome result (λ rest. (at : ℕ) → to ≤ at → view_of_runs rest.now at ≡ view_of_runs runs.now at) }
+    ensures same { IfSome result (λ rest.
+        (at : ℕ) → to ≤ at → view_of_runs rest.now at ≡ view_of_runs runs.now at) }
     ensures few { sizes.new.bits < 2 ^ 45 }
     ensures ended { HaveEndedBut sizes.new to slots.now }
-    ensures given { IfSome result (λ _. (spans : ℕ → Span) (count below : ℕ) → AreBlocks spans count → AreBegun spans count below from slots.now → NoneBegins spans count below to → (at : ℕ) → from ≤ at → at < to → Decides spans count at (view_of_runs runs.now at)) }
-    ensures differs { IfNone result ((spans : ℕ → Span) (count below : ℕ) → AreBlocks spans count → AreBegun spans count below from slots.now → NoneBegins spans count below to → (at : ℕ) × (from ≤ at) × (at < to) × (Decides spans count at (view_of_runs runs.now at) → ⊥)) }
+    ensures given { IfSome result
+        (λ _.
+        (spans : ℕ → Span) (count below : ℕ) → AreBlocks spans count
+        → AreBegun spans count below from slots.now
+        → NoneBegins spans count below to → (at : ℕ) → from ≤ at → at < to
+        → Decides spans count at (view_of_runs runs.now at)) }
+    ensures differs { IfNone result ((spans : ℕ → Span) (count below : ℕ)
+        → AreBlocks spans count
+        → AreBegun spans count below from slots.now → NoneBegins spans count below to
+        → (at : ℕ) × (from ≤ at) × (at < to)
+        × (Decides spans count at (view_of_runs runs.now at) → ⊥)) }
 {
     let mut rest = runs;
     let mut page = from;
@@ -81,7 +95,10 @@ fn agreed<'a>(
 fn agrees_in_any_order(entries: &Entries, runs: &[Run]) -> bool
     requires few { count_in entries.now < 2 ^ 19 }
     requires later { AreLaterRuns runs.now }
-    ensures { (spans : ℕ → Span) → ReadsAs entries.now spans → IsTrue result ↔ ((page : ℕ) → page < 2 ^ 44 → Decides spans (count_in entries.now) page (view_of_runs runs.now page)) }
+    ensures { (spans : ℕ → Span) → ReadsAs entries.now spans
+        → IsTrue result
+        ↔ ((page : ℕ) → page < 2 ^ 44
+        → Decides spans (count_in entries.now) page (view_of_runs runs.now page)) }
 {
     let mut keys = Keys::new();
     let mut slots = [NONE; SIZES];
@@ -109,7 +126,10 @@ fn agrees_in_any_order(entries: &Entries, runs: &[Run]) -> bool
 pub(crate) fn agrees(entries: &Entries, runs: &[Run]) -> bool
     requires few { count_in entries.now < 2 ^ 19 }
     requires later { AreLaterRuns runs.now }
-    ensures { (spans : ℕ → Span) → ReadsAs entries.now spans → IsTrue result ↔ ((page : ℕ) → page < 2 ^ 44 → Decides spans (count_in entries.now) page (view_of_runs runs.now page)) }
+    ensures { (spans : ℕ → Span) → ReadsAs entries.now spans
+        → IsTrue result
+        ↔ ((page : ℕ) → page < 2 ^ 44
+        → Decides spans (count_in entries.now) page (view_of_runs runs.now page)) }
 {
     match chains_of(entries) {
         Some(ends) => agrees_in_chains(entries, ends.as_slice(), runs),
@@ -120,7 +140,8 @@ pub(crate) fn agrees(entries: &Entries, runs: &[Run]) -> bool
 /// Whether the entries mean the map.
 pub(crate) fn means(entries: &Entries, map: &PermissionMap) -> bool
     requires { count_in entries.now < 2 ^ 19 }
-    ensures { (es : List Entry) → SpellsEntries entries.now es → AreNoSubPages es → IsTrue result ↔ Means es (view_of_runs map.now) }
+    ensures { (es : List Entry) → SpellsEntries entries.now es → AreNoSubPages es
+        → IsTrue result ↔ Means es (view_of_runs map.now) }
 {
     agrees(entries, map.ranges())
 }

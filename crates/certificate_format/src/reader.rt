@@ -52,7 +52,8 @@ fn after_magic(bytes: &[u8]) -> Result<&[u8], ReadFault>
 }
 
 fn version_of(bytes: &[u8]) -> Result<(Version, &[u8]), ReadFault>
-    ensures { MatchResult result (λ x. bytes.now ≡ version_bytes x.0 ++ x.1.now) (VersionFault bytes.now) }
+    ensures { MatchResult result (λ x.
+        bytes.now ≡ version_bytes x.0 ++ x.1.now) (VersionFault bytes.now) }
 {
     match bytes {
         [1, rest @ ..] => Ok((Version::One, rest)),
@@ -65,7 +66,8 @@ fn version_of(bytes: &[u8]) -> Result<(Version, &[u8]), ReadFault>
 }
 
 fn count_of(bytes: &[u8]) -> Result<(u32, &[u8]), ReadFault>
-    ensures { MatchResult result (λ x. bytes.now ≡ u32_bytes x.0 ++ x.1.now) (ShortFault 4 bytes.now) }
+    ensures { MatchResult result (λ x.
+        bytes.now ≡ u32_bytes x.0 ++ x.1.now) (ShortFault 4 bytes.now) }
 {
     if bytes.len() < 4 {
         return Err(ReadFault::Truncated);
@@ -75,7 +77,9 @@ fn count_of(bytes: &[u8]) -> Result<(u32, &[u8]), ReadFault>
 }
 
 fn header_of(bytes: &[u8]) -> Result<(Header, &[u8]), ReadFault>
-    ensures { MatchResult result (λ x. (bytes.now ≡ header_bytes x.0 ++ x.1.now) × (x.0.count < 2 ^ 32)) (HeaderFault bytes.now) }
+    ensures { MatchResult result (λ x.
+        (bytes.now ≡ header_bytes x.0 ++ x.1.now) × (x.0.count < 2 ^ 32))
+        (HeaderFault bytes.now) }
 {
     let rest = after_magic(bytes)?;
     let (version, rest) = version_of(rest)?;
@@ -103,7 +107,8 @@ impl<'a> Reader<'a> {
     pub fn header(&mut self) -> Result<Header, ReadFault>
         ensures read { IfOk result (λ header. self.old ≡ header_bytes header ++ self.new) }
         ensures fits { IfOk result (λ header. header.count < 2 ^ 32) }
-        ensures whole { (header : Header) (rest : List ℕ) → header.count < 2 ^ 32 → self.old ≡ header_bytes header ++ rest → (result ≡ Ok header) × (self.new ≡ rest) }
+        ensures whole { (header : Header) (rest : List ℕ) → header.count < 2 ^ 32
+            → self.old ≡ header_bytes header ++ rest → (result ≡ Ok header) × (self.new ≡ rest) }
         ensures fault { (f : ReadFault) → (result ≡ Err f) ↔ HeaderFault self.old f }
         ensures kept { OnErr result (self.new ≡ self.old) }
     {
@@ -116,7 +121,9 @@ impl<'a> Reader<'a> {
     pub fn entry(&mut self) -> Result<EntryBytes<'a>, ReadFault>
         ensures read { IfOk result (λ pair. self.old ≡ pair_bytes pair ++ self.new) }
         ensures fits { IfOk result (λ pair. pair.1 < 2 ^ 64) }
-        ensures whole { (pair : ℕ × ℕ) (rest : List ℕ) → pair.1 < 2 ^ 64 → self.old ≡ pair_bytes pair ++ rest → (result ≡ Ok pair) × (self.new ≡ rest) }
+        ensures whole { (pair : ℕ × ℕ) (rest : List ℕ) → pair.1 < 2 ^ 64
+            → self.old ≡ pair_bytes pair ++ rest
+            → (result ≡ Ok pair) × (self.new ≡ rest) }
         ensures fault { (f : ReadFault) → (result ≡ Err f) ↔ ShortFault 9 self.old f }
         ensures kept { OnErr result (self.new ≡ self.old) }
     {
@@ -130,7 +137,8 @@ impl<'a> Reader<'a> {
     /// The kind of the node that begins here. Answers `Truncated` at the end, and `BadTag` where another byte stands there.
     pub fn tag(&mut self) -> Result<Tag, ReadFault>
         ensures read { IfOk result (λ tag. self.old ≡ tag_byte tag ∷ self.new) }
-        ensures whole { (tag : Tag) (rest : List ℕ) → self.old ≡ tag_byte tag ∷ rest → (result ≡ Ok tag) × (self.new ≡ rest) }
+        ensures whole { (tag : Tag) (rest : List ℕ) → self.old ≡ tag_byte tag ∷ rest
+            → (result ≡ Ok tag) × (self.new ≡ rest) }
         ensures fault { (f : ReadFault) → (result ≡ Err f) ↔ TagFault self.old f }
         ensures kept { OnErr result (self.new ≡ self.old) }
     {
@@ -149,7 +157,8 @@ impl<'a> Reader<'a> {
     /// The permission of a leaf. Answers `Truncated` at the end, and `BadPerm` where another byte stands there.
     pub fn perm(&mut self) -> Result<Perm, ReadFault>
         ensures read { IfOk result (λ perm. self.old ≡ bits_of perm ∷ self.new) }
-        ensures whole { (perm : Perm) (rest : List ℕ) → self.old ≡ bits_of perm ∷ rest → (result ≡ Ok perm) × (self.new ≡ rest) }
+        ensures whole { (perm : Perm) (rest : List ℕ) → self.old ≡ bits_of perm ∷ rest
+            → (result ≡ Ok perm) × (self.new ≡ rest) }
         ensures fault { (f : ReadFault) → (result ≡ Err f) ↔ PermFault self.old f }
         ensures kept { OnErr result (self.new ≡ self.old) }
     {
@@ -165,9 +174,13 @@ impl<'a> Reader<'a> {
 
     /// The six costs of a branch. Answers `Truncated` where fewer than twenty-four bytes are left.
     pub fn costs(&mut self) -> Result<SixCosts, ReadFault>
-        ensures read { IfOk result (λ costs. self.old ≡ costs_bytes (cost_of costs) ++ self.new) }
+        ensures read { IfOk result (λ costs.
+            self.old ≡ costs_bytes (cost_of costs) ++ self.new) }
         ensures fits { IfOk result (λ costs. (perm : Perm) → cost_of costs perm < 2 ^ 32) }
-        ensures whole { (costs : Perm → ℕ) (rest : List ℕ) → ((perm : Perm) → costs perm < 2 ^ 32) → self.old ≡ costs_bytes costs ++ rest → (result ≡ Ok (six_of costs)) × (self.new ≡ rest) }
+        ensures whole { (costs : Perm → ℕ) (rest : List ℕ)
+            → ((perm : Perm) → costs perm < 2 ^ 32)
+            → self.old ≡ costs_bytes costs ++ rest
+            → (result ≡ Ok (six_of costs)) × (self.new ≡ rest) }
         ensures fault { (f : ReadFault) → (result ≡ Err f) ↔ ShortFault 24 self.old f }
         ensures kept { OnErr result (self.new ≡ self.old) }
     {

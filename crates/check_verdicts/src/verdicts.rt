@@ -17,7 +17,8 @@ use text_lines::Line;
 
 /// The line for a yes: of a certificate of version 2 it names the limit.
 fn accepted(n: u32, bytes: &[u8]) -> Line
-    ensures { (header : Header) (rest : List ℕ) → header.count < 2 ^ 32 → bytes.now ≡ header_bytes header ++ rest → result.items ≡ accepted_by header.version n }
+    ensures { (header : Header) (rest : List ℕ) → header.count < 2 ^ 32
+        → bytes.now ≡ header_bytes header ++ rest → result.items ≡ accepted_by header.version n }
 {
     let mut reader = Reader::new(bytes);
     let Ok(header) = reader.header() else {
@@ -39,8 +40,11 @@ fn refused(refusal: CheckRefusal) -> Line
 
 /// The line that `check` prints for a certificate, and its status: 0 for a yes and 1 for a no.
 pub fn verdict(map: &PermissionMap, bytes: &[u8]) -> (Line, u8)
-    ensures yes { (n : ℕ) (right : IsRight (view_of_runs map.now) bytes.now n) → (result.0.items ≡ accepted_by right.version n) × (result.1 ≡ 0) }
-    ensures no { (refusal : CheckRefusal) → RefusalStands (view_of_runs map.now) bytes.now refusal → (result.0.items ≡ refused_text (refusal_number refusal) (refusal_name refusal)) × (result.1 ≡ 1) }
+    ensures yes { (n : ℕ) (right : IsRight (view_of_runs map.now) bytes.now n)
+        → (result.0.items ≡ accepted_by right.version n) × (result.1 ≡ 0) }
+    ensures no { (refusal : CheckRefusal) → RefusalStands (view_of_runs map.now) bytes.now refusal
+        → (result.0.items ≡ refused_text (refusal_number refusal) (refusal_name refusal))
+        × (result.1 ≡ 1) }
     ensures verdict { IsVerdict (view_of_runs map.now) bytes.now result.0.items result.1 }
 {
     match check(map, bytes) {

@@ -53,7 +53,8 @@ fn command<'a>(
     more: &'a str,
     arguments: &[Argument<'a>],
 ) -> Result<Command<'a>, AllocError>
-    ensures app { IfOk result (λ c. app_of c ≡ with_arguments (new_app name.entry.now) arguments.entry.now) }
+    ensures app { IfOk result (λ c. app_of c
+        ≡ with_arguments (new_app name.entry.now) arguments.entry.now) }
     ensures local { IfOk result (λ c. (out-Command c).has_globals ≡ false) }
 {
     let mut command = named(alloc, name, about, more);

@@ -30,10 +30,13 @@ fn task_in<'a>(matches: &ArgMatches<'a>) -> Result<Task<'a>, Fault<'a>>
 /// An error is a fault of the command line, want of memory, or a wish for help or the version: its `kind`
 /// says which, and its `Display` is the text for the user.
 pub fn command_of<'a>(alloc: Global, words: &'a [&'a str]) -> Result<Task<'a>, Error>
-    ensures task { IfOk result (IsTask (subcommand_of program_app (map (λ s. s.now) words.entry.now))) }
+    ensures task { IfOk result (IsTask (subcommand_of program_app
+        (map (λ s. s.now) words.entry.now))) }
     ensures sound { IfOk result IsSound }
-    ensures taken { IfOk result (λ _. fault_of program_app (map (λ s. s.now) words.entry.now) ≡ []) }
-    ensures refused { IfErr result (λ error. Refuses (map (λ s. s.now) words.entry.now) (kind_of error)) }
+    ensures taken { IfOk result (λ _. fault_of program_app (map (λ s. s.now) words.entry.now)
+        ≡ []) }
+    ensures refused { IfErr result (λ error.
+        Refuses (map (λ s. s.now) words.entry.now) (kind_of error)) }
 {
     let mut program = program(alloc)?;
     let matches = program.try_get_matches_from_mut(words)?;

@@ -18,7 +18,8 @@ impl Contexts {
 
     /// Every set zero.
     pub fn new() -> Contexts
-        ensures { (hart : ℕ) (world : World) → hart ≤ 3 → IsWorld world → saved_of result (runner_of hart world) ≡ Some zeros }
+        ensures { (hart : ℕ) (world : World) → hart ≤ 3 → IsWorld world
+            → saved_of result (runner_of hart world) ≡ Some zeros }
     {
         let zeros = Registers::new();
         Contexts {
@@ -44,7 +45,8 @@ impl Contexts {
         requires hart { hart ≤ 3 }
         requires world { IsWorld world }
         ensures value { saved_of self.new (runner_of hart world) ≡ Some registers }
-        ensures others { (other : Runner) → other ≢ runner_of hart world → saved_of self.new other ≡ saved_of self.old other }
+        ensures others { (other : Runner) → other ≢ runner_of hart world
+            → saved_of self.new other ≡ saved_of self.old other }
     {
         match world {
             World::Host => self.hosts[hart as usize] = registers,

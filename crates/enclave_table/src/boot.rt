@@ -56,7 +56,8 @@ impl Table {
     /// The table of a platform, with no enclave.
     pub fn boot(alloc: Global, platform: Platform) -> Result<Table, BootFault>
         ensures opening { IfOk result (λ table. table.table ≡ opening platform) }
-        ensures fits { IfOk result (λ table. FitsIn platform.limit (host_view (opening platform))) }
+        ensures fits { IfOk result (λ table.
+            FitsIn platform.limit (host_view (opening platform))) }
         ensures fault { IfErr result (λ fault. IsBootFault platform fault) }
     {
         platform.rules();

@@ -25,7 +25,9 @@ impl Table {
     /// Whether no page is one of an enclave's.
     fn is_clear_of_enclaves(&self, parts: &Create) -> bool
         requires { HasCounts parts.now }
-        ensures { IsTrue result ↔ ((id : ℕ) (e : Enclave) → Live self.now.table id e → ArePartsApart parts.now e.parts) }
+        ensures { IsTrue result
+            ↔ ((id : ℕ) (e : Enclave) → Live self.now.table id e
+            → ArePartsApart parts.now e.parts) }
     {
         self.rules();
         for id in 1..65 {
@@ -51,11 +53,13 @@ impl Table {
 
     /// The id of a new enclave with these parts, or the first check that does not pass.
     pub(crate) fn checked_create(&self, world: World, parts: &Create) -> Result<u64, Refusal>
-        ensures passes { IfOk result (λ id. AllPass (PassesCreate self.now.table world parts.now) create_checks) }
+        ensures passes { IfOk result (λ id.
+            AllPass (PassesCreate self.now.table world parts.now) create_checks) }
         ensures counts { IfOk result (λ _. HasCounts parts.now) }
         ensures places { IfOk result (λ _. HasPlaces parts.now) }
         ensures next { IfOk result (λ id. IsNextId self.now.table id) }
-        ensures fails { IfErr result (λ refusal. FailsFirst (PassesCreate self.now.table world parts.now) create_checks refusal) }
+        ensures fails { IfErr result (λ refusal.
+            FailsFirst (PassesCreate self.now.table world parts.now) create_checks refusal) }
     {
         if world != World::Host {
             return Err(Refusal::NotHost);
@@ -83,12 +87,14 @@ impl Table {
 
     /// The enclave of an id that may be destroyed, or the first check that does not pass.
     pub(crate) fn checked_destroy(&self, world: World, id: u64) -> Result<Enclave, Refusal>
-        ensures passes { IfOk result (λ _. AllPass (PassesOn MayDestroy self.now.table world id) host_checks) }
+        ensures passes { IfOk result (λ _.
+            AllPass (PassesOn MayDestroy self.now.table world id) host_checks) }
         ensures live { IfOk result (λ e. Live self.now.table id e) }
         ensures sound { IfOk result (λ e. IsSound self.now.table e.parts) }
         ensures above { IfOk result (λ _. 1 ≤ id) }
         ensures below { IfOk result (λ _. id ≤ 64) }
-        ensures fails { IfErr result (λ refusal. FailsFirst (PassesOn MayDestroy self.now.table world id) host_checks refusal) }
+        ensures fails { IfErr result (λ refusal.
+            FailsFirst (PassesOn MayDestroy self.now.table world id) host_checks refusal) }
     {
         if world != World::Host {
             return Err(Refusal::NotHost);

@@ -32,8 +32,10 @@ impl Table {
         asked: Create,
     ) -> Result<u64, Refusal>
         requires { IsCurrent self.old.table world }
-        ensures done { IfOk result (λ id. Creates (P.bytes_of pages.now) self.old.table world asked id self.new.table) }
-        ensures refused { IfErr result (λ refusal. RefusesCreate (P.bytes_of pages.now) self.old.table world asked refusal) }
+        ensures done { IfOk result (λ id.
+            Creates (P.bytes_of pages.now) self.old.table world asked id self.new.table) }
+        ensures refused { IfErr result (λ refusal.
+            RefusesCreate (P.bytes_of pages.now) self.old.table world asked refusal) }
         ensures kept { OnErr result (self.new ≡ self.old) }
     {
         self.rules();

@@ -13,8 +13,10 @@ impl Table {
     /// Destroys an enclave. The answer is its private pages, which the caller must zero.
     pub fn destroy(&mut self, world: World, id: u64) -> Result<PageRange, Refusal>
         requires { IsCurrent self.old.table world }
-        ensures done { IfOk result (λ range. Destroys self.old.table world id range self.new.table) }
-        ensures refused { IfErr result (λ refusal. RefusesDestroy self.old.table world id refusal) }
+        ensures done { IfOk result (λ range.
+            Destroys self.old.table world id range self.new.table) }
+        ensures refused { IfErr result (λ refusal.
+            RefusesDestroy self.old.table world id refusal) }
         ensures kept { OnErr result (self.new ≡ self.old) }
     {
         self.rules();

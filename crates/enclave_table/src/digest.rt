@@ -44,7 +44,8 @@ fn is_blank(page: &[u8; 4096]) -> bool
 /// Whether so many pages from one on have no byte but zeros.
 fn are_blank<P: Pages>(pages: &P, first: u64, count: u64) -> bool
     requires { first + count ≤ 2 ^ 44 }
-    ensures { result ≡ true → (i : ℕ) → i < count → P.bytes_of pages.now (first + i) ≡ blank_page }
+    ensures { result ≡ true → (i : ℕ) → i < count
+        → P.bytes_of pages.now (first + i) ≡ blank_page }
 {
     let mut bytes = [0; 4096];
     for i in 0..count {

@@ -21,8 +21,11 @@ use std::alloc::Global;
 
 /// The entries of a plan, if there are as many.
 fn listed(alloc: Global, limit: Limit, plan: &Plan) -> Result<EntryList, Refusal>
-    ensures list { (view : ℕ → Perm) → Means plan.now.entries view → Needs view (length plan.now.entries) → IfOk result (λ list. IsListOf limit view list) }
-    ensures want { (view : ℕ → Perm) → Needs view (length plan.now.entries) → IfErr result (λ refusal. IsWant limit view refusal) }
+    ensures list { (view : ℕ → Perm) → Means plan.now.entries view
+        → Needs view (length plan.now.entries)
+        → IfOk result (λ list. IsListOf limit view list) }
+    ensures want { (view : ℕ → Perm) → Needs view (length plan.now.entries)
+        → IfErr result (λ refusal. IsWant limit view refusal) }
 {
     if plan.needed() > limit.number() {
         return Err(Refusal::NoEntries);
@@ -64,10 +67,16 @@ impl Table {
     /// The host's view with some pages overwritten.
     pub(crate) fn host_with(&self, pages: PageRange, perm: Perm) -> Result<HostView, Refusal>
         requires { pages.first + pages.count ≤ 2 ^ 44 }
-        ensures means { IfOk result (λ host. TreeMeans (overwritten (host_view self.now.table) pages.first pages.count perm) host.tree) }
+        ensures means { IfOk result (λ host.
+            TreeMeans (overwritten (host_view self.now.table) pages.first pages.count perm)
+            host.tree) }
         ensures canonical { IfOk result (λ host. IsCanonical host.tree) }
-        ensures list { IfOk result (λ host. IsListOf self.now.table.layout.limit (overwritten (host_view self.now.table) pages.first pages.count perm) host.list) }
-        ensures want { IfErr result (λ refusal. IsWant self.now.table.layout.limit (overwritten (host_view self.now.table) pages.first pages.count perm) refusal) }
+        ensures list { IfOk result (λ host.
+            IsListOf self.now.table.layout.limit
+            (overwritten (host_view self.now.table) pages.first pages.count perm) host.list) }
+        ensures want { IfErr result (λ refusal.
+            IsWant self.now.table.layout.limit
+            (overwritten (host_view self.now.table) pages.first pages.count perm) refusal) }
     {
         self.rules();
         let tree = match self.host_tree().with_range(pages.first, pages.count, perm) {

@@ -56,7 +56,8 @@ impl Table {
         requires { IsCurrent self.old.table world }
         ensures done { OnOk result (Enters self.old.table world id entering self.new.table) }
         ensures lists { OnOk result (self.new ≡ record self.old { table = self.new.table }) }
-        ensures refused { IfErr result (λ refusal. RefusesEnter self.old.table world id entering refusal) }
+        ensures refused { IfErr result (λ refusal.
+            RefusesEnter self.old.table world id entering refusal) }
         ensures kept { OnErr result (self.new ≡ self.old) }
     {
         if world != World::Host {

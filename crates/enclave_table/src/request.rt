@@ -76,7 +76,10 @@ impl Create {
     /// Its text and data.
     pub(crate) fn private_pages(&self) -> PageRange
         requires { HasCounts self.now }
-        ensures value { result ≡ record { first = self.now.base / 4096; count = self.now.text_pages + self.now.data_pages } }
+        ensures value { result ≡ record {
+          first = self.now.base / 4096;
+          count = self.now.text_pages + self.now.data_pages;
+        } }
         ensures fits { result.first + result.count < 2 ^ 64 }
         ensures inside { HasPlaces self.now → result.first + result.count ≤ 2 ^ 44 }
     {
@@ -89,7 +92,11 @@ impl Create {
     /// What it shares with the host.
     pub(crate) fn shared_pages(&self) -> PageRange
         requires { HasCounts self.now }
-        ensures value { result ≡ record { first = self.now.shared_base / 4096; count = self.now.shared_count } }
+        ensures value { result ≡ record {
+          first = self.now.shared_base / 4096;
+          count =
+              self.now.shared_count;
+        } }
         ensures fits { result.first + result.count < 2 ^ 64 }
     {
         PageRange {
@@ -101,7 +108,8 @@ impl Create {
     /// Whether no page is both private and shared.
     pub(crate) fn is_apart(&self) -> bool
         requires { HasCounts self.now }
-        ensures { IsTrue result ↔ ((page : ℕ) → is_private self.now page ≡ true → is_shared self.now page ≡ false) }
+        ensures { IsTrue result
+            ↔ ((page : ℕ) → is_private self.now page ≡ true → is_shared self.now page ≡ false) }
     {
         self.private_pages().is_apart_from(self.shared_pages())
     }
@@ -110,7 +118,9 @@ impl Create {
     pub(crate) fn is_clear_of(&self, pages: PageRange) -> bool
         requires counts { HasCounts self.now }
         requires fits { pages.first + pages.count < 2 ^ 64 }
-        ensures { IsTrue result ↔ ((page : ℕ) → is_part self.now page ≡ true → in_range pages.first pages.count page ≡ true → ⊥) }
+        ensures { IsTrue result
+            ↔ ((page : ℕ) → is_part self.now page ≡ true
+            → in_range pages.first pages.count page ≡ true → ⊥) }
     {
         self.private_pages().is_apart_from(pages) && self.shared_pages().is_apart_from(pages)
     }

@@ -52,7 +52,8 @@ fn cost_of_uniform(perm: Perm) -> BlockCost
 }
 
 fn perms_of_halves(lower: BlockCost, upper: BlockCost) -> HalfPerms
-    ensures { (low high : PermTree) → lower ≡ block_cost low → upper ≡ block_cost high → result ≡ half_perms low high }
+    ensures { (low high : PermTree) → lower ≡ block_cost low → upper ≡ block_cost high
+        → result ≡ half_perms low high }
 {
     HalfPerms {
         both: lower.best.intersection(upper.best),
@@ -64,7 +65,8 @@ fn perms_of_halves(lower: BlockCost, upper: BlockCost) -> HalfPerms
 fn cost_of_split(together: u32, perms: HalfPerms) -> BlockCost
     requires { together + 1 < 2 ^ 32 }
     ensures most { result.least ≤ together + 1 }
-    ensures cost { (low high : PermTree) → together ≡ least_cost low + least_cost high → perms ≡ half_perms low high → result ≡ block_cost (Split low high) }
+    ensures cost { (low high : PermTree) → together ≡ least_cost low + least_cost high
+        → perms ≡ half_perms low high → result ≡ block_cost (Split low high) }
 {
     if perms.both.is_empty() {
         BlockCost {
@@ -87,9 +89,15 @@ fn add_split(
     halves: &mut Vec<HalfPerms>,
 ) -> Result<BlockCost, AllocError>
     requires { low.least + high.least + 1 < 2 ^ 32 }
-    ensures own { IfOk result (λ cost. (lower upper : PermTree) → low ≡ block_cost lower → high ≡ block_cost upper → cost ≡ block_cost (Split lower upper)) }
-    ensures costs { OnOk result ((lower upper : PermTree) → low ≡ block_cost lower → high ≡ block_cost upper → costs.new.items ≡ costs.old.items ++ block_cost (Split lower upper) ∷ []) }
-    ensures halves { OnOk result ((lower upper : PermTree) → low ≡ block_cost lower → high ≡ block_cost upper → halves.new.items ≡ halves.old.items ++ half_perms lower upper ∷ []) }
+    ensures own { IfOk result (λ cost.
+        (lower upper : PermTree) → low ≡ block_cost lower → high ≡ block_cost upper
+        → cost ≡ block_cost (Split lower upper)) }
+    ensures costs { OnOk result ((lower upper : PermTree) → low ≡ block_cost lower
+        → high ≡ block_cost upper
+        → costs.new.items ≡ costs.old.items ++ block_cost (Split lower upper) ∷ []) }
+    ensures halves { OnOk result ((lower upper : PermTree) → low ≡ block_cost lower
+        → high ≡ block_cost upper
+        → halves.new.items ≡ halves.old.items ++ half_perms lower upper ∷ []) }
     ensures most { IfOk result (λ cost. cost.least ≤ low.least + high.least + 1) }
 {
     let perms = perms_of_halves(low, high);
@@ -116,9 +124,16 @@ fn add_chain_costs(
 ) -> Result<BlockCost, AllocError>
     requires chain { IsChain chain }
     requires small { smallest.least + chain.levels < 2 ^ 32 }
-    ensures own { IfOk result (λ cost. (tree : PermTree) → smallest ≡ block_cost tree → cost ≡ block_cost (chained chain tree)) }
-    ensures costs { OnOk result ((tree : PermTree) (first : List BlockCost) → smallest ≡ block_cost tree → costs.old.items ≡ first ++ reverse (costs_in tree) → costs.new.items ≡ first ++ reverse (costs_in (chained chain tree))) }
-    ensures halves { OnOk result ((tree : PermTree) (first : List HalfPerms) → smallest ≡ block_cost tree → halves.old.items ≡ first ++ reverse (half_perms_in tree) → halves.new.items ≡ first ++ reverse (half_perms_in (chained chain tree))) }
+    ensures own { IfOk result (λ cost.
+        (tree : PermTree) → smallest ≡ block_cost tree → cost ≡ block_cost (chained chain tree)) }
+    ensures costs { OnOk result ((tree : PermTree) (first : List BlockCost)
+        → smallest ≡ block_cost tree
+        → costs.old.items ≡ first ++ reverse (costs_in tree)
+        → costs.new.items ≡ first ++ reverse (costs_in (chained chain tree))) }
+    ensures halves { OnOk result ((tree : PermTree) (first : List HalfPerms)
+        → smallest ≡ block_cost tree
+        → halves.old.items ≡ first ++ reverse (half_perms_in tree)
+        → halves.new.items ≡ first ++ reverse (half_perms_in (chained chain tree))) }
 {
     let before = cost_of_uniform(chain.before);
     let behind = cost_of_uniform(chain.behind);
@@ -142,8 +157,10 @@ pub fn add_costs<H: Halving>(
 ) -> Result<BlockCost, AllocError>
     requires { splits (H.shape block.now) < 2 ^ 32 }
     ensures own { IfOk result (λ cost. cost ≡ block_cost (H.shape block.now)) }
-    ensures costs { OnOk result (costs.new.items ≡ costs.old.items ++ reverse (costs_in (H.shape block.now))) }
-    ensures halves { OnOk result (halves.new.items ≡ halves.old.items ++ reverse (half_perms_in (H.shape block.now))) }
+    ensures costs { OnOk result (costs.new.items ≡ costs.old.items
+        ++ reverse (costs_in (H.shape block.now))) }
+    ensures halves { OnOk result
+        (halves.new.items ≡ halves.old.items ++ reverse (half_perms_in (H.shape block.now))) }
 {
     if let Some(perm) = block.one_perm() {
         return Ok(cost_of_uniform(perm));

@@ -10,12 +10,14 @@ ghost use Rattle.entry_planner.specs.Rows.{boot_tree, seven_tree};
 
 /// The root's cost for no access is the number of entries that the view of the tree needs.
 pub fn least_cost_law()
-    ensures { (view : View) (tree : PermTree) → TreeMeans view tree → Needs view (cost tree NoAccess) }
+    ensures { (view : View) (tree : PermTree) → TreeMeans view tree
+        → Needs view (cost tree NoAccess) }
 {}
 
 /// Each block costs its least number under its best permissions, and one more under each other.
 pub fn best_law()
-    ensures { (tree : PermTree) (p : Perm) → cost tree p ≡ least_cost tree + (if is_best tree p then 0 else 1) }
+    ensures { (tree : PermTree) (p : Perm)
+        → cost tree p ≡ least_cost tree + (if is_best tree p then 0 else 1) }
 {}
 
 /// Costs worked out by hand.

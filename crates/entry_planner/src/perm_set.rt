@@ -60,7 +60,8 @@ impl PermSet {
     /// The first permission of the set in the fixed order.
     pub fn first(self) -> Option<Perm>
         ensures some { IfSome result (λ p. has self.bits p ≡ true) }
-        ensures first { IfSome result (λ p. (q : Perm) → index_of q < index_of p → has self.bits q ≡ false) }
+        ensures first { IfSome result (λ p.
+            (q : Perm) → index_of q < index_of p → has self.bits q ≡ false) }
         ensures none { IfNone result ((q : Perm) → has self.bits q ≡ false) }
     {
         if self.contains(Perm::NoAccess) {

@@ -79,7 +79,8 @@ impl Pages {
 /// The permission that the halves of a split block inherit: the first that is best for both, where there is one
 /// and the permission that the block inherits is best for neither; else that one.
 fn chosen(perms: HalfPerms, inherited: Perm) -> Perm
-    ensures { (low high : PermTree) → perms ≡ half_perms low high → result ≡ handed_on low high inherited }
+    ensures { (low high : PermTree) → perms ≡ half_perms low high
+        → result ≡ handed_on low high inherited }
 {
     if perms.either.contains(inherited) {
         return inherited;
@@ -98,7 +99,8 @@ fn turn(
     entries: &mut Vec<Entry>,
 ) -> Result<(), AllocError>
     requires { ArePages pages.log2 pages.first }
-    ensures { OnOk result ((own : List Entry) × (entries.new.items ≡ entries.old.items ++ own) × IsOwn pages.log2 pages.first inherited perm own) }
+    ensures { OnOk result ((own : List Entry) × (entries.new.items ≡ entries.old.items ++ own)
+        × IsOwn pages.log2 pages.first inherited perm own) }
 {
     if perm != inherited {
         let region = pages.region();
@@ -122,9 +124,13 @@ fn place_chain<'a, H: Halving>(
     requires most { chain.levels ≤ 44 }
     requires fits { Fits pages.log2 (chained chain (H.shape smallest.now)) }
     requires pages { ArePages pages.log2 pages.first }
-    requires halves { (rest : List HalfPerms) × (halves.now ≡ rest ++ reverse (half_perms_in (chained chain (H.shape smallest.now)))) }
-    ensures rest { IfOk result (λ rest. halves.now ≡ rest.now ++ reverse (half_perms_in (chained chain (H.shape smallest.now)))) }
-    ensures placed { OnOk result (AddsChosen pages.log2 pages.first inherited (chained chain (H.shape smallest.now)) entries.old.items entries.new.items) }
+    requires halves { (rest : List HalfPerms)
+        × (halves.now ≡ rest ++ reverse (half_perms_in (chained chain (H.shape smallest.now)))) }
+    ensures rest { IfOk result (λ rest.
+        halves.now ≡ rest.now ++ reverse (half_perms_in (chained chain (H.shape smallest.now)))) }
+    ensures placed { OnOk result
+        (AddsChosen pages.log2 pages.first inherited (chained chain (H.shape smallest.now))
+        entries.old.items entries.new.items) }
 {
     let mut rest = chain;
     let mut block = pages;
@@ -170,9 +176,12 @@ pub fn place<'a, H: Halving>(
 ) -> Result<&'a [HalfPerms], AllocError>
     requires fits { Fits pages.log2 (H.shape block.now) }
     requires pages { ArePages pages.log2 pages.first }
-    requires halves { (rest : List HalfPerms) × (halves.now ≡ rest ++ reverse (half_perms_in (H.shape block.now))) }
-    ensures rest { IfOk result (λ rest. halves.now ≡ rest.now ++ reverse (half_perms_in (H.shape block.now))) }
-    ensures placed { OnOk result (AddsChosen pages.log2 pages.first inherited (H.shape block.now) entries.old.items entries.new.items) }
+    requires halves { (rest : List HalfPerms)
+        × (halves.now ≡ rest ++ reverse (half_perms_in (H.shape block.now))) }
+    ensures rest { IfOk result (λ rest. halves.now ≡ rest.now
+        ++ reverse (half_perms_in (H.shape block.now))) }
+    ensures placed { OnOk result (AddsChosen pages.log2 pages.first inherited (H.shape block.now)
+        entries.old.items entries.new.items) }
 {
     if let Some(perm) = block.one_perm() {
         turn(pages, inherited, perm, entries)?;

@@ -53,15 +53,19 @@ fn entries_of<H: Halving>(
 /// are those of ORTC, Draves and others, 1999, with permissions for next hops and no access for the default route.)
 pub fn plan(alloc: Global, tree: &Tree) -> Result<Plan, Memory>
     ensures means { IfOk result (λ plan. Means plan.entries (view_of_tree tree.now)) }
-    ensures least { IfOk result (λ plan. (others : List Entry) → Means others (view_of_tree tree.now) → length plan.entries ≤ length others) }
+    ensures least { IfOk result (λ plan.
+        (others : List Entry) → Means others (view_of_tree tree.now)
+        → length plan.entries ≤ length others) }
     ensures needs { IfOk result (λ plan. Needs (view_of_tree tree.now) (length plan.entries)) }
     ensures pages { IfOk result (λ plan. All (λ e. 12 ≤ e.region.log2) plan.entries) }
     ensures order { IfOk result (λ plan. AreInOrder plan.entries) }
     ensures choice { IfOk result (λ plan. AreChosen tree.now plan.entries) }
     ensures costs { IfOk result (λ plan. CostsAre plan.costs 0 tree.now) }
     ensures branches { IfOk result (λ plan. length plan.costs ≡ splits tree.now) }
-    ensures bound { IfOk result (λ plan. IsSoundBound (view_of_tree tree.now) (costed plan.costs 0 tree.now)) }
-    ensures root { IfOk result (λ plan. bound_of (costed plan.costs 0 tree.now) NoAccess ≡ length plan.entries) }
+    ensures bound { IfOk result (λ plan. IsSoundBound (view_of_tree tree.now)
+        (costed plan.costs 0 tree.now)) }
+    ensures root { IfOk result (λ plan. bound_of (costed plan.costs 0 tree.now) NoAccess
+        ≡ length plan.entries) }
 {
     let plan = plan_of(alloc, &tree.root(), tree.branches())?;
     Ok(plan)
@@ -71,16 +75,24 @@ pub fn plan(alloc: Global, tree: &Tree) -> Result<Plan, Memory>
 /// each of the two ends of a run, and is not made.
 pub fn plan_map(alloc: Global, map: &PermissionMap) -> Result<Plan, Memory>
     ensures means { IfOk result (λ plan. Means plan.entries (view_of_runs map.now)) }
-    ensures least { IfOk result (λ plan. (others : List Entry) → Means others (view_of_runs map.now) → length plan.entries ≤ length others) }
+    ensures least { IfOk result (λ plan.
+        (others : List Entry) → Means others (view_of_runs map.now)
+        → length plan.entries ≤ length others) }
     ensures needs { IfOk result (λ plan. Needs (view_of_runs map.now) (length plan.entries)) }
     ensures pages { IfOk result (λ plan. All (λ e. 12 ≤ e.region.log2) plan.entries) }
     ensures order { IfOk result (λ plan. AreInOrder plan.entries) }
-    ensures choice { IfOk result (λ plan. AreChosen (tree_of (view_of_runs map.now)) plan.entries) }
+    ensures choice { IfOk result (λ plan.
+        AreChosen (tree_of (view_of_runs map.now)) plan.entries) }
     ensures costs { IfOk result (λ plan. CostsAre plan.costs 0 (tree_of (view_of_runs map.now))) }
-    ensures branches { IfOk result (λ plan. length plan.costs ≡ splits (tree_of (view_of_runs map.now))) }
+    ensures branches { IfOk result (λ plan.
+        length plan.costs ≡ splits (tree_of (view_of_runs map.now))) }
     ensures most { IfOk result (λ plan. length plan.costs ≤ 44 * 8192) }
-    ensures bound { IfOk result (λ plan. IsSoundBound (view_of_runs map.now) (costed plan.costs 0 (tree_of (view_of_runs map.now)))) }
-    ensures root { IfOk result (λ plan. bound_of (costed plan.costs 0 (tree_of (view_of_runs map.now))) NoAccess ≡ length plan.entries) }
+    ensures bound { IfOk result (λ plan.
+        IsSoundBound (view_of_runs map.now)
+        (costed plan.costs 0 (tree_of (view_of_runs map.now)))) }
+    ensures root { IfOk result (λ plan.
+        bound_of (costed plan.costs 0 (tree_of (view_of_runs map.now)))
+        NoAccess ≡ length plan.entries) }
 {
     let most = 88 * map.ranges().len();
     let plan = plan_of(alloc, &MapBlock::of(map), most)?;

@@ -27,12 +27,20 @@ impl Parts {
         requires whole { IsWhole self.old.table self.old.hardware }
         requires awake { (machine_state self.old.table self.old.hardware).marked hart ≡ false }
         requires event { access.now.mode ≢ MachineMode }
-        ensures judged { (bank : Bank) (list : List Entry) (cause : Cause) → BankOn self.old.hardware hart bank → HasList bank list → (result ≡ Reply.Fault cause) ↔ Judges list access.now (Err cause) }
-        ensures step { AreBanksRight self.old.table self.old.hardware → (let s = machine_state self.old.table self.old.hardware in Accesses (verdict (current_view s hart) access.now) s access.now value result (machine_state self.new.table self.new.hardware)) }
+        ensures judged { (bank : Bank) (list : List Entry) (cause : Cause)
+            → BankOn self.old.hardware hart bank
+            → HasList bank list
+            → (result ≡ Reply.Fault cause) ↔ Judges list access.now (Err cause) }
+        ensures step { AreBanksRight self.old.table self.old.hardware
+            → (let s = machine_state self.old.table self.old.hardware in
+            Accesses (verdict (current_view s hart) access.now) s access.now value result
+            (machine_state self.new.table self.new.hardware)) }
         ensures whole { IsWhole self.new.table self.new.hardware }
-        ensures banks { AreBanksRight self.old.table self.old.hardware → AreBanksRight self.new.table self.new.hardware }
+        ensures banks { AreBanksRight self.old.table self.old.hardware
+            → AreBanksRight self.new.table self.new.hardware }
         ensures others { KeepsBanks self.old.hardware self.new.hardware hart }
-        ensures stays { StaysLoaded self.old.table self.old.hardware self.new.table self.new.hardware hart }
+        ensures stays { StaysLoaded self.old.table self.old.hardware self.new.table
+            self.new.hardware hart }
         ensures table { self.new.table ≡ self.old.table }
         ensures harts { self.new.hardware.harts ≡ self.old.hardware.harts }
     {

@@ -22,8 +22,10 @@ impl Parts {
     pub(crate) fn standing(&self, hart: u8) -> (u64, u64)
         requires hart { hart < self.now.table.table.layout.harts }
         requires whole { IsWhole self.now.table self.now.hardware }
-        ensures world { result.0 ≡ world_number ((machine_state self.now.table self.now.hardware).worlds hart) }
-        ensures used { Needs (current_view (machine_state self.now.table self.now.hardware) hart) result.1 }
+        ensures world { result.0 ≡ world_number ((machine_state self.now.table
+            self.now.hardware).worlds hart) }
+        ensures used { Needs (current_view (machine_state self.now.table self.now.hardware) hart)
+            result.1 }
     {
         match self.hardware.hart(hart).world() {
             World::Host => (0, self.table.host_entries().len() as u64),
@@ -40,7 +42,8 @@ impl Parts {
     pub(crate) fn told(&self, hart: u8, status: i64, value: u64) -> Reply
         requires hart { hart < self.now.table.table.layout.harts }
         requires whole { IsWhole self.now.table self.now.hardware }
-        ensures { AnswersCall (machine_state self.now.table self.now.hardware) hart status value result }
+        ensures { AnswersCall (machine_state self.now.table self.now.hardware) hart status value
+            result }
     {
         let (world, used) = self.standing(hart);
         Reply::Call {
@@ -57,7 +60,8 @@ impl Parts {
         requires low { 1 ≤ number }
         requires high { number ≤ 112 }
         requires whole { IsWhole self.now.table self.now.hardware }
-        ensures { AnswersCall (machine_state self.now.table self.now.hardware) hart (below_zero number) 0 result }
+        ensures { AnswersCall (machine_state self.now.table self.now.hardware)
+            hart (below_zero number) 0 result }
     {
         let (world, used) = self.standing(hart);
         let status = below_zero(number);
@@ -84,10 +88,14 @@ impl Parts {
         requires hart { hart < self.old.table.table.layout.harts }
         requires whole { IsWhole self.old.table self.old.hardware }
         ensures whole { IsWhole self.new.table self.new.hardware }
-        ensures state { (table : EnclaveTable) → SameState (state_on table self.new.hardware) (answering (state_on table self.old.hardware) hart first second) }
-        ensures banks { AreBanksRight self.old.table self.old.hardware → AreBanksRight self.new.table self.new.hardware }
+        ensures state { (table : EnclaveTable)
+            → SameState (state_on table self.new.hardware)
+            (answering (state_on table self.old.hardware) hart first second) }
+        ensures banks { AreBanksRight self.old.table self.old.hardware
+            → AreBanksRight self.new.table self.new.hardware }
         ensures others { KeepsBanks self.old.hardware self.new.hardware hart }
-        ensures stays { StaysLoaded self.old.table self.old.hardware self.new.table self.new.hardware hart }
+        ensures stays { StaysLoaded self.old.table self.old.hardware self.new.table
+            self.new.hardware hart }
         ensures table { self.new.table ≡ self.old.table }
     {
         self.hardware.answer(hart, first, second);
@@ -100,10 +108,13 @@ impl Parts {
         requires high { number ≤ 112 }
         requires whole { IsWhole self.old.table self.old.hardware }
         ensures whole { IsWhole self.new.table self.new.hardware }
-        ensures step { Refuses number (machine_state self.old.table self.old.hardware) hart result (machine_state self.new.table self.new.hardware) }
-        ensures banks { AreBanksRight self.old.table self.old.hardware → AreBanksRight self.new.table self.new.hardware }
+        ensures step { Refuses number (machine_state self.old.table self.old.hardware)
+            hart result (machine_state self.new.table self.new.hardware) }
+        ensures banks { AreBanksRight self.old.table self.old.hardware
+            → AreBanksRight self.new.table self.new.hardware }
         ensures others { KeepsBanks self.old.hardware self.new.hardware hart }
-        ensures stays { StaysLoaded self.old.table self.old.hardware self.new.table self.new.hardware hart }
+        ensures stays { StaysLoaded self.old.table self.old.hardware self.new.table
+            self.new.hardware hart }
         ensures table { self.new.table ≡ self.old.table }
     {
         self.answer(hart, word_below_zero(number), 0);

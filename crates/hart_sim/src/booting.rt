@@ -31,10 +31,13 @@ impl Hardware {
         requires { length entries.now ≤ limit_number limit }
         ensures worlds { (i : ℕ) → world_in (slice_get result.harts i) ≡ InHost }
         ensures marks { (i : ℕ) → slice_index_or result.marked i false ≡ false }
-        ensures registers { (i : ℕ) → i < 4 → file_or (loaded_in result.harts (HostOf i)) (saved_of result.contexts (HostOf i)) ≡ zeros }
+        ensures registers { (i : ℕ) → i < 4
+            → file_or (loaded_in result.harts (HostOf i)) (saved_of result.contexts (HostOf i))
+            ≡ zeros }
         ensures bytes { (a : ℕ) → byte_at result.memory a ≡ 0 }
         ensures written { (page : ℕ) → is_written result.memory page ≡ false }
-        ensures banks { (i : ℕ) (bank : Bank) → BankOn result i bank → HasList bank entries.now }
+        ensures banks { (i : ℕ) (bank : Bank) → BankOn result i bank
+            → HasList bank entries.now }
         ensures limit { result.limit ≡ limit }
     {
         Hardware {
@@ -55,10 +58,12 @@ impl Hardware {
 impl Parts {
     /// The machine of a platform at boot: no enclave, and the host's entries on each hart.
     pub(crate) fn boot(alloc: Global, platform: Platform) -> Result<Parts, BootFault>
-        ensures state { IfOk result (λ p. SameState (machine_state p.table p.hardware) (opening platform)) }
+        ensures state { IfOk result (λ p. SameState (machine_state p.table p.hardware)
+            (opening platform)) }
         ensures whole { IfOk result (λ p. IsWhole p.table p.hardware) }
         ensures banks { IfOk result (λ p. AreBanksRight p.table p.hardware) }
-        ensures fits { IfOk result (λ _. FitsIn platform.limit (host_view (opening_table platform))) }
+        ensures fits { IfOk result (λ _. FitsIn platform.limit
+            (host_view (opening_table platform))) }
         ensures fault { IfErr result (λ fault. IsBootFault platform fault) }
     {
         let _harts = platform.harts();

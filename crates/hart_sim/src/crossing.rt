@@ -21,10 +21,13 @@ impl Parts {
         requires whole { IsWhole self.old.table self.old.hardware }
         requires awake { (machine_state self.old.table self.old.hardware).marked hart ≡ false }
         ensures whole { IsWhole self.new.table self.new.hardware }
-        ensures step { DoesEnter entering id (machine_state self.old.table self.old.hardware) hart result (machine_state self.new.table self.new.hardware) }
-        ensures banks { AreBanksRight self.old.table self.old.hardware → AreBanksRight self.new.table self.new.hardware }
+        ensures step { DoesEnter entering id (machine_state self.old.table self.old.hardware)
+            hart result (machine_state self.new.table self.new.hardware) }
+        ensures banks { AreBanksRight self.old.table self.old.hardware
+            → AreBanksRight self.new.table self.new.hardware }
         ensures others { KeepsBanks self.old.hardware self.new.hardware hart }
-        ensures stays { StaysLoaded self.old.table self.old.hardware self.new.table self.new.hardware hart }
+        ensures stays { StaysLoaded self.old.table self.old.hardware self.new.table
+            self.new.hardware hart }
         ensures lists { KeepsLists self.old.table self.new.table }
     {
         let world = self.hardware.hart(hart).world();
@@ -55,12 +58,21 @@ impl Parts {
         requires whole { IsWhole self.old.table self.old.hardware }
         ensures whole { IsWhole self.new.table self.new.hardware }
         ensures layout { self.new.table.table.layout ≡ self.old.table.table.layout }
-        ensures done { OnOk result ((id : ℕ) × Leaves self.old.table.table ((machine_state self.old.table self.old.hardware).worlds hart) leaving id self.new.table.table × SameState (machine_state self.new.table self.new.hardware) (back_to_host (state_on self.new.table.table self.old.hardware) hart first second)) }
-        ensures refused { IfErr result (λ refusal. RefusesLeave ((machine_state self.old.table self.old.hardware).worlds hart) refusal) }
+        ensures done { OnOk result ((id : ℕ)
+            × Leaves self.old.table.table
+            ((machine_state self.old.table self.old.hardware).worlds hart) leaving id
+            self.new.table.table
+            × SameState (machine_state self.new.table self.new.hardware)
+            (back_to_host (state_on self.new.table.table self.old.hardware)
+            hart first second)) }
+        ensures refused { IfErr result (λ refusal.
+            RefusesLeave ((machine_state self.old.table self.old.hardware).worlds hart) refusal) }
         ensures kept { OnErr result (self.new ≡ self.old) }
-        ensures banks { AreBanksRight self.old.table self.old.hardware → AreBanksRight self.new.table self.new.hardware }
+        ensures banks { AreBanksRight self.old.table self.old.hardware
+            → AreBanksRight self.new.table self.new.hardware }
         ensures others { KeepsBanks self.old.hardware self.new.hardware hart }
-        ensures stays { StaysLoaded self.old.table self.old.hardware self.new.table self.new.hardware hart }
+        ensures stays { StaysLoaded self.old.table self.old.hardware self.new.table
+            self.new.hardware hart }
         ensures lists { KeepsLists self.old.table self.new.table }
     {
         let world = self.hardware.hart(hart).world();
@@ -78,10 +90,13 @@ impl Parts {
         requires hart { hart < self.old.table.table.layout.harts }
         requires whole { IsWhole self.old.table self.old.hardware }
         ensures whole { IsWhole self.new.table self.new.hardware }
-        ensures step { DoesExit value (machine_state self.old.table self.old.hardware) hart result (machine_state self.new.table self.new.hardware) }
-        ensures banks { AreBanksRight self.old.table self.old.hardware → AreBanksRight self.new.table self.new.hardware }
+        ensures step { DoesExit value (machine_state self.old.table self.old.hardware)
+            hart result (machine_state self.new.table self.new.hardware) }
+        ensures banks { AreBanksRight self.old.table self.old.hardware
+            → AreBanksRight self.new.table self.new.hardware }
         ensures others { KeepsBanks self.old.hardware self.new.hardware hart }
-        ensures stays { StaysLoaded self.old.table self.old.hardware self.new.table self.new.hardware hart }
+        ensures stays { StaysLoaded self.old.table self.old.hardware self.new.table
+            self.new.hardware hart }
         ensures lists { KeepsLists self.old.table self.new.table }
     {
         match self.leave(hart, Leaving::Exit, 0, value) {
@@ -95,10 +110,13 @@ impl Parts {
         requires hart { hart < self.old.table.table.layout.harts }
         requires whole { IsWhole self.old.table self.old.hardware }
         ensures whole { IsWhole self.new.table self.new.hardware }
-        ensures step { DoesStop (machine_state self.old.table self.old.hardware) hart result (machine_state self.new.table self.new.hardware) }
-        ensures banks { AreBanksRight self.old.table self.old.hardware → AreBanksRight self.new.table self.new.hardware }
+        ensures step { DoesStop (machine_state self.old.table self.old.hardware)
+            hart result (machine_state self.new.table self.new.hardware) }
+        ensures banks { AreBanksRight self.old.table self.old.hardware
+            → AreBanksRight self.new.table self.new.hardware }
         ensures others { KeepsBanks self.old.hardware self.new.hardware hart }
-        ensures stays { StaysLoaded self.old.table self.old.hardware self.new.table self.new.hardware hart }
+        ensures stays { StaysLoaded self.old.table self.old.hardware self.new.table
+            self.new.hardware hart }
         ensures lists { KeepsLists self.old.table self.new.table }
     {
         match self.hardware.hart(hart).world() {
@@ -118,10 +136,14 @@ impl Parts {
         requires hart { hart < self.old.table.table.layout.harts }
         requires whole { IsWhole self.old.table self.old.hardware }
         ensures whole { IsWhole self.new.table self.new.hardware }
-        ensures step { let s = machine_state self.old.table self.old.hardware in Interrupts (s.worlds hart) s hart result (machine_state self.new.table self.new.hardware) }
-        ensures banks { AreBanksRight self.old.table self.old.hardware → AreBanksRight self.new.table self.new.hardware }
+        ensures step { let s = machine_state self.old.table self.old.hardware in
+            Interrupts (s.worlds hart) s hart result
+            (machine_state self.new.table self.new.hardware) }
+        ensures banks { AreBanksRight self.old.table self.old.hardware
+            → AreBanksRight self.new.table self.new.hardware }
         ensures others { KeepsBanks self.old.hardware self.new.hardware hart }
-        ensures stays { StaysLoaded self.old.table self.old.hardware self.new.table self.new.hardware hart }
+        ensures stays { StaysLoaded self.old.table self.old.hardware self.new.table
+            self.new.hardware hart }
         ensures lists { KeepsLists self.old.table self.new.table }
     {
         if self.hardware.hart(hart).world() == World::Host {

@@ -19,7 +19,8 @@ impl Parts {
     /// The registers of the world that runs on a hart.
     pub(crate) fn registers(&self, hart: u8) -> &Registers
         requires { hart < 4 }
-        ensures { result.now ≡ running_registers (machine_state self.now.table self.now.hardware) hart }
+        ensures { result.now ≡ running_registers (machine_state self.now.table self.now.hardware)
+            hart }
     {
         self.hardware.hart(hart).registers()
     }
@@ -29,10 +30,14 @@ impl Parts {
         requires hart { hart < self.old.table.table.layout.harts }
         requires whole { IsWhole self.old.table self.old.hardware }
         ensures whole { IsWhole self.new.table self.new.hardware }
-        ensures state { (table : EnclaveTable) → SameState (state_on table self.new.hardware) (calling (state_on table self.old.hardware) hart words.now) }
-        ensures banks { AreBanksRight self.old.table self.old.hardware → AreBanksRight self.new.table self.new.hardware }
+        ensures state { (table : EnclaveTable)
+            → SameState (state_on table self.new.hardware)
+            (calling (state_on table self.old.hardware) hart words.now) }
+        ensures banks { AreBanksRight self.old.table self.old.hardware
+            → AreBanksRight self.new.table self.new.hardware }
         ensures others { KeepsBanks self.old.hardware self.new.hardware hart }
-        ensures stays { StaysLoaded self.old.table self.old.hardware self.new.table self.new.hardware hart }
+        ensures stays { StaysLoaded self.old.table self.old.hardware self.new.table
+            self.new.hardware hart }
         ensures table { self.new.table ≡ self.old.table }
         ensures marks { self.new.hardware.marked ≡ self.old.hardware.marked }
     {
@@ -45,10 +50,14 @@ impl Parts {
         requires whole { IsWhole self.old.table self.old.hardware }
         requires awake { (machine_state self.old.table self.old.hardware).marked hart ≡ false }
         ensures whole { IsWhole self.new.table self.new.hardware }
-        ensures step { let s = machine_state self.old.table self.old.hardware in DoesCall (call_of (running_registers s hart)) s hart result (machine_state self.new.table self.new.hardware) }
-        ensures banks { AreBanksRight self.old.table self.old.hardware → AreBanksRight self.new.table self.new.hardware }
+        ensures step { let s = machine_state self.old.table self.old.hardware in
+            DoesCall (call_of (running_registers s hart)) s hart result
+            (machine_state self.new.table self.new.hardware) }
+        ensures banks { AreBanksRight self.old.table self.old.hardware
+            → AreBanksRight self.new.table self.new.hardware }
         ensures others { KeepsBanks self.old.hardware self.new.hardware hart }
-        ensures stays { StaysLoaded self.old.table self.old.hardware self.new.table self.new.hardware hart }
+        ensures stays { StaysLoaded self.old.table self.old.hardware self.new.table
+            self.new.hardware hart }
         ensures lists { KeepsLists self.old.table self.new.table }
     {
         let Ok(call) = decode(self.registers(hart)) else {
@@ -89,10 +98,15 @@ impl Parts {
         requires awake { (machine_state self.old.table self.old.hardware).marked hart ≡ false }
         ensures whole { IsWhole self.new.table self.new.hardware }
         ensures layout { self.new.table.table.layout ≡ self.old.table.table.layout }
-        ensures step { let s = calling (machine_state self.old.table self.old.hardware) hart words.now in DoesCall (call_of (running_registers s hart)) s hart result (machine_state self.new.table self.new.hardware) }
-        ensures banks { AreBanksRight self.old.table self.old.hardware → AreBanksRight self.new.table self.new.hardware }
+        ensures step { let s = calling (machine_state self.old.table self.old.hardware) hart
+            words.now in
+            DoesCall (call_of (running_registers s hart)) s hart result
+            (machine_state self.new.table self.new.hardware) }
+        ensures banks { AreBanksRight self.old.table self.old.hardware
+            → AreBanksRight self.new.table self.new.hardware }
         ensures others { KeepsBanks self.old.hardware self.new.hardware hart }
-        ensures stays { StaysLoaded self.old.table self.old.hardware self.new.table self.new.hardware hart }
+        ensures stays { StaysLoaded self.old.table self.old.hardware self.new.table
+            self.new.hardware hart }
         ensures lists { KeepsLists self.old.table self.new.table }
     {
         self.call(hart, words);

@@ -40,12 +40,15 @@ pub fn privacy_law()
 /// A byte of a page that is private to an enclave before and after a step stays, but for the enclave's own stores that
 /// its view allowed and that were done.
 pub fn private_bytes_law()
-    ensures { (old : State) (hart : ℕ) (event : Event) (reply : Reply) (new : State) → IsTable old.table → Step old hart event reply new → KeepsPrivate old hart event reply new }
+    ensures { (old : State) (hart : ℕ) (event : Event) (reply : Reply) (new : State)
+        → IsTable old.table
+        → Step old hart event reply new → KeepsPrivate old hart event reply new }
 {}
 
 /// A step leaves the platform as it is.
 pub fn platform_law()
-    ensures { (old : State) (hart : ℕ) (event : Event) (reply : Reply) (new : State) → Step old hart event reply new → new.table.layout ≡ old.table.layout }
+    ensures { (old : State) (hart : ℕ) (event : Event) (reply : Reply) (new : State)
+        → Step old hart event reply new → new.table.layout ≡ old.table.layout }
 {}
 
 /// A creation that passes its other checks is refused for want of entries only where the host's view after it, or the

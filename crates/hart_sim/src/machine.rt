@@ -42,7 +42,8 @@ impl Machine {
     pub fn bank(&self, hart: u8) -> &Bank
         requires { hart < 4 }
         ensures bank { HasBank self.now hart result.now }
-        ensures limit { limit_number (limit_of result.now) ≡ limit_number (state_of self.now).table.layout.limit }
+        ensures limit { limit_number (limit_of result.now)
+            ≡ limit_number (state_of self.now).table.layout.limit }
     {
         self.parts.hardware.hart(hart).bank()
     }
@@ -105,7 +106,8 @@ impl Machine {
     #[tactic(auto, unfolding(crate::specs::Machines::state_of, crate::specs::Machines::kept_of))]
     pub fn set_bank(&mut self, hart: u8, bank: Bank)
         requires hart { hart < 4 }
-        requires limit { limit_number (limit_of bank) ≡ limit_number (state_of self.old).table.layout.limit }
+        requires limit { limit_number (limit_of bank)
+            ≡ limit_number (state_of self.old).table.layout.limit }
         ensures bank { HasBank self.new hart bank }
         ensures others { KeepsOtherBanks self.old self.new hart }
         ensures state { SameState (state_of self.new) (state_of self.old) }
@@ -121,7 +123,8 @@ impl Machine {
         ensures rules { IfOk result (λ _. IsLayout platform) }
         ensures state { IfOk result (λ m. SameState (state_of m) (opening platform)) }
         ensures kept { IfOk result (λ m. KeepsBanksRight m) }
-        ensures fits { IfOk result (λ _. FitsIn platform.limit (host_view (opening_table platform))) }
+        ensures fits { IfOk result (λ _. FitsIn platform.limit
+            (host_view (opening_table platform))) }
         ensures fault { IfErr result (λ fault. IsBootFault platform fault) }
     {
         match Parts::boot(alloc, platform) {
@@ -140,19 +143,30 @@ impl Machine {
         requires hart { hart < (state_of self.old).table.layout.harts }
         requires event { IsEvent event }
         ensures judged { IsJudged self.old hart event result }
-        ensures loaded { (access : Access) (value : ℕ) (list : List Entry) (bank : Bank) → event ≡ Event.Access access value → MeetsList self.old hart list → HasBank self.new hart bank → HasList bank list }
-        ensures step { KeepsBanksRight self.old → Step (state_of self.old) hart event result (state_of self.new) }
+        ensures loaded { (access : Access) (value : ℕ) (list : List Entry) (bank : Bank)
+            → event ≡ Event.Access access value → MeetsList self.old hart list
+            → HasBank self.new hart bank → HasList bank list }
+        ensures step { KeepsBanksRight self.old
+            → Step (state_of self.old) hart event result (state_of self.new) }
         ensures kept { KeepsBanksRight self.old → KeepsBanksRight self.new }
         ensures others { KeepsOtherBanks self.old self.new hart }
         ensures stays { KeepsOwnBank self.old self.new hart }
-        ensures lists { (state_of self.new).table ≡ (state_of self.old).table → kept_of self.new ≡ kept_of self.old }
+        ensures lists { (state_of self.new).table ≡ (state_of self.old).table
+            → kept_of self.new ≡ kept_of self.old }
         ensures platform { (state_of self.new).table.layout ≡ (state_of self.old).table.layout }
-        ensures allowed { KeepsBanksRight self.old → AnswersByView (state_of self.old) hart event result }
-        ensures denied { KeepsBanksRight self.old → DeniesOthers (state_of self.old) hart event result }
-        ensures destroyed { KeepsBanksRight self.old → ZeroesDestroyed (state_of self.old) (state_of self.new) }
-        ensures private { KeepsBanksRight self.old → KeepsPrivate (state_of self.old) hart event result (state_of self.new) }
-        ensures entries { KeepsBanksRight self.old → RefusesByNeed (state_of self.old) hart event result }
-        ensures after { (platform : Layout) (events : List (ℕ × Event)) (replies : List Reply) → After platform events replies self.old → After platform (events ++ (hart, event) ∷ []) (replies ++ result ∷ []) self.new }
+        ensures allowed { KeepsBanksRight self.old
+            → AnswersByView (state_of self.old) hart event result }
+        ensures denied { KeepsBanksRight self.old
+            → DeniesOthers (state_of self.old) hart event result }
+        ensures destroyed { KeepsBanksRight self.old
+            → ZeroesDestroyed (state_of self.old) (state_of self.new) }
+        ensures private { KeepsBanksRight self.old
+            → KeepsPrivate (state_of self.old) hart event result (state_of self.new) }
+        ensures entries { KeepsBanksRight self.old
+            → RefusesByNeed (state_of self.old) hart event result }
+        ensures after { (platform : Layout) (events : List (ℕ × Event)) (replies : List Reply)
+            → After platform events replies self.old
+            → After platform (events ++ (hart, event) ∷ []) (replies ++ result ∷ []) self.new }
     {
         self.parts.table.rules();
         self.parts.step(hart, event)

@@ -59,7 +59,9 @@ fn byte_of(value: u64, k: usize) -> u8
 fn put(page: &mut [u8; 4096], at: usize, size: usize, value: u64)
     requires size { size ≤ 8 }
     requires inside { at + size ≤ 4096 }
-    ensures { (k : ℕ) → slice_index page.new k ≡ (if in_range at size k then byte_of value (k - at) else slice_index page.old k) }
+    ensures { (k : ℕ)
+        → slice_index page.new k ≡
+        (if in_range at size k then byte_of value (k - at) else slice_index page.old k) }
 {
     for i in 0..size {
         page[at + i] = byte_of(value, i);
@@ -70,7 +72,8 @@ fn put(page: &mut [u8; 4096], at: usize, size: usize, value: u64)
 fn page_with(at: usize, size: usize, value: u64) -> [u8; 4096]
     requires size { size ≤ 8 }
     requires inside { at + size ≤ 4096 }
-    ensures { (k : ℕ) → slice_index result k ≡ (if in_range at size k then byte_of value (k - at) else 0) }
+    ensures { (k : ℕ) → slice_index result k
+        ≡ (if in_range at size k then byte_of value (k - at) else 0) }
 {
     let mut page = [0; 4096];
     put(&mut page, at, size, value);
@@ -83,7 +86,10 @@ fn page_with(at: usize, size: usize, value: u64) -> [u8; 4096]
 fn page_of(alloc: Global, at: usize, size: usize, value: u64) -> Result<Box<[u8; 4096]>, AllocError>
     requires size { size ≤ 8 }
     requires inside { at + size ≤ 4096 }
-    ensures { IfOk result (λ page. (k : ℕ) → slice_index page.value k ≡ (if in_range at size k then byte_of value (k - at) else 0)) }
+    ensures { IfOk result (λ page.
+        (k : ℕ)
+        → slice_index page.value k ≡
+        (if in_range at size k then byte_of value (k - at) else 0)) }
 {
     let page = Box::new(alloc, page_with(at, size, value))?;
     Ok(page)
@@ -139,10 +145,14 @@ impl Memory {
     ) -> Result<(), AllocError>
         requires size { size ≤ 8 }
         requires inside { address % 4096 + size ≤ 4096 }
-        ensures bytes { OnOk result ((a : ℕ) → byte_at self.new a ≡ stored (byte_at self.old) address size value a) }
-        ensures written { OnOk result ((page : ℕ) → is_written self.new page ≡ (if page == address / 4096 then true else is_written self.old page)) }
+        ensures bytes { OnOk result
+            ((a : ℕ) → byte_at self.new a ≡ stored (byte_at self.old) address size value a) }
+        ensures written { OnOk result ((page : ℕ)
+            → is_written self.new page ≡
+            (if page == address / 4096 then true else is_written self.old page)) }
         ensures kept { OnErr result ((a : ℕ) → byte_at self.new a ≡ byte_at self.old a) }
-        ensures kept_written { OnErr result ((page : ℕ) → is_written self.new page ≡ is_written self.old page) }
+        ensures kept_written { OnErr result ((page : ℕ)
+            → is_written self.new page ≡ is_written self.old page) }
         ensures new_page { OnErr result (is_written self.old (address / 4096) ≡ false) }
     {
         let index = address / PAGE;
@@ -158,8 +168,10 @@ impl Memory {
 
     /// Makes every byte of a page zero, and the page not written.
     fn forget_page(&mut self, page: u64)
-        ensures bytes { (a : ℕ) → byte_at self.new a ≡ (if a / 4096 == page then 0 else byte_at self.old a) }
-        ensures written { (q : ℕ) → is_written self.new q ≡ (if q == page then false else is_written self.old q) }
+        ensures bytes { (a : ℕ) → byte_at self.new a
+            ≡ (if a / 4096 == page then 0 else byte_at self.old a) }
+        ensures written { (q : ℕ) → is_written self.new q
+            ≡ (if q == page then false else is_written self.old q) }
     {
         let _ = self.pages.remove(&page);
     }
@@ -167,8 +179,11 @@ impl Memory {
     /// The first page from one on and before another that was written.
     fn first_written(&self, from: u64, end: u64) -> Option<u64>
         requires { from ≤ end }
-        ensures found { IfSome result (λ page. (from ≤ page) × (page < end) × ((q : ℕ) → from ≤ q → q < page → is_written self.now q ≡ false)) }
-        ensures none { result ≡ None → (q : ℕ) → from ≤ q → q < end → is_written self.now q ≡ false }
+        ensures found { IfSome result (λ page.
+            (from ≤ page) × (page < end)
+            × ((q : ℕ) → from ≤ q → q < page → is_written self.now q ≡ false)) }
+        ensures none { result ≡ None → (q : ℕ) → from ≤ q → q < end
+            → is_written self.now q ≡ false }
     {
         match self.pages.range(from..end).next() {
             Some((page, _)) => Some(*page),
@@ -179,8 +194,11 @@ impl Memory {
     /// Makes every byte of some pages zero, and the pages not written. It looks at those alone that were written.
     pub(crate) fn forget(&mut self, first: u64, count: u64)
         requires { first + count < 2 ^ 64 }
-        ensures bytes { (a : ℕ) → byte_at self.new a ≡ zeroed (byte_at self.old) first count a }
-        ensures written { (page : ℕ) → is_written self.new page ≡ (if in_range first count page then false else is_written self.old page) }
+        ensures bytes { (a : ℕ) → byte_at self.new a
+            ≡ zeroed (byte_at self.old) first count a }
+        ensures written { (page : ℕ)
+            → is_written self.new page ≡
+            (if in_range first count page then false else is_written self.old page) }
     {
         let end = first + count;
         let mut from = first;

@@ -23,10 +23,14 @@ impl Hardware {
         requires number { number < 4 }
         requires world { is_host (world_in (slice_get self.old.harts number)) ≡ false }
         requires entries { length entries.now ≤ limit_number self.old.limit }
-        ensures state { (table : EnclaveTable) → number < table.layout.harts → SameState (state_on table self.new) (back_to_host (state_on table self.old) number first second) }
+        ensures state { (table : EnclaveTable) → number < table.layout.harts
+            → SameState (state_on table self.new)
+            (back_to_host (state_on table self.old) number first second) }
         ensures list { (bank : Bank) × BankOn self.new number bank × HasList bank entries.now }
         ensures others { KeepsBanks self.old self.new number }
-        ensures worlds { (i : ℕ) → world_in (slice_get self.new.harts i) ≡ (if i == number then InHost else world_in (slice_get self.old.harts i)) }
+        ensures worlds { (i : ℕ)
+            → world_in (slice_get self.new.harts i) ≡
+            (if i == number then InHost else world_in (slice_get self.old.harts i)) }
         ensures marks { self.new.marked ≡ self.old.marked }
         ensures limit { self.new.limit ≡ self.old.limit }
     {
@@ -39,7 +43,10 @@ impl Hardware {
         requires low { 1 ≤ id }
         requires high { id ≤ 64 }
         requires free { (i : ℕ) → world_in (slice_get self.old.harts i) ≢ InEnclave id }
-        ensures state { (table : EnclaveTable) (e : Enclave) → pc ≡ e.parts.base + e.parts.entry_offset → SameState (state_on table self.new) (entering_with entering (state_on table self.old) id e) }
+        ensures state { (table : EnclaveTable) (e : Enclave)
+            → pc ≡ e.parts.base + e.parts.entry_offset
+            → SameState (state_on table self.new)
+            (entering_with entering (state_on table self.old) id e) }
         ensures harts { self.new.harts ≡ self.old.harts }
         ensures marks { self.new.marked ≡ self.old.marked }
         ensures limit { self.new.limit ≡ self.old.limit }
@@ -64,10 +71,15 @@ impl Hardware {
         requires high { id ≤ 64 }
         requires free { (i : ℕ) → world_in (slice_get self.old.harts i) ≢ InEnclave id }
         requires entries { length entries.now ≤ limit_number self.old.limit }
-        ensures state { (table : EnclaveTable) (e : Enclave) → pc ≡ e.parts.base + e.parts.entry_offset → SameState (state_on table self.new) (into_enclave (entering_with entering (state_on table self.old) id e) number id) }
+        ensures state { (table : EnclaveTable) (e : Enclave)
+            → pc ≡ e.parts.base + e.parts.entry_offset
+            → SameState (state_on table self.new)
+            (into_enclave (entering_with entering (state_on table self.old) id e) number id) }
         ensures list { (bank : Bank) × BankOn self.new number bank × HasList bank entries.now }
         ensures others { KeepsBanks self.old self.new number }
-        ensures worlds { (i : ℕ) → world_in (slice_get self.new.harts i) ≡ (if i == number then InEnclave id else world_in (slice_get self.old.harts i)) }
+        ensures worlds { (i : ℕ)
+            → world_in (slice_get self.new.harts i) ≡
+            (if i == number then InEnclave id else world_in (slice_get self.old.harts i)) }
         ensures marks { self.new.marked ≡ self.old.marked }
         ensures limit { self.new.limit ≡ self.old.limit }
     {
@@ -79,10 +91,14 @@ impl Hardware {
     pub(crate) fn answer_anew(&mut self, number: u8, entries: &[Entry], first: u64, second: u64)
         requires number { number < 4 }
         requires entries { length entries.now ≤ limit_number self.old.limit }
-        ensures state { (table : EnclaveTable) → table.layout.harts ≤ 4 → SameState (state_on table self.new) (marking_others (answering (state_on table self.old) number first second) number) }
+        ensures state { (table : EnclaveTable) → table.layout.harts ≤ 4
+            → SameState (state_on table self.new)
+            (marking_others (answering (state_on table self.old) number first second)
+            number) }
         ensures list { (bank : Bank) × BankOn self.new number bank × HasList bank entries.now }
         ensures others { KeepsBanks self.old self.new number }
-        ensures worlds { (i : ℕ) → world_in (slice_get self.new.harts i) ≡ world_in (slice_get self.old.harts i) }
+        ensures worlds { (i : ℕ) → world_in (slice_get self.new.harts i)
+            ≡ world_in (slice_get self.old.harts i) }
         ensures limit { self.new.limit ≡ self.old.limit }
     {
         self.answer(number, first, second);

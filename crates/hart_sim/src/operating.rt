@@ -36,7 +36,8 @@ impl Hardware {
         requires { number < 4 }
         ensures value { slice_get self.now.harts number ≡ Some result.now }
         ensures number { number_of result.now ≡ number }
-        ensures limit { limit_number (limit_of (bank_of result.now)) ≡ limit_number self.now.limit }
+        ensures limit { limit_number (limit_of (bank_of result.now))
+            ≡ limit_number self.now.limit }
     {
         &self.harts[number as usize]
     }
@@ -60,10 +61,12 @@ impl Hardware {
     pub(crate) fn put_bank(&mut self, number: u8, bank: Bank)
         requires number { number < 4 }
         requires limit { limit_number (limit_of bank) ≡ limit_number self.old.limit }
-        ensures state { (table : EnclaveTable) → SameState (state_on table self.new) (state_on table self.old) }
+        ensures state { (table : EnclaveTable)
+            → SameState (state_on table self.new) (state_on table self.old) }
         ensures bank { BankOn self.new number bank }
         ensures others { KeepsBanks self.old self.new number }
-        ensures worlds { (i : ℕ) → world_in (slice_get self.new.harts i) ≡ world_in (slice_get self.old.harts i) }
+        ensures worlds { (i : ℕ) → world_in (slice_get self.new.harts i)
+            ≡ world_in (slice_get self.old.harts i) }
         ensures marks { self.new.marked ≡ self.old.marked }
         ensures limit { self.new.limit ≡ self.old.limit }
     {
@@ -75,10 +78,12 @@ impl Hardware {
     pub(crate) fn load(&mut self, number: u8, entries: &[Entry])
         requires number { number < 4 }
         requires entries { length entries.now ≤ limit_number self.old.limit }
-        ensures state { (table : EnclaveTable) → SameState (state_on table self.new) (state_on table self.old) }
+        ensures state { (table : EnclaveTable)
+            → SameState (state_on table self.new) (state_on table self.old) }
         ensures list { (bank : Bank) × BankOn self.new number bank × HasList bank entries.now }
         ensures others { KeepsBanks self.old self.new number }
-        ensures worlds { (i : ℕ) → world_in (slice_get self.new.harts i) ≡ world_in (slice_get self.old.harts i) }
+        ensures worlds { (i : ℕ) → world_in (slice_get self.new.harts i)
+            ≡ world_in (slice_get self.old.harts i) }
         ensures marks { self.new.marked ≡ self.old.marked }
         ensures limit { self.new.limit ≡ self.old.limit }
     {
@@ -89,8 +94,15 @@ impl Hardware {
     /// An access on a hart, judged by its bank.
     pub(crate) fn access(&mut self, alloc: Global, number: u8, a: &Access, value: u64) -> Reply
         requires { number < 4 }
-        ensures judged { (bank : Bank) (list : List Entry) (cause : Cause) → BankOn self.old number bank → HasList bank list → (result ≡ Reply.Fault cause) ↔ Judges list a.now (Err cause) }
-        ensures done { (table : EnclaveTable) (bank : Bank) (list : List Entry) → BankOn self.old number bank → HasList bank list → Means list (current_view (state_on table self.old) number) → a.now.mode ≢ Machine → Accesses (verdict (current_view (state_on table self.old) number) a.now) (state_on table self.old) a.now value result (state_on table self.new) }
+        ensures judged { (bank : Bank) (list : List Entry) (cause : Cause)
+            → BankOn self.old number bank
+            → HasList bank list → (result ≡ Reply.Fault cause) ↔ Judges list a.now (Err cause) }
+        ensures done { (table : EnclaveTable) (bank : Bank) (list : List Entry)
+            → BankOn self.old number bank
+            → HasList bank list → Means list (current_view (state_on table self.old) number)
+            → a.now.mode ≢ Machine
+            → Accesses (verdict (current_view (state_on table self.old) number) a.now)
+            (state_on table self.old) a.now value result (state_on table self.new) }
         ensures banks { self.new.harts ≡ self.old.harts }
         ensures marks { self.new.marked ≡ self.old.marked }
         ensures limit { self.new.limit ≡ self.old.limit }
@@ -105,12 +117,16 @@ impl Hardware {
     pub(crate) fn go_to(&mut self, number: u8, to: World, entries: &[Entry])
         requires number { number < 4 }
         requires world { IsWorld to }
-        requires free { (i : ℕ) (hart : Hart) → slice_get self.old.harts i ≡ Some hart → runner_on hart ≢ runner_of number to }
+        requires free { (i : ℕ) (hart : Hart) → slice_get self.old.harts i ≡ Some hart
+            → runner_on hart ≢ runner_of number to }
         requires entries { length entries.now ≤ limit_number self.old.limit }
-        ensures state { (table : EnclaveTable) → SameState (state_on table self.new) (in_world (state_on table self.old) number to) }
+        ensures state { (table : EnclaveTable)
+            → SameState (state_on table self.new) (in_world (state_on table self.old) number to) }
         ensures list { (bank : Bank) → BankOn self.new number bank → HasList bank entries.now }
         ensures others { KeepsBanks self.old self.new number }
-        ensures worlds { (i : ℕ) → world_in (slice_get self.new.harts i) ≡ (if i == number then to else world_in (slice_get self.old.harts i)) }
+        ensures worlds { (i : ℕ)
+            → world_in (slice_get self.new.harts i) ≡
+            (if i == number then to else world_in (slice_get self.old.harts i)) }
         ensures marks { self.new.marked ≡ self.old.marked }
         ensures limit { self.new.limit ≡ self.old.limit }
     {
@@ -122,9 +138,13 @@ impl Hardware {
     pub(crate) fn set_register(&mut self, number: u8, n: u8, value: u64)
         requires number { number < 4 }
         requires register { n < 32 }
-        ensures state { (table : EnclaveTable) → SameState (state_on table self.new) (with_running (state_on table self.old) number (with_x (running_registers (state_on table self.old) number) n value)) }
-        ensures banks { (i : ℕ) (bank : Bank) → BankOn self.old i bank → BankOn self.new i bank }
-        ensures worlds { (i : ℕ) → world_in (slice_get self.new.harts i) ≡ world_in (slice_get self.old.harts i) }
+        ensures state { (table : EnclaveTable)
+            → SameState (state_on table self.new) (with_running (state_on table self.old) number
+            (with_x (running_registers (state_on table self.old) number) n value)) }
+        ensures banks { (i : ℕ) (bank : Bank) → BankOn self.old i bank
+            → BankOn self.new i bank }
+        ensures worlds { (i : ℕ) → world_in (slice_get self.new.harts i)
+            ≡ world_in (slice_get self.old.harts i) }
         ensures marks { self.new.marked ≡ self.old.marked }
         ensures limit { self.new.limit ≡ self.old.limit }
     {
@@ -136,9 +156,13 @@ impl Hardware {
     /// The words of a call are put into the registers on a hart, and the program goes past it.
     pub(crate) fn call(&mut self, number: u8, words: &[u64])
         requires { number < 4 }
-        ensures state { (table : EnclaveTable) → SameState (state_on table self.new) (calling (state_on table self.old) number words.now) }
-        ensures banks { (i : ℕ) (bank : Bank) → BankOn self.old i bank → BankOn self.new i bank }
-        ensures worlds { (i : ℕ) → world_in (slice_get self.new.harts i) ≡ world_in (slice_get self.old.harts i) }
+        ensures state { (table : EnclaveTable)
+            → SameState (state_on table self.new)
+            (calling (state_on table self.old) number words.now) }
+        ensures banks { (i : ℕ) (bank : Bank) → BankOn self.old i bank
+            → BankOn self.new i bank }
+        ensures worlds { (i : ℕ) → world_in (slice_get self.new.harts i)
+            ≡ world_in (slice_get self.old.harts i) }
         ensures marks { self.new.marked ≡ self.old.marked }
         ensures limit { self.new.limit ≡ self.old.limit }
     {
@@ -151,9 +175,13 @@ impl Hardware {
     /// Two words are put into a0 and a1 on a hart.
     pub(crate) fn answer(&mut self, number: u8, first: u64, second: u64)
         requires { number < 4 }
-        ensures state { (table : EnclaveTable) → SameState (state_on table self.new) (answering (state_on table self.old) number first second) }
-        ensures banks { (i : ℕ) (bank : Bank) → BankOn self.old i bank → BankOn self.new i bank }
-        ensures worlds { (i : ℕ) → world_in (slice_get self.new.harts i) ≡ world_in (slice_get self.old.harts i) }
+        ensures state { (table : EnclaveTable)
+            → SameState (state_on table self.new)
+            (answering (state_on table self.old) number first second) }
+        ensures banks { (i : ℕ) (bank : Bank) → BankOn self.old i bank
+            → BankOn self.new i bank }
+        ensures worlds { (i : ℕ) → world_in (slice_get self.new.harts i)
+            ≡ world_in (slice_get self.old.harts i) }
         ensures marks { self.new.marked ≡ self.old.marked }
         ensures limit { self.new.limit ≡ self.old.limit }
     {
@@ -166,8 +194,11 @@ impl Hardware {
     pub(crate) fn put_saved(&mut self, id: u64, registers: Registers)
         requires low { 1 ≤ id }
         requires high { id ≤ 64 }
-        requires free { (i : ℕ) (hart : Hart) → slice_get self.old.harts i ≡ Some hart → runner_on hart ≢ EnclaveOf id }
-        ensures state { (table : EnclaveTable) → SameState (state_on table self.new) (with_registers (state_on table self.old) (EnclaveOf id) registers) }
+        requires free { (i : ℕ) (hart : Hart) → slice_get self.old.harts i ≡ Some hart
+            → runner_on hart ≢ EnclaveOf id }
+        ensures state { (table : EnclaveTable)
+            → SameState (state_on table self.new)
+            (with_registers (state_on table self.old) (EnclaveOf id) registers) }
         ensures harts { self.new.harts ≡ self.old.harts }
         ensures marks { self.new.marked ≡ self.old.marked }
         ensures limit { self.new.limit ≡ self.old.limit }
@@ -178,7 +209,9 @@ impl Hardware {
     /// The mark of a hart is taken away.
     pub(crate) fn clear_mark(&mut self, number: u8)
         requires { number < 4 }
-        ensures state { (table : EnclaveTable) → SameState (state_on table self.new) (without_mark (state_on table self.old) number) }
+        ensures state { (table : EnclaveTable)
+            → SameState (state_on table self.new)
+            (without_mark (state_on table self.old) number) }
         ensures limit { self.new.limit ≡ self.old.limit }
         ensures marks { self.new.marked ≡ slice_set self.old.marked number false }
         ensures harts { self.new.harts ≡ self.old.harts }
@@ -189,7 +222,9 @@ impl Hardware {
     /// Every byte of some pages is made zero, and the pages are not written.
     pub(crate) fn forget(&mut self, first: u64, count: u64)
         requires { first + count < 2 ^ 64 }
-        ensures state { (table : EnclaveTable) → SameState (state_on table self.new) (forgetting (state_on table self.old) first count) }
+        ensures state { (table : EnclaveTable)
+            → SameState (state_on table self.new)
+            (forgetting (state_on table self.old) first count) }
         ensures harts { self.new.harts ≡ self.old.harts }
         ensures marks { self.new.marked ≡ self.old.marked }
         ensures limit { self.new.limit ≡ self.old.limit }
@@ -208,7 +243,9 @@ impl Hardware {
     /// Every other hart that is in the host's world is marked.
     pub(crate) fn mark_others(&mut self, number: u8)
         requires { number < 4 }
-        ensures state { (table : EnclaveTable) → table.layout.harts ≤ 4 → SameState (state_on table self.new) (marking_others (state_on table self.old) number) }
+        ensures state { (table : EnclaveTable) → table.layout.harts ≤ 4
+            → SameState (state_on table self.new)
+            (marking_others (state_on table self.old) number) }
         ensures harts { self.new.harts ≡ self.old.harts }
         ensures limit { self.new.limit ≡ self.old.limit }
     {

@@ -17,10 +17,13 @@ impl Parts {
         requires hart { hart < self.old.table.table.layout.harts }
         requires whole { IsWhole self.old.table self.old.hardware }
         ensures whole { IsWhole self.new.table self.new.hardware }
-        ensures step { DoesCreate asked (machine_state self.old.table self.old.hardware) hart result (machine_state self.new.table self.new.hardware) }
-        ensures banks { AreBanksRight self.old.table self.old.hardware → AreBanksRight self.new.table self.new.hardware }
+        ensures step { DoesCreate asked (machine_state self.old.table self.old.hardware)
+            hart result (machine_state self.new.table self.new.hardware) }
+        ensures banks { AreBanksRight self.old.table self.old.hardware
+            → AreBanksRight self.new.table self.new.hardware }
         ensures others { KeepsBanks self.old.hardware self.new.hardware hart }
-        ensures stays { StaysLoaded self.old.table self.old.hardware self.new.table self.new.hardware hart }
+        ensures stays { StaysLoaded self.old.table self.old.hardware self.new.table
+            self.new.hardware hart }
         ensures lists { KeepsLists self.old.table self.new.table }
     {
         self.table.rules();
@@ -39,10 +42,13 @@ impl Parts {
         requires hart { hart < self.old.table.table.layout.harts }
         requires whole { IsWhole self.old.table self.old.hardware }
         ensures whole { IsWhole self.new.table self.new.hardware }
-        ensures step { DoesDestroy id (machine_state self.old.table self.old.hardware) hart result (machine_state self.new.table self.new.hardware) }
-        ensures banks { AreBanksRight self.old.table self.old.hardware → AreBanksRight self.new.table self.new.hardware }
+        ensures step { DoesDestroy id (machine_state self.old.table self.old.hardware)
+            hart result (machine_state self.new.table self.new.hardware) }
+        ensures banks { AreBanksRight self.old.table self.old.hardware
+            → AreBanksRight self.new.table self.new.hardware }
         ensures others { KeepsBanks self.old.hardware self.new.hardware hart }
-        ensures stays { StaysLoaded self.old.table self.old.hardware self.new.table self.new.hardware hart }
+        ensures stays { StaysLoaded self.old.table self.old.hardware self.new.table
+            self.new.hardware hart }
         ensures lists { KeepsLists self.old.table self.new.table }
     {
         self.table.rules();
@@ -62,10 +68,13 @@ impl Parts {
         requires hart { hart < self.old.table.table.layout.harts }
         requires whole { IsWhole self.old.table self.old.hardware }
         ensures whole { IsWhole self.new.table self.new.hardware }
-        ensures step { DoesMeasure id k (machine_state self.old.table self.old.hardware) hart result (machine_state self.new.table self.new.hardware) }
-        ensures banks { AreBanksRight self.old.table self.old.hardware → AreBanksRight self.new.table self.new.hardware }
+        ensures step { DoesMeasure id k (machine_state self.old.table self.old.hardware)
+            hart result (machine_state self.new.table self.new.hardware) }
+        ensures banks { AreBanksRight self.old.table self.old.hardware
+            → AreBanksRight self.new.table self.new.hardware }
         ensures others { KeepsBanks self.old.hardware self.new.hardware hart }
-        ensures stays { StaysLoaded self.old.table self.old.hardware self.new.table self.new.hardware hart }
+        ensures stays { StaysLoaded self.old.table self.old.hardware self.new.table
+            self.new.hardware hart }
         ensures lists { KeepsLists self.old.table self.new.table }
     {
         match self.table.word(id, k) {

@@ -21,10 +21,14 @@ impl Parts {
         requires whole { IsWhole self.old.table self.old.hardware }
         requires marked { (machine_state self.old.table self.old.hardware).marked hart ≡ true }
         ensures whole { IsWhole self.new.table self.new.hardware }
-        ensures state { (table : EnclaveTable) → SameState (state_on table self.new.hardware) (without_mark (state_on table self.old.hardware) hart) }
-        ensures banks { AreBanksRight self.old.table self.old.hardware → AreBanksRight self.new.table self.new.hardware }
+        ensures state { (table : EnclaveTable)
+            → SameState (state_on table self.new.hardware)
+            (without_mark (state_on table self.old.hardware) hart) }
+        ensures banks { AreBanksRight self.old.table self.old.hardware
+            → AreBanksRight self.new.table self.new.hardware }
         ensures others { KeepsBanks self.old.hardware self.new.hardware hart }
-        ensures loaded { (bank : Bank) × BankOn self.new.hardware hart bank × HasList bank self.old.table.host_list }
+        ensures loaded { (bank : Bank) × BankOn self.new.hardware hart bank
+            × HasList bank self.old.table.host_list }
         ensures table { self.new.table ≡ self.old.table }
     {
         self.hardware.load(hart, self.table.host_entries());
@@ -36,11 +40,17 @@ impl Parts {
         requires hart { hart < self.old.table.table.layout.harts }
         requires whole { IsWhole self.old.table self.old.hardware }
         ensures whole { IsWhole self.new.table self.new.hardware }
-        ensures state { (table : EnclaveTable) → SameState (state_on table self.new.hardware) (without_mark (state_on table self.old.hardware) hart) }
-        ensures banks { AreBanksRight self.old.table self.old.hardware → AreBanksRight self.new.table self.new.hardware }
+        ensures state { (table : EnclaveTable)
+            → SameState (state_on table self.new.hardware)
+            (without_mark (state_on table self.old.hardware) hart) }
+        ensures banks { AreBanksRight self.old.table self.old.hardware
+            → AreBanksRight self.new.table self.new.hardware }
         ensures others { KeepsBanks self.old.hardware self.new.hardware hart }
-        ensures asleep { (machine_state self.old.table self.old.hardware).marked hart ≡ false → self.new.hardware ≡ self.old.hardware }
-        ensures woken { (machine_state self.old.table self.old.hardware).marked hart ≡ true → (bank : Bank) × BankOn self.new.hardware hart bank × HasList bank self.old.table.host_list }
+        ensures asleep { (machine_state self.old.table self.old.hardware).marked hart ≡ false
+            → self.new.hardware ≡ self.old.hardware }
+        ensures woken { (machine_state self.old.table self.old.hardware).marked hart ≡ true
+            → (bank : Bank) × BankOn self.new.hardware hart bank
+            × HasList bank self.old.table.host_list }
         ensures table { self.new.table ≡ self.old.table }
     {
         if !self.hardware.is_marked(hart) {
@@ -53,10 +63,21 @@ impl Parts {
     pub(crate) fn reload(&mut self, hart: u8, first: u64, second: u64)
         requires hart { hart < self.old.table.table.layout.harts }
         requires whole { IsWhole self.old.table self.old.hardware }
-        requires host { (machine_state self.old.table self.old.hardware).worlds hart ≡ World.Host }
+        requires host { (machine_state self.old.table self.old.hardware).worlds hart
+            ≡ World.Host }
         ensures whole { IsWhole self.new.table self.new.hardware }
-        ensures state { SameState (machine_state self.new.table self.new.hardware) (marking_others (answering (machine_state self.old.table self.old.hardware) hart first second) hart) }
-        ensures banks { (before : Kept) → before.table.layout.harts ≡ self.old.table.table.layout.harts → ((i : ℕ) → (let w = (machine_state self.old.table self.old.hardware).worlds i in is_host w ≡ false → SameView (view_of before.table w) (view_of self.old.table.table w))) → AreBanksRight before self.old.hardware → AreBanksRight self.new.table self.new.hardware }
+        ensures state { SameState (machine_state self.new.table self.new.hardware) (marking_others
+            (answering (machine_state self.old.table self.old.hardware) hart first second)
+            hart) }
+        ensures banks { (before : Kept) → before.table.layout.harts
+            ≡ self.old.table.table.layout.harts
+            → ((i : ℕ)
+            → (let w = (machine_state self.old.table self.old.hardware).worlds i in
+            is_host w ≡ false
+            → SameView (view_of before.table w)
+            (view_of self.old.table.table w)))
+            → AreBanksRight before self.old.hardware
+            → AreBanksRight self.new.table self.new.hardware }
         ensures others { KeepsBanks self.old.hardware self.new.hardware hart }
         ensures table { self.new.table ≡ self.old.table }
     {

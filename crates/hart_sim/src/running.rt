@@ -59,16 +59,33 @@ pub fn run<R: Source, W: Sink>(
     source: &mut R,
     sink: &mut W,
 ) -> Result<(), RunFault>
-    ensures all { KeepsBanksRight machine.old → IfOk result (λ _. DoesAll DoesLine machine.old machine.new (R.remaining source.old) (R.remaining source.new) (W.contents sink.old) (W.contents sink.new)) }
-    ensures line { KeepsBanksRight machine.old → (n : ℕ) → result ≡ Err (RunFault.Line n) → StopsAt n DoesLine RefusesLine machine.old machine.new (R.remaining source.old) (R.remaining source.new) (W.contents sink.old) (W.contents sink.new) }
-    ensures too_long { KeepsBanksRight machine.old → result ≡ Err RunFault.TooLong → StopsTooLong DoesLine machine.old machine.new (R.remaining source.old) (R.remaining source.new) (W.contents sink.old) (W.contents sink.new) }
-    ensures read { KeepsBanksRight machine.old → result ≡ Err RunFault.Read → StopsReading DoesLine machine.old machine.new (R.remaining source.old) (R.remaining source.new) (W.contents sink.old) (W.contents sink.new) }
-    ensures write { KeepsBanksRight machine.old → result ≡ Err RunFault.Write → StopsWriting DoesLine machine.old machine.new (R.remaining source.old) (R.remaining source.new) (W.contents sink.old) (W.contents sink.new) }
-    ensures memory { KeepsBanksRight machine.old → result ≡ Err RunFault.Memory → StopsForMemory DoesLine StarvesLine machine.old machine.new (R.remaining source.old) (R.remaining source.new) (W.contents sink.old) (W.contents sink.new) }
+    ensures all { KeepsBanksRight machine.old
+        → IfOk result (λ _.
+        DoesAll DoesLine machine.old machine.new (R.remaining source.old)
+        (R.remaining source.new) (W.contents sink.old) (W.contents sink.new)) }
+    ensures line { KeepsBanksRight machine.old → (n : ℕ) → result ≡ Err (RunFault.Line n)
+        → StopsAt n DoesLine RefusesLine machine.old machine.new (R.remaining source.old)
+        (R.remaining source.new) (W.contents sink.old) (W.contents sink.new) }
+    ensures too_long { KeepsBanksRight machine.old → result ≡ Err RunFault.TooLong
+        → StopsTooLong DoesLine machine.old machine.new (R.remaining source.old)
+        (R.remaining source.new) (W.contents sink.old) (W.contents sink.new) }
+    ensures read { KeepsBanksRight machine.old → result ≡ Err RunFault.Read
+        → StopsReading DoesLine machine.old machine.new (R.remaining source.old)
+        (R.remaining source.new) (W.contents sink.old) (W.contents sink.new) }
+    ensures write { KeepsBanksRight machine.old → result ≡ Err RunFault.Write
+        → StopsWriting DoesLine machine.old machine.new (R.remaining source.old)
+        (R.remaining source.new) (W.contents sink.old) (W.contents sink.new) }
+    ensures memory { KeepsBanksRight machine.old → result ≡ Err RunFault.Memory
+        → StopsForMemory DoesLine StarvesLine machine.old machine.new (R.remaining source.old)
+        (R.remaining source.new) (W.contents sink.old) (W.contents sink.new) }
     ensures kept { KeepsBanksRight machine.old → KeepsBanksRight machine.new }
-    ensures after { (platform : Layout) (events : List (ℕ × Event)) (replies : List Reply) → After platform events replies machine.old → GoesOn platform events replies machine.old machine.new (R.remaining source.old) (R.remaining source.new) }
+    ensures after { (platform : Layout) (events : List (ℕ × Event)) (replies : List Reply)
+        → After platform events replies machine.old
+        → GoesOn platform events replies machine.old machine.new (R.remaining source.old)
+        (R.remaining source.new) }
     ensures reads { CountsReads result (R.failures source.old) (R.failures source.new) }
-    ensures writes { CountsWrites result (W.failures sink.old) (W.failures sink.new) (W.stalls sink.old) (W.stalls sink.new) }
+    ensures writes { CountsWrites result (W.failures sink.old)
+        (W.failures sink.new) (W.stalls sink.old) (W.stalls sink.new) }
 {
     interpret_lines(machine, source, sink)
 }

@@ -26,10 +26,14 @@ impl Parts {
         requires register { n < 32 }
         requires whole { IsWhole self.old.table self.old.hardware }
         ensures whole { IsWhole self.new.table self.new.hardware }
-        ensures step { let s = machine_state self.old.table self.old.hardware in Does (Event.Reg n value) s hart result (machine_state self.new.table self.new.hardware) }
-        ensures banks { AreBanksRight self.old.table self.old.hardware → AreBanksRight self.new.table self.new.hardware }
+        ensures step { let s = machine_state self.old.table self.old.hardware in
+            Does (Event.Reg n value) s hart result
+            (machine_state self.new.table self.new.hardware) }
+        ensures banks { AreBanksRight self.old.table self.old.hardware
+            → AreBanksRight self.new.table self.new.hardware }
         ensures others { KeepsBanks self.old.hardware self.new.hardware hart }
-        ensures stays { StaysLoaded self.old.table self.old.hardware self.new.table self.new.hardware hart }
+        ensures stays { StaysLoaded self.old.table self.old.hardware self.new.table
+            self.new.hardware hart }
         ensures lists { KeepsLists self.old.table self.new.table }
     {
         self.hardware.set_register(hart, n, value);
@@ -42,14 +46,22 @@ impl Parts {
         requires event { IsEvent event }
         requires whole { IsWhole self.old.table self.old.hardware }
         requires awake { (machine_state self.old.table self.old.hardware).marked hart ≡ false }
-        ensures judged { (access : Access) (value : ℕ) → event ≡ Event.Access access value → (bank : Bank) (list : List Entry) (cause : Cause) → BankOn self.old.hardware hart bank → HasList bank list → (result ≡ Reply.Fault cause) ↔ Judges list access (Err cause) }
-        ensures loaded { (access : Access) (value : ℕ) → event ≡ Event.Access access value → self.new.hardware.harts ≡ self.old.hardware.harts }
+        ensures judged { (access : Access) (value : ℕ) → event ≡ Event.Access access value
+            → (bank : Bank) (list : List Entry) (cause : Cause)
+            → BankOn self.old.hardware hart bank → HasList bank list
+            → (result ≡ Reply.Fault cause) ↔ Judges list access (Err cause) }
+        ensures loaded { (access : Access) (value : ℕ) → event ≡ Event.Access access value
+            → self.new.hardware.harts ≡ self.old.hardware.harts }
         ensures whole { IsWhole self.new.table self.new.hardware }
         ensures layout { self.new.table.table.layout ≡ self.old.table.table.layout }
-        ensures step { AreBanksRight self.old.table self.old.hardware → Does event (machine_state self.old.table self.old.hardware) hart result (machine_state self.new.table self.new.hardware) }
-        ensures banks { AreBanksRight self.old.table self.old.hardware → AreBanksRight self.new.table self.new.hardware }
+        ensures step { AreBanksRight self.old.table self.old.hardware
+            → Does event (machine_state self.old.table self.old.hardware)
+            hart result (machine_state self.new.table self.new.hardware) }
+        ensures banks { AreBanksRight self.old.table self.old.hardware
+            → AreBanksRight self.new.table self.new.hardware }
         ensures others { KeepsBanks self.old.hardware self.new.hardware hart }
-        ensures stays { StaysLoaded self.old.table self.old.hardware self.new.table self.new.hardware hart }
+        ensures stays { StaysLoaded self.old.table self.old.hardware self.new.table
+            self.new.hardware hart }
         ensures lists { KeepsLists self.old.table self.new.table }
     {
         match event {
@@ -65,14 +77,24 @@ impl Parts {
         requires hart { hart < self.old.table.table.layout.harts }
         requires event { IsEvent event }
         requires whole { IsWhole self.old.table self.old.hardware }
-        ensures judged { (access : Access) (value : ℕ) (list : List Entry) (cause : Cause) → event ≡ Event.Access access value → MeetsOn self.old.table self.old.hardware hart list → (result ≡ Reply.Fault cause) ↔ Judges list access (Err cause) }
-        ensures loaded { (access : Access) (value : ℕ) (list : List Entry) (bank : Bank) → event ≡ Event.Access access value → MeetsOn self.old.table self.old.hardware hart list → BankOn self.new.hardware hart bank → HasList bank list }
+        ensures judged { (access : Access) (value : ℕ) (list : List Entry) (cause : Cause)
+            → event ≡ Event.Access access value
+            → MeetsOn self.old.table self.old.hardware hart list
+            → (result ≡ Reply.Fault cause) ↔ Judges list access (Err cause) }
+        ensures loaded { (access : Access) (value : ℕ) (list : List Entry) (bank : Bank)
+            → event ≡ Event.Access access value
+            → MeetsOn self.old.table self.old.hardware hart list
+            → BankOn self.new.hardware hart bank → HasList bank list }
         ensures whole { IsWhole self.new.table self.new.hardware }
         ensures layout { self.new.table.table.layout ≡ self.old.table.table.layout }
-        ensures step { AreBanksRight self.old.table self.old.hardware → Step (machine_state self.old.table self.old.hardware) hart event result (machine_state self.new.table self.new.hardware) }
-        ensures banks { AreBanksRight self.old.table self.old.hardware → AreBanksRight self.new.table self.new.hardware }
+        ensures step { AreBanksRight self.old.table self.old.hardware
+            → Step (machine_state self.old.table self.old.hardware)
+            hart event result (machine_state self.new.table self.new.hardware) }
+        ensures banks { AreBanksRight self.old.table self.old.hardware
+            → AreBanksRight self.new.table self.new.hardware }
         ensures others { KeepsBanks self.old.hardware self.new.hardware hart }
-        ensures stays { (machine_state self.old.table self.old.hardware).marked hart ≡ false → StaysLoaded self.old.table self.old.hardware self.new.table self.new.hardware hart }
+        ensures stays { (machine_state self.old.table self.old.hardware).marked hart ≡ false
+            → StaysLoaded self.old.table self.old.hardware self.new.table self.new.hardware hart }
         ensures lists { KeepsLists self.old.table self.new.table }
     {
         self.wake(hart);

@@ -56,7 +56,8 @@ fn plain_start(rest: &[u8]) -> Option<(Mode, u64, &[u8])>
 /// A fetch or a load.
 #[inline(always)]
 fn plain_look(kind: Kind, rest: &[u8]) -> Option<Access>
-    ensures access { IfSome result (λ access. access_of kind (split_words rest.now) ≡ Some (access, [])) }
+    ensures access { IfSome result (λ access.
+        access_of kind (split_words rest.now) ≡ Some (access, [])) }
     ensures plain { IfSome result (λ _. list_all is_plain rest.now ≡ true) }
 {
     let (mode, size, digits) = plain_start(rest)?;
@@ -78,7 +79,10 @@ fn behind_blank(text: &[u8]) -> Option<&[u8]>
 /// A store and its value.
 #[inline(always)]
 fn plain_store(rest: &[u8]) -> Option<(Access, u64)>
-    ensures access { IfSome result (λ store. (word : List ℕ) × (access_of Kind.Store (split_words rest.now) ≡ Some (store.0, word ∷ [])) × (number_of word ≡ Some store.1)) }
+    ensures access { IfSome result (λ store.
+        (word : List ℕ)
+        × (access_of Kind.Store (split_words rest.now) ≡ Some (store.0, word ∷ []))
+        × (number_of word ≡ Some store.1)) }
     ensures plain { IfSome result (λ _. list_all is_plain rest.now ≡ true) }
 {
     let (mode, size, digits) = plain_start(rest)?;
@@ -108,7 +112,9 @@ fn behind_keyword(line: &[u8]) -> Option<(Kind, &[u8])>
 /// [`parse_line`](crate::parse_line) hands on with each.
 #[inline(always)]
 pub fn plain_access(line: &[u8]) -> Option<(Access, u64)>
-    ensures { IfSome result (λ found. (harts : ℕ) → meaning_of harts line.now ≡ Some (Some (0, events.Access found.0 found.1))) }
+    ensures { IfSome result (λ found.
+        (harts : ℕ)
+        → meaning_of harts line.now ≡ Some (Some (0, events.Access found.0 found.1))) }
 {
     let (kind, rest) = behind_keyword(line)?;
     match kind {
@@ -125,7 +131,9 @@ pub fn plain_access(line: &[u8]) -> Option<(Access, u64)>
 
 /// The hart that a line names, where `@H` and one space begin it, and what stands behind them.
 pub(crate) fn behind_hart(line: &[u8], harts: u8) -> Option<(u8, &[u8])>
-    ensures { IfSome result (λ named. (digit : ℕ) × (line.now ≡ 64 ∷ digit ∷ 32 ∷ named.1.now) × (hart_of harts (64 ∷ digit ∷ []) ≡ Some named.0)) }
+    ensures { IfSome result (λ named.
+        (digit : ℕ) × (line.now ≡ 64 ∷ digit ∷ 32 ∷ named.1.now)
+        × (hart_of harts (64 ∷ digit ∷ []) ≡ Some named.0)) }
 {
     match line {
         [b'@', digit @ b'0'..=b'9', b' ', rest @ ..] if *digit - b'0' < harts => {
@@ -138,7 +146,8 @@ pub(crate) fn behind_hart(line: &[u8], harts: u8) -> Option<(u8, &[u8])>
 /// The access of a plain line, the value that a store writes, 0 else, and the hart that it happens on: the one that the
 /// line names, or hart 0. None says nothing of the line.
 pub(crate) fn plain_on_hart(line: &[u8], harts: u8) -> Option<(u8, Access, u64)>
-    ensures { IfSome result (λ found. meaning_of harts line.now ≡ Some (Some (found.0, events.Access found.1 found.2))) }
+    ensures { IfSome result (λ found.
+        meaning_of harts line.now ≡ Some (Some (found.0, events.Access found.1 found.2))) }
 {
     if let Some((hart, rest)) = behind_hart(line, harts) {
         let (access, value) = plain_access(rest)?;

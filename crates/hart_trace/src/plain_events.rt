@@ -55,7 +55,8 @@ fn behind_reg(line: &[u8]) -> Option<&[u8]>
 
 /// What stands behind `ecall` and a space.
 fn behind_ecall(line: &[u8]) -> Option<&[u8]>
-    ensures { IfSome result (λ rest. line.now ≡ 101 ∷ 99 ∷ 97 ∷ 108 ∷ 108 ∷ 32 ∷ rest.now) }
+    ensures { IfSome result (λ rest. line.now
+        ≡ 101 ∷ 99 ∷ 97 ∷ 108 ∷ 108 ∷ 32 ∷ rest.now) }
 {
     match line {
         [b'e', b'c', b'a', b'l', b'l', b' ', rest @ ..] => Some(rest),
@@ -77,7 +78,9 @@ fn plain_number(text: &[u8]) -> Option<(u64, &[u8])>
 
 /// The register that a text names before a space, and what stands behind that.
 fn plain_register(text: &[u8]) -> Option<(u8, &[u8])>
-    ensures { IfSome result (λ found. (digits : List ℕ) × (text.now ≡ (120 ∷ digits) ++ 32 ∷ found.1.now) × (list_all is_letter digits ≡ true) × (register_of (120 ∷ digits) ≡ Some found.0)) }
+    ensures { IfSome result (λ found.
+        (digits : List ℕ) × (text.now ≡ (120 ∷ digits) ++ 32 ∷ found.1.now)
+        × (list_all is_letter digits ≡ true) × (register_of (120 ∷ digits) ≡ Some found.0)) }
 {
     let digits = behind_letter(text)?;
     let (n, behind) = leading_numeral(digits, 10)?;
@@ -90,7 +93,8 @@ fn plain_register(text: &[u8]) -> Option<(u8, &[u8])>
 
 /// The setting of a register by a plain line.
 fn plain_setting(line: &[u8]) -> Option<Event>
-    ensures { IfSome result (λ event. (harts : ℕ) → meaning_of harts line.now ≡ Some (Some (0, event))) }
+    ensures { IfSome result (λ event. (harts : ℕ)
+        → meaning_of harts line.now ≡ Some (Some (0, event))) }
 {
     let rest = behind_reg(line)?;
     let (register, behind) = plain_register(rest)?;
@@ -123,7 +127,8 @@ fn plain_words(rest: &[u8]) -> Option<Event>
 
 /// The call of a plain line.
 fn plain_call(line: &[u8]) -> Option<Event>
-    ensures { IfSome result (λ event. (harts : ℕ) → meaning_of harts line.now ≡ Some (Some (0, event))) }
+    ensures { IfSome result (λ event. (harts : ℕ)
+        → meaning_of harts line.now ≡ Some (Some (0, event))) }
 {
     let rest = behind_ecall(line)?;
     let event = plain_words(rest)?;
@@ -132,7 +137,8 @@ fn plain_call(line: &[u8]) -> Option<Event>
 
 /// The event of a plain line that names no hart.
 fn plain_event(line: &[u8]) -> Option<Event>
-    ensures { IfSome result (λ event. (harts : ℕ) → meaning_of harts line.now ≡ Some (Some (0, event))) }
+    ensures { IfSome result (λ event. (harts : ℕ)
+        → meaning_of harts line.now ≡ Some (Some (0, event))) }
 {
     match line {
         [b'r', ..] => plain_setting(line),

@@ -49,7 +49,9 @@ pub(crate) fn sized(mode: Mode, kind: Kind, size: u64, address: u64) -> Option<A
 }
 
 fn access_of(kind: Kind, words: &mut Words<'_>) -> Option<Access>
-    ensures { option_map (λ access. (access, split_words words.new.rest.now)) result ≡ access_of kind (split_words words.old.rest.now) }
+    ensures { option_map (λ access.
+        (access, split_words words.new.rest.now))
+        result ≡ access_of kind (split_words words.old.rest.now) }
 {
     let mode = mode_of(words.next_word()?)?;
     let size = number(words.next_word()?)?;
@@ -177,7 +179,8 @@ fn hart_of(word: &[u8], harts: u8) -> Option<u8>
 }
 
 fn on_hart(hart: u8, words: Words<'_>) -> Result<Option<(u8, Event)>, NotUnderstood>
-    ensures { result_ok result ≡ option_map (λ event. Some (hart, event)) (event_of (split_words words.entry.rest.now)) }
+    ensures { result_ok result ≡ option_map (λ event. Some (hart, event))
+        (event_of (split_words words.entry.rest.now)) }
 {
     match event_of(words) {
         Some(event) => Ok(Some((hart, event))),

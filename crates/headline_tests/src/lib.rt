@@ -28,7 +28,10 @@ pub fn life(
     destroy: ArrayVec<u64, 8>,
 ) -> [Reply; 6]
     requires { (state_of machine.old).table.layout.harts ≡ 2 }
-    ensures { (platform : Layout) (events : List (ℕ × Event)) (replies : List Reply) → After platform events replies machine.old → Headline platform (events ++ life_of create enter resume leave destroy) (replies ++ result) machine.new }
+    ensures { (platform : Layout) (events : List (ℕ × Event)) (replies : List Reply)
+        → After platform events replies machine.old
+        → Headline platform (events ++ life_of create enter resume leave destroy)
+        (replies ++ result) machine.new }
 {
     let created = machine.step(0, Event::Ecall(create));
     let entered = machine.step(0, Event::Ecall(enter));
@@ -49,7 +52,11 @@ pub fn runs_on<R: Source, W: Sink>(
     report: &mut W,
     other: &mut W,
 ) -> Reply
-    ensures { (platform : Layout) (events : List (ℕ × Event)) (replies : List Reply) → After platform events replies machine.old → (more : List (ℕ × Event)) × (answered : List Reply) × Headline platform (events ++ more ++ (0, Event.Irq) ∷ []) (replies ++ answered ++ result ∷ []) machine.new }
+    ensures { (platform : Layout) (events : List (ℕ × Event)) (replies : List Reply)
+        → After platform events replies machine.old
+        → (more : List (ℕ × Event)) × (answered : List Reply)
+        × Headline platform (events ++ more ++ (0, Event.Irq) ∷ [])
+        (replies ++ answered ++ result ∷ []) machine.new }
 {
     let _ = run(machine, first, report);
     let _ = run(machine, second, other);

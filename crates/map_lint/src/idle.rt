@@ -22,7 +22,8 @@ pub(crate) struct Numbered {
 fn follow(map: &mut MapBuilder, settings: &[Numbered]) -> Result<Option<u64>, Memory>
     requires { All IsInside settings.now }
     ensures all { IfOk result (λ stopped. IfNone stopped (SetTo map.old settings.now map.new)) }
-    ensures many { IfOk result (λ stopped. IfSome stopped (λ line. IsTooManyAfter line map.old settings.now)) }
+    ensures many { IfOk result (λ stopped.
+        IfSome stopped (λ line. IsTooManyAfter line map.old settings.now)) }
 {
     for numbered in settings {
         let setting = numbered.setting;
@@ -100,7 +101,9 @@ fn push_warning(
 ) -> Result<(), Memory>
     requires inside { All IsInside settings.now }
     requires index { i < length settings.now }
-    ensures { IfOk result (λ _. (said : List ℕ) × IsWarning name.now settings.now whole.now i numbered.now said × (text.new.items ≡ text.old.items ++ said)) }
+    ensures { IfOk result (λ _.
+        (said : List ℕ) × IsWarning name.now settings.now whole.now i numbered.now said
+        × (text.new.items ≡ text.old.items ++ said)) }
 {
     let Some(other) = map_without(alloc, settings, i)? else {
         return Ok(());
@@ -121,7 +124,9 @@ fn push_warnings(
     whole: &PermissionMap,
 ) -> Result<(), Memory>
     requires { All IsInside settings.now }
-    ensures { IfOk result (λ _. (said : List ℕ) × AreWarnings name.now settings.now whole.now 0 settings.now said × (text.new.items ≡ text.old.items ++ said)) }
+    ensures { IfOk result (λ _.
+        (said : List ℕ) × AreWarnings name.now settings.now whole.now 0 settings.now said
+        × (text.new.items ≡ text.old.items ++ said)) }
 {
     for (i, numbered) in settings.iter().enumerate() {
         push_warning(alloc, text, name, settings, i, numbered, whole)?;
@@ -139,7 +144,9 @@ pub(crate) fn push_tail(
     is_map: bool,
 ) -> Result<(), Memory>
     requires { All IsInside settings.now }
-    ensures { IfOk result (λ _. (said : List ℕ) × IsTail name.now settings.now is_map said × (text.new.items ≡ text.old.items ++ said)) }
+    ensures { IfOk result (λ _.
+        (said : List ℕ) × IsTail name.now settings.now is_map said
+        × (text.new.items ≡ text.old.items ++ said)) }
 {
     let mut map = MapBuilder::new(alloc);
     if let Some(line) = follow(&mut map, settings)? {

@@ -105,7 +105,8 @@ fn push_named(text: &mut Vec<u8>, name: &str, before: usize) -> Result<(), Memor
 /// Appends what is wrong with a word that is no number.
 fn push_no_number(text: &mut Vec<u8>, name: &str, placed: Placed<'_>) -> Result<(), Memory>
     requires { placed.before < 2 ^ 64 - 1 }
-    ensures { OnOk result (text.new.items ≡ text.old.items ++ number_text name.now placed.entry.before placed.entry.word.now) }
+    ensures { OnOk result (text.new.items
+        ≡ text.old.items ++ number_text name.now placed.entry.before placed.entry.word.now) }
 {
     push_named(text, name, placed.before)?;
     push_quoted(text, placed.word)?;
@@ -131,7 +132,9 @@ fn push_part(
     whole: u64,
 ) -> Result<(), Memory>
     requires { placed.before < 2 ^ 64 - 1 }
-    ensures { OnOk result (text.new.items ≡ text.old.items ++ part_text name.now placed.entry.before placed.entry.word.now mend.now whole) }
+    ensures { OnOk result (text.new.items ≡ text.old.items
+        ++ part_text name.now placed.entry.before
+        placed.entry.word.now mend.now whole) }
 {
     push_named(text, name, placed.before)?;
     text.extend_from_slice(placed.word)?;
@@ -164,7 +167,8 @@ fn push_most(text: &mut Vec<u8>, first: u64) -> Result<(), Memory>
 fn push_past_end(text: &mut Vec<u8>, size_at: usize, first: u64) -> Result<(), Memory>
     requires at { size_at < 2 ^ 64 - 1 }
     requires first { first ≤ 2 ^ 56 }
-    ensures { OnOk result (text.new.items ≡ text.old.items ++ (column_text size_at ++ most_text first)) }
+    ensures { OnOk result (text.new.items ≡ text.old.items
+        ++ (column_text size_at ++ most_text first)) }
 {
     push_column(text, size_at)?;
     push_most(text, first)?;
@@ -200,7 +204,10 @@ fn push_range(
     requires base { base.before < 2 ^ 64 - 1 }
     requires size { size.before < 2 ^ 64 - 1 }
     requires perm { perm.before < 2 ^ 64 - 1 }
-    ensures { OnOk result (text.new.items ≡ text.old.items ++ range_text base.entry.before base.entry.word.now size.entry.before size.entry.word.now perm.entry.before perm.entry.word.now first bytes) }
+    ensures { OnOk result
+        (text.new.items ≡ text.old.items ++ range_text base.entry.before base.entry.word.now
+        size.entry.before size.entry.word.now perm.entry.before perm.entry.word.now
+        first bytes) }
 {
     let part = first % 4096;
     if part != 0 {
@@ -228,7 +235,9 @@ fn push_three(
     requires base { base.before < 2 ^ 64 - 1 }
     requires size { size.before < 2 ^ 64 - 1 }
     requires perm { perm.before < 2 ^ 64 - 1 }
-    ensures { OnOk result (text.new.items ≡ text.old.items ++ three_text base.entry.before base.entry.word.now size.entry.before size.entry.word.now perm.entry.before perm.entry.word.now) }
+    ensures { OnOk result
+        (text.new.items ≡ text.old.items ++ three_text base.entry.before base.entry.word.now
+        size.entry.before size.entry.word.now perm.entry.before perm.entry.word.now) }
 {
     let Some(first) = number(base.word) else {
         return push_no_number(text, "BASE", base);

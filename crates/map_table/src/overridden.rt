@@ -18,7 +18,8 @@ fn meets(entry: &Entry, stretch: &Stretch) -> bool
 /// The first entries behind number i that have a byte of the stretch, at most three, by their numbers.
 pub(crate) fn overridden(entries: &[Entry], i: usize, stretch: &Stretch) -> ArrayVec<usize, 3>
     requires { i < length entries.now }
-    ensures { result.items ≡ take 3 (overridden_from (i + 1) (drop (i + 1) entries.now) stretch.now) }
+    ensures { result.items ≡ take 3 (overridden_from (i + 1)
+        (drop (i + 1) entries.now) stretch.now) }
 {
     let mut found = ArrayVec::new();
     let mut j = i + 1;

@@ -66,7 +66,8 @@ fn push_before(line: &mut Line, behind: &[usize])
 /// Which entry decides, and which it comes before.
 fn number_line(entries: &[Entry], i: usize, stretch: &Stretch) -> Line
     requires { i < length entries.now }
-    ensures { result.items ≡ number_text i (overridden_from (i + 1) (drop (i + 1) entries.now) stretch.now) }
+    ensures { result.items ≡ number_text i
+        (overridden_from (i + 1) (drop (i + 1) entries.now) stretch.now) }
 {
     let behind = overridden(entries, i, stretch);
     let mut line = ArrayVec::new();
@@ -79,7 +80,8 @@ fn number_line(entries: &[Entry], i: usize, stretch: &Stretch) -> Line
 /// Appends the row of a stretch that an entry decides.
 fn push_row(text: &mut Vec<u8>, entries: &[Entry], stretch: &Stretch) -> Result<(), Memory>
     requires { IsRow entries.now stretch.now }
-    ensures { OnOk result (text.new.items ≡ text.old.items ++ row_by entries.now stretch.now stretch.now.entry) }
+    ensures { OnOk result
+        (text.new.items ≡ text.old.items ++ row_by entries.now stretch.now stretch.now.entry) }
 {
     let Some(i) = stretch.entry else {
         return Ok(());

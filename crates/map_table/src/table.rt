@@ -67,13 +67,20 @@ pub fn print_map<W: Sink>(
     out: &mut W,
 ) -> Result<(), TableFault>
     requires means { Means entries.now (view_of_runs map.now) }
-    requires least { (others : List Entry) → Means others (view_of_runs map.now) → length entries.now ≤ length others }
-    ensures written { OnOk result ((text : List ℕ) × IsTable (view_of_runs map.now) entries.now limit text × Appends (W.contents out.old) (W.contents out.new) text) }
+    requires least { (others : List Entry) → Means others (view_of_runs map.now)
+        → length entries.now ≤ length others }
+    ensures written { OnOk result ((text : List ℕ)
+        × IsTable (view_of_runs map.now) entries.now limit text
+        × Appends (W.contents out.old) (W.contents out.new) text) }
     ensures well { OnOk result (W.failures out.new ≡ W.failures out.old) }
     ensures unstalled { OnOk result (W.stalls out.new ≡ W.stalls out.old) }
     ensures untouched { result ≡ Err TableFault.Memory → out.new ≡ out.old }
-    ensures part { result ≡ Err TableFault.Device → (text : List ℕ) × IsTable (view_of_runs map.now) entries.now limit text × TakesPart text (W.contents out.old) (W.contents out.new) }
-    ensures failed { result ≡ Err TableFault.Device → WriteFails (W.failures out.old) (W.failures out.new) (W.stalls out.old) (W.stalls out.new) }
+    ensures part { result ≡ Err TableFault.Device
+        → (text : List ℕ) × IsTable (view_of_runs map.now) entries.now limit text
+        × TakesPart text (W.contents out.old) (W.contents out.new) }
+    ensures failed { result ≡ Err TableFault.Device
+        → WriteFails (W.failures out.old)
+        (W.failures out.new) (W.stalls out.old) (W.stalls out.new) }
 {
     let text = table_of(alloc, map, entries, limit)?;
     let Ok(()) = write_whole(out, text.as_slice()) else {

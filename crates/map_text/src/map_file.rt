@@ -40,7 +40,8 @@ pub fn next_line(lines: &mut LineReader, rest: &mut &[u8]) -> Result<bool, u64>
     requires few { came_of lines.old + length rest.old.now < 2 ^ 64 - 1 }
     ensures next { NextOf result lines.old lines.new rest.old.now rest.new.now }
     ensures limit { most_of lines.new ≡ most_of lines.old }
-    ensures came { came_of lines.new + length rest.new.now ≡ came_of lines.old + length rest.old.now }
+    ensures came { came_of lines.new + length rest.new.now
+        ≡ came_of lines.old + length rest.old.now }
 {
     match lines.next_line(rest) {
         Ok(more) => Ok(more),
@@ -54,7 +55,8 @@ pub fn next_line(lines: &mut LineReader, rest: &mut &[u8]) -> Result<bool, u64>
 fn follow(map: &mut MapBuilder, line: &[u8]) -> Result<(), LineFault>
     ensures said { OnOk result (Leads (line_says line.now) map.old map.new) }
     ensures unknown { result ≡ Err LineFault.NotUnderstood → line_says line.now ≡ None }
-    ensures many { result ≡ Err LineFault.TooManyRanges → MakesTooMany map.old (line_says line.now) }
+    ensures many { result ≡ Err LineFault.TooManyRanges
+        → MakesTooMany map.old (line_says line.now) }
     ensures memory { result ≡ Err LineFault.Memory → MakesFirst map.old (line_says line.now) }
 {
     let Ok(said) = line_says(line) else {
@@ -78,9 +80,12 @@ fn follow(map: &mut MapBuilder, line: &[u8]) -> Result<(), LineFault>
 pub fn map_of(alloc: Global, bytes: &[u8]) -> Result<PermissionMap, MapFileFault>
     requires { length bytes.now < 2 ^ 64 - 1 }
     ensures made { IfOk result (Makes bytes.now) }
-    ensures unknown { IfErr result (λ fault. (n : ℕ) → fault ≡ MapFileFault.Line n → FaultAt bytes.now n IsUnknown) }
-    ensures many { result ≡ Err MapFileFault.TooManyRanges → (n : ℕ) × FaultAt bytes.now n MakesTooMany }
-    ensures memory { result ≡ Err MapFileFault.Memory → (n : ℕ) × FaultAt bytes.now n MakesFirst }
+    ensures unknown { IfErr result (λ fault.
+        (n : ℕ) → fault ≡ MapFileFault.Line n → FaultAt bytes.now n IsUnknown) }
+    ensures many { result ≡ Err MapFileFault.TooManyRanges → (n : ℕ)
+        × FaultAt bytes.now n MakesTooMany }
+    ensures memory { result ≡ Err MapFileFault.Memory → (n : ℕ)
+        × FaultAt bytes.now n MakesFirst }
 {
     let mut map = MapBuilder::new(alloc);
     let mut lines = LineReader::with_limit(u64::MAX);

@@ -52,7 +52,8 @@ fn setting_of(base: &[u8], size: &[u8], perm: &[u8]) -> Option<Run>
 /// What a line says that comes without its LF and its CR: nothing where it has no words.
 pub(crate) fn line_says(line: &[u8]) -> Result<Option<Run>, NotUnderstood>
     ensures value { result_ok result ≡ line_says line.now }
-    ensures inside { IfOk result (λ said. IfSome said (λ setting. setting.first + setting.count ≤ 2 ^ 44)) }
+    ensures inside { IfOk result (λ said.
+        IfSome said (λ setting. setting.first + setting.count ≤ 2 ^ 44)) }
 {
     let mut words = Words::of(line)?;
     let Some(base) = words.next_word() else {
@@ -76,7 +77,8 @@ pub(crate) fn line_says(line: &[u8]) -> Result<Option<Run>, NotUnderstood>
 /// What a line says that has at most 1023 bytes, its CR counted.
 pub fn raw_says(raw: &[u8]) -> Result<Option<Run>, NotUnderstood>
     ensures value { result_ok result ≡ raw_says raw.now }
-    ensures inside { IfOk result (λ said. IfSome said (λ setting. setting.first + setting.count ≤ 2 ^ 44)) }
+    ensures inside { IfOk result (λ said.
+        IfSome said (λ setting. setting.first + setting.count ≤ 2 ^ 44)) }
 {
     if raw.len() > LONGEST {
         return Err(NotUnderstood);

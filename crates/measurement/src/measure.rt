@@ -38,14 +38,16 @@ impl Measure {
 
     /// Takes in the bytes of the next private page. Pages are to come by rising address.
     pub fn page(&mut self, page: &[u8; 4096])
-        ensures { (layout : Layout) (pages : List (List ℕ)) → HasMeasured self.old layout pages → HasMeasured self.new layout (pages ++ page.now ∷ []) }
+        ensures { (layout : Layout) (pages : List (List ℕ)) → HasMeasured self.old layout pages
+            → HasMeasured self.new layout (pages ++ page.now ∷ []) }
     {
         self.hasher.update(&page[..]);
     }
 
     /// The SHA-256 digest of the layout and of all pages that were taken in.
     pub fn finish(self) -> [u8; 32]
-        ensures { (layout : Layout) (pages : List (List ℕ)) → HasMeasured self layout pages → result ≡ digest_of layout pages }
+        ensures { (layout : Layout) (pages : List (List ℕ)) → HasMeasured self layout pages
+            → result ≡ digest_of layout pages }
     {
         let Measure { hasher } = self;
         hasher.finalize()

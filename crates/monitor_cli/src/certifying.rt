@@ -26,8 +26,11 @@ use std::alloc::Global;
 /// The plan of a map: the fewest entries that mean it, of the lists of so many the one that the planner chooses.
 pub fn planned(alloc: Global, map: &PermissionMap) -> Result<Plan, Memory>
     ensures means { IfOk result (λ plan. Means plan.entries (view_of_runs map.now)) }
-    ensures least { IfOk result (λ plan. (others : List Entry) → Means others (view_of_runs map.now) → length plan.entries ≤ length others) }
-    ensures choice { IfOk result (λ plan. AreChosen (tree_of (view_of_runs map.now)) plan.entries) }
+    ensures least { IfOk result (λ plan.
+        (others : List Entry) → Means others (view_of_runs map.now)
+        → length plan.entries ≤ length others) }
+    ensures choice { IfOk result (λ plan.
+        AreChosen (tree_of (view_of_runs map.now)) plan.entries) }
     ensures order { IfOk result (λ plan. AreInOrder plan.entries) }
 {
     let plan = plan_map(alloc, map)?;
@@ -36,7 +39,9 @@ pub fn planned(alloc: Global, map: &PermissionMap) -> Result<Plan, Memory>
 
 /// How many entries mean a map at the fewest.
 pub fn fewest_in(alloc: Global, map: &PermissionMap) -> Result<u64, Memory>
-    ensures { IfOk result (λ fewest. (entries : List Entry) × IsFewest (view_of_runs map.now) entries × (length entries ≡ fewest)) }
+    ensures { IfOk result (λ fewest.
+        (entries : List Entry) × IsFewest (view_of_runs map.now) entries
+        × (length entries ≡ fewest)) }
 {
     let plan = planned(alloc, map)?;
     Ok(plan.entries().len() as u64)
@@ -61,7 +66,8 @@ pub fn planned_within<'a>(
     most: Option<u64>,
 ) -> Result<Plan, Trouble<'a>>
     ensures planned { IfOk result (λ plan. IsPlanned (view_of_runs map.now) most plan.entries) }
-    ensures refused { IfErr result (λ trouble. (trouble ≡ Trouble.Memory) ⊎ NeedsMore (view_of_runs map.now) most trouble) }
+    ensures refused { IfErr result (λ trouble.
+        (trouble ≡ Trouble.Memory) ⊎ NeedsMore (view_of_runs map.now) most trouble) }
 {
     let plan = planned(alloc, map)?;
     within(plan.entries(), most)?;
@@ -71,7 +77,9 @@ pub fn planned_within<'a>(
 /// Refuses a list that is beyond the bound.
 fn within<'a>(entries: &[Entry], most: Option<u64>) -> Result<(), Trouble<'a>>
     ensures within { IfOk result (λ _. IsWithin most (length entries.now)) }
-    ensures beyond { IfErr result (λ trouble. IsBeyond most (length entries.now) × (trouble ≡ Trouble.NeedsEntries (length entries.now))) }
+    ensures beyond { IfErr result (λ trouble.
+        IsBeyond most (length entries.now)
+        × (trouble ≡ Trouble.NeedsEntries (length entries.now))) }
 {
     let needed = entries.len() as u64;
     match most {
@@ -89,8 +97,14 @@ fn put<'a, C: WholeSink>(
     sink: &mut C,
 ) -> Result<(), Trouble<'a>>
     requires splits { splits (tree_of (view_of_runs map.now)) ≡ length plan.now.costs }
-    ensures put { IfOk result (λ _. TakesAll (certificate_for limit plan.now (tree_of (view_of_runs map.now))) (writing C.contents C.failures C.stalls sink.old sink.new) × (C.stands sink.new ≡ C.contents sink.new)) }
-    ensures broken { IfErr result (λ trouble. (trouble ≡ Trouble.CannotWrite file.entry) × IsNotPlaced (certificate_for limit plan.now (tree_of (view_of_runs map.now))) (placing C.contents C.failures C.stalls C.stands sink.old sink.new)) }
+    ensures put { IfOk result (λ _.
+        TakesAll (certificate_for limit plan.now (tree_of (view_of_runs map.now)))
+        (writing C.contents C.failures C.stalls sink.old sink.new)
+        × (C.stands sink.new ≡ C.contents sink.new)) }
+    ensures broken { IfErr result (λ trouble.
+        (trouble ≡ Trouble.CannotWrite file.entry)
+        × IsNotPlaced (certificate_for limit plan.now (tree_of (view_of_runs map.now)))
+        (placing C.contents C.failures C.stalls C.stands sink.old sink.new)) }
 {
     let Ok(()) = send_map(map, plan, limit, sink) else {
         return Err(Trouble::CannotWrite { file });
@@ -111,8 +125,12 @@ pub fn plan_and_certify<'a, C: WholeSink>(
     sink: &mut C,
 ) -> Result<Plan, Trouble<'a>>
     ensures planned { IfOk result (λ plan. IsPlanned (view_of_runs map.now) most plan.entries) }
-    ensures certified { IfOk result (λ plan. IsCertified (view_of_runs map.now) limit plan.entries cert.entry (placing C.contents C.failures C.stalls C.stands sink.old sink.new)) }
-    ensures refused { IfErr result (λ trouble. IsUnplanned (view_of_runs map.now) limit most cert.entry (placing C.contents C.failures C.stalls C.stands sink.old sink.new) trouble) }
+    ensures certified { IfOk result (λ plan.
+        IsCertified (view_of_runs map.now) limit plan.entries cert.entry
+        (placing C.contents C.failures C.stalls C.stands sink.old sink.new)) }
+    ensures refused { IfErr result (λ trouble.
+        IsUnplanned (view_of_runs map.now) limit most cert.entry
+        (placing C.contents C.failures C.stalls C.stands sink.old sink.new) trouble) }
 {
     let Some(file) = cert else {
         return planned_within(alloc, map, most);
@@ -126,7 +144,11 @@ pub fn plan_and_certify<'a, C: WholeSink>(
 /// The bank of the fewest entries that mean a map.
 pub fn bank_in<'a>(alloc: Global, map: &PermissionMap, limit: Limit) -> Result<Bank, Trouble<'a>>
     ensures loaded { IfOk result (IsLoaded (view_of_runs map.now) limit) }
-    ensures refused { IfErr result (λ trouble. (trouble ≡ Trouble.Memory) ⊎ ((entries : List Entry) × IsFewest (view_of_runs map.now) entries × (limit_number limit < length entries) × (trouble ≡ Trouble.NeedsEntries (length entries)))) }
+    ensures refused { IfErr result (λ trouble.
+        (trouble ≡ Trouble.Memory)
+        ⊎ ((entries : List Entry) × IsFewest (view_of_runs map.now) entries
+        × (limit_number limit < length entries)
+        × (trouble ≡ Trouble.NeedsEntries (length entries)))) }
 {
     let plan = planned(alloc, map)?;
     let entries = plan.entries();

@@ -35,7 +35,9 @@ pub fn closed<T: Write + Drop, E: Sink>(
     out: Counted<BufWriter<T>>,
     err: &mut E,
 ) -> (u8, T)
-    ensures { IsClosed (held_by T.contents out) (T.contents result.1) (err.new ≡ err.old) (Tells (writing E.contents E.failures E.stalls err.old err.new) (Err Output)) status result.0 }
+    ensures { IsClosed (held_by T.contents out) (T.contents result.1) (err.new ≡ err.old)
+        (Tells (writing E.contents E.failures E.stalls err.old err.new) (Err Output)) status
+        result.0 }
 {
     let (is_whole, stream) = handed_on(out);
     if is_whole || status >= 2 {

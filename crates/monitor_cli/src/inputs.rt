@@ -27,8 +27,10 @@ pub fn bytes_in<'a, R: Source>(
     most: usize,
 ) -> Result<Vec<u8>, Trouble<'a>>
     requires most { most < 2 ^ 32 }
-    ensures whole { IfOk result (λ bytes. HasBytes most (reading R.remaining R.failures source.old source.new) bytes.items) }
-    ensures refused { IfErr result (HasNoBytes most file.entry (reading R.remaining R.failures source.old source.new)) }
+    ensures whole { IfOk result (λ bytes.
+        HasBytes most (reading R.remaining R.failures source.old source.new) bytes.items) }
+    ensures refused { IfErr result
+        (HasNoBytes most file.entry (reading R.remaining R.failures source.old source.new)) }
 {
     match read_whole(alloc, source, most) {
         Ok(bytes) => Ok(bytes),
@@ -43,7 +45,8 @@ pub fn map_in<'a, R: Source>(
     source: &mut R,
 ) -> Result<PermissionMap, Trouble<'a>>
     ensures made { IfOk result (HasMap (reading R.remaining R.failures source.old source.new)) }
-    ensures refused { IfErr result (HasNoMap file.entry (reading R.remaining R.failures source.old source.new)) }
+    ensures refused { IfErr result (HasNoMap file.entry
+        (reading R.remaining R.failures source.old source.new)) }
 {
     let bytes = bytes_in(alloc, file, source, MAP_BYTES)?;
     match map_of(alloc, bytes.as_slice()) {
@@ -58,8 +61,10 @@ pub fn read_platform<'a, R: Source>(
     file: &'a str,
     source: &mut R,
 ) -> Result<Platform, Trouble<'a>>
-    ensures made { IfOk result (HasPlatform (reading R.remaining R.failures source.old source.new)) }
-    ensures refused { IfErr result (HasNoPlatform file.entry (reading R.remaining R.failures source.old source.new)) }
+    ensures made { IfOk result
+        (HasPlatform (reading R.remaining R.failures source.old source.new)) }
+    ensures refused { IfErr result
+        (HasNoPlatform file.entry (reading R.remaining R.failures source.old source.new)) }
 {
     let bytes = bytes_in(alloc, file, source, PLATFORM_BYTES)?;
     platform_in(alloc, file, bytes.as_slice())

@@ -17,7 +17,9 @@ use std::alloc::Global;
 fn ended<E: Sink>(done: Result<u8, Trouble<'_>>, err: &mut E) -> u8
     ensures status { result ≡ status_of done.entry }
     ensures quiet { IfOk done.entry (λ _. err.new ≡ err.old) }
-    ensures told { IfErr done.entry (λ trouble. Appends (E.contents err.old) (E.contents err.new) (trouble_text trouble) ⊎ TakesPart (trouble_text trouble) (E.contents err.old) (E.contents err.new)) }
+    ensures told { IfErr done.entry (λ trouble.
+        Appends (E.contents err.old) (E.contents err.new) (trouble_text trouble)
+        ⊎ TakesPart (trouble_text trouble) (E.contents err.old) (E.contents err.new)) }
     ensures tells { Tells (writing E.contents E.failures E.stalls err.old err.new) done.entry }
 {
     match done {
@@ -38,7 +40,10 @@ fn done<'a, R: Source, C: WholeSink, W: Sink>(
     cert: &mut C,
     out: &mut W,
 ) -> Result<u8, Trouble<'a>>
-    ensures { let source = reading R.remaining R.failures in Performs task.now (source first.old first.new) (source second.old second.new) (placing C.contents C.failures C.stalls C.stands cert.old cert.new) (writing W.contents W.failures W.stalls out.old out.new) result }
+    ensures { let source = reading R.remaining R.failures in
+        Performs task.now (source first.old first.new) (source second.old second.new)
+        (placing C.contents C.failures C.stalls C.stands cert.old cert.new)
+        (writing W.contents W.failures W.stalls out.old out.new) result }
 {
     match task {
         Task::Run {
@@ -88,7 +93,11 @@ pub fn perform<R: Source, C: WholeSink, W: Sink, E: Sink>(
     out: &mut W,
     err: &mut E,
 ) -> u8
-    ensures { let source = reading R.remaining R.failures in Ends task.now (source first.old first.new) (source second.old second.new) (placing C.contents C.failures C.stalls C.stands cert.old cert.new) (writing W.contents W.failures W.stalls out.old out.new) (writing E.contents E.failures E.stalls err.old err.new) result }
+    ensures { let source = reading R.remaining R.failures in
+        Ends task.now (source first.old first.new) (source second.old second.new)
+        (placing C.contents C.failures C.stalls C.stands cert.old cert.new)
+        (writing W.contents W.failures W.stalls out.old out.new)
+        (writing E.contents E.failures E.stalls err.old err.new) result }
 {
     let done = done(alloc, task, first, second, cert, out);
     ended(done, err)

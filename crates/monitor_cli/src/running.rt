@@ -32,7 +32,10 @@ const ENCLAVES: u64 = 64;
 /// The platform that the bytes of a file are.
 pub fn platform_in<'a>(alloc: Global, file: &'a str, bytes: &[u8]) -> Result<Platform, Trouble<'a>>
     ensures ok { IfOk result (IsPlatformFile bytes.now) }
-    ensures refused { IfErr result (λ trouble. (trouble ≡ Trouble.Memory) ⊎ ((trouble ≡ Trouble.NotAPlatform file.entry) × ((platform : Layout) → IsPlatformFile bytes.now platform → ⊥))) }
+    ensures refused { IfErr result (λ trouble.
+        (trouble ≡ Trouble.Memory)
+        ⊎ ((trouble ≡ Trouble.NotAPlatform file.entry)
+        × ((platform : Layout) → IsPlatformFile bytes.now platform → ⊥))) }
 {
     let Ok(text) = str::from_utf8(bytes) else {
         return Err(Trouble::NotAPlatform { file });
@@ -47,7 +50,8 @@ pub fn platform_in<'a>(alloc: Global, file: &'a str, bytes: &[u8]) -> Result<Pla
 pub fn booted<'a>(alloc: Global, platform: Platform) -> Result<Machine, Trouble<'a>>
     ensures kept { IfOk result (λ machine. KeepsBanksRight machine) }
     ensures booted { IfOk result (IsBooted platform) }
-    ensures refused { IfErr result (λ trouble. (fault : BootFault) × IsBootFault platform fault × (trouble ≡ boot_trouble fault)) }
+    ensures refused { IfErr result (λ trouble.
+        (fault : BootFault) × IsBootFault platform fault × (trouble ≡ boot_trouble fault)) }
 {
     match Machine::boot(alloc, platform) {
         Ok(machine) => Ok(machine),
@@ -70,7 +74,8 @@ fn word_of(table: &Table, id: u64, k: u64) -> Option<u64>
 
 /// Four words as bytes, each with its lowest byte first.
 fn bytes_of(first: u64, second: u64, third: u64, fourth: u64) -> [u8; 32]
-    ensures { result ≡ little_bytes 8 first ++ (little_bytes 8 second ++ (little_bytes 8 third ++ little_bytes 8 fourth)) }
+    ensures { result ≡ little_bytes 8 first ++
+        (little_bytes 8 second ++ (little_bytes 8 third ++ little_bytes 8 fourth)) }
 {
     let mut bytes = [0; 32];
     LittleEndian::write_u64(&mut bytes[..8], first);
@@ -94,11 +99,17 @@ fn digest_of(table: &Table, id: u64) -> Option<[u8; 32]>
 
 /// Writes the line of an enclave, where it is live.
 fn print_measure<W: Sink>(table: &Table, id: u64, out: &mut W) -> Result<(), DeviceFault>
-    ensures written { IfOk result (λ _. (text : List ℕ) × IsMeasureText table.now.table id text × Appends (W.contents out.old) (W.contents out.new) text) }
+    ensures written { IfOk result (λ _.
+        (text : List ℕ) × IsMeasureText table.now.table id text
+        × Appends (W.contents out.old) (W.contents out.new) text) }
     ensures well { IfOk result (λ _. W.failures out.new ≡ W.failures out.old) }
     ensures unstalled { IfOk result (λ _. W.stalls out.new ≡ W.stalls out.old) }
-    ensures part { IfErr result (λ _. (text : List ℕ) × IsMeasureText table.now.table id text × TakesPart text (W.contents out.old) (W.contents out.new)) }
-    ensures failed { IfErr result (λ _. WriteFails (W.failures out.old) (W.failures out.new) (W.stalls out.old) (W.stalls out.new)) }
+    ensures part { IfErr result (λ _.
+        (text : List ℕ) × IsMeasureText table.now.table id text
+        × TakesPart text (W.contents out.old) (W.contents out.new)) }
+    ensures failed { IfErr result (λ _.
+        WriteFails (W.failures out.old)
+        (W.failures out.new) (W.stalls out.old) (W.stalls out.new)) }
 {
     let Some(digest) = digest_of(table, id) else {
         return Ok(());
@@ -110,11 +121,17 @@ fn print_measure<W: Sink>(table: &Table, id: u64, out: &mut W) -> Result<(), Dev
 
 /// Writes a line for each live enclave, by rising id.
 pub fn print_measures<W: Sink>(table: &Table, out: &mut W) -> Result<(), DeviceFault>
-    ensures written { IfOk result (λ _. (text : List ℕ) × AreMeasures table.now.table 64 text × Appends (W.contents out.old) (W.contents out.new) text) }
+    ensures written { IfOk result (λ _.
+        (text : List ℕ) × AreMeasures table.now.table 64 text
+        × Appends (W.contents out.old) (W.contents out.new) text) }
     ensures well { IfOk result (λ _. W.failures out.new ≡ W.failures out.old) }
     ensures unstalled { IfOk result (λ _. W.stalls out.new ≡ W.stalls out.old) }
-    ensures part { IfErr result (λ _. (n : ℕ) × (n ≤ 64) × (text : List ℕ) × AreMeasures table.now.table n text × TakesPart text (W.contents out.old) (W.contents out.new)) }
-    ensures failed { IfErr result (λ _. WriteFails (W.failures out.old) (W.failures out.new) (W.stalls out.old) (W.stalls out.new)) }
+    ensures part { IfErr result (λ _.
+        (n : ℕ) × (n ≤ 64) × (text : List ℕ) × AreMeasures table.now.table n text
+        × TakesPart text (W.contents out.old) (W.contents out.new)) }
+    ensures failed { IfErr result (λ _.
+        WriteFails (W.failures out.old)
+        (W.failures out.new) (W.stalls out.old) (W.stalls out.new)) }
 {
     for i in 0..ENCLAVES {
         print_measure(table, i + 1, out)?;

@@ -94,7 +94,9 @@ fn overwrite(
     requires built { IsBuilt points.old.items runs.old (vec_capacity points.old) }
     requires inside { first + count ≤ 2 ^ 44 }
     ensures built { IsBuilt points.new.items runs.new (vec_capacity points.new) }
-    ensures wanted { (wanted : List Run) × AreOverwritten (runs_of points.old.items) first count perm wanted × Becomes (runs_of points.old.items) (runs_of points.new.items) wanted result }
+    ensures wanted { (wanted : List Run) × AreOverwritten
+        (runs_of points.old.items) first count perm wanted
+        × Becomes (runs_of points.old.items) (runs_of points.new.items) wanted result }
     ensures first { result ≡ Err MapFault.Memory → runs.old ≡ 0 }
 {
     if count == 0 {
@@ -141,8 +143,13 @@ impl MapBuilder {
         ensures kept { OnErr result (self.new ≡ self.old) }
         ensures nothing { count ≡ 0 → self.new ≡ self.old }
         ensures past_end { (result ≡ Err MapFault.PastEnd) ↔ (2 ^ 44 < first + count) }
-        ensures too_many { (result ≡ Err MapFault.TooManyRanges) ↔ ((first + count ≤ 2 ^ 44) × ((runs : List Run) × AreOverwritten self.old first count perm runs × (4096 < length runs))) }
-        ensures memory { result ≡ Err MapFault.Memory → (runs : List Run) × AreOverwritten self.old first count perm runs × (length self.old < length runs) × (length runs ≤ 4096) }
+        ensures too_many { (result ≡ Err MapFault.TooManyRanges)
+            ↔ ((first + count ≤ 2 ^ 44)
+            × ((runs : List Run) × AreOverwritten self.old first count perm runs
+            × (4096 < length runs))) }
+        ensures memory { result ≡ Err MapFault.Memory
+            → (runs : List Run) × AreOverwritten self.old first count perm runs
+            × (length self.old < length runs) × (length runs ≤ 4096) }
         ensures first { result ≡ Err MapFault.Memory → self.old ≡ [] }
     {
         if first > SPACE_PAGES || count > SPACE_PAGES - first {

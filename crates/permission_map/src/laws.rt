@@ -6,10 +6,14 @@ ghost use Rattle.page_views.specs.Views.{SameView, overwritten};
 
 /// The runs are determined by the view: maps of the same view have the same runs.
 pub fn same_runs_law()
-    ensures { (runs others : List Run) → AreRuns runs → AreRuns others → SameView (view_of_runs runs) (view_of_runs others) → runs ≡ others }
+    ensures { (runs others : List Run) → AreRuns runs → AreRuns others
+        → SameView (view_of_runs runs) (view_of_runs others) → runs ≡ others }
 {}
 
 /// A view with one range overwritten has at most two runs more.
 pub fn runs_law()
-    ensures { (runs after : List Run) (first count : ℕ) (perm : Perm) → AreRuns runs → AreRuns after → SameView (view_of_runs after) (overwritten (view_of_runs runs) first count perm) → length after ≤ length runs + 2 }
+    ensures { (runs after : List Run) (first count : ℕ) (perm : Perm) → AreRuns runs
+        → AreRuns after
+        → SameView (view_of_runs after) (overwritten (view_of_runs runs) first count perm)
+        → length after ≤ length runs + 2 }
 {}

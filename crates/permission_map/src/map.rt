@@ -71,7 +71,9 @@ impl PermissionMap {
 
     /// The run that has the page, or else the first one behind it; nothing where no page from this one on has a permission.
     pub fn next_run(&self, page: u64) -> Option<Run>
-        ensures { MatchOption result ((q : ℕ) → page ≤ q → view_of_runs self.now q ≡ NoAccess) (λ run. IsNext self.now page run) }
+        ensures { MatchOption result ((q : ℕ) → page ≤ q
+            → view_of_runs self.now q ≡ NoAccess)
+            (λ run. IsNext self.now page run) }
     {
         next(&self.runs, page)
     }
@@ -93,7 +95,8 @@ impl PermissionMap {
         requires aligned { first % 2 ^ log2 ≡ 0 }
         requires inside { first + 2 ^ log2 ≤ 2 ^ 44 }
         ensures some { IfSome result (IsUniform (view_of_runs self.now) log2 first) }
-        ensures none { IfNone result ((perm : Perm) → ¬ IsUniform (view_of_runs self.now) log2 first perm) }
+        ensures none { IfNone result ((perm : Perm)
+            → ¬ IsUniform (view_of_runs self.now) log2 first perm) }
     {
         let end = first + pages_of(log2);
         let Some(run) = self.next_run(first) else {
@@ -127,8 +130,13 @@ impl PermissionMap {
         ensures kept { OnErr result (self.new ≡ self.old) }
         ensures nothing { count ≡ 0 → self.new ≡ self.old }
         ensures past_end { (result ≡ Err MapFault.PastEnd) ↔ (2 ^ 44 < first + count) }
-        ensures too_many { (result ≡ Err MapFault.TooManyRanges) ↔ ((first + count ≤ 2 ^ 44) × ((runs : List Run) × AreOverwritten self.old first count perm runs × (4096 < length runs))) }
-        ensures memory { result ≡ Err MapFault.Memory → (runs : List Run) × AreOverwritten self.old first count perm runs × (length self.old < length runs) × (length runs ≤ 4096) }
+        ensures too_many { (result ≡ Err MapFault.TooManyRanges)
+            ↔ ((first + count ≤ 2 ^ 44)
+            × ((runs : List Run) × AreOverwritten self.old first count perm runs
+            × (4096 < length runs))) }
+        ensures memory { result ≡ Err MapFault.Memory
+            → (runs : List Run) × AreOverwritten self.old first count perm runs
+            × (length self.old < length runs) × (length runs ≤ 4096) }
     {
         if first > SPACE_PAGES || count > SPACE_PAGES - first {
             return Err(MapFault::PastEnd);

@@ -85,7 +85,8 @@ fn new_run(start: u64, stop: u64, perm: Perm) -> Option<Run>
 fn put(runs: &mut Vec<Run>, at: usize, run: Option<Run>)
     requires at { at ≤ vec_len runs.old }
     requires room { vec_len runs.old + length (option_to_list run) ≤ vec_capacity runs.old }
-    ensures items { runs.new.items ≡ take at runs.old.items ++ (option_to_list run ++ drop at runs.old.items) }
+    ensures items { runs.new.items ≡ take at runs.old.items
+        ++ (option_to_list run ++ drop at runs.old.items) }
     ensures len { vec_len runs.new ≡ vec_len runs.old + length (option_to_list run) }
     ensures capacity { vec_capacity runs.old ≤ vec_capacity runs.new }
 {
@@ -126,7 +127,10 @@ fn replace(
     requires order { from ≤ to }
     requires inside { to ≤ vec_len runs.old }
     requires few { vec_len runs.old ≤ 4096 }
-    ensures { Becomes runs.old.items runs.new.items (take from runs.old.items ++ (option_to_list below ++ (option_to_list new ++ (option_to_list above ++ drop to runs.old.items)))) result }
+    ensures { Becomes runs.old.items runs.new.items
+        (take from runs.old.items ++ (option_to_list below ++
+        (option_to_list new ++ (option_to_list above ++ drop to runs.old.items))))
+        result }
 {
     let len = runs.len();
     let wanted = from + count_of(&below) + count_of(&new) + count_of(&above) + (len - to);
@@ -155,7 +159,8 @@ pub(crate) fn overwrite(
     requires runs { AreRuns runs.old.items }
     requires few { length runs.old.items ≤ 4096 }
     requires inside { first + count ≤ 2 ^ 44 }
-    ensures { (wanted : List Run) × AreOverwritten runs.old.items first count perm wanted × Becomes runs.old.items runs.new.items wanted result }
+    ensures { (wanted : List Run) × AreOverwritten runs.old.items first count perm wanted
+        × Becomes runs.old.items runs.new.items wanted result }
 {
     if count == 0 {
         return Ok(());

@@ -146,7 +146,9 @@ fn begun_in(points: &[Point]) -> usize
 pub(crate) fn begun_between(points: &[Point], from: usize, to: usize) -> usize
     requires order { from ≤ to }
     requires inside { to ≤ length points.now }
-    ensures { count_by allows (take from points.now) + (result + count_by allows (drop to points.now)) ≡ count_by allows points.now }
+    ensures { count_by allows (take from points.now) +
+        (result + count_by allows (drop to points.now))
+        ≡ count_by allows points.now }
 {
     begun_in(&points[from..to])
 }
@@ -167,7 +169,8 @@ fn put(points: &mut Vec<Point>, at: usize, end: usize, point: Point) -> usize
     requires order { at ≤ end }
     requires inside { end ≤ vec_len points.old }
     requires room { vec_len points.old < vec_capacity points.old }
-    ensures front { take (at + 1) points.new.items ≡ take at points.old.items ++ option_to_list (Some point) }
+    ensures front { take (at + 1) points.new.items ≡ take at points.old.items
+        ++ option_to_list (Some point) }
     ensures back { drop result points.new.items ≡ drop end points.old.items }
     ensures order { at + 1 ≤ result }
     ensures inside { result ≤ vec_len points.new }
@@ -196,7 +199,8 @@ pub(crate) fn replace(
     requires order { from ≤ to }
     requires inside { to ≤ vec_len points.old }
     requires room { vec_len points.old + 2 ≤ vec_capacity points.old }
-    ensures items { points.new.items ≡ take from points.old.items ++ (option_to_list start ++ (option_to_list stop ++ drop to points.old.items)) }
+    ensures items { points.new.items ≡ take from points.old.items ++
+        (option_to_list start ++ (option_to_list stop ++ drop to points.old.items)) }
     ensures room { vec_capacity points.old ≤ vec_capacity points.new }
 {
     let mut at = from;

@@ -18,7 +18,8 @@ fn over(runs: &[Run], page: u64) -> usize
 /// The first run that ends behind the page.
 pub(crate) fn next(runs: &[Run], page: u64) -> Option<Run>
     requires { AreRuns runs.now }
-    ensures { MatchOption result ((q : ℕ) → page ≤ q → view_of_runs runs.now q ≡ NoAccess) (λ run. IsNext runs.now page run) }
+    ensures { MatchOption result ((q : ℕ) → page ≤ q → view_of_runs runs.now q ≡ NoAccess)
+        (λ run. IsNext runs.now page run) }
 {
     let index = over(runs, page);
     if index < runs.len() {

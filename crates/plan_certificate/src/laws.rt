@@ -14,5 +14,11 @@ ghost use Rattle.certificate_format.specs.Spelling.{Spells, IsCertificate};
 /// where the costs are a sound bound of some view and the root's number for no access is the number of entries.
 /// This is what a plan of a tree promises, and what [`write`](crate::write) gives of both.
 pub fn certificate_law()
-    ensures { (view : View) (tree : PermTree) (costs : List BlockCost) (entries : List Entry) (version : Version) (bytes : List ℕ) → splits tree ≤ 44 * 8192 → IsSoundBound view (costed costs 0 tree) → bound_of (costed costs 0 tree) NoAccess ≡ length entries → All (λ e. 12 ≤ e.region.log2) entries → Spells bytes version entries (costed costs 0 tree) → IsCertificate bytes version entries (costed costs 0 tree) }
+    ensures { (view : View) (tree : PermTree) (costs : List BlockCost)
+        (entries : List Entry) (version : Version) (bytes : List ℕ)
+        → splits tree ≤ 44 * 8192 → IsSoundBound view (costed costs 0 tree)
+        → bound_of (costed costs 0 tree) NoAccess ≡ length entries
+        → All (λ e. 12 ≤ e.region.log2) entries
+        → Spells bytes version entries (costed costs 0 tree)
+        → IsCertificate bytes version entries (costed costs 0 tree) }
 {}

@@ -116,8 +116,13 @@ fn make_room<W: Sink>(
 ) -> Result<(), DeviceFault>
     requires small { room ≤ 32768 }
     ensures room { OnOk result (length piece.new.items + room ≤ 32768) }
-    ensures put { IfOk result (λ _. IsPut piece.old.items piece.new.items (taken W.contents W.failures W.stalls sink.old) (taken W.contents W.failures W.stalls sink.new) []) }
-    ensures cut { IfErr result (λ _. (bytes : List ℕ) → IsCut piece.old.items (taken W.contents W.failures W.stalls sink.old) (taken W.contents W.failures W.stalls sink.new) bytes) }
+    ensures put { IfOk result (λ _.
+        IsPut piece.old.items piece.new.items (taken W.contents W.failures W.stalls sink.old)
+        (taken W.contents W.failures W.stalls sink.new) []) }
+    ensures cut { IfErr result (λ _.
+        (bytes : List ℕ)
+        → IsCut piece.old.items (taken W.contents W.failures W.stalls sink.old)
+        (taken W.contents W.failures W.stalls sink.new) bytes) }
 {
     if room <= piece.remaining_capacity() {
         return Ok(());
@@ -136,8 +141,12 @@ fn put<W: Sink>(
     sink: &mut W,
 ) -> Result<(), DeviceFault>
     requires small { length bytes.now ≤ 32768 }
-    ensures put { IfOk result (λ _. IsPut piece.old.items piece.new.items (taken W.contents W.failures W.stalls sink.old) (taken W.contents W.failures W.stalls sink.new) bytes.now) }
-    ensures cut { IfErr result (λ _. IsCut piece.old.items (taken W.contents W.failures W.stalls sink.old) (taken W.contents W.failures W.stalls sink.new) bytes.now) }
+    ensures put { IfOk result (λ _.
+        IsPut piece.old.items piece.new.items (taken W.contents W.failures W.stalls sink.old)
+        (taken W.contents W.failures W.stalls sink.new) bytes.now) }
+    ensures cut { IfErr result (λ _.
+        IsCut piece.old.items (taken W.contents W.failures W.stalls sink.old)
+        (taken W.contents W.failures W.stalls sink.new) bytes.now) }
 {
     let Ok(()) = make_room(piece, bytes.len(), sink) else {
         return Err(DeviceFault);
@@ -152,8 +161,12 @@ fn put_entries<W: Sink>(
     entries: &[Entry],
     sink: &mut W,
 ) -> Result<(), DeviceFault>
-    ensures put { IfOk result (λ _. IsPut piece.old.items piece.new.items (taken W.contents W.failures W.stalls sink.old) (taken W.contents W.failures W.stalls sink.new) (flat_map entry_bytes entries.now)) }
-    ensures cut { IfErr result (λ _. IsCut piece.old.items (taken W.contents W.failures W.stalls sink.old) (taken W.contents W.failures W.stalls sink.new) (flat_map entry_bytes entries.now)) }
+    ensures put { IfOk result (λ _.
+        IsPut piece.old.items piece.new.items (taken W.contents W.failures W.stalls sink.old)
+        (taken W.contents W.failures W.stalls sink.new) (flat_map entry_bytes entries.now)) }
+    ensures cut { IfErr result (λ _.
+        IsCut piece.old.items (taken W.contents W.failures W.stalls sink.old)
+        (taken W.contents W.failures W.stalls sink.new) (flat_map entry_bytes entries.now)) }
 {
     for entry in entries {
         let Ok(()) = put(piece, pair_of(entry).as_slice(), sink) else {
@@ -170,8 +183,10 @@ fn hold_heads(piece: &mut ArrayVec<u8, PIECE>, chain: Chain, plan: &Plan, i: usi
     requires room { length piece.old.items + 27 * chain.levels ≤ 32768 }
     requires counted { i + chain.levels ≤ length plan.now.costs }
     requires small { length plan.now.costs < 2 ^ 64 }
-    ensures held { piece.new.items ≡ piece.old.items ++ head_bytes plan.now.costs i chain.levels chain.place chain.before }
-    ensures fits { (m : ℕ) → i ≤ m → m < i + chain.levels → (perm : Perm) → cost_in plan.now.costs m perm < 2 ^ 32 }
+    ensures held { piece.new.items
+        ≡ piece.old.items ++ head_bytes plan.now.costs i chain.levels chain.place chain.before }
+    ensures fits { (m : ℕ) → i ≤ m → m < i + chain.levels → (perm : Perm)
+        → cost_in plan.now.costs m perm < 2 ^ 32 }
 {
     let leaf = [0, chain.before.bits()];
     let bytes = leaf.as_slice();
@@ -194,7 +209,8 @@ fn hold_tails(piece: &mut ArrayVec<u8, PIECE>, chain: Chain)
     requires chain { chain.place < 2 ^ chain.levels }
     requires most { chain.levels ≤ 44 }
     requires room { length piece.old.items + 2 * chain.levels ≤ 32768 }
-    ensures { piece.new.items ≡ piece.old.items ++ tail_bytes chain.levels chain.place chain.behind }
+    ensures { piece.new.items ≡ piece.old.items
+        ++ tail_bytes chain.levels chain.place chain.behind }
 {
     let leaf = [0, chain.behind.bits()];
     let bytes = leaf.as_slice();
@@ -219,9 +235,16 @@ fn put_heads<W: Sink>(
     requires chain { IsChain chain }
     requires counted { i + chain.levels ≤ length plan.now.costs }
     requires small { length plan.now.costs < 2 ^ 64 }
-    ensures put { IfOk result (λ _. IsPut piece.old.items piece.new.items (taken W.contents W.failures W.stalls sink.old) (taken W.contents W.failures W.stalls sink.new) (head_bytes plan.now.costs i chain.levels chain.place chain.before)) }
-    ensures cut { IfErr result (λ _. (bytes : List ℕ) → IsCut piece.old.items (taken W.contents W.failures W.stalls sink.old) (taken W.contents W.failures W.stalls sink.new) bytes) }
-    ensures fits { OnOk result ((m : ℕ) → i ≤ m → m < i + chain.levels → (perm : Perm) → cost_in plan.now.costs m perm < 2 ^ 32) }
+    ensures put { IfOk result (λ _.
+        IsPut piece.old.items piece.new.items (taken W.contents W.failures W.stalls sink.old)
+        (taken W.contents W.failures W.stalls sink.new)
+        (head_bytes plan.now.costs i chain.levels chain.place chain.before)) }
+    ensures cut { IfErr result (λ _.
+        (bytes : List ℕ)
+        → IsCut piece.old.items (taken W.contents W.failures W.stalls sink.old)
+        (taken W.contents W.failures W.stalls sink.new) bytes) }
+    ensures fits { OnOk result ((m : ℕ) → i ≤ m → m < i + chain.levels → (perm : Perm)
+        → cost_in plan.now.costs m perm < 2 ^ 32) }
 {
     let Ok(()) = make_room(piece, 27 * chain.levels as usize, sink) else {
         return Err(DeviceFault);
@@ -237,8 +260,14 @@ fn put_tails<W: Sink>(
     sink: &mut W,
 ) -> Result<(), DeviceFault>
     requires chain { IsChain chain }
-    ensures put { IfOk result (λ _. IsPut piece.old.items piece.new.items (taken W.contents W.failures W.stalls sink.old) (taken W.contents W.failures W.stalls sink.new) (tail_bytes chain.levels chain.place chain.behind)) }
-    ensures cut { IfErr result (λ _. (bytes : List ℕ) → IsCut piece.old.items (taken W.contents W.failures W.stalls sink.old) (taken W.contents W.failures W.stalls sink.new) bytes) }
+    ensures put { IfOk result (λ _.
+        IsPut piece.old.items piece.new.items (taken W.contents W.failures W.stalls sink.old)
+        (taken W.contents W.failures W.stalls sink.new)
+        (tail_bytes chain.levels chain.place chain.behind)) }
+    ensures cut { IfErr result (λ _.
+        (bytes : List ℕ)
+        → IsCut piece.old.items (taken W.contents W.failures W.stalls sink.old)
+        (taken W.contents W.failures W.stalls sink.new) bytes) }
 {
     let Ok(()) = make_room(piece, 2 * chain.levels as usize, sink) else {
         return Err(DeviceFault);
@@ -258,9 +287,16 @@ fn put_node<H: Halving, W: Sink>(
     requires counted { i + splits (H.shape block.now) ≤ length plan.now.costs }
     requires small { length plan.now.costs < 2 ^ 64 }
     ensures next { IfOk result (λ next. next ≡ i + splits (H.shape block.now)) }
-    ensures put { IfOk result (λ _. IsPut piece.old.items piece.new.items (taken W.contents W.failures W.stalls sink.old) (taken W.contents W.failures W.stalls sink.new) (node_bytes (costed plan.now.costs i (H.shape block.now)))) }
-    ensures cut { IfErr result (λ _. IsCut piece.old.items (taken W.contents W.failures W.stalls sink.old) (taken W.contents W.failures W.stalls sink.new) (node_bytes (costed plan.now.costs i (H.shape block.now)))) }
-    ensures fits { OnOk result ((k : ℕ) → Fits k (H.shape block.now) → FitsNode k (costed plan.now.costs i (H.shape block.now))) }
+    ensures put { IfOk result (λ _.
+        IsPut piece.old.items piece.new.items (taken W.contents W.failures W.stalls sink.old)
+        (taken W.contents W.failures W.stalls sink.new)
+        (node_bytes (costed plan.now.costs i (H.shape block.now)))) }
+    ensures cut { IfErr result (λ _.
+        IsCut piece.old.items (taken W.contents W.failures W.stalls sink.old)
+        (taken W.contents W.failures W.stalls sink.new)
+        (node_bytes (costed plan.now.costs i (H.shape block.now)))) }
+    ensures fits { OnOk result ((k : ℕ) → Fits k (H.shape block.now)
+        → FitsNode k (costed plan.now.costs i (H.shape block.now))) }
 {
     if let Some(perm) = block.one_perm() {
         let Ok(()) = put(piece, [0, perm.bits()].as_slice(), sink) else {
@@ -304,11 +340,17 @@ pub(crate) fn send<H: Halving, W: Sink>(
 ) -> Result<(), DeviceFault>
     requires splits { splits (H.shape root.now) ≡ length plan.now.costs }
     requires small { length plan.now.costs < 2 ^ 64 }
-    ensures whole { IfOk result (λ _. Appends (W.contents sink.old) (W.contents sink.new) (certificate_for limit plan.now (H.shape root.now))) }
+    ensures whole { IfOk result (λ _.
+        Appends (W.contents sink.old) (W.contents sink.new)
+        (certificate_for limit plan.now (H.shape root.now))) }
     ensures well { IfOk result (λ _. W.failures sink.new ≡ W.failures sink.old) }
     ensures unstalled { IfOk result (λ _. W.stalls sink.new ≡ W.stalls sink.old) }
-    ensures cut { IfErr result (λ _. IsCut [] (taken W.contents W.failures W.stalls sink.old) (taken W.contents W.failures W.stalls sink.new) (certificate_for limit plan.now (H.shape root.now))) }
-    ensures fits { OnOk result ((k : ℕ) → Fits k (H.shape root.now) → FitsNode k (costed plan.now.costs 0 (H.shape root.now))) }
+    ensures cut { IfErr result (λ _.
+        IsCut [] (taken W.contents W.failures W.stalls sink.old)
+        (taken W.contents W.failures W.stalls sink.new)
+        (certificate_for limit plan.now (H.shape root.now))) }
+    ensures fits { OnOk result ((k : ℕ) → Fits k (H.shape root.now)
+        → FitsNode k (costed plan.now.costs 0 (H.shape root.now))) }
 {
     let header = Header {
         version: version_for(limit),

@@ -27,8 +27,12 @@ fn write_of<H: Halving>(
     requires fits { Fits 44 (H.shape root.now) }
     requires splits { splits (H.shape root.now) ≡ length plan.now.costs }
     requires most { splits (H.shape root.now) ≤ 88 * 4096 }
-    ensures bytes { IfOk result (λ v. v.items ≡ certificate_bytes (version_for limit) plan.now.entries (costed plan.now.costs 0 (H.shape root.now))) }
-    ensures spells { IfOk result (λ v. Spells v.items (version_for limit) plan.now.entries (costed plan.now.costs 0 (H.shape root.now))) }
+    ensures bytes { IfOk result (λ v.
+        v.items ≡ certificate_bytes (version_for limit) plan.now.entries
+        (costed plan.now.costs 0 (H.shape root.now))) }
+    ensures spells { IfOk result (λ v.
+        Spells v.items (version_for limit) plan.now.entries
+        (costed plan.now.costs 0 (H.shape root.now))) }
 {
     let room = 12 + 9 * plan.needed() as usize + 27 * plan.branches();
     let mut sink = Counted::new(Vec::with_capacity(alloc, room)?);
@@ -43,8 +47,11 @@ fn write_of<H: Halving>(
 /// costs. It asks that both have as many [`branches`](Tree::branches).
 pub fn write(alloc: Global, tree: &Tree, plan: &Plan, limit: Limit) -> Result<Vec<u8>, Memory>
     requires { splits tree.now ≡ length plan.now.costs }
-    ensures bytes { IfOk result (λ v. v.items ≡ certificate_bytes (version_for limit) plan.now.entries (costed plan.now.costs 0 tree.now)) }
-    ensures spells { IfOk result (λ v. Spells v.items (version_for limit) plan.now.entries (costed plan.now.costs 0 tree.now)) }
+    ensures bytes { IfOk result (λ v.
+        v.items ≡ certificate_bytes (version_for limit) plan.now.entries
+        (costed plan.now.costs 0 tree.now)) }
+    ensures spells { IfOk result (λ v.
+        Spells v.items (version_for limit) plan.now.entries (costed plan.now.costs 0 tree.now)) }
 {
     let branches = tree.branches();
     prove!(branches == plan.branches());
@@ -60,8 +67,12 @@ pub fn write_map(
     limit: Limit,
 ) -> Result<Vec<u8>, Memory>
     requires { splits (tree_of (view_of_runs map.now)) ≡ length plan.now.costs }
-    ensures bytes { IfOk result (λ v. v.items ≡ certificate_bytes (version_for limit) plan.now.entries (costed plan.now.costs 0 (tree_of (view_of_runs map.now)))) }
-    ensures spells { IfOk result (λ v. Spells v.items (version_for limit) plan.now.entries (costed plan.now.costs 0 (tree_of (view_of_runs map.now)))) }
+    ensures bytes { IfOk result (λ v.
+        v.items ≡ certificate_bytes (version_for limit) plan.now.entries
+        (costed plan.now.costs 0 (tree_of (view_of_runs map.now)))) }
+    ensures spells { IfOk result (λ v.
+        Spells v.items (version_for limit) plan.now.entries
+        (costed plan.now.costs 0 (tree_of (view_of_runs map.now)))) }
 {
     let bytes = write_of(alloc, &MapBlock::of(map), plan, limit)?;
     Ok(bytes)
@@ -75,11 +86,18 @@ pub fn send_map<W: Sink>(
     sink: &mut W,
 ) -> Result<(), DeviceFault>
     requires splits { splits (tree_of (view_of_runs map.now)) ≡ length plan.now.costs }
-    ensures whole { IfOk result (λ _. Appends (W.contents sink.old) (W.contents sink.new) (certificate_for limit plan.now (tree_of (view_of_runs map.now)))) }
+    ensures whole { IfOk result (λ _.
+        Appends (W.contents sink.old) (W.contents sink.new)
+        (certificate_for limit plan.now (tree_of (view_of_runs map.now)))) }
     ensures well { IfOk result (λ _. W.failures sink.new ≡ W.failures sink.old) }
     ensures unstalled { IfOk result (λ _. W.stalls sink.new ≡ W.stalls sink.old) }
-    ensures part { IfErr result (λ _. let bytes = certificate_for limit plan.now (tree_of (view_of_runs map.now)) in (n : ℕ) × (n < length bytes) × Appends (W.contents sink.old) (W.contents sink.new) (take n bytes)) }
-    ensures failed { IfErr result (λ _. WriteFails (W.failures sink.old) (W.failures sink.new) (W.stalls sink.old) (W.stalls sink.new)) }
+    ensures part { IfErr result (λ _.
+        let bytes = certificate_for limit plan.now (tree_of (view_of_runs map.now)) in
+        (n : ℕ) × (n < length bytes)
+        × Appends (W.contents sink.old) (W.contents sink.new) (take n bytes)) }
+    ensures failed { IfErr result (λ _.
+        WriteFails (W.failures sink.old)
+        (W.failures sink.new) (W.stalls sink.old) (W.stalls sink.new)) }
 {
     let Ok(()) = send(&MapBlock::of(map), plan, limit, sink) else {
         return Err(DeviceFault);

@@ -58,9 +58,14 @@ pub extern "C" fn pmpmon_check(
     at_fault: &mut u64,
 ) -> i64
     ensures checked { IsChecked settings.now certificate.now at_fault.old at_fault.new result }
-    ensures right { (runs : List Run) (n : ℕ) → LeadTo [] settings.now runs → IsRight (view_of_runs runs) certificate.now n → (result ≡ pos n) ⊎ (result ≡ no_memory) }
-    ensures wrong { (runs : List Run) (refusal : CheckRefusal) → LeadTo [] settings.now runs → RefusalStands (view_of_runs runs) certificate.now refusal → (result ≡ certificate_code refusal) ⊎ (result ≡ no_memory) }
-    ensures refused { (i : ℕ) (fault : SettingFault) → FaultIn [] settings.now i fault → ((result ≡ fault_code fault) × (at_fault.new ≡ i)) ⊎ (result ≡ no_memory) }
+    ensures right { (runs : List Run) (n : ℕ) → LeadTo [] settings.now runs
+        → IsRight (view_of_runs runs) certificate.now n
+        → (result ≡ pos n) ⊎ (result ≡ no_memory) }
+    ensures wrong { (runs : List Run) (refusal : CheckRefusal) → LeadTo [] settings.now runs
+        → RefusalStands (view_of_runs runs) certificate.now refusal
+        → (result ≡ certificate_code refusal) ⊎ (result ≡ no_memory) }
+    ensures refused { (i : ℕ) (fault : SettingFault) → FaultIn [] settings.now i fault
+        → ((result ≡ fault_code fault) × (at_fault.new ≡ i)) ⊎ (result ≡ no_memory) }
 {
     match map_of(alloc, settings) {
         Ok(map) => number_of(check(&map, certificate)),

@@ -30,7 +30,8 @@ fn byte_of(word: u64, j: usize) -> u8
 /// The entries of the first pairs of the registers, or the fault of the first pair that has one.
 fn entries_of(registers: &Registers, count: usize) -> Result<ArrayVec<Entry, 64>, EncodingFault>
     requires { count ≤ 64 }
-    ensures list { IfOk result (λ entries. MeansList (pairs_to registers.now count) entries.items) }
+    ensures list { IfOk result (λ entries.
+        MeansList (pairs_to registers.now count) entries.items) }
     ensures few { IfOk result (λ entries. length entries.items ≤ 64) }
     ensures fault { IfErr result (HasFault registers.now count) }
 {
@@ -48,7 +49,8 @@ fn entries_of(registers: &Registers, count: usize) -> Result<ArrayVec<Entry, 64>
 /// What becomes of the access under these entries.
 fn judged(entries: &[Entry], access: &Access) -> i64
     requires { length entries.now ≤ 64 }
-    ensures { (answer : Result (Unit {0}) Cause) × Judges entries.now access.now answer × (result ≡ answer_code answer) }
+    ensures { (answer : Result (Unit {0}) Cause) × Judges entries.now access.now answer
+        × (result ≡ answer_code answer) }
 {
     let bank = Bank::of(entries, Limit::SixtyFour);
     match judge(&bank, access) {
@@ -76,8 +78,12 @@ fn code_of(fault: EncodingFault) -> i64
 #[unsafe(no_mangle)]
 pub extern "C" fn pmpmon_judge(registers: &Registers, entries: u64, access: &AccessWords) -> i64
     ensures judged { IsJudged registers.now (min entries 64) access.now result }
-    ensures listed { (a : Access) (list : List Entry) (answer : Result (Unit {0}) Cause) → Says access.now a → MeansList (pairs_to registers.now (min entries 64)) list → Judges list a answer → result ≡ answer_code answer }
-    ensures faulty { (a : Access) (fault : EncodingFault) → Says access.now a → HasFault registers.now (min entries 64) fault → result ≡ pair_code fault }
+    ensures listed { (a : Access) (list : List Entry) (answer : Result (Unit {0}) Cause)
+        → Says access.now a
+        → MeansList (pairs_to registers.now (min entries 64)) list → Judges list a answer
+        → result ≡ answer_code answer }
+    ensures faulty { (a : Access) (fault : EncodingFault) → Says access.now a
+        → HasFault registers.now (min entries 64) fault → result ≡ pair_code fault }
     ensures unknown { ((a : Access) → ¬ Says access.now a) → result ≡ unknown_access }
 {
     let Some(access) = access.access() else {

@@ -17,7 +17,8 @@ use std::alloc::Global;
 /// The plan of the map that the settings make.
 fn plan_of(alloc: Global, settings: &[Setting]) -> Result<Plan, Refusal>
     ensures plan { IfOk result (λ plan. IsPlanOf settings.now plan.entries) }
-    ensures fault { (i : ℕ) (fault : SettingFault) → result ≡ Err (Refusal.Setting i fault) → FaultIn [] settings.now i fault }
+    ensures fault { (i : ℕ) (fault : SettingFault) → result ≡ Err (Refusal.Setting i fault)
+        → FaultIn [] settings.now i fault }
 {
     let map = map_of(alloc, settings)?;
     let Ok(plan) = plan_map(alloc, &map) else {
@@ -36,9 +37,13 @@ pub extern "C" fn pmpmon_plan(
     registers: &mut Registers,
     at_fault: &mut u64,
 ) -> i64
-    ensures planned { IsPlanned settings.now entries registers.old registers.new at_fault.old at_fault.new result }
-    ensures given { (runs : List Run) (n : ℕ) → LeadTo [] settings.now runs → Needs (view_of_runs runs) n → (result ≡ pos n) ⊎ (result ≡ no_memory) }
-    ensures refused { (i : ℕ) (fault : SettingFault) → FaultIn [] settings.now i fault → ((result ≡ fault_code fault) × (at_fault.new ≡ i)) ⊎ (result ≡ no_memory) }
+    ensures planned { IsPlanned settings.now entries registers.old registers.new at_fault.old
+        at_fault.new result }
+    ensures given { (runs : List Run) (n : ℕ) → LeadTo [] settings.now runs
+        → Needs (view_of_runs runs) n
+        → (result ≡ pos n) ⊎ (result ≡ no_memory) }
+    ensures refused { (i : ℕ) (fault : SettingFault) → FaultIn [] settings.now i fault
+        → ((result ≡ fault_code fault) × (at_fault.new ≡ i)) ⊎ (result ≡ no_memory) }
 {
     let plan = match plan_of(alloc, settings) {
         Ok(plan) => plan,
@@ -55,8 +60,11 @@ pub extern "C" fn pmpmon_plan(
 #[unsafe(no_mangle)]
 pub extern "C" fn pmpmon_needed(alloc: Global, settings: &[Setting], at_fault: &mut u64) -> i64
     ensures needed { IsNumberOf settings.now at_fault.old at_fault.new result }
-    ensures given { (runs : List Run) (n : ℕ) → LeadTo [] settings.now runs → Needs (view_of_runs runs) n → (result ≡ pos n) ⊎ (result ≡ no_memory) }
-    ensures refused { (i : ℕ) (fault : SettingFault) → FaultIn [] settings.now i fault → ((result ≡ fault_code fault) × (at_fault.new ≡ i)) ⊎ (result ≡ no_memory) }
+    ensures given { (runs : List Run) (n : ℕ) → LeadTo [] settings.now runs
+        → Needs (view_of_runs runs) n
+        → (result ≡ pos n) ⊎ (result ≡ no_memory) }
+    ensures refused { (i : ℕ) (fault : SettingFault) → FaultIn [] settings.now i fault
+        → ((result ≡ fault_code fault) × (at_fault.new ≡ i)) ⊎ (result ≡ no_memory) }
 {
     match plan_of(alloc, settings) {
         Ok(plan) => i64::from(plan.needed()),

@@ -100,7 +100,8 @@ fn perm_of(bits: u64) -> Option<Perm>
 /// Does to the map what a setting says, or leaves it as it was.
 fn set(map: &mut PermissionMap, setting: &Setting) -> Result<(), Unset>
     ensures done { OnOk result (Sets map.old setting.now map.new) }
-    ensures fault { (fault : SettingFault) → result ≡ Err (Unset.Fault fault) → IsRefusedFor fault map.old setting.now }
+    ensures fault { (fault : SettingFault) → result ≡ Err (Unset.Fault fault)
+        → IsRefusedFor fault map.old setting.now }
 {
     if setting.base % PAGE_SIZE != 0 {
         return Err(Unset::Fault(SettingFault::UnalignedBase));
@@ -122,7 +123,8 @@ fn set(map: &mut PermissionMap, setting: &Setting) -> Result<(), Unset>
 /// The map that the settings make one after another, from one that gives no permission.
 pub(crate) fn map_of(alloc: Global, settings: &[Setting]) -> Result<PermissionMap, Refusal>
     ensures made { IfOk result (LeadTo [] settings.now) }
-    ensures fault { (i : ℕ) (fault : SettingFault) → result ≡ Err (Refusal.Setting i fault) → FaultIn [] settings.now i fault }
+    ensures fault { (i : ℕ) (fault : SettingFault) → result ≡ Err (Refusal.Setting i fault)
+        → FaultIn [] settings.now i fault }
 {
     let mut map = PermissionMap::new(alloc);
     let mut rest = settings;

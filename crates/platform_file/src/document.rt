@@ -36,7 +36,8 @@ pub fn has_only(table: &Table, names: &[&str]) -> bool
 
 /// The value at a key.
 pub fn value_at<'a>(table: &'a Table, key: &str) -> Option<&'a Value>
-    ensures { option_map (λ value. view value.now) result ≡ get_member key.now (table_view table.now) }
+    ensures { option_map (λ value. view value.now) result
+        ≡ get_member key.now (table_view table.now) }
 {
     table.get(key)
 }
@@ -88,7 +89,8 @@ pub fn perm_at(table: &Table) -> Option<Perm>
 
 /// The table at a key.
 pub fn table_at<'a>(table: &'a Table, key: &str) -> Option<&'a Table>
-    ensures { option_map (λ t. table_view t.now) result ≡ option_and_then as_table (get_member key.now (table_view table.now)) }
+    ensures { option_map (λ t. table_view t.now) result ≡ option_and_then as_table
+        (get_member key.now (table_view table.now)) }
 {
     let value = value_at(table, key)?;
     value.as_table()

@@ -50,7 +50,8 @@ fn built(
     entries: u64,
 ) -> Option<Platform>
     ensures some { IfSome result (Builds monitor ram.now devices.now harts entries) }
-    ensures none { result ≡ None → (platform : Layout) → Builds monitor ram.now devices.now harts entries platform → ⊥ }
+    ensures none { result ≡ None → (platform : Layout)
+        → Builds monitor ram.now devices.now harts entries platform → ⊥ }
 {
     let harts = byte_of(harts)?;
     let entries = byte_of(entries)?;
@@ -69,7 +70,8 @@ fn built(
 /// The platform that a document tells.
 fn told(alloc: Global, document: &Table) -> Result<Platform, TextFault>
     ensures ok { IfOk result (Tells (table_view document.now)) }
-    ensures refused { result ≡ Err TextFault.NotAPlatform → (platform : Layout) → Tells (table_view document.now) platform → ⊥ }
+    ensures refused { result ≡ Err TextFault.NotAPlatform → (platform : Layout)
+        → Tells (table_view document.now) platform → ⊥ }
 {
     if !has_only(document, &["monitor", "ram", "device", "harts", "entries"]) {
         return Err(TextFault::NotAPlatform);
@@ -100,7 +102,9 @@ fn told(alloc: Global, document: &Table) -> Result<Platform, TextFault>
 /// was refused.
 pub fn platform_of(alloc: Global, text: &str) -> Result<Platform, TextFault>
     ensures ok { IfOk result (IsPlatformText text.now) }
-    ensures refused { result ≡ Err TextFault.NotAPlatform → (platform : Layout) → IsPlatformText text.now platform → ⊥ }
+    ensures refused { result ≡ Err TextFault.NotAPlatform → (platform : Layout)
+        → IsPlatformText text.now platform
+        → ⊥ }
 {
     let document = document_of(alloc, text)?;
     told(alloc, &document)

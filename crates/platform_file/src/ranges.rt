@@ -77,8 +77,10 @@ fn device_told(value: &Value) -> Option<(u64, u64, Perm)>
 
 /// The ranges that tables tell.
 fn ranges_in(alloc: Global, values: &[Value]) -> Result<Vec<(u64, u64)>, TextFault>
-    ensures ok { IfOk result (λ ranges. each range_of (items_view values.now) ≡ Some ranges.items) }
-    ensures refused { result ≡ Err TextFault.NotAPlatform → each range_of (items_view values.now) ≡ None }
+    ensures ok { IfOk result (λ ranges.
+        each range_of (items_view values.now) ≡ Some ranges.items) }
+    ensures refused { result ≡ Err TextFault.NotAPlatform
+        → each range_of (items_view values.now) ≡ None }
 {
     let mut ranges = Vec::new(alloc);
     for value in values {
@@ -92,8 +94,10 @@ fn ranges_in(alloc: Global, values: &[Value]) -> Result<Vec<(u64, u64)>, TextFau
 
 /// The devices that tables tell.
 fn devices_in(alloc: Global, values: &[Value]) -> Result<Vec<(u64, u64, Perm)>, TextFault>
-    ensures ok { IfOk result (λ devices. each device_of (items_view values.now) ≡ Some devices.items) }
-    ensures refused { result ≡ Err TextFault.NotAPlatform → each device_of (items_view values.now) ≡ None }
+    ensures ok { IfOk result (λ devices.
+        each device_of (items_view values.now) ≡ Some devices.items) }
+    ensures refused { result ≡ Err TextFault.NotAPlatform
+        → each device_of (items_view values.now) ≡ None }
 {
     let mut devices = Vec::new(alloc);
     for value in values {
@@ -108,7 +112,8 @@ fn devices_in(alloc: Global, values: &[Value]) -> Result<Vec<(u64, u64, Perm)>, 
 /// The ranges of memory.
 pub fn ram_at(alloc: Global, document: &Table) -> Result<Vec<(u64, u64)>, TextFault>
     ensures ok { IfOk result (λ ram. ram_at (table_view document.now) ≡ Some ram.items) }
-    ensures refused { result ≡ Err TextFault.NotAPlatform → ram_at (table_view document.now) ≡ None }
+    ensures refused { result ≡ Err TextFault.NotAPlatform
+        → ram_at (table_view document.now) ≡ None }
 {
     let Some(array) = array_at(document, "ram") else {
         return Err(TextFault::NotAPlatform);
@@ -118,7 +123,8 @@ pub fn ram_at(alloc: Global, document: &Table) -> Result<Vec<(u64, u64)>, TextFa
 
 /// The array at a key.
 fn array_at<'a>(table: &'a Table, key: &str) -> Option<&'a Array>
-    ensures { option_map (λ a. array_view a.now) result ≡ option_and_then as_array (get_member key.now (table_view table.now)) }
+    ensures { option_map (λ a. array_view a.now) result ≡ option_and_then as_array
+        (get_member key.now (table_view table.now)) }
 {
     let value = value_at(table, key)?;
     value.as_array()
@@ -126,8 +132,10 @@ fn array_at<'a>(table: &'a Table, key: &str) -> Option<&'a Array>
 
 /// The devices, none where none are told.
 pub fn devices_at(alloc: Global, document: &Table) -> Result<Vec<(u64, u64, Perm)>, TextFault>
-    ensures ok { IfOk result (λ devices. devices_at (table_view document.now) ≡ Some devices.items) }
-    ensures refused { result ≡ Err TextFault.NotAPlatform → devices_at (table_view document.now) ≡ None }
+    ensures ok { IfOk result (λ devices.
+        devices_at (table_view document.now) ≡ Some devices.items) }
+    ensures refused { result ≡ Err TextFault.NotAPlatform
+        → devices_at (table_view document.now) ≡ None }
 {
     let Some(value) = value_at(document, "device") else {
         return Ok(Vec::new(alloc));

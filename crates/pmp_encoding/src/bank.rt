@@ -147,7 +147,8 @@ impl Bank {
     /// What entry i means, or `None` where it is OFF.
     pub fn entry(&self, i: usize) -> Option<Entry>
         requires { i < 64 }
-        ensures { MatchOption result (IsOff (cfg_at self.now i) (address_at self.now i)) (MeansEntry (cfg_at self.now i) (address_at self.now i)) }
+        ensures { MatchOption result (IsOff (cfg_at self.now i) (address_at self.now i))
+            (MeansEntry (cfg_at self.now i) (address_at self.now i)) }
     {
         entry_of(byte_of(self.words[i / 8], i % 8), self.addr(i))
     }
@@ -155,7 +156,8 @@ impl Bank {
     /// What accesses are matched against: the entries of the pairs below the limit, in order, without those that are
     /// OFF.
     pub fn extents(&self) -> &[Extent]
-        ensures { (entries : List Entry) → HasList self.now entries → result.now ≡ map extent_of entries }
+        ensures { (entries : List Entry) → HasList self.now entries
+            → result.now ≡ map extent_of entries }
     {
         &self.extents[..self.used]
     }
@@ -164,16 +166,23 @@ impl Bank {
     /// fault of its lowest byte that has one, an address of 2^54 or more `AddressBits`, and a number that no CSR of
     /// the bank has `NoSuchCsr`; each refusal leaves the bank as it was.
     pub fn write_csr(&mut self, number: u16, value: u64) -> Result<(), EncodingFault>
-        ensures unknown { (result ≡ Err EncodingFault.NoSuchCsr) ↔ (¬ IsCsr (limit_of self.old) number) }
-        ensures wide { (result ≡ Err EncodingFault.AddressBits) ↔ ((i : ℕ) × IsAddressCsr (limit_of self.old) number i × (2 ^ 54 ≤ value)) }
+        ensures unknown { (result ≡ Err EncodingFault.NoSuchCsr)
+            ↔ (¬ IsCsr (limit_of self.old) number) }
+        ensures wide { (result ≡ Err EncodingFault.AddressBits)
+            ↔ ((i : ℕ) × IsAddressCsr (limit_of self.old) number i × (2 ^ 54 ≤ value)) }
 
         // A configuration word.
-        ensures word { (k : ℕ) → IsCfgCsr (limit_of self.old) number k → MatchResult result (λ _. IsFaultlessWord value) (IsFaultOfWord value) }
-        ensures word_written { OnOk result ((k : ℕ) → IsCfgCsr (limit_of self.old) number k → WritesWord self.old self.new k value) }
+        ensures word { (k : ℕ) → IsCfgCsr (limit_of self.old) number k
+            → MatchResult result (λ _. IsFaultlessWord value) (IsFaultOfWord value) }
+        ensures word_written { OnOk result ((k : ℕ) → IsCfgCsr (limit_of self.old) number k
+            → WritesWord self.old self.new k value) }
 
         // An address register.
-        ensures address { (i : ℕ) → IsAddressCsr (limit_of self.old) number i → MatchResult result (λ _. value < 2 ^ 54) (λ f. f ≡ EncodingFault.AddressBits) }
-        ensures address_written { OnOk result ((i : ℕ) → IsAddressCsr (limit_of self.old) number i → WritesAddress self.old self.new i value) }
+        ensures address { (i : ℕ) → IsAddressCsr (limit_of self.old) number i
+            → MatchResult result (λ _. value < 2 ^ 54) (λ f. f ≡ EncodingFault.AddressBits) }
+        ensures address_written { OnOk result ((i : ℕ)
+            → IsAddressCsr (limit_of self.old) number i
+            → WritesAddress self.old self.new i value) }
 
         ensures err { OnErr result (self.new ≡ self.old) }
     {

@@ -86,7 +86,8 @@ fn lets_through(extents: &[Extent], access: &Access) -> bool
 /// What the bank's list says of the access.
 fn is_allowed(bank: &Bank, access: &Access) -> bool
     requires { access.now.address < 2 ^ 56 }
-    ensures { (entries : List Entry) → HasList bank.now entries → result ≡ allows entries access.now }
+    ensures { (entries : List Entry) → HasList bank.now entries
+        → result ≡ allows entries access.now }
 {
     lets_through(bank.extents(), access)
 }
@@ -121,7 +122,8 @@ pub(crate) fn access_fault(kind: Kind) -> Cause
 }
 
 fn judged(bank: &Bank, access: &Access) -> Result<(), Cause>
-    ensures { (entries : List Entry) → HasList bank.now entries → result ≡ judgement entries access.now }
+    ensures { (entries : List Entry) → HasList bank.now entries
+        → result ≡ judgement entries access.now }
 {
     if !is_aligned(access) {
         return Err(misaligned(access.kind));
@@ -136,8 +138,10 @@ fn judged(bank: &Bank, access: &Access) -> Result<(), Cause>
 /// no memory. (RISC-V Privileged Architecture, Physical Memory Protection, priority and matching logic; that a
 /// misaligned access comes before all else, and then one past the space, is this project's own order)
 pub fn judge(bank: &Bank, access: &Access) -> Result<(), Cause>
-    ensures by_its_list { (entries : List Entry) × HasList bank.now entries × Judges entries access.now result }
-    ensures by_no_other { (entries : List Entry) → HasList bank.now entries → Judges entries access.now result }
+    ensures by_its_list { (entries : List Entry) × HasList bank.now entries
+        × Judges entries access.now result }
+    ensures by_no_other { (entries : List Entry) → HasList bank.now entries
+        → Judges entries access.now result }
 {
     judged(bank, access)
 }

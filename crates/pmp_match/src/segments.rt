@@ -93,7 +93,9 @@ impl Segment {
     /// What becomes of an aligned access within the segment.
     #[inline(always)]
     fn judge(&self, access: &Access) -> Result<(), Cause>
-        ensures { result ≡ (if is_machine access.now.mode || holds self.now.perm access.now.kind then Ok tt else Err (access_fault access.now.kind)) }
+        ensures { result ≡
+            (if is_machine access.now.mode || holds self.now.perm access.now.kind then Ok tt
+            else Err (access_fault access.now.kind)) }
     {
         if is_machine(access.mode) || holds(self.perm, access.kind) {
             return Ok(());
@@ -170,8 +172,10 @@ impl<'a> Segments<'a> {
     /// takes no memory.
     #[inline(always)]
     pub fn judge(&self, access: &Access) -> Result<(), Cause>
-        ensures by_its_list { (entries : List Entry) × HasList (bank_of self.now) entries × Judges entries access.now result }
-        ensures by_no_other { (entries : List Entry) → HasList (bank_of self.now) entries → Judges entries access.now result }
+        ensures by_its_list { (entries : List Entry) × HasList (bank_of self.now) entries
+            × Judges entries access.now result }
+        ensures by_no_other { (entries : List Entry) → HasList (bank_of self.now) entries
+            → Judges entries access.now result }
     {
         let segment = self.near(access.address);
         if segment.has(access) && is_aligned(access) {

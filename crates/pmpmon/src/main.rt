@@ -49,8 +49,12 @@ fn stopped(rt: &HostRuntime, trouble: Trouble<'_>) -> ExitCode
 /// Help or the version on standard output, or a fault of the command line on standard error.
 fn explained(rt: &HostRuntime, error: &Error) -> ExitCode
     ensures memory { kind_of error.now ≡ kind.OutOfMemory → exit_status result ≡ 4 }
-    ensures mistake { kind_of error.now ≢ kind.OutOfMemory → kind_of error.now ≢ kind.DisplayHelp → kind_of error.now ≢ kind.DisplayVersion → exit_status result ≡ 2 }
-    ensures shown { kind_of error.now ≡ kind.DisplayHelp ⊎ kind_of error.now ≡ kind.DisplayVersion → exit_status result ≡ 0 ⊎ exit_status result ≡ 3 }
+    ensures mistake { kind_of error.now ≢ kind.OutOfMemory
+        → kind_of error.now ≢ kind.DisplayHelp
+        → kind_of error.now ≢ kind.DisplayVersion → exit_status result ≡ 2 }
+    ensures shown { kind_of error.now ≡ kind.DisplayHelp
+        ⊎ kind_of error.now ≡ kind.DisplayVersion
+        → exit_status result ≡ 0 ⊎ exit_status result ≡ 3 }
 {
     if error.kind() == ErrorKind::OutOfMemory {
         return stopped(rt, Trouble::Memory);

@@ -21,7 +21,8 @@ pub trait Halving: Drop {
     /// the blocks of a map that are split nearly all are in chains.
     fn chain(&self) -> Option<(Chain, Self)>
         requires { one_perm (shape self.now) ≡ None }
-        ensures { IfSome result (λ r. IsChain r.0 × (shape self.now ≡ chained r.0 (shape r.1))) };
+        ensures { IfSome result (λ r. IsChain r.0
+            × (shape self.now ≡ chained r.0 (shape r.1))) };
 
     /// The two halves of a block that is split, the lower first.
     fn halves(&self) -> (Self, Self)

@@ -6,13 +6,20 @@ ghost use Rattle.prefix_tree.specs.Trees.{PermTree, TreeMeans, view_of_tree, Fit
 /// A tree means its own view, and no other at any page of the space.
 pub fn meaning_law()
     ensures own { (tree : PermTree) → Fits 44 tree → TreeMeans (view_of_tree tree) tree }
-    ensures other { (view : ℕ → Perm) (tree : PermTree) → TreeMeans view tree → (page : ℕ) → page < 2 ^ 44 → view_of_tree tree page ≡ view page }
+    ensures other { (view : ℕ → Perm) (tree : PermTree) → TreeMeans view tree → (page : ℕ)
+        → page < 2 ^ 44
+        → view_of_tree tree page ≡ view page }
 {}
 
 /// A view has one canonical tree, that of its definition: two of the same view are the same tree, and what it splits is of
 /// two permissions.
 pub fn canonical_law()
-    ensures one { (view : ℕ → Perm) (a b : PermTree) → IsCanonical a → IsCanonical b → TreeMeans view a → TreeMeans view b → a ≡ b }
-    ensures tree { (view : ℕ → Perm) → IsCanonical (tree_of view) × TreeMeans view (tree_of view) }
-    ensures mixed { (view : ℕ → Perm) (tree : PermTree) → IsCanonical tree → TreeMeans view tree → SplitsOnlyMixed view tree }
+    ensures one { (view : ℕ → Perm) (a b : PermTree) → IsCanonical a → IsCanonical b
+        → TreeMeans view a
+        → TreeMeans view b → a ≡ b }
+    ensures tree { (view : ℕ → Perm) → IsCanonical (tree_of view)
+        × TreeMeans view (tree_of view) }
+    ensures mixed { (view : ℕ → Perm) (tree : PermTree) → IsCanonical tree
+        → TreeMeans view tree
+        → SplitsOnlyMixed view tree }
 {}

@@ -69,7 +69,10 @@ pub fn overwritten_block(
     requires fits { Fits height (shape_of block.now) }
     requires canonical { IsCanonical (shape_of block.now) }
     requires summed { IsSummed block.now }
-    ensures means { IfOk result (λ b. (view : ℕ → Perm) → TreeMeansAt view height first (shape_of block.now) → TreeMeansAt (overwritten view run.now.first run.now.count run.now.perm) height first (shape_of b)) }
+    ensures means { IfOk result (λ b.
+        (view : ℕ → Perm) → TreeMeansAt view height first (shape_of block.now)
+        → TreeMeansAt (overwritten view run.now.first run.now.count run.now.perm)
+        height first (shape_of b)) }
     ensures fits { IfOk result (λ b. Fits height (shape_of b)) }
     ensures canonical { IfOk result (λ b. IsCanonical (shape_of b)) }
     ensures summed { IfOk result (λ b. IsSummed b) }

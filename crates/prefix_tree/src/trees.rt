@@ -74,12 +74,19 @@ impl Tree {
     /// view has more than 4096 maximal runs of a permission other than none, and with `Memory` where a growth was
     /// refused. An empty range gives the same tree.
     pub fn with_range(&self, first: u64, count: u64, perm: Perm) -> Result<Tree, MapFault>
-        ensures means { IfOk result (λ t. TreeMeans (overwritten (view_of_tree self.now) first count perm) t) }
+        ensures means { IfOk result (λ t. TreeMeans (overwritten
+            (view_of_tree self.now) first count perm) t) }
         ensures canonical { IfOk result (λ t. IsCanonical t) }
         ensures nothing { count ≡ 0 → IfOk result (λ t. t ≡ self.now) }
         ensures past_end { (result ≡ Err MapFault.PastEnd) ↔ (2 ^ 44 < first + count) }
-        ensures too_many { result ≡ Err MapFault.TooManyRanges → (first + count ≤ 2 ^ 44) × ((runs : List Run) × AreRunsOf (overwritten (view_of_tree self.now) first count perm) runs × (4096 < length runs)) }
-        ensures few { OnOk result ((runs : List Run) → AreRunsOf (overwritten (view_of_tree self.now) first count perm) runs → length runs ≤ 4096) }
+        ensures too_many { result ≡ Err MapFault.TooManyRanges
+            → (first + count ≤ 2 ^ 44)
+            × ((runs : List Run)
+            × AreRunsOf (overwritten (view_of_tree self.now) first count perm) runs
+            × (4096 < length runs)) }
+        ensures few { OnOk result ((runs : List Run)
+            → AreRunsOf (overwritten (view_of_tree self.now) first count perm) runs
+            → length runs ≤ 4096) }
     {
         if first > SPACE_PAGES || count > SPACE_PAGES - first {
             return Err(MapFault::PastEnd);

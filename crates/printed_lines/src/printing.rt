@@ -14,9 +14,13 @@ use pmp_encoding::{Bank, Entry, Limit};
 fn print_entries<W: Sink>(entries: &[Entry], out: &mut W) -> Result<(), DeviceFault>
     ensures well { IfOk result (λ _. W.failures out.new ≡ W.failures out.old) }
     ensures unstalled { IfOk result (λ _. W.stalls out.new ≡ W.stalls out.old) }
-    ensures written { IfOk result (λ _. Appends (W.contents out.old) (W.contents out.new) (entries_text 0 entries.now)) }
-    ensures part { IfErr result (λ _. TakesPart (entries_text 0 entries.now) (W.contents out.old) (W.contents out.new)) }
-    ensures failed { IfErr result (λ _. WriteFails (W.failures out.old) (W.failures out.new) (W.stalls out.old) (W.stalls out.new)) }
+    ensures written { IfOk result (λ _.
+        Appends (W.contents out.old) (W.contents out.new) (entries_text 0 entries.now)) }
+    ensures part { IfErr result (λ _.
+        TakesPart (entries_text 0 entries.now) (W.contents out.old) (W.contents out.new)) }
+    ensures failed { IfErr result (λ _.
+        WriteFails (W.failures out.old)
+        (W.failures out.new) (W.stalls out.old) (W.stalls out.new)) }
 {
     for (i, entry) in entries.iter().enumerate() {
         let (cfg, address) = entry.encode();
@@ -31,9 +35,13 @@ fn print_entries<W: Sink>(entries: &[Entry], out: &mut W) -> Result<(), DeviceFa
 fn print_list<W: Sink>(entries: &[Entry], out: &mut W) -> Result<(), DeviceFault>
     ensures well { IfOk result (λ _. W.failures out.new ≡ W.failures out.old) }
     ensures unstalled { IfOk result (λ _. W.stalls out.new ≡ W.stalls out.old) }
-    ensures written { IfOk result (λ _. Appends (W.contents out.old) (W.contents out.new) (list_text entries.now)) }
-    ensures part { IfErr result (λ _. TakesPart (list_text entries.now) (W.contents out.old) (W.contents out.new)) }
-    ensures failed { IfErr result (λ _. WriteFails (W.failures out.old) (W.failures out.new) (W.stalls out.old) (W.stalls out.new)) }
+    ensures written { IfOk result (λ _. Appends (W.contents out.old) (W.contents out.new)
+        (list_text entries.now)) }
+    ensures part { IfErr result (λ _.
+        TakesPart (list_text entries.now) (W.contents out.old) (W.contents out.new)) }
+    ensures failed { IfErr result (λ _.
+        WriteFails (W.failures out.old)
+        (W.failures out.new) (W.stalls out.old) (W.stalls out.new)) }
 {
     let count = count_line(entries.len() as u64);
     write_whole(out, count.as_slice())?;
@@ -46,9 +54,13 @@ fn print_words<W: Sink>(bank: &Bank, count: usize, out: &mut W) -> Result<(), De
     requires count { count ≤ 8 }
     ensures well { IfOk result (λ _. W.failures out.new ≡ W.failures out.old) }
     ensures unstalled { IfOk result (λ _. W.stalls out.new ≡ W.stalls out.old) }
-    ensures written { IfOk result (λ _. Appends (W.contents out.old) (W.contents out.new) (words_text bank.now 0 count)) }
-    ensures part { IfErr result (λ _. TakesPart (words_text bank.now 0 count) (W.contents out.old) (W.contents out.new)) }
-    ensures failed { IfErr result (λ _. WriteFails (W.failures out.old) (W.failures out.new) (W.stalls out.old) (W.stalls out.new)) }
+    ensures written { IfOk result (λ _.
+        Appends (W.contents out.old) (W.contents out.new) (words_text bank.now 0 count)) }
+    ensures part { IfErr result (λ _.
+        TakesPart (words_text bank.now 0 count) (W.contents out.old) (W.contents out.new)) }
+    ensures failed { IfErr result (λ _.
+        WriteFails (W.failures out.old)
+        (W.failures out.new) (W.stalls out.old) (W.stalls out.new)) }
 {
     for i in 0..count {
         let k = 2 * i;
@@ -63,11 +75,17 @@ fn print_words<W: Sink>(bank: &Bank, count: usize, out: &mut W) -> Result<(), De
 /// On an `Err` a beginning of this text was written, not all of it, and the device failed, or took none of some bytes, in
 /// this call.
 pub fn print_plan<W: Sink>(entries: &[Entry], limit: Limit, out: &mut W) -> Result<(), DeviceFault>
-    ensures written { IfOk result (λ _. (text : List ℕ) × IsPlanText limit entries.now text × Appends (W.contents out.old) (W.contents out.new) text) }
+    ensures written { IfOk result (λ _.
+        (text : List ℕ) × IsPlanText limit entries.now text
+        × Appends (W.contents out.old) (W.contents out.new) text) }
     ensures well { IfOk result (λ _. W.failures out.new ≡ W.failures out.old) }
     ensures unstalled { IfOk result (λ _. W.stalls out.new ≡ W.stalls out.old) }
-    ensures part { IfErr result (λ _. (text : List ℕ) × IsPlanText limit entries.now text × TakesPart text (W.contents out.old) (W.contents out.new)) }
-    ensures failed { IfErr result (λ _. WriteFails (W.failures out.old) (W.failures out.new) (W.stalls out.old) (W.stalls out.new)) }
+    ensures part { IfErr result (λ _.
+        (text : List ℕ) × IsPlanText limit entries.now text
+        × TakesPart text (W.contents out.old) (W.contents out.new)) }
+    ensures failed { IfErr result (λ _.
+        WriteFails (W.failures out.old)
+        (W.failures out.new) (W.stalls out.old) (W.stalls out.new)) }
 {
     if entries.len() > limit.number() as usize {
         print_list(entries, out)?;

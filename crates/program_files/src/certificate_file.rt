@@ -52,7 +52,8 @@ impl<'a, R: Files> CertificateFile<'a, R> {
         name: &str,
     ) -> Result<CertificateFile<'a, R>, AllocError>
         ensures failures { IfOk result (λ file. file.failures ≡ 0) }
-        ensures beside { IfOk result (λ file. string_bytes file.beside ≡ part_name (string_bytes file.place)) }
+        ensures beside { IfOk result (λ file.
+            string_bytes file.beside ≡ part_name (string_bytes file.place)) }
     {
         let place = place_of(alloc, name, led_to(files, alloc, name))?;
         let beside = beside_of(alloc, place.as_str())?;
@@ -70,7 +71,9 @@ impl<'a, R: Files> CertificateFile<'a, R> {
     /// Opens what is written to: a new file beside the place, or what stands there and is no plain file.
     fn open(&mut self) -> io::Result<()>
         ensures place { self.new.place ≡ self.old.place }
-        ensures beside { self.new.is_beside ≡ true → self.old.is_beside ≡ true ⊎ IsNumbered (string_bytes self.old.beside) (string_bytes self.new.beside) }
+        ensures beside { self.new.is_beside ≡ true
+            → self.old.is_beside ≡ true
+            ⊎ IsNumbered (string_bytes self.old.beside) (string_bytes self.new.beside) }
         ensures failures { self.new.failures ≡ self.old.failures }
         ensures stalls { self.new.stalls ≡ self.old.stalls }
     {
@@ -93,7 +96,8 @@ impl<'a, R: Files> CertificateFile<'a, R> {
 
     fn write_some(&mut self, buf: &[u8]) -> io::Result<usize>
         ensures most { WritesAtMost result buf.now }
-        ensures bytes { WriteAppends (option_and_then R.File.contents self.old.file) (option_and_then R.File.contents self.new.file) result buf.now }
+        ensures bytes { WriteAppends (option_and_then R.File.contents self.old.file)
+            (option_and_then R.File.contents self.new.file) result buf.now }
         ensures failures { self.new.failures ≡ self.old.failures }
         ensures stalls { self.new.stalls ≡ self.old.stalls }
     {
@@ -151,7 +155,8 @@ fn led_to<R: Files>(files: &R, alloc: Global, name: &str) -> Option<PathBuf> {
 
 /// The place of a file of that name: what it leads to, and else the name itself.
 fn place_of(alloc: Global, name: &str, led: Option<PathBuf>) -> Result<String, AllocError>
-    ensures led { IfSome led (λ path. IfOk result (λ place. string_bytes place ≡ path_buf_bytes path)) }
+    ensures led { IfSome led (λ path. IfOk result (λ place.
+        string_bytes place ≡ path_buf_bytes path)) }
     ensures name { led ≡ None → IfOk result (λ place. string_bytes place ≡ name.now) }
 {
     match led {

@@ -38,7 +38,8 @@ impl<R: Files> Read for FileToRead<'_, R> {
     // A file that could not be opened is no file without bytes: where a read is done, a file is open.
     fn read(&mut self, buf: &mut [u8]) -> io::Result<usize>
         ensures bound { ReadsAtMost result buf.new }
-        ensures bytes { ReadConsumes (option_and_then R.File.remaining self.old.file) (option_and_then R.File.remaining self.new.file) result buf.new }
+        ensures bytes { ReadConsumes (option_and_then R.File.remaining self.old.file)
+            (option_and_then R.File.remaining self.new.file) result buf.new }
         ensures opened { OnOk result (self.new.file ≢ None) }
         ensures place { self.new.name ≡ self.old.name }
     {
@@ -83,7 +84,8 @@ impl<R: Files, S: Read> Read for InputToRead<'_, R, S> {
 
     fn read(&mut self, buf: &mut [u8]) -> io::Result<usize>
         ensures bound { ReadsAtMost result buf.new }
-        ensures bytes { ReadConsumes (remaining_of R.File.remaining S.remaining self.old) (remaining_of R.File.remaining S.remaining self.new) result buf.new }
+        ensures bytes { ReadConsumes (remaining_of R.File.remaining S.remaining self.old)
+            (remaining_of R.File.remaining S.remaining self.new) result buf.new }
         ensures opened { OnOk result (IsOpen self.new) }
     {
         match self {

@@ -29,12 +29,17 @@ pub fn read_whole<R: Source>(
     most: usize,
 ) -> Result<Vec<u8>, WholeFault>
     requires most { most < 2 ^ 32 }
-    ensures whole { IfOk result (λ bytes. Consumes (R.remaining source.old) (R.remaining source.new) bytes.items) }
+    ensures whole { IfOk result (λ bytes.
+        Consumes (R.remaining source.old) (R.remaining source.new) bytes.items) }
     ensures at_end { IfOk result (λ bytes. IsAtEnd (R.remaining source.new)) }
     ensures most { IfOk result (λ bytes. length bytes.items ≤ most) }
-    ensures large { result ≡ Err WholeFault.TooLarge → (bytes : List ℕ) × Consumes (R.remaining source.old) (R.remaining source.new) bytes × (most < length bytes) }
-    ensures failed { result ≡ Err WholeFault.Read → R.failures source.new ≡ one_failure_more (R.failures source.old) }
-    ensures well { result ≢ Err WholeFault.Read → R.failures source.new ≡ R.failures source.old }
+    ensures large { result ≡ Err WholeFault.TooLarge
+        → (bytes : List ℕ) × Consumes (R.remaining source.old) (R.remaining source.new) bytes
+        × (most < length bytes) }
+    ensures failed { result ≡ Err WholeFault.Read
+        → R.failures source.new ≡ one_failure_more (R.failures source.old) }
+    ensures well { result ≢ Err WholeFault.Read
+        → R.failures source.new ≡ R.failures source.old }
 {
     let mut bytes = Vec::new(alloc);
     let mut piece = [0; PIECE];

@@ -63,9 +63,12 @@ fn value_in<'a, V: Values<'a>>(given: &V, name: &str) -> Result<&'a str, Fault<'
 
 /// The value of `--entries`.
 fn limit_in<'a, V: Values<'a>>(given: &V) -> Result<Limit, Fault<'a>>
-    ensures value { IfOk result (λ limit. V.value given.now (codes "entries") ≡ Some (limit_word limit)) }
-    ensures other { IfErr result (λ _. (limit : Limit) → V.value given.now (codes "entries") ≢ Some (limit_word limit)) }
-    ensures fault { IfErr result (IsFirst (V.value given.now) (has (codes "entries") ∷ names_limit ∷ [])) }
+    ensures value { IfOk result (λ limit.
+        V.value given.now (codes "entries") ≡ Some (limit_word limit)) }
+    ensures other { IfErr result (λ _.
+        (limit : Limit) → V.value given.now (codes "entries") ≢ Some (limit_word limit)) }
+    ensures fault { IfErr result (IsFirst (V.value given.now)
+        (has (codes "entries") ∷ names_limit ∷ [])) }
 {
     let word = value_in(given, "entries")?;
     match limit_of(word) {
@@ -76,9 +79,12 @@ fn limit_in<'a, V: Values<'a>>(given: &V) -> Result<Limit, Fault<'a>>
 
 /// The value of `--format`.
 fn format_in<'a, V: Values<'a>>(given: &V) -> Result<Format, Fault<'a>>
-    ensures value { IfOk result (λ format. V.value given.now (codes "format") ≡ Some (format_word format)) }
-    ensures other { IfErr result (λ _. (format : Format) → V.value given.now (codes "format") ≢ Some (format_word format)) }
-    ensures fault { IfErr result (IsFirst (V.value given.now) (has (codes "format") ∷ names_format ∷ [])) }
+    ensures value { IfOk result (λ format.
+        V.value given.now (codes "format") ≡ Some (format_word format)) }
+    ensures other { IfErr result (λ _.
+        (format : Format) → V.value given.now (codes "format") ≢ Some (format_word format)) }
+    ensures fault { IfErr result (IsFirst (V.value given.now)
+        (has (codes "format") ∷ names_format ∷ [])) }
 {
     let word = value_in(given, "format")?;
     match format_of(word) {
@@ -114,7 +120,8 @@ fn run_in<'a, V: Values<'a>>(given: &V) -> Result<Task<'a>, Fault<'a>>
     ensures word { IfOk result (λ task. word_of task ≡ codes "run") }
     ensures values { IfOk result (HasValues (V.value given.now) (V.flag given.now)) }
     ensures sound { IfOk result IsSound }
-    ensures refused { IfErr result (λ _. NamesNone (codes "run") (V.value given.now) (V.flag given.now)) }
+    ensures refused { IfErr result (λ _. NamesNone (codes "run") (V.value given.now)
+        (V.flag given.now)) }
     ensures fault { IfErr result (IsFirst (V.value given.now) run_demands) }
 {
     let platform = value_in(given, "PLATFORM")?;
@@ -129,7 +136,8 @@ fn run_in<'a, V: Values<'a>>(given: &V) -> Result<Task<'a>, Fault<'a>>
 
 /// The file for the certificate of a map, where one is named, which may not be the map's.
 fn cert_in<'a, V: Values<'a>>(given: &V, map: &'a str) -> Result<Option<&'a str>, Fault<'a>>
-    ensures value { IfOk result (λ cert. V.value given.now (codes "CERT") ≡ option_map (λ s. s.now) cert) }
+    ensures value { IfOk result (λ cert. V.value given.now (codes "CERT") ≡ option_map (λ s.
+        s.now) cert) }
     ensures other { IfOk result (λ cert. option_map (λ s. s.now) cert ≢ Some map.entry.now) }
     ensures same { IfErr result (λ _. V.value given.now (codes "CERT") ≡ Some map.entry.now) }
     ensures fault { IfErr result (λ fault. fault ≡ Fault.TakesPlace map.entry) }
@@ -149,7 +157,8 @@ fn plan_in<'a, V: Values<'a>>(given: &V) -> Result<Task<'a>, Fault<'a>>
     ensures word { IfOk result (λ task. word_of task ≡ codes "plan") }
     ensures values { IfOk result (HasValues (V.value given.now) (V.flag given.now)) }
     ensures sound { IfOk result IsSound }
-    ensures refused { IfErr result (λ _. NamesNone (codes "plan") (V.value given.now) (V.flag given.now)) }
+    ensures refused { IfErr result (λ _. NamesNone (codes "plan") (V.value given.now)
+        (V.flag given.now)) }
     ensures fault { IfErr result (IsFirst (V.value given.now) plan_demands) }
 {
     let map = value_in(given, "MAP")?;
@@ -168,7 +177,8 @@ fn plan_in<'a, V: Values<'a>>(given: &V) -> Result<Task<'a>, Fault<'a>>
 
 /// Refuses two files that are both standard input.
 fn once<'a>(map: &str, other: &str) -> Result<(), Fault<'a>>
-    ensures once { IfOk result (λ _. (map.now ≡ input_word) × (other.now ≡ input_word) → ⊥) }
+    ensures once { IfOk result (λ _. (map.now ≡ input_word) × (other.now ≡ input_word)
+        → ⊥) }
     ensures twice { IfErr result (λ _. (map.now ≡ input_word) × (other.now ≡ input_word)) }
     ensures fault { IfErr result (λ fault. fault ≡ Fault.InputTwice) }
 {
@@ -182,7 +192,8 @@ fn judge_in<'a, V: Values<'a>>(given: &V) -> Result<Task<'a>, Fault<'a>>
     ensures word { IfOk result (λ task. word_of task ≡ codes "judge") }
     ensures values { IfOk result (HasValues (V.value given.now) (V.flag given.now)) }
     ensures sound { IfOk result IsSound }
-    ensures refused { IfErr result (λ _. NamesNone (codes "judge") (V.value given.now) (V.flag given.now)) }
+    ensures refused { IfErr result (λ _. NamesNone (codes "judge") (V.value given.now)
+        (V.flag given.now)) }
     ensures fault { IfErr result (IsFirst (V.value given.now) judge_demands) }
 {
     let map = value_in(given, "MAP")?;
@@ -196,7 +207,8 @@ fn check_in<'a, V: Values<'a>>(given: &V) -> Result<Task<'a>, Fault<'a>>
     ensures word { IfOk result (λ task. word_of task ≡ codes "check") }
     ensures values { IfOk result (HasValues (V.value given.now) (V.flag given.now)) }
     ensures sound { IfOk result IsSound }
-    ensures refused { IfErr result (λ _. NamesNone (codes "check") (V.value given.now) (V.flag given.now)) }
+    ensures refused { IfErr result (λ _. NamesNone (codes "check") (V.value given.now)
+        (V.flag given.now)) }
     ensures fault { IfErr result (IsFirst (V.value given.now) check_demands) }
 {
     let map = value_in(given, "MAP")?;
@@ -208,7 +220,8 @@ fn show_in<'a, V: Values<'a>>(given: &V) -> Result<Task<'a>, Fault<'a>>
     ensures word { IfOk result (λ task. word_of task ≡ codes "show") }
     ensures values { IfOk result (HasValues (V.value given.now) (V.flag given.now)) }
     ensures sound { IfOk result IsSound }
-    ensures refused { IfErr result (λ _. NamesNone (codes "show") (V.value given.now) (V.flag given.now)) }
+    ensures refused { IfErr result (λ _. NamesNone (codes "show") (V.value given.now)
+        (V.flag given.now)) }
     ensures fault { IfErr result (IsFirst (V.value given.now) show_demands) }
 {
     let map = value_in(given, "MAP")?;
@@ -225,7 +238,8 @@ fn audit_in<'a, V: Values<'a>>(given: &V) -> Result<Task<'a>, Fault<'a>>
     ensures word { IfOk result (λ task. word_of task ≡ codes "audit") }
     ensures values { IfOk result (HasValues (V.value given.now) (V.flag given.now)) }
     ensures sound { IfOk result IsSound }
-    ensures refused { IfErr result (λ _. NamesNone (codes "audit") (V.value given.now) (V.flag given.now)) }
+    ensures refused { IfErr result (λ _. NamesNone (codes "audit") (V.value given.now)
+        (V.flag given.now)) }
     ensures fault { IfErr result (IsFirst (V.value given.now) audit_demands) }
 {
     let map = value_in(given, "MAP")?;
@@ -238,7 +252,8 @@ fn lint_in<'a, V: Values<'a>>(given: &V) -> Result<Task<'a>, Fault<'a>>
     ensures word { IfOk result (λ task. word_of task ≡ codes "lint") }
     ensures values { IfOk result (HasValues (V.value given.now) (V.flag given.now)) }
     ensures sound { IfOk result IsSound }
-    ensures refused { IfErr result (λ _. NamesNone (codes "lint") (V.value given.now) (V.flag given.now)) }
+    ensures refused { IfErr result (λ _. NamesNone (codes "lint") (V.value given.now)
+        (V.flag given.now)) }
     ensures fault { IfErr result (IsFirst (V.value given.now) lint_demands) }
 {
     let map = value_in(given, "MAP")?;
@@ -250,7 +265,8 @@ pub fn task_of<'a, V: Values<'a>>(name: &str, given: &V) -> Result<Task<'a>, Fau
     ensures word { IfOk result (λ task. word_of task ≡ name.now) }
     ensures values { IfOk result (HasValues (V.value given.now) (V.flag given.now)) }
     ensures sound { IfOk result IsSound }
-    ensures refused { IfErr result (λ _. NamesNone name.now (V.value given.now) (V.flag given.now)) }
+    ensures refused { IfErr result (λ _. NamesNone name.now (V.value given.now)
+        (V.flag given.now)) }
     ensures fault { IfErr result (IsFaultOf name.now (V.value given.now)) }
 {
     if name == "run" {

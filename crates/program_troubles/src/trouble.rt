@@ -146,9 +146,13 @@ impl<'a> Trouble<'a> {
     /// Writes the one line of text. It takes no memory. On an `Err` a beginning of it was written, not all of it, and the
     /// device failed, or took none of some bytes, in this call.
     pub fn print<E: Sink>(&self, err: &mut E) -> Result<(), DeviceFault>
-        ensures written { IfOk result (λ _. Appends (E.contents err.old) (E.contents err.new) (trouble_text self.now)) }
-        ensures part { IfErr result (λ _. TakesPart (trouble_text self.now) (E.contents err.old) (E.contents err.new)) }
-        ensures failed { IfErr result (λ _. WriteFails (E.failures err.old) (E.failures err.new) (E.stalls err.old) (E.stalls err.new)) }
+        ensures written { IfOk result (λ _.
+            Appends (E.contents err.old) (E.contents err.new) (trouble_text self.now)) }
+        ensures part { IfErr result (λ _.
+            TakesPart (trouble_text self.now) (E.contents err.old) (E.contents err.new)) }
+        ensures failed { IfErr result (λ _.
+            WriteFails (E.failures err.old)
+            (E.failures err.new) (E.stalls err.old) (E.stalls err.new)) }
     {
         let mut buffer = Buffer::new();
         match self {
@@ -174,18 +178,28 @@ impl<'a> Trouble<'a> {
 
 /// Writes what is said of a file.
 fn about<E: Sink>(file: &str, said: &str, err: &mut E) -> Result<(), DeviceFault>
-    ensures written { IfOk result (λ _. Appends (E.contents err.old) (E.contents err.new) (file_text file.now said.now)) }
-    ensures part { IfErr result (λ _. TakesPart (file_text file.now said.now) (E.contents err.old) (E.contents err.new)) }
-    ensures failed { IfErr result (λ _. WriteFails (E.failures err.old) (E.failures err.new) (E.stalls err.old) (E.stalls err.new)) }
+    ensures written { IfOk result (λ _.
+        Appends (E.contents err.old) (E.contents err.new) (file_text file.now said.now)) }
+    ensures part { IfErr result (λ _.
+        TakesPart (file_text file.now said.now) (E.contents err.old) (E.contents err.new)) }
+    ensures failed { IfErr result (λ _.
+        WriteFails (E.failures err.old)
+        (E.failures err.new) (E.stalls err.old) (E.stalls err.new)) }
 {
     write_parts(err, &["pmpmon: ", file, said])
 }
 
 /// Writes texts one after another.
 fn write_parts<E: Sink>(err: &mut E, parts: &[&str]) -> Result<(), DeviceFault>
-    ensures written { IfOk result (λ _. Appends (E.contents err.old) (E.contents err.new) (joined (map (λ part. part.now) parts.now))) }
-    ensures part { IfErr result (λ _. TakesPart (joined (map (λ part. part.now) parts.now)) (E.contents err.old) (E.contents err.new)) }
-    ensures failed { IfErr result (λ _. WriteFails (E.failures err.old) (E.failures err.new) (E.stalls err.old) (E.stalls err.new)) }
+    ensures written { IfOk result (λ _.
+        Appends (E.contents err.old) (E.contents err.new)
+        (joined (map (λ part. part.now) parts.now))) }
+    ensures part { IfErr result (λ _.
+        TakesPart (joined (map (λ part. part.now) parts.now))
+        (E.contents err.old) (E.contents err.new)) }
+    ensures failed { IfErr result (λ _.
+        WriteFails (E.failures err.old)
+        (E.failures err.new) (E.stalls err.old) (E.stalls err.new)) }
 {
     for part in parts {
         write_whole(err, part.as_bytes())?;

@@ -46,15 +46,27 @@ pub fn audit<W: Sink>(
     out: &mut W,
 ) -> Result<bool, AuditFault>
     requires short { length listing.now < 2 ^ 64 - 1 }
-    ensures written { IfOk result (λ means. (text : List ℕ) × IsAudit (view_of_runs map.now) fewest listing.now text means × Appends (W.contents out.old) (W.contents out.new) text) }
-    ensures means { result ≡ Ok true → (registers : Registers) × (listed listing.now ≡ Some registers) × MeanView registers (view_of_runs map.now) }
-    ensures differs { result ≡ Ok false → (registers : Registers) × (listed listing.now ≡ Some registers) × ¬ MeanView registers (view_of_runs map.now) }
-    ensures line { (n : ℕ) → result ≡ Err (AuditFault.Line n) → IsFirstUnknown listing.now n × (out.new ≡ out.old) }
+    ensures written { IfOk result (λ means.
+        (text : List ℕ) × IsAudit (view_of_runs map.now) fewest listing.now text means
+        × Appends (W.contents out.old) (W.contents out.new) text) }
+    ensures means { result ≡ Ok true
+        → (registers : Registers) × (listed listing.now ≡ Some registers)
+        × MeanView registers (view_of_runs map.now) }
+    ensures differs { result ≡ Ok false
+        → (registers : Registers) × (listed listing.now ≡ Some registers)
+        × ¬ MeanView registers (view_of_runs map.now) }
+    ensures line { (n : ℕ) → result ≡ Err (AuditFault.Line n)
+        → IsFirstUnknown listing.now n × (out.new ≡ out.old) }
     ensures untouched { result ≡ Err AuditFault.Memory → out.new ≡ out.old }
     ensures well { OnOk result (W.failures out.new ≡ W.failures out.old) }
     ensures unstalled { OnOk result (W.stalls out.new ≡ W.stalls out.old) }
-    ensures part { result ≡ Err AuditFault.Device → (text : List ℕ) × (means : Bool) × IsAudit (view_of_runs map.now) fewest listing.now text means × TakesPart text (W.contents out.old) (W.contents out.new) }
-    ensures failed { result ≡ Err AuditFault.Device → WriteFails (W.failures out.old) (W.failures out.new) (W.stalls out.old) (W.stalls out.new) }
+    ensures part { result ≡ Err AuditFault.Device
+        → (text : List ℕ) × (means : Bool)
+        × IsAudit (view_of_runs map.now) fewest listing.now text means
+        × TakesPart text (W.contents out.old) (W.contents out.new) }
+    ensures failed { result ≡ Err AuditFault.Device
+        → WriteFails (W.failures out.old)
+        (W.failures out.new) (W.stalls out.old) (W.stalls out.new) }
 {
     let registers = match registers_of(listing) {
         Ok(registers) => registers,

@@ -38,7 +38,9 @@ fn load_of_eight(at: u64) -> Access
 
 /// The eight bytes that hold an entry of four, where the map lets them be read and the bank does not.
 fn cut_by(map: &PermissionMap, bank: &Bank, entry: &Entry) -> Option<u64>
-    ensures { (entries : List Entry) → HasList bank.now entries → MatchOption result (IsUncut (view_of_runs map.now) entries entry.now) (IsCutBy (view_of_runs map.now) entries entry.now) }
+    ensures { (entries : List Entry) → HasList bank.now entries
+        → MatchOption result (IsUncut (view_of_runs map.now) entries entry.now)
+        (IsCutBy (view_of_runs map.now) entries entry.now) }
 {
     if entry.region.log2 > 2 {
         return None;
@@ -57,7 +59,9 @@ fn cut_by(map: &PermissionMap, bank: &Bank, entry: &Entry) -> Option<u64>
 /// The first entry by which the bank cuts an access that the map lets through.
 pub(crate) fn first_cut(map: &PermissionMap, bank: &Bank, entries: &[Entry]) -> Option<Cut>
     requires { HasList bank.now entries.now }
-    ensures { MatchOption result (All (IsUncut (view_of_runs map.now) entries.now) entries.now) (λ cut. IsFirstCut (view_of_runs map.now) entries.now cut.entry cut.at) }
+    ensures { MatchOption result (All (IsUncut (view_of_runs map.now) entries.now) entries.now)
+        (λ cut.
+        IsFirstCut (view_of_runs map.now) entries.now cut.entry cut.at) }
 {
     for (i, entry) in entries.iter().enumerate() {
         if let Some(at) = cut_by(map, bank, entry) {

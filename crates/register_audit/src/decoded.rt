@@ -29,10 +29,14 @@ pub struct Decoded {
 /// What the pair of a place means.
 fn entry_at(registers: &Registers, place: usize) -> Result<Option<Entry>, PairFault>
     requires { place < 64 }
-    ensures meaning { IfOk result (λ entry. MatchOption entry (IsOff (cfg_at registers.now place) (address_at registers.now place)) (MeansEntry (cfg_at registers.now place) (address_at registers.now place))) }
-    ensures faultless { IfOk result (λ _. IsFaultless (cfg_at registers.now place) (address_at registers.now place)) }
+    ensures meaning { IfOk result (λ entry.
+        MatchOption entry (IsOff (cfg_at registers.now place) (address_at registers.now place))
+        (MeansEntry (cfg_at registers.now place) (address_at registers.now place))) }
+    ensures faultless { IfOk result (λ _. IsFaultless (cfg_at registers.now place)
+        (address_at registers.now place)) }
     ensures place { IfErr result (λ fault. fault.place ≡ place) }
-    ensures fault { IfErr result (λ fault. IsLeastFault (cfg_at registers.now place) (address_at registers.now place) fault.fault) }
+    ensures fault { IfErr result (λ fault.
+        IsLeastFault (cfg_at registers.now place) (address_at registers.now place) fault.fault) }
 {
     match decode(registers.cfgs[place], registers.addresses[place]) {
         Ok(entry) => Ok(entry),
@@ -43,7 +47,8 @@ fn entry_at(registers: &Registers, place: usize) -> Result<Option<Entry>, PairFa
 /// The entries that the registers mean, those that are OFF left out, or the first pair that no entry has.
 pub fn entries_of(registers: &Registers) -> Result<Decoded, PairFault>
     ensures list { IfOk result (λ list. MeansList (pairs_of registers.now) list.entries.items) }
-    ensures places { IfOk result (λ list. AreAt registers.now list.entries.items list.places.items) }
+    ensures places { IfOk result (λ list.
+        AreAt registers.now list.entries.items list.places.items) }
     ensures fault { IfErr result (IsFirstFault registers.now) }
 {
     let mut entries = ArrayVec::new();

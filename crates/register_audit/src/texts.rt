@@ -73,7 +73,8 @@ fn differs_line(first: u64, last: u64) -> Line
 }
 
 fn means_line(fewest: u64, count: usize) -> Line
-    ensures { (registers : Registers) → result.items ≡ verdict_text fewest registers (Verdict.Means count) }
+    ensures { (registers : Registers) → result.items
+        ≡ verdict_text fewest registers (Verdict.Means count) }
 {
     let count = count as u64;
     let mut line = ArrayVec::new();
@@ -89,7 +90,8 @@ fn means_line(fewest: u64, count: usize) -> Line
 
 fn stretch_line(stretch: &Stretch, place: Option<usize>) -> Line
     requires { 0 < stretch.now.end }
-    ensures { (fewest : ℕ) (registers : Registers) → result.items ≡ verdict_text fewest registers (Verdict.Differs stretch.now place) }
+    ensures { (fewest : ℕ) (registers : Registers)
+        → result.items ≡ verdict_text fewest registers (Verdict.Differs stretch.now place) }
 {
     let mut line = differs_line(stretch.first, stretch.end - 1);
     push_text(&mut line, b"map ");
@@ -104,7 +106,8 @@ fn stretch_line(stretch: &Stretch, place: Option<usize>) -> Line
 
 fn cut_line(place: Option<usize>, at: u64) -> Line
     requires { at + 7 < 2 ^ 64 }
-    ensures { (fewest : ℕ) (registers : Registers) → result.items ≡ verdict_text fewest registers (Verdict.Cuts place at) }
+    ensures { (fewest : ℕ) (registers : Registers)
+        → result.items ≡ verdict_text fewest registers (Verdict.Cuts place at) }
 {
     let mut line = differs_line(at, at + 7);
     push_sayer(&mut line, place);
@@ -114,7 +117,8 @@ fn cut_line(place: Option<usize>, at: u64) -> Line
 
 fn fault_line(registers: &Registers, fault: &PairFault) -> Line
     requires { fault.now.place < 64 }
-    ensures { (fewest : ℕ) → result.items ≡ verdict_text fewest registers.now (Verdict.NoEntry fault.now) }
+    ensures { (fewest : ℕ) → result.items
+        ≡ verdict_text fewest registers.now (Verdict.NoEntry fault.now) }
 {
     let mut line = ArrayVec::new();
     push_text(&mut line, b"pair ");

@@ -38,11 +38,17 @@ fn head() -> &'static [u8]
 /// this call.
 pub fn print_c<W: Sink>(entries: &[Entry], limit: Limit, out: &mut W) -> Result<(), DeviceFault>
     requires fits { length entries.now ≤ limit_number limit }
-    ensures written { IfOk result (λ _. (text : List ℕ) × IsCText limit entries.now text × Appends (W.contents out.old) (W.contents out.new) text) }
+    ensures written { IfOk result (λ _.
+        (text : List ℕ) × IsCText limit entries.now text
+        × Appends (W.contents out.old) (W.contents out.new) text) }
     ensures well { IfOk result (λ _. W.failures out.new ≡ W.failures out.old) }
     ensures unstalled { IfOk result (λ _. W.stalls out.new ≡ W.stalls out.old) }
-    ensures part { IfErr result (λ _. (text : List ℕ) × IsCText limit entries.now text × TakesPart text (W.contents out.old) (W.contents out.new)) }
-    ensures failed { IfErr result (λ _. WriteFails (W.failures out.old) (W.failures out.new) (W.stalls out.old) (W.stalls out.new)) }
+    ensures part { IfErr result (λ _.
+        (text : List ℕ) × IsCText limit entries.now text
+        × TakesPart text (W.contents out.old) (W.contents out.new)) }
+    ensures failed { IfErr result (λ _.
+        WriteFails (W.failures out.old)
+        (W.failures out.new) (W.stalls out.old) (W.stalls out.new)) }
 {
     let bank = Bank::of(entries, limit);
     let addresses = c_rows::Addresses { entries };
@@ -66,11 +72,17 @@ pub fn print_c<W: Sink>(entries: &[Entry], limit: Limit, out: &mut W) -> Result<
 /// this call.
 pub fn print_asm<W: Sink>(entries: &[Entry], limit: Limit, out: &mut W) -> Result<(), DeviceFault>
     requires fits { length entries.now ≤ limit_number limit }
-    ensures written { IfOk result (λ _. (text : List ℕ) × IsAsmText limit entries.now text × Appends (W.contents out.old) (W.contents out.new) text) }
+    ensures written { IfOk result (λ _.
+        (text : List ℕ) × IsAsmText limit entries.now text
+        × Appends (W.contents out.old) (W.contents out.new) text) }
     ensures well { IfOk result (λ _. W.failures out.new ≡ W.failures out.old) }
     ensures unstalled { IfOk result (λ _. W.stalls out.new ≡ W.stalls out.old) }
-    ensures part { IfErr result (λ _. (text : List ℕ) × IsAsmText limit entries.now text × TakesPart text (W.contents out.old) (W.contents out.new)) }
-    ensures failed { IfErr result (λ _. WriteFails (W.failures out.old) (W.failures out.new) (W.stalls out.old) (W.stalls out.new)) }
+    ensures part { IfErr result (λ _.
+        (text : List ℕ) × IsAsmText limit entries.now text
+        × TakesPart text (W.contents out.old) (W.contents out.new)) }
+    ensures failed { IfErr result (λ _.
+        WriteFails (W.failures out.old)
+        (W.failures out.new) (W.stalls out.old) (W.stalls out.new)) }
 {
     let bank = Bank::of(entries, limit);
     let addresses = asm_rows::Addresses { entries };
@@ -96,11 +108,17 @@ fn print_object<W: Sink>(
     out: &mut W,
 ) -> Result<(), DeviceFault>
     requires count { count ≤ 8 }
-    ensures written { IfOk result (λ _. Appends (W.contents out.old) (W.contents out.new) (json_text name.now entries.now bank.now count)) }
+    ensures written { IfOk result (λ _.
+        Appends (W.contents out.old) (W.contents out.new)
+        (json_text name.now entries.now bank.now count)) }
     ensures well { IfOk result (λ _. W.failures out.new ≡ W.failures out.old) }
     ensures unstalled { IfOk result (λ _. W.stalls out.new ≡ W.stalls out.old) }
-    ensures part { IfErr result (λ _. TakesPart (json_text name.now entries.now bank.now count) (W.contents out.old) (W.contents out.new)) }
-    ensures failed { IfErr result (λ _. WriteFails (W.failures out.old) (W.failures out.new) (W.stalls out.old) (W.stalls out.new)) }
+    ensures part { IfErr result (λ _.
+        TakesPart (json_text name.now entries.now bank.now count)
+        (W.contents out.old) (W.contents out.new)) }
+    ensures failed { IfErr result (λ _.
+        WriteFails (W.failures out.old)
+        (W.failures out.new) (W.stalls out.old) (W.stalls out.new)) }
 {
     let letters = json_rows::Name { bytes: name };
     let listed = json_rows::Entries { entries };
@@ -128,11 +146,17 @@ pub fn print_json<W: Sink>(
     limit: Limit,
     out: &mut W,
 ) -> Result<(), DeviceFault>
-    ensures written { IfOk result (λ _. (text : List ℕ) × IsJsonText map.now limit entries.now text × Appends (W.contents out.old) (W.contents out.new) text) }
+    ensures written { IfOk result (λ _.
+        (text : List ℕ) × IsJsonText map.now limit entries.now text
+        × Appends (W.contents out.old) (W.contents out.new) text) }
     ensures well { IfOk result (λ _. W.failures out.new ≡ W.failures out.old) }
     ensures unstalled { IfOk result (λ _. W.stalls out.new ≡ W.stalls out.old) }
-    ensures part { IfErr result (λ _. (text : List ℕ) × IsJsonText map.now limit entries.now text × TakesPart text (W.contents out.old) (W.contents out.new)) }
-    ensures failed { IfErr result (λ _. WriteFails (W.failures out.old) (W.failures out.new) (W.stalls out.old) (W.stalls out.new)) }
+    ensures part { IfErr result (λ _.
+        (text : List ℕ) × IsJsonText map.now limit entries.now text
+        × TakesPart text (W.contents out.old) (W.contents out.new)) }
+    ensures failed { IfErr result (λ _.
+        WriteFails (W.failures out.old)
+        (W.failures out.new) (W.stalls out.old) (W.stalls out.new)) }
 {
     if entries.len() > limit.number() as usize {
         let none = Bank::of(&[], limit);

@@ -34,9 +34,15 @@ pub(crate) trait Rows {
 fn print_row<W: Sink>(row: &Row, out: &mut W) -> Result<(), DeviceFault>
     ensures well { IfOk result (λ _. W.failures out.new ≡ W.failures out.old) }
     ensures unstalled { IfOk result (λ _. W.stalls out.new ≡ W.stalls out.old) }
-    ensures written { IfOk result (λ _. Appends (W.contents out.old) (W.contents out.new) (row.now.front.items ++ row.now.back.items)) }
-    ensures part { IfErr result (λ _. TakesPart (row.now.front.items ++ row.now.back.items) (W.contents out.old) (W.contents out.new)) }
-    ensures failed { IfErr result (λ _. WriteFails (W.failures out.old) (W.failures out.new) (W.stalls out.old) (W.stalls out.new)) }
+    ensures written { IfOk result (λ _.
+        Appends (W.contents out.old) (W.contents out.new)
+        (row.now.front.items ++ row.now.back.items)) }
+    ensures part { IfErr result (λ _.
+        TakesPart (row.now.front.items ++ row.now.back.items)
+        (W.contents out.old) (W.contents out.new)) }
+    ensures failed { IfErr result (λ _.
+        WriteFails (W.failures out.old)
+        (W.failures out.new) (W.stalls out.old) (W.stalls out.new)) }
 {
     write_whole(out, row.front.as_slice())?;
     write_whole(out, row.back.as_slice())?;
@@ -48,9 +54,15 @@ fn print_rows<R: Rows, W: Sink>(rows: &R, count: usize, out: &mut W) -> Result<(
     requires most { count ≤ R.most rows.now }
     ensures well { IfOk result (λ _. W.failures out.new ≡ W.failures out.old) }
     ensures unstalled { IfOk result (λ _. W.stalls out.new ≡ W.stalls out.old) }
-    ensures written { IfOk result (λ _. Appends (W.contents out.old) (W.contents out.new) (rows_text (R.row_text rows.now) 0 count)) }
-    ensures part { IfErr result (λ _. TakesPart (rows_text (R.row_text rows.now) 0 count) (W.contents out.old) (W.contents out.new)) }
-    ensures failed { IfErr result (λ _. WriteFails (W.failures out.old) (W.failures out.new) (W.stalls out.old) (W.stalls out.new)) }
+    ensures written { IfOk result (λ _.
+        Appends (W.contents out.old) (W.contents out.new)
+        (rows_text (R.row_text rows.now) 0 count)) }
+    ensures part { IfErr result (λ _.
+        TakesPart (rows_text (R.row_text rows.now) 0 count)
+        (W.contents out.old) (W.contents out.new)) }
+    ensures failed { IfErr result (λ _.
+        WriteFails (W.failures out.old)
+        (W.failures out.new) (W.stalls out.old) (W.stalls out.new)) }
 {
     for i in 0..count {
         let row = rows.row(i);
@@ -69,9 +81,15 @@ pub(crate) fn print_section<R: Rows, W: Sink>(
     requires most { count ≤ R.most rows.now }
     ensures well { IfOk result (λ _. W.failures out.new ≡ W.failures out.old) }
     ensures unstalled { IfOk result (λ _. W.stalls out.new ≡ W.stalls out.old) }
-    ensures written { IfOk result (λ _. Appends (W.contents out.old) (W.contents out.new) (text.now ++ rows_text (R.row_text rows.now) 0 count)) }
-    ensures part { IfErr result (λ _. TakesPart (text.now ++ rows_text (R.row_text rows.now) 0 count) (W.contents out.old) (W.contents out.new)) }
-    ensures failed { IfErr result (λ _. WriteFails (W.failures out.old) (W.failures out.new) (W.stalls out.old) (W.stalls out.new)) }
+    ensures written { IfOk result (λ _.
+        Appends (W.contents out.old) (W.contents out.new)
+        (text.now ++ rows_text (R.row_text rows.now) 0 count)) }
+    ensures part { IfErr result (λ _.
+        TakesPart (text.now ++ rows_text (R.row_text rows.now) 0 count)
+        (W.contents out.old) (W.contents out.new)) }
+    ensures failed { IfErr result (λ _.
+        WriteFails (W.failures out.old)
+        (W.failures out.new) (W.stalls out.old) (W.stalls out.new)) }
 {
     write_whole(out, text)?;
     print_rows(rows, count, out)?;

@@ -7,7 +7,8 @@ use crate::registers::Registers;
 /// The call that the registers name: the extension id in a7 and the function id in a6, compared as 64-bit words,
 /// arguments in a0 to a5 (SBI, section Binary Encoding).
 pub fn decode(registers: &Registers) -> Result<Call, NotSupported>
-    ensures { MatchResult result (λ call. call_of registers.now ≡ Some call) (λ _. call_of registers.now ≡ None) }
+    ensures { MatchResult result (λ call.
+        call_of registers.now ≡ Some call) (λ _. call_of registers.now ≡ None) }
 {
     if registers.get(17) != EXTENSION_ID {
         return Err(NotSupported);

@@ -29,8 +29,10 @@ pub(crate) fn covering_from(entries: &[Entry], at: u64) -> Covering
     requires { at < 2 ^ 56 }
     ensures some { at < result.end }
     ensures inside { result.end ≤ 2 ^ 56 }
-    ensures decided { (byte : ℕ) → at ≤ byte → byte < result.end → decider entries.now byte ≡ result.entry }
-    ensures given { (byte : ℕ) → at ≤ byte → byte < result.end → perm_at NoAccess entries.now byte ≡ result.given }
+    ensures decided { (byte : ℕ) → at ≤ byte → byte < result.end
+        → decider entries.now byte ≡ result.entry }
+    ensures given { (byte : ℕ) → at ≤ byte → byte < result.end
+        → perm_at NoAccess entries.now byte ≡ result.given }
     ensures changes { result.end < 2 ^ 56 → decider entries.now result.end ≢ result.entry }
 {
     let mut end = SPACE_SIZE;

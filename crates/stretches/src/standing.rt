@@ -20,7 +20,8 @@ pub(crate) fn standing_from(map: &PermissionMap, page: u64) -> Standing
     requires { page < 2 ^ 44 }
     ensures some { page < result.end }
     ensures inside { result.end ≤ 2 ^ 44 }
-    ensures wanted { (q : ℕ) → page ≤ q → q < result.end → view_of_runs map.now q ≡ result.wanted }
+    ensures wanted { (q : ℕ) → page ≤ q → q < result.end
+        → view_of_runs map.now q ≡ result.wanted }
     ensures changes { result.end < 2 ^ 44 → view_of_runs map.now result.end ≢ result.wanted }
 {
     let Some(run) = map.next_run(page) else {

@@ -52,7 +52,8 @@ pub fn stretches(
     map: &PermissionMap,
     entries: &[Entry],
 ) -> Result<Vec<Stretch>, Memory>
-    ensures { IfOk result (λ all. AreStretches (view_of_runs map.now) entries.now 0 all.items (2 ^ 56)) }
+    ensures { IfOk result (λ all. AreStretches (view_of_runs map.now) entries.now 0 all.items
+        (2 ^ 56)) }
 {
     let mut all = Vec::new(alloc);
     let mut at = 0;

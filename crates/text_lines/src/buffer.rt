@@ -64,7 +64,9 @@ impl Buffer {
         requires room { length self.old < 65536 }
         requires some { 0 < most }
         ensures read { MatchResult result
-            (λ n. (n ≤ most) × ((bytes : List ℕ) × (length bytes ≡ n) × Consumes (R.remaining source.old) (R.remaining source.new) bytes × (self.new ≡ self.old ++ bytes)) × (n ≡ 0 → IsAtEnd (R.remaining source.new)))
+            (λ n. (n ≤ most) × ((bytes : List ℕ) × (length bytes ≡ n)
+            × Consumes (R.remaining source.old) (R.remaining source.new) bytes
+            × (self.new ≡ self.old ++ bytes)) × (n ≡ 0 → IsAtEnd (R.remaining source.new)))
             (λ _. Keeps (R.remaining source.old) (R.remaining source.new) × (self.new ≡ self.old)) }
         ensures failures { CountsFailure result (R.failures source.old) (R.failures source.new) }
     {

@@ -265,7 +265,8 @@ pub struct Words<'a> {
 impl<'a> Words<'a> {
     /// The words of a line, unless a byte outside its comment may not stand there.
     pub fn of(line: &'a [u8]) -> Result<Words<'a>, NotUnderstood>
-        ensures { option_map (λ words. split_words words.rest.now) (result_ok result) ≡ words_of line.now }
+        ensures { option_map (λ words. split_words words.rest.now) (result_ok result)
+            ≡ words_of line.now }
     {
         if all_plain(line) {
             return Ok(Words { rest: line });
@@ -279,7 +280,8 @@ impl<'a> Words<'a> {
 
     /// The next word, where there is one.
     pub fn next_word(&mut self) -> Option<&'a [u8]>
-        ensures word { MatchOption result (split_words self.old.rest.now ≡ []) (λ word. split_words self.old.rest.now ≡ word.now ∷ split_words self.new.rest.now) }
+        ensures word { MatchOption result (split_words self.old.rest.now ≡ []) (λ word.
+            split_words self.old.rest.now ≡ word.now ∷ split_words self.new.rest.now) }
         ensures shorter { OnSome result (length self.new.rest.now < length self.old.rest.now) }
     {
         let text = &self.rest[blanks_len(self.rest)..];

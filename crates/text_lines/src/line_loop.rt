@@ -43,10 +43,13 @@ pub trait Interpreter {
     fn interpret(&mut self, line: &[u8], count: u64, answer: &mut Line) -> Result<bool, Refusal>
         requires count { count < 2 ^ 64 - 1 }
         requires empty { answer.old.items ≡ [] }
-        ensures done { keeps self.old → IfOk result (λ answered. does self.old count line.now (text_of answered answer.new) self.new) }
+        ensures done { keeps self.old
+            → IfOk result (λ answered.
+            does self.old count line.now (text_of answered answer.new) self.new) }
         ensures unknown { result ≡ Err Refusal.NotUnderstood → refuses self.old line.now }
         ensures untouched { result ≡ Err Refusal.NotUnderstood → self.new ≡ self.old }
-        ensures starved { result ≡ Err Refusal.Memory → keeps self.old → starves self.old line.now self.new }
+        ensures starved { result ≡ Err Refusal.Memory → keeps self.old
+            → starves self.old line.now self.new }
         ensures keeps { keeps self.old → keeps self.new };
 }
 
@@ -59,11 +62,19 @@ fn write_answer<W: Sink>(
 ) -> Result<u64, DeviceFault>
     requires count { count < 2 ^ 64 - 1 }
     ensures counted { IfOk result (λ n. n ≡ counted count (text_of answered answer.now)) }
-    ensures whole { IfOk result (λ _. Appends (W.contents sink.old) (W.contents sink.new) (told (text_of answered answer.now))) }
+    ensures whole { IfOk result
+        (λ _.
+        Appends (W.contents sink.old) (W.contents sink.new)
+        (told (text_of answered answer.now))) }
     ensures well { IfOk result (λ _. W.failures sink.new ≡ W.failures sink.old) }
     ensures unstalled { IfOk result (λ _. W.stalls sink.new ≡ W.stalls sink.old) }
-    ensures part { IfErr result (λ _. (text : List ℕ) × (part : ℕ) × (text_of answered answer.now ≡ Some text) × (part < length text) × Appends (W.contents sink.old) (W.contents sink.new) (take part text)) }
-    ensures failed { IfErr result (λ _. WriteFails (W.failures sink.old) (W.failures sink.new) (W.stalls sink.old) (W.stalls sink.new)) }
+    ensures part { IfErr result (λ _.
+        (text : List ℕ) × (part : ℕ) × (text_of answered answer.now ≡ Some text)
+        × (part < length text)
+        × Appends (W.contents sink.old) (W.contents sink.new) (take part text)) }
+    ensures failed { IfErr result (λ _.
+        WriteFails (W.failures sink.old)
+        (W.failures sink.new) (W.stalls sink.old) (W.stalls sink.new)) }
 {
     if !answered {
         return Ok(count);
@@ -79,15 +90,30 @@ pub fn interpret_lines<I: Interpreter, R: Source, W: Sink>(
     source: &mut R,
     sink: &mut W,
 ) -> Result<(), RunFault>
-    ensures all { I.keeps interpreter.old → IfOk result (λ _. DoesAll I.does interpreter.old interpreter.new (R.remaining source.old) (R.remaining source.new) (W.contents sink.old) (W.contents sink.new)) }
-    ensures line { I.keeps interpreter.old → (n : ℕ) → result ≡ Err (RunFault.Line n) → StopsAt n I.does I.refuses interpreter.old interpreter.new (R.remaining source.old) (R.remaining source.new) (W.contents sink.old) (W.contents sink.new) }
-    ensures too_long { I.keeps interpreter.old → result ≡ Err RunFault.TooLong → StopsTooLong I.does interpreter.old interpreter.new (R.remaining source.old) (R.remaining source.new) (W.contents sink.old) (W.contents sink.new) }
-    ensures read { I.keeps interpreter.old → result ≡ Err RunFault.Read → StopsReading I.does interpreter.old interpreter.new (R.remaining source.old) (R.remaining source.new) (W.contents sink.old) (W.contents sink.new) }
-    ensures write { I.keeps interpreter.old → result ≡ Err RunFault.Write → StopsWriting I.does interpreter.old interpreter.new (R.remaining source.old) (R.remaining source.new) (W.contents sink.old) (W.contents sink.new) }
-    ensures memory { I.keeps interpreter.old → result ≡ Err RunFault.Memory → StopsForMemory I.does I.starves interpreter.old interpreter.new (R.remaining source.old) (R.remaining source.new) (W.contents sink.old) (W.contents sink.new) }
+    ensures all { I.keeps interpreter.old
+        → IfOk result (λ _.
+        DoesAll I.does interpreter.old interpreter.new (R.remaining source.old)
+        (R.remaining source.new) (W.contents sink.old) (W.contents sink.new)) }
+    ensures line { I.keeps interpreter.old → (n : ℕ) → result ≡ Err (RunFault.Line n)
+        → StopsAt n I.does I.refuses interpreter.old interpreter.new (R.remaining source.old)
+        (R.remaining source.new) (W.contents sink.old) (W.contents sink.new) }
+    ensures too_long { I.keeps interpreter.old → result ≡ Err RunFault.TooLong
+        → StopsTooLong I.does interpreter.old interpreter.new (R.remaining source.old)
+        (R.remaining source.new) (W.contents sink.old) (W.contents sink.new) }
+    ensures read { I.keeps interpreter.old → result ≡ Err RunFault.Read
+        → StopsReading I.does interpreter.old interpreter.new (R.remaining source.old)
+        (R.remaining source.new) (W.contents sink.old) (W.contents sink.new) }
+    ensures write { I.keeps interpreter.old → result ≡ Err RunFault.Write
+        → StopsWriting I.does interpreter.old interpreter.new (R.remaining source.old)
+        (R.remaining source.new) (W.contents sink.old) (W.contents sink.new) }
+    ensures memory { I.keeps interpreter.old → result ≡ Err RunFault.Memory
+        → StopsForMemory I.does I.starves interpreter.old interpreter.new
+        (R.remaining source.old) (R.remaining source.new) (W.contents sink.old)
+        (W.contents sink.new) }
     ensures keeps { I.keeps interpreter.old → I.keeps interpreter.new }
     ensures reads { CountsReads result (R.failures source.old) (R.failures source.new) }
-    ensures writes { CountsWrites result (W.failures sink.old) (W.failures sink.new) (W.stalls sink.old) (W.stalls sink.new) }
+    ensures writes { CountsWrites result (W.failures sink.old)
+        (W.failures sink.new) (W.stalls sink.old) (W.stalls sink.new) }
 {
     let mut reader = LineReader::new();
     let mut answer: Line = ArrayVec::new();

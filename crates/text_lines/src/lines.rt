@@ -45,7 +45,8 @@ pub fn without_return(line: &[u8]) -> &[u8]
 
 /// Reads where no further byte may come.
 fn read_end<R: Source>(source: &mut R) -> Result<(), ReadFault>
-    ensures { EndsInput result (R.remaining source.old) (R.remaining source.new) (R.failures source.old) (R.failures source.new) }
+    ensures { EndsInput result (R.remaining source.old)
+        (R.remaining source.new) (R.failures source.old) (R.failures source.new) }
 {
     let mut byte = [0];
     match source.read(&mut byte) {
@@ -171,7 +172,9 @@ impl LineReader {
     fn read_more<R: Source>(&mut self, source: &mut R) -> Result<bool, ReadFault>
         requires taken { self.old.taken ≡ 0 }
         requires room { length self.old.buffer < 65536 }
-        ensures read { (bytes : List ℕ) × ReadsMore result self.old self.new (R.remaining source.old) (R.remaining source.new) bytes }
+        ensures read { (bytes : List ℕ)
+            × ReadsMore result self.old self.new (R.remaining source.old)
+            (R.remaining source.new) bytes }
         ensures failures { FailsOnRead result (R.failures source.old) (R.failures source.new) }
         ensures taken { self.new.taken ≡ 0 }
         ensures limit { self.new.limit ≡ self.old.limit }
@@ -195,7 +198,8 @@ impl LineReader {
     /// limit are too many.
     #[inline(always)]
     pub fn next_line<R: Source>(&mut self, source: &mut R) -> Result<bool, ReadFault>
-        ensures line { NextLine result self.old self.new (R.remaining source.old) (R.remaining source.new) }
+        ensures line { NextLine result self.old self.new (R.remaining source.old)
+            (R.remaining source.new) }
         ensures failures { FailsOnRead result (R.failures source.old) (R.failures source.new) }
         ensures few { came_of self.new ≤ most_of self.new }
         ensures limit { most_of self.new ≡ most_of self.old }

@@ -59,7 +59,8 @@ static PAIRS: [u8; 200] =
 fn push_pair(line: &mut Line, pair: u64)
     requires below { pair < 100 }
     requires room { array_vec_len line.old + 2 ≤ 128 }
-    ensures items { line.new.items ≡ line.old.items ++ (48 + pair / 10) ∷ (48 + pair % 10) ∷ [] }
+    ensures items { line.new.items ≡ line.old.items
+        ++ (48 + pair / 10) ∷ (48 + pair % 10) ∷ [] }
     ensures len { array_vec_len line.new ≡ array_vec_len line.old + 2 }
 {
     let from = pair as usize * 2;

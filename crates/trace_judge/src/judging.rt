@@ -91,14 +91,25 @@ pub fn judge_trace<R: Source, W: Sink>(
     source: &mut R,
     sink: &mut W,
 ) -> Result<(), RunFault>
-    ensures all { IfOk result (λ _. DoesAll (judged_by bank.now) tt tt (R.remaining source.old) (R.remaining source.new) (W.contents sink.old) (W.contents sink.new)) }
-    ensures line { (n : ℕ) → result ≡ Err (RunFault.Line n) → StopsAt n (judged_by bank.now) is_no_access tt tt (R.remaining source.old) (R.remaining source.new) (W.contents sink.old) (W.contents sink.new) }
-    ensures too_long { result ≡ Err RunFault.TooLong → StopsTooLong (judged_by bank.now) tt tt (R.remaining source.old) (R.remaining source.new) (W.contents sink.old) (W.contents sink.new) }
-    ensures read { result ≡ Err RunFault.Read → StopsReading (judged_by bank.now) tt tt (R.remaining source.old) (R.remaining source.new) (W.contents sink.old) (W.contents sink.new) }
-    ensures write { result ≡ Err RunFault.Write → StopsWriting (judged_by bank.now) tt tt (R.remaining source.old) (R.remaining source.new) (W.contents sink.old) (W.contents sink.new) }
+    ensures all { IfOk result (λ _.
+        DoesAll (judged_by bank.now) tt tt (R.remaining source.old)
+        (R.remaining source.new) (W.contents sink.old) (W.contents sink.new)) }
+    ensures line { (n : ℕ) → result ≡ Err (RunFault.Line n)
+        → StopsAt n (judged_by bank.now) is_no_access tt tt (R.remaining source.old)
+        (R.remaining source.new) (W.contents sink.old) (W.contents sink.new) }
+    ensures too_long { result ≡ Err RunFault.TooLong
+        → StopsTooLong (judged_by bank.now) tt tt (R.remaining source.old)
+        (R.remaining source.new) (W.contents sink.old) (W.contents sink.new) }
+    ensures read { result ≡ Err RunFault.Read
+        → StopsReading (judged_by bank.now) tt tt (R.remaining source.old)
+        (R.remaining source.new) (W.contents sink.old) (W.contents sink.new) }
+    ensures write { result ≡ Err RunFault.Write
+        → StopsWriting (judged_by bank.now) tt tt (R.remaining source.old)
+        (R.remaining source.new) (W.contents sink.old) (W.contents sink.new) }
     ensures no_memory { result ≡ Err RunFault.Memory → ⊥ }
     ensures reads { CountsReads result (R.failures source.old) (R.failures source.new) }
-    ensures writes { CountsWrites result (W.failures sink.old) (W.failures sink.new) (W.stalls sink.old) (W.stalls sink.new) }
+    ensures writes { CountsWrites result (W.failures sink.old)
+        (W.failures sink.new) (W.stalls sink.old) (W.stalls sink.new) }
 {
     let segments = Segments::of(bank);
     let mut by_bank = Judge { segments };

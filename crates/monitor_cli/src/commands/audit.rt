@@ -23,7 +23,9 @@ pub fn do_audit<'a, R: Source, W: Sink>(
     second: &mut R,
     out: &mut W,
 ) -> Result<u8, Trouble<'a>>
-    ensures { let source = reading R.remaining R.failures in Audits map.entry registers.entry (source first.old first.new) (source second.old second.new) (writing W.contents W.failures W.stalls out.old out.new) result }
+    ensures { let source = reading R.remaining R.failures in
+        Audits map.entry registers.entry (source first.old first.new) (source second.old second.new)
+        (writing W.contents W.failures W.stalls out.old out.new) result }
 {
     let map = map_in(alloc, map, first)?;
     let listing = bytes_in(alloc, registers, second, REGISTER_BYTES)?;

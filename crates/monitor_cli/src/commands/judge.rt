@@ -21,7 +21,10 @@ pub fn do_judge<'a, R: Source, W: Sink>(
     second: &mut R,
     out: &mut W,
 ) -> Result<u8, Trouble<'a>>
-    ensures { let source = reading R.remaining R.failures in Judges map.entry trace.entry limit (source first.old first.new) (source second.old second.new) (writing W.contents W.failures W.stalls out.old out.new) result }
+    ensures { let source = reading R.remaining R.failures in
+        Judges map.entry trace.entry limit (source first.old first.new)
+        (source second.old second.new) (writing W.contents W.failures W.stalls out.old out.new)
+        result }
 {
     let map = map_in(alloc, map, first)?;
     let bank = bank_in(alloc, &map, limit)?;

@@ -17,7 +17,8 @@ pub fn do_lint<'a, R: Source, W: Sink>(
     first: &mut R,
     out: &mut W,
 ) -> Result<u8, Trouble<'a>>
-    ensures { Lints map.entry (reading R.remaining R.failures first.old first.new) (writing W.contents W.failures W.stalls out.old out.new) result }
+    ensures { Lints map.entry (reading R.remaining R.failures first.old first.new)
+        (writing W.contents W.failures W.stalls out.old out.new) result }
 {
     let bytes = bytes_in(alloc, map, first, MAP_BYTES)?;
     match lint(alloc, map, bytes.as_slice(), out) {

@@ -51,9 +51,14 @@ fn print_as<W: Sink>(
     limit: Limit,
     out: &mut W,
 ) -> Result<(), DeviceFault>
-    requires fits { (at_most : Option ℕ) × IsWithin (most_entries limit at_most format) (length entries.now) }
-    ensures printed { IfOk result (λ _. (text : List ℕ) × IsPrinted format map.now limit entries.now text × TakesAll text (writing W.contents W.failures W.stalls out.old out.new)) }
-    ensures broken { IfErr result (λ _. (text : List ℕ) × IsPrinted format map.now limit entries.now text × Breaks text (writing W.contents W.failures W.stalls out.old out.new)) }
+    requires fits { (at_most : Option ℕ) × IsWithin (most_entries limit at_most format)
+        (length entries.now) }
+    ensures printed { IfOk result (λ _.
+        (text : List ℕ) × IsPrinted format map.now limit entries.now text
+        × TakesAll text (writing W.contents W.failures W.stalls out.old out.new)) }
+    ensures broken { IfErr result (λ _.
+        (text : List ℕ) × IsPrinted format map.now limit entries.now text
+        × Breaks text (writing W.contents W.failures W.stalls out.old out.new)) }
 {
     match format {
         Format::Text => print_plan(entries, limit, out),
@@ -72,7 +77,11 @@ pub fn do_plan<'a, R: Source, C: WholeSink, W: Sink>(
     certificate: &mut C,
     out: &mut W,
 ) -> Result<u8, Trouble<'a>>
-    ensures { Plans map.entry asked.entry.cert asked.entry.limit asked.entry.at_most asked.entry.format (reading R.remaining R.failures first.old first.new) (placing C.contents C.failures C.stalls C.stands certificate.old certificate.new) (writing W.contents W.failures W.stalls out.old out.new) result }
+    ensures { Plans map.entry asked.entry.cert asked.entry.limit asked.entry.at_most
+        asked.entry.format
+        (reading R.remaining R.failures first.old first.new)
+        (placing C.contents C.failures C.stalls C.stands certificate.old certificate.new)
+        (writing W.contents W.failures W.stalls out.old out.new) result }
 {
     let Asked {
         cert,

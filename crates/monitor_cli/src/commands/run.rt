@@ -20,7 +20,9 @@ fn run_on<'a, R: Source, W: Sink>(
     out: &mut W,
 ) -> Result<u8, Trouble<'a>>
     requires kept { KeepsBanksRight machine.old }
-    ensures { RunsOn machine.old trace.entry measure (reading R.remaining R.failures second.old second.new) (writing W.contents W.failures W.stalls out.old out.new) result }
+    ensures { RunsOn machine.old trace.entry measure
+        (reading R.remaining R.failures second.old second.new)
+        (writing W.contents W.failures W.stalls out.old out.new) result }
 {
     match run(machine, second, out) {
         Ok(()) => {}
@@ -45,7 +47,10 @@ pub fn do_run<'a, R: Source, W: Sink>(
     second: &mut R,
     out: &mut W,
 ) -> Result<u8, Trouble<'a>>
-    ensures { let source = reading R.remaining R.failures in Runs platform.entry trace.entry measure (source first.old first.new) (source second.old second.new) (writing W.contents W.failures W.stalls out.old out.new) result }
+    ensures { let source = reading R.remaining R.failures in
+        Runs platform.entry trace.entry measure (source first.old first.new)
+        (source second.old second.new) (writing W.contents W.failures W.stalls out.old out.new)
+        result }
 {
     let platform = read_platform(alloc, platform, first)?;
     let mut machine = booted(alloc, platform)?;

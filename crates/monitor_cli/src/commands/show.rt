@@ -20,7 +20,8 @@ pub fn do_show<'a, R: Source, W: Sink>(
     first: &mut R,
     out: &mut W,
 ) -> Result<u8, Trouble<'a>>
-    ensures { Shows map.entry limit at_most (reading R.remaining R.failures first.old first.new) (writing W.contents W.failures W.stalls out.old out.new) result }
+    ensures { Shows map.entry limit at_most (reading R.remaining R.failures first.old first.new)
+        (writing W.contents W.failures W.stalls out.old out.new) result }
 {
     let map = map_in(alloc, map, first)?;
     let plan = planned_within(alloc, &map, at_most)?;
