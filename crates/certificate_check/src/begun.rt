@@ -1,3 +1,5 @@
+//! Entries that have begun at a page and not yet ended, one for each size.
+
 use crate::entries::{SIZES, Span};
 use crate::piece::Piece;
 use crate::sizes::Sizes;

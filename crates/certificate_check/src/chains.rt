@@ -1,3 +1,5 @@
+//! Chains of entries: those of one size, by rising address.
+
 use crate::entries::{Entries, SIZES, Span};
 use crate::piece::Piece;
 use arrayvec::ArrayVec;

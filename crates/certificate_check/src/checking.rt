@@ -1,3 +1,5 @@
+//! The check of a certificate: its parts in the order of reading, and the first that is not right.
+
 ghost use Rattle.std.specs.Prelude.{◌≡◌, ◌≤◌, ◌↔◌, ℕ, List, IfOk, IfErr, length};
 ghost use Rattle.pmp_encoding.specs.declared.region.Entry.{Entry};
 ghost use Rattle.pmp_match.specs.Meaning.{Means};

@@ -1,3 +1,5 @@
+//! The entries of a certificate, read from their bytes where they are asked for.
+
 ghost use Rattle.std.specs.Prelude.{◌≡◌, ℕ, ◌+◌, ◌*◌, ◌/◌, ◌<◌, ◌≤◌, ◌^◌};
 ghost use Rattle.pmp_encoding.specs.declared.region.Entry.{Entry};
 

@@ -1,3 +1,5 @@
+//! The reading of the entries of a certificate.
+
 ghost use Rattle.std.specs.Prelude.{◌≡◌, ℕ, ◌<◌, ◌≤◌, ◌++◌, List, length, IfOk, IfErr, OnOk, IsOk};
 ghost use Rattle.pmp_encoding.specs.declared.region.Entry.{Entry};
 ghost use Rattle.certificate_format.specs.Spelling.{SpellsEntry, SpellsEntries};

@@ -1,3 +1,5 @@
+//! The reading of the tree of a certificate: each leaf against the map, each branch against its halves.
+
 ghost use Rattle.std.specs.Prelude.{◌≡◌, ℕ, ◌+◌, ◌-◌, ◌<◌, ◌≤◌, ◌^◌, ◌∷◌, ◌++◌, List, IfOk, OnOk, IsOk, IfErr};
 ghost use Rattle.pmp_encoding.specs.declared.perm.Perm.{Perm};
 ghost use Rattle.pmp_encoding.specs.Perms.{bits_of};

@@ -1,3 +1,5 @@
+//! The numbers that the halves of a block allow for it.
+
 ghost use Rattle.std.specs.Prelude.{◌≡◌, ◌+◌, ◌<◌, ◌≤◌, ◌^◌, ◌⊎◌, false, IsTrue, IfSome, IfNone, SomeIff};
 ghost use Rattle.pmp_encoding.specs.declared.perm.Perm.{Perm};
 ghost use Rattle.pmp_match.specs.Bounds.{Leaf, bound_of};

@@ -1,3 +1,5 @@
+//! Pages one after another with one permission, as they are gone over.
+
 use pmp_encoding::Perm;
 
 /// A permission that holds from some page to before `end`.

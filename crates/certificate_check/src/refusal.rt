@@ -1,3 +1,5 @@
+//! Why a certificate is refused.
+
 use certificate_format::ReadFault;
 
 /// Why the bytes are no right certificate for the map. The numbers are those that the program prints.

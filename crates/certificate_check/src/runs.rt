@@ -1,3 +1,5 @@
+//! The runs of a map, as its pages are gone over in their order.
+
 ghost use Rattle.std.specs.Prelude.{◌≡◌, ◌≢◌, ℕ, ◌+◌, ◌<◌, ◌≤◌, ◌^◌, IfSome, IfNone, length};
 ghost use Rattle.permission_map.specs.Runs.{view_of_runs};
 ghost use Rattle.certificate_check.specs.Later.{AreLaterRuns, StartsBehind, AgreeFrom};

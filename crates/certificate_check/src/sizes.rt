@@ -1,3 +1,5 @@
+//! Sets of sizes of entries.
+
 ghost use Rattle.std.specs.Prelude.{◌≡◌, ◌≢◌, ℕ, ◌<◌, ◌^◌, IfSome, IfNone};
 ghost use Rattle.std.specs.Int.{bit_at};
 

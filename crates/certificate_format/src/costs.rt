@@ -1,3 +1,5 @@
+//! The six costs of a node, as bytes.
+
 use byteorder::{ByteOrder, LittleEndian};
 use pmp_encoding::Perm;
 

@@ -1,3 +1,5 @@
+//! Why the next part of a certificate cannot be read.
+
 /// Why the next part of a certificate cannot be read. The numbers are those that the program prints.
 #[derive(Clone, Copy, PartialEq, Eq, Debug)]
 pub enum ReadFault {

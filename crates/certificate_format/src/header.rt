@@ -1,3 +1,5 @@
+//! The header of a certificate: its version, its limit, and the number of entries.
+
 use pmp_encoding::Limit;
 
 /// The form of a certificate: the first says no limit and means sixteen, the second names its limit.

@@ -1,3 +1,5 @@
+//! The parts of a certificate that are of a fixed length.
+
 use byteorder::{ByteOrder, LittleEndian};
 use std::marker::Model;
 

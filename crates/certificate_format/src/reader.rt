@@ -1,3 +1,5 @@
+//! A cursor over the bytes of a certificate.
+
 ghost use Rattle.std.specs.Prelude.{◌≡◌, ℕ, ◌∷◌, ◌++◌, ◌^◌, ◌<◌, ◌↔◌, List, MatchResult, IfOk, OnErr, Ok, Err};
 ghost use Rattle.pmp_encoding.specs.declared.perm.Perm.{Perm};
 ghost use Rattle.pmp_encoding.specs.Perms.{bits_of};

@@ -1,3 +1,5 @@
+//! What the check of certificates answers, and why.
+
 mod orders;
 mod ways;
 

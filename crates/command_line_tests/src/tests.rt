@@ -1,3 +1,5 @@
+//! Command lines, and the tasks or faults that they are.
+
 use clap::error::ErrorKind;
 use command_line::{Format, Task, command_of, takes_place};
 use pmp_encoding::Limit;

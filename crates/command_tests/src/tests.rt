@@ -1,3 +1,5 @@
+//! The tests of each command, in a module each.
+
 mod certificates;
 mod devices;
 mod failing;

@@ -1,3 +1,5 @@
+//! The saved registers of the hosts and the enclaves.
+
 use sbi_decode::Registers;
 use worlds::World;
 

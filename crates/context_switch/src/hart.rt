@@ -1,3 +1,5 @@
+//! A hart: its world, its registers and its bank.
+
 ghost use Rattle.std.specs.Prelude.{◌<◌};
 ghost use Rattle.worlds.specs.Runners.{IsWorld, IsWorld-prop};
 

@@ -1,3 +1,5 @@
+//! The switch from one world to another.
+
 ghost use Rattle.std.specs.Prelude.{◌≤◌, length};
 ghost use Rattle.pmp_encoding.specs.Limits.{limit_number};
 ghost use Rattle.pmp_encoding.specs.Banks.{limit_of, HasList, IsBankOf};

@@ -1,3 +1,5 @@
+//! The table that is made of a platform.
+
 ghost use Rattle.std.specs.Prelude.{◌≡◌, ◌<◌, None, replicate, length, IfOk, IfErr};
 ghost use Rattle.enclave_table.specs.Fewest.{FitsIn};
 ghost use Rattle.enclave_table.specs.Views.{host_view};

@@ -1,3 +1,5 @@
+//! The checks of each call, in their order.
+
 ghost use Rattle.std.specs.Prelude.{ℕ, ◌<◌, ◌≤◌, ◌↔◌, IsTrue, IfOk, IfErr, true, false};
 ghost use Rattle.enclave_table.specs.Enclaves.{Live, IsNextId};
 ghost use Rattle.enclave_table.specs.Requests.{ArePartsApart, HasCounts, HasPlaces};

@@ -1,3 +1,5 @@
+//! The destruction of an enclave.
+
 ghost use Rattle.std.specs.Prelude.{◌≡◌, ◌<◌, ◌-◌, IfOk, IfErr, OnErr, None};
 ghost use Rattle.enclave_table.specs.Tables.{IsCurrent};
 ghost use Rattle.enclave_table.specs.Destroying.{Destroys, RefusesDestroy};

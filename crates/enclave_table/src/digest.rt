@@ -1,3 +1,5 @@
+//! The measurement of an enclave's private pages.
+
 ghost use Rattle.std.specs.Prelude.{◌≡◌, ℕ, ◌+◌, ◌<◌, ◌≤◌, ◌==◌, ◌^◌, List, true};
 ghost use Rattle.std.specs.List.{list_all};
 ghost use Rattle.measurement.specs.Measured.{digest_of};

@@ -1,3 +1,5 @@
+//! The fewest entries of a view, where the bank has room for them.
+
 ghost use Rattle.std.specs.Prelude.{ℕ, ◌+◌, ◌^◌, ◌<◌, ◌≤◌, IfOk, IfErr, length};
 ghost use Rattle.pmp_encoding.specs.declared.perm.Perm.{Perm};
 ghost use Rattle.pmp_match.specs.Meaning.{Means, Needs};

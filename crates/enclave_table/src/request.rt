@@ -1,3 +1,5 @@
+//! What the host asks for when it creates an enclave.
+
 ghost use Rattle.std.specs.Prelude.{◌≡◌, ℕ, ◌+◌, ◌*◌, ◌/◌, ◌^◌, ◌<◌, ◌≤◌, ◌↔◌, IsTrue, true, false};
 ghost use Rattle.permission_map.specs.Runs.{in_range};
 ghost use Rattle.enclave_table.specs.Requests.{parts_of, is_private, is_shared, is_part, ArePartsApart, HasCounts, IsPlaced, HasPlaces, HasEntry};

@@ -1,3 +1,5 @@
+//! What a block costs: its least number of entries, and under which permissions.
+
 use crate::perm_set::PermSet;
 use pmp_encoding::Perm;
 use prefix_tree::{Chain, Halving};

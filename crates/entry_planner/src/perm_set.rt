@@ -1,3 +1,5 @@
+//! Sets of permissions.
+
 use pmp_encoding::Perm;
 
 /// A set of permissions: a bit for each, in the fixed order, that of no access lowest.

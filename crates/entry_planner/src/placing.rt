@@ -1,3 +1,5 @@
+//! The pass down the tree: which blocks take an entry.
+
 use crate::costs::HalfPerms;
 use page_views::pages_of;
 use pmp_encoding::{Entry, Perm, Region};

@@ -1,3 +1,5 @@
+//! A plan: the fewest entries of a view, with the costs of its blocks.
+
 use crate::costs::BlockCost;
 use pmp_encoding::{Entry, Perm};
 use std::marker::Model;

@@ -1,3 +1,5 @@
+//! The plan of a tree or of a map.
+
 ghost use Rattle.std.specs.Prelude.{◌≡◌, ◌≤◌, ◌*◌, List, length, All, IfOk, reverse};
 ghost use Rattle.pmp_encoding.specs.declared.perm.Perm.TheVariants.{NoAccess};
 ghost use Rattle.pmp_encoding.specs.declared.region.Entry.{Entry};

@@ -1,3 +1,5 @@
+//! Laws of the machine: the headline, and what else holds of every run.
+
 ghost use Rattle.std.specs.Prelude.{◌≡◌, ℕ};
 ghost use Rattle.enclave_table.specs.Tables.{IsTable};
 ghost use Rattle.hart_trace.specs.declared.event.Event.{Event};

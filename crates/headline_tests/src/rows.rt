@@ -1,3 +1,5 @@
+//! An enclave lives on two harts, and what the headline says of it.
+
 use crate::life;
 use arrayvec::ArrayVec;
 use enclave_table::{Platform, PlatformFault, World};

@@ -1,3 +1,5 @@
+//! Lines of traces, and the events that they are.
+
 use hart_trace::{Event, parse_line};
 use pmp_match::{Kind, Mode};
 

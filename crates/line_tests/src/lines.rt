@@ -1,3 +1,5 @@
+//! Lines, words and numbers.
+
 ghost use Rattle.std.specs.Prelude.{◌≡◌};
 
 use byte_streams::fakes::PieceSource;

@@ -1,3 +1,5 @@
+//! Sources and sinks, those that fail among them.
+
 use byte_streams::fakes::PieceSink;
 use byte_streams::{Counted, Sink, Source, write_whole};
 

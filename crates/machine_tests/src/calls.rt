@@ -1,3 +1,5 @@
+//! Registers, and the calls that they name.
+
 use sbi_decode::{Call, EXTENSION_ID, NotSupported, Registers, decode};
 
 const A0: usize = 10;

@@ -1,3 +1,5 @@
+//! Digests of layouts and pages.
+
 use measurement::{Layout, Measure, word};
 
 const NOTHING: Layout = Layout {

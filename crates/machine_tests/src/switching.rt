@@ -1,3 +1,5 @@
+//! Switches between worlds.
+
 use context_switch::{Contexts, Hart, switch};
 use pmp_encoding::{Bank, Entry, Limit, Perm, Region};
 use sbi_decode::Registers;

@@ -1,3 +1,5 @@
+//! The reader of certificates, part by part.
+
 use certificate_format::{Header, ReadFault, Reader, Tag, Version};
 use pmp_encoding::{Limit, Perm};
 

@@ -1,3 +1,5 @@
+//! Certificates, byte by byte.
+
 use byte_streams::fakes::PieceSink;
 use entry_planner::{plan, plan_map};
 use permission_map::PermissionMap;

@@ -1,3 +1,5 @@
+//! Register pairs and the entries that they mean.
+
 use pmp_encoding::{Bank, EncodingFault, Entry, Extent, Limit, Perm, Region, decode};
 use std::process::Abort;
 use std::test::Fail;

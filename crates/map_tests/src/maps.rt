@@ -1,3 +1,5 @@
+//! Maps of ranges that overwrite one another.
+
 use permission_map::{MapBuilder, MapFault, PermissionMap, Run};
 use pmp_encoding::Perm;
 use std::alloc::Global;

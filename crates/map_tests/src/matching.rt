@@ -1,3 +1,5 @@
+//! Accesses judged by banks.
+
 use pmp_encoding::{Bank, Entry, Limit, Perm, Region};
 use pmp_match::{Access, Cause, Kind, Mode, Segments, judge};
 use std::test::Fail;

@@ -1,3 +1,5 @@
+//! Pages and ranges of pages.
+
 use page_views::{PAGE_SIZE, PageRange, SPACE_PAGES, SPACE_SIZE, pages_of};
 
 #[test]

@@ -1,3 +1,5 @@
+//! Maps, and the fewest entries that mean them.
+
 use entry_planner::{Plan, plan, plan_map};
 use permission_map::PermissionMap;
 use pmp_encoding::{Bank, Entry, Limit, Perm};

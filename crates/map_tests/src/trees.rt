@@ -1,3 +1,5 @@
+//! Trees of maps and their versions.
+
 use permission_map::{MapFault, PermissionMap};
 use pmp_encoding::Perm;
 use prefix_tree::{Block, Parts, Tree, build};

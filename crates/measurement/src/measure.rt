@@ -1,3 +1,5 @@
+//! The measurement of an enclave, and the words of its digest.
+
 ghost use Rattle.std.specs.Prelude.{◌≡◌, ◌<◌, ◌*◌, ◌++◌, ◌∷◌, [], List, ℕ, drop};
 ghost use Rattle.byteorder.specs.Endian.{little_number};
 ghost use Rattle.measurement.specs.declared.measured.Layout.{Layout};

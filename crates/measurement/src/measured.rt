@@ -1,3 +1,5 @@
+//! What is measured beside the pages.
+
 /// What is measured of an enclave beside the bytes of its private pages. Its base address is not: the same contents at
 /// another place have the same digest.
 #[derive(Clone, Copy, Debug, PartialEq, Eq)]

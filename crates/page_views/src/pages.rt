@@ -1,3 +1,5 @@
+//! Pages, their numbers, and ranges of pages.
+
 ghost use Rattle.std.specs.Prelude.{◌≡◌, ◌^◌, ◌≤◌};
 
 /// The bytes of a page.

@@ -1,3 +1,5 @@
+//! Laws of maps: one list of runs for each view, and few runs more with each range.
+
 ghost use Rattle.std.specs.Prelude.{◌≡◌, ◌≤◌, ◌+◌, ℕ, List, length};
 ghost use Rattle.pmp_encoding.specs.declared.perm.Perm.{Perm};
 ghost use Rattle.permission_map.specs.declared.runs.Run.{Run};

@@ -1,3 +1,5 @@
+//! A range that overwrites what was there.
+
 ghost use Rattle.std.specs.Prelude.{◌≡◌, ◌+◌, ◌++◌, ◌^◌, ◌≤◌, ◌<◌, All, List, Option, length, take, drop, option_to_list, vec_len, vec_capacity};
 ghost use Rattle.pmp_encoding.specs.declared.perm.Perm.TheVariants.{NoAccess};
 ghost use Rattle.permission_map.specs.declared.runs.Run.{Run};

@@ -1,3 +1,5 @@
+//! Pages at which the permission changes, searched without a branch.
+
 ghost use Rattle.std.specs.Prelude.{◌≡◌, ◌≤◌, ◌<◌, ◌+◌, ◌^◌, ◌++◌, Some, All, length, take, drop, count_by, option_to_list, vec_len, vec_capacity};
 ghost use Rattle.pmp_encoding.specs.declared.perm.Perm.TheVariants.{NoAccess};
 ghost use Rattle.permission_map.specs.Points.{ArePoints, IsStop, IsTurn, allows, page_of, perm_of, standing};

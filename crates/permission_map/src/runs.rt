@@ -1,3 +1,5 @@
+//! A run: pages one after another with one permission.
+
 use pmp_encoding::Perm;
 
 /// Pages one after another with one permission. Pages are numbered from 0: a page's number is its address divided by 4096.

@@ -1,3 +1,5 @@
+//! Where a page lies among the runs.
+
 ghost use Rattle.std.specs.Prelude.{◌≡◌, ◌≤◌, ◌<◌, ℕ, MatchOption, All, length, take, drop};
 ghost use Rattle.pmp_encoding.specs.declared.perm.Perm.TheVariants.{NoAccess};
 ghost use Rattle.permission_map.specs.Runs.{AreRuns, end_of, view_of_runs};

@@ -1,3 +1,5 @@
+//! The PMP registers of a hart.
+
 ghost use Rattle.pmp_encoding.specs.Registers.{AreRegisters};
 ghost use Rattle.pmp_encoding.specs.Extents.{AreExtents};
 ghost use Rattle.pmp_encoding.specs.Limits.{limit_number};

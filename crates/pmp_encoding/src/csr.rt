@@ -1,3 +1,5 @@
+//! The CSRs of a bank, by number.
+
 ghost use Rattle.std.specs.Prelude.{◌%◌, ◌<◌, ◌*◌, MatchOption};
 ghost use Rattle.pmp_encoding.specs.Csrs.{IsCsr, IsFaultlessWord, IsFaultOfWord};
 ghost use Rattle.pmp_encoding.specs.Named.{IsNamed};

@@ -1,3 +1,5 @@
+//! An entry as accesses are matched against it.
+
 ghost use Rattle.std.specs.Prelude.{◌≡◌};
 ghost use Rattle.pmp_encoding.specs.Extents.{extent_of};
 

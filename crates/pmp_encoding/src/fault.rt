@@ -1,3 +1,5 @@
+//! Why a register pair means nothing, or a CSR cannot be written.
+
 /// Why a register pair means nothing, or why a CSR cannot be written. Of several faults of one pair the one of the
 /// least number is named. (RISC-V Privileged Architecture, Physical Memory Protection)
 #[derive(Clone, Copy, PartialEq, Eq, Debug)]

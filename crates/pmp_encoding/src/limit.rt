@@ -1,3 +1,5 @@
+//! How many entries a hart has.
+
 /// How many entries a bank has: the first sixteen of the privileged specification, or all sixty-four.
 #[derive(Clone, Copy, PartialEq, Eq, Debug)]
 pub enum Limit {

@@ -1,3 +1,5 @@
+//! Why an access fails, by exception code.
+
 /// Why an access fails, by the exception code of the RISC-V Privileged Architecture.
 #[derive(Clone, Copy, PartialEq, Eq, Debug)]
 pub enum Cause {

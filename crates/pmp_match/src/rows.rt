@@ -1,3 +1,5 @@
+//! A list worked out by hand.
+
 ghost use Rattle.pmp_match.specs.Meaning.{Means};
 ghost use Rattle.pmp_match.specs.Rows.{boot_list, boot_view};
 

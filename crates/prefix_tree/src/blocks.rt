@@ -1,3 +1,5 @@
+//! Blocks of a tree.
+
 ghost use Rattle.std.specs.Prelude.{◌≡◌, IfOk};
 
 use pmp_encoding::Perm;

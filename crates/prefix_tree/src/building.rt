@@ -1,3 +1,5 @@
+//! A tree built of a map.
+
 ghost use Rattle.std.specs.Prelude.{◌≡◌, IfOk};
 ghost use Rattle.prefix_tree.specs.Shapes.{shape_of, IsSummed};
 ghost use Rattle.prefix_tree.specs.Trees.{Fits};

@@ -1,3 +1,5 @@
+//! Chains: blocks one inside the other.
+
 ghost use Rattle.std.specs.Prelude.{◌≡◌, ◌+◌, ◌^◌, ◌<◌, ◌≤◌, ◌∷◌, [], None};
 ghost use Rattle.permission_map.specs.Runs.{end_of, view_of_runs};
 ghost use Rattle.prefix_tree.specs.Chains.{AreEdges, HasEdges};

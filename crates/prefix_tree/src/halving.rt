@@ -1,3 +1,5 @@
+//! What splits into halves: blocks of a tree or of a map.
+
 ghost use Rattle.std.specs.Prelude.{◌≡◌, IfSome, None};
 ghost use Rattle.prefix_tree.specs.Chains.{IsChain, chained};
 ghost use Rattle.prefix_tree.specs.Joined.{one_perm};

@@ -1,3 +1,5 @@
+//! Two halves joined to a block.
+
 ghost use Rattle.std.specs.Prelude.{◌≡◌, IfOk};
 ghost use Rattle.prefix_tree.specs.Trees.{Fits, Split};
 ghost use Rattle.prefix_tree.specs.Counts.{starts, runs_in};

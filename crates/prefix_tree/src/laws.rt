@@ -1,3 +1,5 @@
+//! Laws of trees: what a tree means, and that a view has one canonical tree.
+
 ghost use Rattle.std.specs.Prelude.{◌≡◌, ◌^◌, ◌<◌, ℕ};
 ghost use Rattle.pmp_encoding.specs.declared.perm.Perm.{Perm};
 ghost use Rattle.prefix_tree.specs.TreeOf.{tree_of};

@@ -1,3 +1,5 @@
+//! Blocks of a map, for which no tree is made.
+
 ghost use Rattle.std.specs.Prelude.{◌≡◌, ◌*◌, ◌≤◌, length, count_by, nat_lt, nat_le, ◌-◌};
 ghost use Rattle.permission_map.specs.Runs.{view_of_runs};
 ghost use Rattle.prefix_tree.specs.Joined.{one_perm};

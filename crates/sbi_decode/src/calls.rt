@@ -1,3 +1,5 @@
+//! The calls of the monitor.
+
 /// The SBI extension id of the monitor, in the experimental space 0x08000000 to 0x08FFFFFF (SBI, section Binary
 /// Encoding): the letters "ENC" behind it.
 pub const EXTENSION_ID: u64 = 0x0845_4E43;

@@ -1,3 +1,5 @@
+//! The call that the registers name.
+
 ghost use Rattle.std.specs.Prelude.{◌≡◌, MatchResult, Some, None};
 ghost use Rattle.sbi_decode.specs.Calls.{call_of};
 

@@ -1,3 +1,5 @@
+//! The program counter and the integer registers of a hart.
+
 ghost use Rattle.std.specs.Prelude.{◌≡◌, ◌≢◌, ℕ, ◌<◌, ◌≤◌};
 ghost use Rattle.sbi_decode.specs.Registers.{RegisterFile, x_of, with_x, zeros};
 

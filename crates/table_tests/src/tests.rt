@@ -1,3 +1,5 @@
+//! The table of enclaves, call by call.
+
 ghost use Rattle.std.specs.Prelude.{replicate, ◌<◌, ◌^◌};
 
 mod anew;

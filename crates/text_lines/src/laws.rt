@@ -1,3 +1,5 @@
+//! Laws of words and lines: a text has one list of each.
+
 ghost use Rattle.text_lines.specs.Words.{SplitsIntoWords};
 ghost use Rattle.text_lines.specs.Lines.{OneListOfLines};
 

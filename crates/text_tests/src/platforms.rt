@@ -1,3 +1,5 @@
+//! Texts, and the platforms that they are.
+
 use platform_file::{TextFault, platform_of};
 use pmp_encoding::Limit;
 use std::test::Fail;

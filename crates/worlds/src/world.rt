@@ -1,3 +1,5 @@
+//! Who runs on a hart.
+
 /// Who runs on a hart.
 #[derive(Clone, Copy, PartialEq, Eq, Debug)]
 pub enum World {

@@ -1,3 +1,5 @@
+//! Certificates of trees that are split down to one page, written by hand.
+
 use super::{code, map_of, seven_pages_map};
 use certificate_check::{CheckRefusal, check};
 use permission_map::PermissionMap;
