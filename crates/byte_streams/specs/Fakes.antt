@@ -4,7 +4,7 @@ use Rattle.byte_streams.specs.declared.fakes.PieceSink.{PieceSink}
 use Rattle.byte_streams.specs.declared.fakes.PieceSource.{PieceSource}
 use Rattle.byte_streams.specs.declared.streams.DeviceFault.{DeviceFault}
 
--- the number of the call behind so many others, in 64 bits
+-- the number of the call after so many others, in 64 bits
 abbrev pub next_call : ℕ → ℕ
 next_call n = min (n + 1) (2 ^ 64 - 1)
 

@@ -57,7 +57,7 @@ clear_past spans from to page end clear ended j at below after before covers =
     (λ over. let past : (spans j).end ≤ page = ended j over below in let inside : at < (spans j).end = covers.1 in omega arith)
     (cases_lt j from)
 
--- the span is the first of the chain that ends behind the page
+-- the span is the first of the chain that ends after the page
 abbrev pub IsNextInChain : (ℕ → Span) → ℕ → ℕ → ℕ → Span → Type 0
 IsNextInChain spans from to page s = (i : ℕ) × (from ≤ i) × (i < to) × HaveEnded spans from i page × (s ≡ spans i)
 

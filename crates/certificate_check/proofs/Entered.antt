@@ -115,7 +115,7 @@ covers_to e page h covers =
     let high : page * 4096 < e.region.base + 2 ^ e.region.log2 = omega (arith, l, b) in
     and_from _ _ (le-leb _ _ low) (lt-ltb _ _ high)
 
--- the spans behind the first
+-- the spans after the first
 behind_first :
     (e : Entry) (es : List Entry) (n page : ℕ) (p : Perm) → (Covers (span_for e) page → ⊥) → Decides (spans_of es) n page p → Decides (spans_of (e ∷ es)) (suc n) page p
 behind_first e es n page p missed (first i below here before) =

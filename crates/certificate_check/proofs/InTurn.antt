@@ -1,4 +1,4 @@
--- Entries one behind the other.
+-- Entries one after the other.
 use Rattle.std.proofs.Common.{◌≡◌, ℕ, ◌+◌, ◌^◌, ◌<◌, ◌≤◌, ⊎_elim, List, [], ◌∷◌, ◌++◌, length, append_assoc, arith, sym, ap, refl, ◌∙◌}
 use Rattle.std.proofs.lemmas.List.{append-nil}
 use Rattle.pmp_encoding.specs.declared.region.Entry.{Entry}
@@ -23,7 +23,7 @@ short_entry bytes Read.BadTag h = absurd h
 short_entry bytes Read.BadPerm h = absurd h
 short_entry bytes Read.BadLimit h = absurd h
 
--- one more entry behind the others
+-- one more entry after the others
 spells_append : (a front : List ℕ) (es : List Entry) (e : Entry) → SpellsEntries a es → SpellsEntry front e → SpellsEntries (a ++ front) (es ++ e ∷ [])
 spells_append a front [] e h one = (front, [], ap (λ xs. xs ++ front) h ∙ sym (append-nil front), one, refl)
 spells_append a front (d ∷ es) e (first, rest, split, here, later) one =

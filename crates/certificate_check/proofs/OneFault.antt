@@ -23,27 +23,27 @@ use Rattle.certificate_check.proofs.OneNode.{same_node, node_once, node_stands}
 
 -- ---- a fault in its part
 
--- behind the root
+-- after the root
 data LastFault (view : View) (entries : List Entry) (tree : BoundTree) (rest : List ℕ) (refusal : CheckRefusal) : Type 0 where
   many : bound_of tree NoAccess < length entries → refusal ≡ EntriesTooMany → LastFault view entries tree rest refusal
   meaning : length entries ≤ bound_of tree NoAccess → ¬ Means entries view → refusal ≡ WrongMeaning → LastFault view entries tree rest refusal
   more : length entries ≤ bound_of tree NoAccess → Means entries view → rest ≢ [] → refusal ≡ Trailing → LastFault view entries tree rest refusal
 
--- behind the entries
+-- after the entries
 data RootFault (view : View) (bytes : List ℕ) (entries : List Entry) (refusal : CheckRefusal) : Type 0 where
   at_root : NodeFault view 44 0 bytes refusal → RootFault view bytes entries refusal
   past_root :
       (tree : BoundTree) (rest : List ℕ) → bytes ≡ node_bytes tree ++ rest → IsRightNode view 44 0 tree → LastFault view entries tree rest refusal
       → RootFault view bytes entries refusal
 
--- behind the header
+-- after the header
 data EntriesFault (view : View) (bytes : List ℕ) (count : ℕ) (refusal : CheckRefusal) : Type 0 where
   at_entries : ListFault bytes count refusal → EntriesFault view bytes count refusal
   past_entries :
       (entries : List Entry) (rest : List ℕ) → IsListed bytes rest entries → length entries ≡ count → RootFault view rest entries refusal
       → EntriesFault view bytes count refusal
 
--- in the header, or behind it
+-- in the header, or after it
 data PartFault (view : View) (bytes : List ℕ) (refusal : CheckRefusal) : Type 0 where
   at_header : (fault : ReadFault) → HeaderFault bytes fault → refusal ≡ refusal_of fault → PartFault view bytes refusal
   past_header :

@@ -56,9 +56,9 @@ entry_stands bytes front rest e SubPageEntry split spells page (pair, rest', at,
     omega (arith, size, page, less)
 entry_stands bytes front rest e _ split spells page h = h
 
--- ---- entries one behind the other
+-- ---- entries one after the other
 
--- the first of the entries, and the others behind it
+-- the first of the entries, and the others after it
 record IsFirst (bytes rest : List ℕ) (e : Entry) (es : List Entry) : Type 0 where
   front : List ℕ
   behind : List ℕ

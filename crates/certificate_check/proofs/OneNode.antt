@@ -90,7 +90,7 @@ node_stands view k first bytes rest tree _ (too_high half costs lower upper left
 
 -- ---- a fault in its part
 
--- behind a leaf's tag
+-- after a leaf's tag
 data LeafFault (view : View) (k first : ℕ) (bytes : List ℕ) (refusal : CheckRefusal) : Type 0 where
   no_perm : (fault : ReadFault) → PermFault bytes fault → refusal ≡ refusal_of fault → LeafFault view k first bytes refusal
   mixed : (perm : Perm) (rest : List ℕ) → bytes ≡ bits_of perm ∷ rest → ((other : Perm) → IsUniform view k first other → ⊥) → refusal ≡ LeafNotUniform → LeafFault view k first bytes refusal
@@ -98,31 +98,31 @@ data LeafFault (view : View) (k first : ℕ) (bytes : List ℕ) (refusal : Check
       (perm other : Perm) (rest : List ℕ) → bytes ≡ bits_of perm ∷ rest → IsUniform view k first other → perm ≢ other → refusal ≡ WrongLeaf
       → LeafFault view k first bytes refusal
 
--- behind both halves
+-- after both halves
 data SumsFault (lower upper : Perm → ℕ) (refusal : CheckRefusal) : Type 0 where
   large : IsTooLarge lower upper → refusal ≡ CostOverflow → SumsFault lower upper refusal
   high : HaveSums lower upper → refusal ≡ CostTooHigh → SumsFault lower upper refusal
 
--- behind the lower half
+-- after the lower half
 data UpperFault (view : View) (half first : ℕ) (lower : BoundTree) (bytes : List ℕ) (refusal : CheckRefusal) : Type 0 where
   at_upper : NodeFault view half (first + 2 ^ half) bytes refusal → UpperFault view half first lower bytes refusal
   past_upper :
       (upper : BoundTree) (rest : List ℕ) → bytes ≡ node_bytes upper ++ rest → IsRightNode view half (first + 2 ^ half) upper
       → SumsFault (bound_of lower) (bound_of upper) refusal → UpperFault view half first lower bytes refusal
 
--- behind the costs
+-- after the costs
 data LowerFault (view : View) (half first : ℕ) (bytes : List ℕ) (refusal : CheckRefusal) : Type 0 where
   at_lower : NodeFault view half first bytes refusal → LowerFault view half first bytes refusal
   past_lower :
       (lower : BoundTree) (rest : List ℕ) → bytes ≡ node_bytes lower ++ rest → IsRightNode view half first lower → UpperFault view half first lower rest refusal
       → LowerFault view half first bytes refusal
 
--- behind a branch's tag
+-- after a branch's tag
 data SplitFault (view : View) (half first : ℕ) (bytes : List ℕ) (refusal : CheckRefusal) : Type 0 where
   no_costs : (fault : ReadFault) → ShortFault 24 bytes fault → refusal ≡ refusal_of fault → SplitFault view half first bytes refusal
   in_halves : (costs : Perm → ℕ) (rest : List ℕ) → bytes ≡ costs_bytes costs ++ rest → LowerFault view half first rest refusal → SplitFault view half first bytes refusal
 
--- in the tag, or behind it
+-- in the tag, or after it
 data PartFault (view : View) (k first : ℕ) (bytes : List ℕ) (refusal : CheckRefusal) : Type 0 where
   no_tag : (fault : ReadFault) → TagFault bytes fault → refusal ≡ refusal_of fault → PartFault view k first bytes refusal
   in_leaf : (rest : List ℕ) → bytes ≡ 0 ∷ rest → LeafFault view k first rest refusal → PartFault view k first bytes refusal

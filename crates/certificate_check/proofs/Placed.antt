@@ -51,7 +51,7 @@ pub places_later :
     (spans : ℕ → Span) (ends : List ℕ) (page later : ℕ) (places : List Place) → page ≤ later → ArePlaces spans ends page places → ArePlaces spans ends later places
 places_later spans ends page later places h are k d less = place_later spans (start_of ends k) (slice_index ends k) page later (get_or places k d) h (are k d less)
 
--- a span that ends behind the page is the first of its chain that does
+-- a span that ends after the page is the first of its chain that does
 pub place_open : (spans : ℕ → Span) (from to page : ℕ) (p : Place) → IsPlace spans from to page p → page < p.span.end → IsNextInChain spans from to page p.span × (p.span.first < p.span.end)
 place_open spans from to page p (before low none) behind = absurd (omega arith)
 place_open spans from to page p (stands i next low inside ended is some) behind = ((i, low, inside, ended, is), some)

@@ -1,4 +1,4 @@
--- A reader's fault handed on as the refusal of its number.
+-- A reader's fault passed on as the refusal of its number.
 use Rattle.std.proofs.Common.{◌≡◌, sym, subst, Result, Ok, Err}
 use Rattle.std.specs.Result.{IsErrAnd, IfErr}
 use Rattle.certificate_format.specs.declared.fault.ReadFault.{ReadFault}
@@ -11,7 +11,7 @@ pub refused :
 refused (Ok x) fault P h p = tt
 refused (Err r) fault P h p = subst P (sym h) p
 
--- a refusal handed on as it is
+-- a refusal passed on as it is
 pub refused_again :
     {T : Type 0} (result : Result T CheckRefusal) (refusal : CheckRefusal) (P : CheckRefusal → Type 0) → IsErrAnd result (λ r. r ≡ refusal) → P refusal → IfErr result P
 refused_again (Ok x) refusal P h p = tt

@@ -35,7 +35,7 @@ before_first (run ∷ runs) d at (b, p, later) some h =
 pub past_first : (run : Run) (runs : List Run) (at : ℕ) → end_of run ≤ at → view_of_runs (run ∷ runs) at ≡ view_of_runs runs at
 past_first run runs at h = ap (λ t. cond t run.perm (view_of_runs runs at)) (outside_high run.first run.count at h)
 
--- behind a run another permission stands, up to the end of the space: the runs are maximal
+-- after a run another permission stands, up to the end of the space: the runs are maximal
 behind_run : (run : Run) (runs : List Run) → AreRunsAfter (end_of run) run.perm runs → run.perm ≢ NoAccess → view_of_runs runs (end_of run) ≢ run.perm
 behind_run run [] later allows is = allows (sym is)
 behind_run run (next ∷ runs) later allows is =

@@ -50,7 +50,7 @@ right_from_halves view k half first costs lower upper is h =
 page_whole : (view : View) (first : ℕ) (costs : Perm → ℕ) (lower upper : BoundTree) → IsRightNode view zero first (Branch costs lower upper) → ⊥
 page_whole view first costs lower upper right = right.fits
 
--- a right node that stands behind a branch's tag
+-- a right node that stands after a branch's tag
 pub record IsBranchAt (view : View) (half first : ℕ) (tree : BoundTree) (rest left : List ℕ) : Type 0 where
   pub costs : Perm → ℕ
   pub lower : BoundTree
@@ -77,7 +77,7 @@ pub no_branch_at :
 no_branch_at view k first (Leaf perm) rest bytes left is tag right spelled = (let e : 1 ∷ left ≡ 0 ∷ bits_of perm ∷ rest = sym tag ∙ spelled in tags_differ _ _ (sym e))
 no_branch_at view k first (Branch costs lower upper) rest bytes left is tag right spelled = page_whole view first costs lower upper (subst (λ (n : ℕ). IsRightNode view n first (Branch costs lower upper)) is right)
 
--- a right node that stands behind a leaf's tag
+-- a right node that stands after a leaf's tag
 pub record IsLeafAt (view : View) (k first : ℕ) (tree : BoundTree) (rest left : List ℕ) : Type 0 where
   pub perm : Perm
   pub tree_is : tree ≡ Leaf perm
@@ -124,7 +124,7 @@ pub answered :
 answered tree rest left costs (Ok numbers) ok known is end = ((λ p. known p ∙ is p), end)
 answered tree rest left costs (Err refusal) ok known is end = absurd (cc)
 
--- a branch and its halves, one behind the other
+-- a branch and its halves, one after the other
 pub spelled_in_turn :
     (bytes first second third left : List ℕ) (costs : Perm → ℕ) (lower upper : BoundTree) → bytes ≡ 1 ∷ first → first ≡ costs_bytes costs ++ second
     → second ≡ node_bytes lower ++ third → third ≡ node_bytes upper ++ left → bytes ≡ 1 ∷ (costs_bytes costs ++ (node_bytes lower ++ (node_bytes upper ++ left)))
@@ -184,7 +184,7 @@ pub agree_on :
     (first middle : ℕ) (old later view : View) → AgreeFrom first old view → first ≤ middle → AgreeFrom middle later old → AgreeFrom middle later view
 agree_on first middle old later view same low kept at after = kept at after ∙ same at (omega arith)
 
--- behind both halves
+-- after both halves
 pub agree_far :
     (first half k middle : ℕ) (old lower upper : View) → k ≡ suc half → middle ≡ first + 2 ^ half → AgreeFrom (first + 2 ^ half) lower old
     → AgreeFrom (middle + 2 ^ half) upper lower → AgreeFrom (first + 2 ^ k) upper old

@@ -5,11 +5,11 @@ use Rattle.page_views.specs.Views.{View}
 use Rattle.permission_map.specs.declared.runs.Run.{Run}
 use Rattle.permission_map.specs.Runs.{AreRunsAfter, end_of}
 
--- the runs are the maximal ones behind some page
+-- the runs are the maximal ones after some page
 abbrev pub AreLaterRuns : List Run → Type 0
 AreLaterRuns runs = (at : ℕ) × (before : Perm) × AreRunsAfter at before runs
 
--- the first of the runs ends behind the page
+-- the first of the runs ends after the page
 abbrev pub StartsBehind : ℕ → List Run → Type 0
 StartsBehind page [] = Unit {0}
 StartsBehind page (run ∷ runs) = page < end_of run

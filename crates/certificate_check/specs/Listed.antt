@@ -20,7 +20,7 @@ EntryFault bytes BadEntry = (pair : ℕ × ℕ) × (rest : List ℕ) × (bytes �
 EntryFault bytes SubPageEntry = (pair : ℕ × ℕ) × (rest : List ℕ) × (bytes ≡ pair_bytes pair ++ rest) × (e : Entry) × MeansEntry pair.0 pair.1 e × (e.region.log2 < 12)
 EntryFault bytes _ = ⊥
 
--- it stands behind the entries before it
+-- it stands after the entries before it
 pub record ListFault (bytes : List ℕ) (count : ℕ) (refusal : CheckRefusal) : Type 0 where
   pub entries : List Entry
   pub rest : List ℕ

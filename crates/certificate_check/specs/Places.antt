@@ -4,7 +4,7 @@ use Rattle.certificate_check.specs.declared.entries.Span.{Span}
 use Rattle.certificate_check.specs.declared.chains.Place.{Place}
 use Rattle.certificate_check.specs.Spans.{HaveEnded}
 
--- the place is before the chain of the spans from one number to before another, or behind one of them where those before it have ended before the page
+-- the place is before the chain of the spans from one number to before another, or after one of them where those before it have ended before the page
 pub data IsPlace (spans : ℕ → Span) (from to page : ℕ) (place : Place) : Type 0 where
   before : place.next ≤ from → place.span.end ≡ 0 → IsPlace spans from to page place
   stands :

@@ -6,7 +6,7 @@ use arrayvec::ArrayVec;
 use page_views::SPACE_PAGES;
 use pmp_encoding::Perm;
 
-/// A place in a chain: the span that was read last, and the number of the one behind it.
+/// A place in a chain: the span that was read last, and the number of the one after it.
 #[derive(Clone, Copy)]
 pub(crate) struct Place {
     pub(crate) next: usize,
@@ -30,7 +30,7 @@ ghost use Rattle.certificate_check.specs.Spans.{ReadsAs, Decides, RiseTo, AreCha
 ghost use Rattle.certificate_check.specs.declared.chains.Place.{Place};
 ghost use Rattle.certificate_check.specs.Places.{IsPlace, start_of, ArePlaces};
 
-/// Goes on in the chain of the entries from `from` to before `to`, to the first span that ends behind the page.
+/// Goes on in the chain of the entries from `from` to before `to`, to the first span that ends after the page.
 fn next_in_chain(entries: &Entries, place: Place, from: usize, to: usize, page: u64) -> Place
     requires inside { to ≤ count_in entries.now }
     ensures all { result.span.end ≤ page → to ≤ result.next }

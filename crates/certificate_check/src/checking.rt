@@ -40,7 +40,7 @@ fn read_whole(map: &PermissionMap, bytes: &[u8]) -> Result<u32, CheckRefusal>
 ///
 /// A yes says that the bytes hold that many entries that mean the map (RISC-V Privileged Architecture, Physical Memory
 /// Protection), and that no list of fewer entries does. The refusal is the first in the order of reading: header,
-/// entries, nodes in preorder, and then the number of entries, their meaning and bytes behind the root.
+/// entries, nodes in preorder, and then the number of entries, their meaning and bytes after the root.
 pub fn check(map: &PermissionMap, bytes: &[u8]) -> Result<u32, CheckRefusal>
     ensures fewest { IfOk result (HoldsFewest (view_of_runs map.now) bytes.now) }
     ensures least { IfOk result (λ n.

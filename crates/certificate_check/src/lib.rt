@@ -6,7 +6,7 @@
 //!
 //! For the layer above: [`check`] answers `Ok(n)` exactly for right certificates, of n entries. The bytes then hold n
 //! entries that mean the map, and no list of fewer entries, of any regions and in any order, means it. Each
-//! [`CheckRefusal`] comes exactly where the fault of that name stands in the bytes, behind parts that are right. It takes
+//! [`CheckRefusal`] comes exactly where the fault of that name stands in the bytes, after parts that are right. It takes
 //! no memory. It stands on `certificate_format`, and on no crate that knows of trees or plans.
 //!
 //! The entries may stand in any order. Where they stand in at most 45 chains, as a planner's do by rising size and

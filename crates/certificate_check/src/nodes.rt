@@ -70,7 +70,7 @@ fn branch(costs: &SixCosts, lower: &SixCosts, upper: &SixCosts) -> Result<SixCos
     Ok(*costs)
 }
 
-/// Reads the node of the block of 2^log2 pages from `first` on, and answers its numbers. Behind it the runs go on from
+/// Reads the node of the block of 2^log2 pages from `first` on, and answers its numbers. After it the runs go on from
 /// the block's end.
 fn node(
     reader: &mut Reader,

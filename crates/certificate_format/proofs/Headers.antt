@@ -95,7 +95,7 @@ version_once bytes _ BadMagic h w = absurd w
 version_once bytes _ BadTag h w = absurd w
 version_once bytes _ BadPerm h w = absurd w
 
--- behind the magic the parts are the same
+-- after the magic the parts are the same
 behind : (bytes a b : List ℕ) → bytes ≡ magic ++ a → bytes ≡ magic ++ b → a ≡ b
 behind bytes a b e e' = same_magic a b (sym e ∙ e')
 

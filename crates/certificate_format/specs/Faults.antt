@@ -27,7 +27,7 @@ MagicFault bytes Truncated = length bytes < 4
 MagicFault bytes BadMagic = (4 ≤ length bytes) × (take 4 bytes ≢ magic)
 MagicFault bytes _ = ⊥
 
--- no byte, or another version than 1 and 2; behind version 2 no byte, or another limit than 16 and 64
+-- no byte, or another version than 1 and 2; after version 2 no byte, or another limit than 16 and 64
 abbrev pub VersionFault : List ℕ → ReadFault → Type 0
 VersionFault bytes Truncated = (bytes ≡ []) ⊎ (bytes ≡ 2 ∷ [])
 VersionFault bytes BadVersion = (b : ℕ) × (rest : List ℕ) × (bytes ≡ b ∷ rest) × (b ≢ 1) × (b ≢ 2)

@@ -10,7 +10,7 @@ use Rattle.command_line.specs.declared.subcommands.Subcommand.{Subcommand}
 next_one : {A : Type 0} (all : List A) (i : ℕ) (d : A) → i < length all → drop i all ≡ slice_index_or all i d ∷ drop (i + 1) all
 next_one all i d h = grind (arith, common_steps)
 
--- nothing stands behind the last
+-- nothing stands after the last
 pub none_left : {A : Type 0} (all : List A) (i : ℕ) → length all ≤ i → drop i all ≡ []
 none_left all i h = grind (arith, common_steps)
 

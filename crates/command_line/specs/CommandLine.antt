@@ -114,7 +114,7 @@ pub record IsUnsound (found : Option (Text × List Row)) (kind : ErrorKind) : Ty
   pub first : IsFaultIn found fault
   pub told : kind ≡ fault_kind fault
 
--- words are refused by an error of this kind: for want of memory, by a kind that `clap` has for them, or where no sound
+-- words are refused by an error of this kind: where memory runs out, by a kind that `clap` has for them, or where no sound
 -- task is the subcommand that they enter, by the kind of its fault
 abbrev pub Refuses : List Text → ErrorKind → Type 0
 Refuses words kind = (kind ≡ OutOfMemory) ⊎ (IsAmong kind (fault_of program_app words) ⊎ IsUnsound (subcommand_of program_app words) kind)

@@ -1,4 +1,4 @@
-//! The arguments of subcommands, as they are told to `clap`.
+//! The arguments of subcommands, as `clap` gets them.
 
 ghost use Rattle.std.specs.Prelude.{◌≡◌, false};
 ghost use Rattle.clap.specs.Words.{rule_of};

@@ -1,4 +1,4 @@
-//! The program's subcommands, as they are told to `clap`.
+//! The program's subcommands, as `clap` gets them.
 
 ghost use Rattle.std.specs.Prelude.{◌≡◌, IfOk, IfSome, IfNone, false};
 ghost use Rattle.clap.specs.Words.{app_of, new_app};

@@ -8,34 +8,34 @@ pub const VERSION: &str =
 pub const ABOUT: &str =
     "Runs traces on a modelled RISC-V hart whose monitor isolates enclaves by PMP, with the fewest entries, and plans, certifies and checks such entries";
 
-/// What stands behind the list of subcommands.
+/// What stands after the list of subcommands.
 pub const EXAMPLE: &str =
     "Example, with a file map.txt that holds the line\n\n  0x80000000 0x1000 rwx\n\n  pmpmon plan map.txt map.pmpc      prints one entry, and writes its certificate\n  pmpmon check map.txt map.pmpc     prints 'accepted 1'\n\nMAP, TRACE and REGISTERS can be '-', standard input.\n\nStatus: 0 done, 1 refused by the checker, by audit or by lint, 2 bad input, 3 input or output failed, 4 memory";
 
-/// What stands behind the options of `run`.
+/// What stands after the options of `run`.
 pub const RUN_HELP: &str =
     "A platform file is TOML: [monitor] and one [[ram]] or more, each with base and size in bytes, whole pages of 4096;\n[[device]] with a perm too; and, above them, harts = 1 to 4 (1) and entries = 16 or 64 (16).\n\nA trace has a line for each event, with M s or u, and SIZE 1, 2, 4 or 8 (for a fetch 2 or 4):\n\n  fetch M SIZE ADDR\n  load M SIZE ADDR\n  store M SIZE ADDR VALUE\n  reg xN VALUE\n  ecall W1 .. Wk         up to 8 words, put in a7, a6, a0 to a5\n  irq                    the timer's interrupt\n\n@H before an event names its hart, from 0. # begins a comment. The monitor's calls are\n\n  ecall 0x08454E43 0 BASE TEXT DATA SHARED_BASE SHARED ENTRY    create (pages; ENTRY is an offset in bytes)\n  ecall 0x08454E43 1 ID     destroy         ecall 0x08454E43 2 ID     run\n  ecall 0x08454E43 3        stop            ecall 0x08454E43 4 ID     resume\n  ecall 0x08454E43 5 VALUE  exit            ecall 0x08454E43 6 ID K   word K of the measurement\n\nEach event N is answered by 'N ok', 'N ok VALUE' (a load), 'N fault CAUSE', 'N call STATUS VALUE WORLD USED' or\n'N irq WORLD USED': WORLD is 0 for the host or an enclave's id, and USED how many PMP entries are loaded.\n\nExample:\n  pmpmon run platform.toml trace.txt --measure";
 
-/// Behind those of `plan`.
+/// After those of `plan`.
 pub const PLAN_HELP: &str =
     "Prints 'entries N', each entry as 'I 0xCC 0xAAAAAAAAAAAAAAAA' (configuration byte and address register),\nand the configuration words where the entries fit. The certificate shows that no shorter list means the map.\n\nA map file has lines 'BASE SIZE PERM', in bytes: whole pages of 4096 bytes, and one of none, r, rw, x, rx, rwx.\n\nWith --format c, asm or json the same registers are printed as C arrays, as assembly that loads them, or as one JSON\nobject.\n\nExample:\n  pmpmon plan map.txt map.pmpc --entries 64";
 
-/// Behind those of `audit`.
+/// After those of `audit`.
 pub const AUDIT_HELP: &str =
     "REGISTERS is what 'plan' prints, or lines 'pmpaddrN VALUE' and 'pmpcfgK VALUE' in any order; a later line overrides an\nearlier one, and what no line sets is zero.\n\nPrints 'means the map: 5 entries where 3 are enough'; or, with status 1, the first stretch that differs, what the map and\nthe registers say there and which entry says it, or the first pair that no entry has.\n\nExample:\n  pmpmon audit map.txt registers.txt";
 
-/// Behind those of `lint`.
+/// After those of `lint`.
 pub const LINT_HELP: &str =
     "Prints a line for each line of the file that is at fault: 'MAP:LINE:COLUMN:', what is wrong with it, and what would mend\nit; in a map without fault, a warning for each line that changes nothing of the whole map.\n\nStatus 0 where the file is a map, with warnings too, and 1 where it is none.\n\nExample:\n  pmpmon lint map.txt";
 
-/// Behind those of `show`.
+/// After those of `show`.
 pub const SHOW_HELP: &str =
     "Prints the map as a table: each stretch of bytes with one permission that one entry decides, its size, its\npermission (r, w, x, a hyphen for each that it lacks), the entry, and the entries that it overrides there; then all\nelse; then how many entries the map needs, and whether a hart of --entries has as many.\n\nExample:\n  pmpmon show map.txt --entries 64";
 
-/// Behind those of `judge`.
+/// After those of `judge`.
 pub const JUDGE_HELP: &str =
     "A trace has a line for each access, with M s or u, and SIZE 1, 2, 4 or 8 (for a fetch 2 or 4):\n\n  fetch M SIZE ADDR\n  load M SIZE ADDR\n  store M SIZE ADDR VALUE\n\nEach is answered by 'N ok' or 'N fault CAUSE'.\n\nExample, with a file trace.txt that holds the line 'load s 8 0x80000ff8':\n  pmpmon judge map.txt trace.txt";
 
-/// Behind those of `check`.
+/// After those of `check`.
 pub const CHECK_HELP: &str =
     "Prints 'accepted N' (for a plan of --entries 64 'accepted N of 64'), or 'refused CODE NAME' with status 1.\nThe checker trusts neither the planner nor who wrote the certificate.\n\nExample:\n  pmpmon check map.txt map.pmpc";

@@ -27,7 +27,7 @@ fn task_in<'a>(matches: &ArgMatches<'a>) -> Result<Task<'a>, Fault<'a>>
 
 /// The task that the words of a command line name; the first word is the program's own.
 ///
-/// An error is a fault of the command line, want of memory, or a wish for help or the version: its `kind`
+/// An error is a fault of the command line, out of memory, or a wish for help or the version: its `kind`
 /// says which, and its `Display` is the text for the user.
 pub fn command_of<'a>(alloc: Global, words: &'a [&'a str]) -> Result<Task<'a>, Error>
     ensures task { IfOk result (IsTask (subcommand_of program_app

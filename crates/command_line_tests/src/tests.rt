@@ -274,7 +274,7 @@ fn plan_and_show_take_options(rt: HostRuntime) -> Result<(), Fail> {
     Ok(())
 }
 
-/// Whether words name no task, and that is told of them.
+/// Whether words name no task, and that is reported.
 fn is_told(alloc: Global, words: &[&str], wanted: &str) -> Result<bool, Fail> {
     match command_of(alloc, words) {
         Ok(_) => Ok(false),

@@ -19,7 +19,7 @@ inside first count page low high = grind (arith, nat_tests)
 pub never : {P : Type 0} → (P → ⊥) → (IsTrue false → P) × (P → IsTrue false)
 never not = (λ e. absurd (false≢true e), λ p. absurd (not p))
 
--- the rest of a list behind a place
+-- the rest of a list after a place
 pub rest_is : {X : Type 0} (i : ℕ) (xs : List X) → take (length xs - (i + 1)) (drop (i + 1) xs) ≡ drop (i + 1) xs
 rest_is i xs = grind (arith, common_steps)
 

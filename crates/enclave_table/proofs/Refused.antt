@@ -118,7 +118,7 @@ destroy_want old world id view BadId passes same want = absurd want
 destroy_want old world id view BadState passes same want = absurd want
 destroy_want old world id view BadWord passes same want = absurd want
 
--- a refusal that is handed on
+-- a refusal that is passed on
 pub handed_on : {T : Type 0} (result : Result T Refusal) (refusal : Refusal) (P : Refusal → Type 0) → IsErrAnd result (λ r. r ≡ refusal) → P refusal → IfErr result P
 handed_on (Ok x) refusal P h p = tt
 handed_on (Err r) refusal P h p = subst P (sym h) p

@@ -32,7 +32,7 @@ OutgrowsByCreate pages old asked =
     ((id : ℕ) × IsNextId old id × NeedsMore old.layout.limit (host_view (with_enclave old id (Some (fresh pages (parts_of asked))))))
     ⊎ NeedsMore old.layout.limit (enclave_view (parts_of asked))
 
--- why it is refused: for want of entries or memory only behind all checks
+-- why it is refused: for too few entries or out of memory only after all checks
 abbrev pub RefusesCreate : (ℕ → List ℕ) → EnclaveTable → World → Create → Refusal → Type 0
 RefusesCreate pages old world asked NoEntries = AllPass (PassesCreate old world (parts_of asked)) create_checks × OutgrowsByCreate pages old asked
 RefusesCreate pages old world asked NoMemory = AllPass (PassesCreate old world (parts_of asked)) create_checks

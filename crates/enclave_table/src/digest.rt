@@ -86,7 +86,7 @@ fn taken<P: Pages>(pages: &P, parts: &Create) -> [u8; 32]
 }
 
 /// The digest of an enclave with these parts, over its private pages as they are. Where they are blank, it is the last one
-/// of such pages if that had the same layout, and else it is kept.
+/// of such pages if that had the same layout, and otherwise it is kept.
 pub(crate) fn digest<P: Pages>(
     last: &mut Option<BlankDigest>,
     pages: &P,

@@ -73,7 +73,7 @@ halves_fit tree low high lower upper split fit l u =
     let b : upper.least ≡ least_cost high = ap (λ c. c.least) u in
     omega (arith, least_le_branches low, least_le_branches high)
 
--- lists that begin with the last in preorder: a block comes behind those of its halves
+-- lists that begin with the last in preorder: a block comes after those of its halves
 pub added_first : {X : Type 0} (old inside : List X) (x : X) → (old ++ reverse inside) ++ x ∷ [] ≡ old ++ reverse (x ∷ inside)
 added_first old inside x = append_assoc old (reverse inside) (x ∷ []) ∙ ap (λ l. old ++ l) (sym (reverse-append (x ∷ []) inside))
 

@@ -1,4 +1,4 @@
--- The permission that is handed on to the halves of a split block, and that it is the cheapest.
+-- The permission that is passed on to the halves of a split block, and that it is the cheapest.
 use Rattle.std.proofs.Common.{◌≡◌, ℕ, zero, suc, ◌+◌, ◌^◌, ◌<◌, ◌≤◌, min, List, Bool, true, false, ◌==◌, nat_le, ◌&&◌, ◌||◌, if◌then◌else◌, refl, sym, ap, ◌∙◌, arith}
 use Rattle.std.proofs.lemmas.Bool.{le-leb, lt-leb, leb-true, leb-false, eq-eqb, ne_eqb, eqb-true, eqb-false}
 use Rattle.pmp_encoding.specs.declared.perm.Perm.{Perm}
@@ -76,7 +76,7 @@ picked ReadWriteExecute t is before =
 first_least-first : (f : Perm → ℕ) (q : Perm) → f q ≡ least_of f → ((r : Perm) → index_of r < index_of q → f r ≡ least_of f → ⊥) → first_least f ≡ q
 first_least-first f q is before = picked q (λ r. f r == least_of f) (eq-eqb _ _ is) (λ r h. ne_eqb _ _ (before r h))
 
--- ---- what is handed on is the cheapest
+-- ---- what is passed on is the cheapest
 
 cheapest :
     (f : Perm → ℕ) (p : Perm) (t : Bool) → nat_le (f p) (1 + least_of f) ≡ t

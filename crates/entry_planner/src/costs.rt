@@ -83,7 +83,7 @@ fn cost_of_split(together: u32, perms: HalfPerms) -> BlockCost
     }
 }
 
-/// Appends a split block behind those of its upper half and of its lower half.
+/// Appends a split block after those of its upper half and of its lower half.
 fn add_split(
     low: BlockCost,
     high: BlockCost,
@@ -117,7 +117,7 @@ fn cost_beside(place: u64, before: BlockCost, behind: BlockCost) -> BlockCost
     if place % 2 == 1 { before } else { behind }
 }
 
-/// Appends the split blocks of a chain behind those of its smallest block, the smaller before the larger.
+/// Appends the split blocks of a chain after those of its smallest block, the smaller before the larger.
 fn add_chain_costs(
     chain: Chain,
     smallest: BlockCost,

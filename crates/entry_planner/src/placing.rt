@@ -79,7 +79,7 @@ impl Pages {
 }
 
 /// The permission that the halves of a split block inherit: the first that is best for both, where there is one
-/// and the permission that the block inherits is best for neither; else that one.
+/// and the permission that the block inherits is best for neither; otherwise that one.
 fn chosen(perms: HalfPerms, inherited: Perm) -> Perm
     ensures { (low high : PermTree) → perms ≡ half_perms low high
         → result ≡ handed_on low high inherited }

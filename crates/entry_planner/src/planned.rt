@@ -61,7 +61,7 @@ impl Plan {
     /// What the i-th split block costs where it inherits a permission, that of the smallest entry round it: the least
     /// number of entries that give its pages their permissions there. The tree's split blocks count from 0 in preorder:
     /// a block, then those of its lower half, then those of its upper half. A block of one permission costs 0 where it
-    /// inherits that one, else 1.
+    /// inherits that one, otherwise 1.
     pub fn cost(&self, i: usize, perm: Perm) -> u32
         requires { i < length self.now.costs }
         ensures { result ≡ cost_in self.now.costs i perm }

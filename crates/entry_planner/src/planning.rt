@@ -50,7 +50,7 @@ fn entries_of<H: Halving>(
 /// the smaller come before the larger, those of one size by rising address. Of the lists with these properties it is
 /// the one of ORTC's pass down: from the whole space, which inherits no access, a block that is split gets an entry
 /// only where that saves more than it costs, for the first permission in the order none, R, RW, X, RX, RWX under which
-/// its halves cost least. The only error is want of memory.
+/// its halves cost least. The only error is out of memory.
 /// (RISC-V Privileged Architecture, Physical Memory Protection: priority and matching logic. The passes up and down
 /// are those of ORTC, Draves and others, 1999, with permissions for next hops and no access for the default route.)
 pub fn plan(alloc: Global, tree: &Tree) -> Result<Plan, Memory>

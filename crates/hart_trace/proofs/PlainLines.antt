@@ -56,7 +56,7 @@ letters_plain (b ∷ word) rest h k =
     let both = and_parts (is_letter b) (list_all is_letter word) h in
     and_from _ _ (and_parts (is_plain b) (not (is_blank b)) both.0).0 (letters_plain word rest both.1 k)
 
--- a word of letters, and the words behind the blank after it
+-- a word of letters, and the words after the blank after it
 pub letters_split : (b : ℕ) (word rest : List ℕ) → list_all is_letter (b ∷ word) ≡ true → split_words ((b ∷ word) ++ 32 ∷ rest) ≡ (b ∷ word) ∷ split_words rest
 letters_split b word rest h = word_split is_blank (b ∷ word) (32 ∷ rest) (omega arith, letters_word (b ∷ word) h) refl
 
@@ -70,7 +70,7 @@ mark_letter x h = grind (arith, nat_tests, common_steps, h)
 pub mark_number : (x : ℕ) (digits : List ℕ) (value : ℕ) → is_mark x ≡ true → Some value ≡ numeral_of 16 digits → number_of (48 ∷ x ∷ digits) ≡ Some value
 mark_number x digits value h e = cond-true (is_mark x) (numeral_of 16 digits) (numeral_of 10 (48 ∷ x ∷ digits)) h ∙ sym e
 
--- an address that may have words behind it
+-- an address that may have words after it
 pub address_word : (x : ℕ) (digits : List ℕ) → is_letter x ≡ true → list_all is_letter digits ≡ true → list_all is_letter (48 ∷ x ∷ digits) ≡ true
 address_word x digits hx h = and_from _ _ hx h
 
@@ -178,7 +178,7 @@ one_plain b line h =
     let no : (b == 35) ≡ false = grind (arith, nat_tests, common_steps, (and_parts (is_allowed b) (not (b == 35)) h).1) in
     rw (no, one_more (position_or_len (λ c. c == 35) line)) refl
 
--- the words behind a hart's name
+-- the words after a hart's name
 words_behind : (digit : ℕ) (rest : List ℕ) (words : List (List ℕ)) → list_all is_letter (64 ∷ digit ∷ []) ≡ true → words_of rest ≡ Some words → words_of (64 ∷ digit ∷ 32 ∷ rest) ≡ Some ((64 ∷ digit ∷ []) ∷ words)
 words_behind digit rest words letters e =
     let name = (and_parts (is_letter digit) true (and_parts (is_letter 64) (is_letter digit && true) letters).1).0 in

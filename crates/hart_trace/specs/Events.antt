@@ -28,7 +28,7 @@ abbrev pub sized : Mode → (kind : Kind) → (size address : ℕ) → (b : Bool
 sized mode kind size address true fits = Some (record { mode = mode; kind = kind; size = size; address = address; sized = fits })
 sized mode kind size address false fits = None
 
--- M, SIZE and ADDR, and the words behind them
+-- M, SIZE and ADDR, and the words after them
 abbrev pub access_of : Kind → List Word → Option (Access × List Word)
 access_of kind (m ∷ s ∷ a ∷ rest) = do
   mode ← mode_of m
@@ -38,12 +38,12 @@ access_of kind (m ∷ s ∷ a ∷ rest) = do
   Some (access, rest)
 access_of kind _ = None
 
--- a fetch or a load: nothing stands behind the address
+-- a fetch or a load: nothing stands after the address
 abbrev pub with_no_value : Access × List Word → Option Event
 with_no_value (access, []) = Some (events.Access access 0)
 with_no_value (access, word ∷ words) = None
 
--- a store: VALUE stands behind the address
+-- a store: VALUE stands after the address
 abbrev pub with_value : Access × List Word → Option Event
 with_value (access, word ∷ []) = option_map (events.Access access) (number_of word)
 with_value (access, _) = None

@@ -12,7 +12,7 @@ use Rattle.hart_trace.specs.Events.{mode_of}
 abbrev pub is_letter : ℕ → Bool
 is_letter b = is_plain b && not (is_blank b)
 
--- behind a 0 it says that the number is hexadecimal: `x` or `X`
+-- after a 0 it says that the number is hexadecimal: `x` or `X`
 abbrev pub is_mark : ℕ → Bool
 is_mark b = b == 120 || b == 88
 
@@ -20,7 +20,7 @@ is_mark b = b == 120 || b == 88
 abbrev pub Starts : List ℕ → Mode → ℕ → List ℕ → Type 0
 Starts text mode size behind = (m s x : ℕ) × (text ≡ m ∷ 32 ∷ s ∷ 32 ∷ 48 ∷ x ∷ behind) × (mode_of (m ∷ []) ≡ Some mode) × (number_of (s ∷ []) ≡ Some size) × (is_letter m ≡ true) × (is_letter s ≡ true) × (is_mark x ≡ true)
 
--- a text begins with letters that spell a number, and behind them stands the rest
+-- a text begins with letters that spell a number, and after them stands the rest
 abbrev pub BeginsNumber : List ℕ → ℕ → List ℕ → Type 0
 BeginsNumber text value rest = (b : ℕ) × (word : List ℕ) × (text ≡ (b ∷ word) ++ rest) × (list_all is_letter (b ∷ word) ≡ true) × (number_of (b ∷ word) ≡ Some value)
 

@@ -40,7 +40,7 @@ fn plain_size(byte: u8) -> Option<u64>
     }
 }
 
-/// The mode and size of an access, and what stands behind the `0x` or `0X` of its address.
+/// The mode and size of an access, and what stands after the `0x` or `0X` of its address.
 #[inline(always)]
 fn plain_start(rest: &[u8]) -> Option<(Mode, u64, &[u8])>
     ensures { IfSome result (λ start. Starts rest.now start.0 start.1 start.2.now) }
@@ -65,7 +65,7 @@ fn plain_look(kind: Kind, rest: &[u8]) -> Option<Access>
     sized(mode, kind, size, address)
 }
 
-/// What stands behind ` 0x`.
+/// What stands after ` 0x`.
 #[inline(always)]
 fn behind_blank(text: &[u8]) -> Option<&[u8]>
     ensures { IfSome result (λ digits. text.now ≡ 32 ∷ 48 ∷ 120 ∷ digits.now) }
@@ -93,7 +93,7 @@ fn plain_store(rest: &[u8]) -> Option<(Access, u64)>
     Some((access, value))
 }
 
-/// What stands behind the keyword of an access and its blank.
+/// What stands after the keyword of an access and its blank.
 #[inline(always)]
 fn behind_keyword(line: &[u8]) -> Option<(Kind, &[u8])>
     ensures { IfSome result (λ said. line.now ≡ keyword said.0 ++ 32 ∷ said.1.now) }
@@ -109,7 +109,7 @@ fn behind_keyword(line: &[u8]) -> Option<(Kind, &[u8])>
 /// The access of a plain line, which names no hart, and the value that a store writes, 0 else. None says nothing of the line.
 ///
 /// For those who ask for accesses alone: an [`Event`](crate::Event) has room for a call's eight words, which
-/// [`parse_line`](crate::parse_line) hands on with each.
+/// [`parse_line`](crate::parse_line) returns with each.
 #[inline(always)]
 pub fn plain_access(line: &[u8]) -> Option<(Access, u64)>
     ensures { IfSome result (λ found.
@@ -129,7 +129,7 @@ pub fn plain_access(line: &[u8]) -> Option<(Access, u64)>
     }
 }
 
-/// The hart that a line names, where `@H` and one space begin it, and what stands behind them.
+/// The hart that a line names, where `@H` and one space begin it, and what stands after them.
 pub(crate) fn behind_hart(line: &[u8], harts: u8) -> Option<(u8, &[u8])>
     ensures { IfSome result (λ named.
         (digit : ℕ) × (line.now ≡ 64 ∷ digit ∷ 32 ∷ named.1.now)

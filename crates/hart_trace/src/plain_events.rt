@@ -13,7 +13,7 @@ use crate::trace::has_leading_zero;
 use arrayvec::ArrayVec;
 use text_lines::leading_numeral;
 
-/// What stands behind `0x`.
+/// What stands after `0x`.
 fn behind_mark(text: &[u8]) -> Option<&[u8]>
     ensures { IfSome result (λ digits. text.now ≡ 48 ∷ 120 ∷ digits.now) }
 {
@@ -23,7 +23,7 @@ fn behind_mark(text: &[u8]) -> Option<&[u8]>
     }
 }
 
-/// What stands behind a space.
+/// What stands after a space.
 fn behind_space(text: &[u8]) -> Option<&[u8]>
     ensures { IfSome result (λ behind. text.now ≡ 32 ∷ behind.now) }
 {
@@ -33,7 +33,7 @@ fn behind_space(text: &[u8]) -> Option<&[u8]>
     }
 }
 
-/// What stands behind the letter of a register.
+/// What stands after the letter of a register.
 fn behind_letter(text: &[u8]) -> Option<&[u8]>
     ensures { IfSome result (λ digits. text.now ≡ 120 ∷ digits.now) }
 {
@@ -43,7 +43,7 @@ fn behind_letter(text: &[u8]) -> Option<&[u8]>
     }
 }
 
-/// What stands behind `reg` and a space.
+/// What stands after `reg` and a space.
 fn behind_reg(line: &[u8]) -> Option<&[u8]>
     ensures { IfSome result (λ rest. line.now ≡ 114 ∷ 101 ∷ 103 ∷ 32 ∷ rest.now) }
 {
@@ -53,7 +53,7 @@ fn behind_reg(line: &[u8]) -> Option<&[u8]>
     }
 }
 
-/// What stands behind `ecall` and a space.
+/// What stands after `ecall` and a space.
 fn behind_ecall(line: &[u8]) -> Option<&[u8]>
     ensures { IfSome result (λ rest. line.now
         ≡ 101 ∷ 99 ∷ 97 ∷ 108 ∷ 108 ∷ 32 ∷ rest.now) }
@@ -64,7 +64,7 @@ fn behind_ecall(line: &[u8]) -> Option<&[u8]>
     }
 }
 
-/// The number that a text begins with, and what stands behind it.
+/// The number that a text begins with, and what stands after it.
 fn plain_number(text: &[u8]) -> Option<(u64, &[u8])>
     ensures { IfSome result (λ found. BeginsNumber text.now found.0 found.1.now) }
 {
@@ -76,7 +76,7 @@ fn plain_number(text: &[u8]) -> Option<(u64, &[u8])>
     Some((value, behind))
 }
 
-/// The register that a text names before a space, and what stands behind that.
+/// The register that a text names before a space, and what stands after that.
 fn plain_register(text: &[u8]) -> Option<(u8, &[u8])>
     ensures { IfSome result (λ found.
         (digits : List ℕ) × (text.now ≡ (120 ∷ digits) ++ 32 ∷ found.1.now)

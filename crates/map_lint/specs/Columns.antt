@@ -3,7 +3,7 @@ use Rattle.std.specs.Prelude.{ℕ, ◌+◌, ◌-◌, List, take, drop}
 use Rattle.std.specs.List.{position_or_len, prefix_len}
 use Rattle.text_lines.specs.Words.{is_blank}
 
--- how many bytes stand before the first word that begins at a place or behind it, and how many before its end
+-- how many bytes stand before the first word that begins at a place or after it, and how many before its end
 abbrev pub begin_from : List ℕ → ℕ → ℕ
 begin_from text at = at + prefix_len is_blank (drop at text)
 

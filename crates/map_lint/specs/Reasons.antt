@@ -1,4 +1,4 @@
--- Why a line of a map file is not understood, with its column and what would mend it.
+-- Why a line of a map file is not understood, with its column and what would fix it.
 use Rattle.std.specs.Prelude.{ℕ, ◌+◌, ◌-◌, ◌%◌, ◌^◌, ◌==◌, ◌||◌, ◌&&◌, not, nat_lt, if◌then◌else◌, Bool, true, false, List, [], ◌∷◌, ◌++◌, length, Option, Some, None, codes}
 use Rattle.std.specs.List.{list_all, list_any, prefix_len}
 use Rattle.pmp_encoding.specs.declared.perm.Perm.{Perm}
@@ -63,7 +63,7 @@ perm_fault word = if list_all is_perm_letter word then letters_mend word else co
 abbrev pub perm_text : ℕ → List ℕ → List ℕ
 perm_text before word = column_text before ++ (codes "PERM " ++ (quoted word ++ perm_fault word))
 
--- what a size that is no whole number of pages is mended by
+-- what a size that is no whole number of pages is fixed by
 abbrev pub pages_mend : ℕ → List ℕ
 pages_mend bytes = if nat_lt bytes 4096 then codes "the whole page is " else codes "the whole pages are "
 
@@ -125,6 +125,6 @@ has_mark _ = false
 unfoldable pub short_reason : List ℕ → List ℕ
 short_reason raw = if has_mark raw then codes "1: a byte order mark; save the file without one" else line_text (without_return raw)
 
--- a line without its LF: its column, the reason and what would mend it
+-- a line without its LF: its column, the reason and what would fix it
 unfoldable pub reason_of : List ℕ → List ℕ
 reason_of raw = if nat_lt 1023 (length raw) then column_text 1023 ++ codes "the line is too long; it has at most 1023 bytes" else short_reason raw

@@ -39,7 +39,7 @@ IsTooManyWithout settings i =
 abbrev pub idle_text : List ℕ → ℕ → List ℕ
 idle_text name n = place_text name n ++ codes "1: warning: the line changes nothing of the whole map; it can go\n"
 
--- what is written of a setting: a warning where the map is the same without it, and else nothing
+-- what is written of a setting: a warning where the map is the same without it, and otherwise nothing
 pub data IsWarning (name : List ℕ) (settings : List Numbered) (whole : List Run) (i : ℕ) (numbered : Numbered) : List ℕ → Type 0 where
   idle : SetsWithout settings i whole → IsWarning name settings whole i numbered (idle_text name numbered.line)
   needed : (other : List Run) → SetsWithout settings i other → other ≢ whole → IsWarning name settings whole i numbered []
@@ -55,7 +55,7 @@ AreWarnings name settings whole i (numbered ∷ rest) text =
 abbrev pub too_many_text : List ℕ → ℕ → List ℕ
 too_many_text name n = place_text name n ++ codes "1: more than 4096 ranges after this line; a map has at most 4096\n"
 
--- what is written behind the lines at fault: the line after which there would be too many ranges; else, of a map where at
+-- what is written after the lines at fault: the line after which there would be too many ranges; otherwise, of a map where at
 -- most 512 lines set something, those that change nothing
 pub data IsTail (name : List ℕ) (settings : List Numbered) : Bool → List ℕ → Type 0 where
   after : {is_map : Bool} (n : ℕ) → IsTooManyAfter n [] settings → IsTail name settings is_map (too_many_text name n)

@@ -47,7 +47,7 @@ fn blanks_len(text: &[u8]) -> usize
     text.len()
 }
 
-/// The first word that begins at a place or behind it.
+/// The first word that begins at a place or after it.
 pub(crate) fn word_from(text: &[u8], at: usize) -> Placed<'_>
     requires { at ≤ length text.now }
     ensures before { result.before ≡ begin_from text.now at }

@@ -12,7 +12,7 @@ use map_text::raw_says;
 use permission_map::Memory;
 use std::alloc::Global;
 
-/// The first line, and what stands behind its LF.
+/// The first line, and what stands after its LF.
 fn split_line(bytes: &[u8]) -> (&[u8], &[u8])
     requires { 0 < length bytes.now }
     ensures lines { raw_lines bytes.now ≡ result.0.now ∷ raw_lines result.1.now }
@@ -25,7 +25,7 @@ fn split_line(bytes: &[u8]) -> (&[u8], &[u8])
     (&bytes[..len], &bytes[len + 1..])
 }
 
-/// The findings of a file: each line at fault with its reason; else the line after which there are too many ranges, or the
+/// The findings of a file: each line at fault with its reason; otherwise the line after which there are too many ranges, or the
 /// lines of a map that change nothing.
 pub(crate) fn findings(
     alloc: Global,

@@ -134,7 +134,7 @@ fn push_warnings(
     Ok(())
 }
 
-/// Appends the line after which there are too many ranges, where there is one; else a warning of each line of a map that
+/// Appends the line after which there are too many ranges, where there is one; otherwise a warning of each line of a map that
 /// changes nothing, where few lines set something.
 pub(crate) fn push_tail(
     alloc: Global,

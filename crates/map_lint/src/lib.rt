@@ -1,4 +1,4 @@
-//! What is wrong with a map file, line by line, and what would mend it.
+//! What is wrong with a map file, line by line, and what would fix it.
 //!
 //! For the layer above: [`lint`] writes a line for each line at fault, and a warning for each that changes nothing of what
 //! stands after the whole file; its answer is whether the file is a map.

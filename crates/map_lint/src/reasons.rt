@@ -142,7 +142,7 @@ fn push_part(
     Ok(())
 }
 
-/// How a size that is no whole number of pages is mended.
+/// How a size that is no whole number of pages is fixed.
 fn pages_mend(bytes: u64) -> &'static str
     ensures { result.now ≡ pages_mend bytes }
 {
@@ -163,7 +163,7 @@ fn push_most(text: &mut Vec<u8>, first: u64) -> Result<(), Memory>
     Ok(())
 }
 
-/// Appends that a range ends behind the space.
+/// Appends that a range ends after the space.
 fn push_past_end(text: &mut Vec<u8>, size_at: usize, first: u64) -> Result<(), Memory>
     requires at { size_at < 2 ^ 64 - 1 }
     requires first { first ≤ 2 ^ 56 }
@@ -322,7 +322,7 @@ fn push_short(text: &mut Vec<u8>, raw: &[u8]) -> Result<(), Memory>
     push_line(text, without_return(raw))
 }
 
-/// Appends the column and the reason for which a line is not understood, and what would mend it.
+/// Appends the column and the reason for which a line is not understood, and what would fix it.
 #[tactic(auto, unfolding(crate::specs::Reasons::reason_of))]
 pub(crate) fn push_reason(text: &mut Vec<u8>, raw: &[u8]) -> Result<(), Memory>
     ensures { OnOk result (text.new.items ≡ text.old.items ++ reason_of raw.now) }

@@ -15,7 +15,7 @@ fn meets(entry: &Entry, stretch: &Stretch) -> bool
     entry.region.base < stretch.end && stretch.first < end
 }
 
-/// The first entries behind number i that have a byte of the stretch, at most three, by their numbers.
+/// The first entries after number i that have a byte of the stretch, at most three, by their numbers.
 pub(crate) fn overridden(entries: &[Entry], i: usize, stretch: &Stretch) -> ArrayVec<usize, 3>
     requires { i < length entries.now }
     ensures { result.items ≡ take 3 (overridden_from (i + 1)

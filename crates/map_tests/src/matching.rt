@@ -10,7 +10,7 @@ fn entry(base: u64, log2: u32, perm: Perm) -> Option<Entry> {
     Some(Entry { region, perm })
 }
 
-/// What becomes of a load under the bank, where it has that size.
+/// The outcome of a load under the bank, where it has that size.
 fn load(bank: &Bank, mode: Mode, size: u8, addr: u64) -> Option<Result<(), Cause>> {
     let access = Access::new(mode, Kind::Load, size, addr)?;
     Some(judge(bank, &access))

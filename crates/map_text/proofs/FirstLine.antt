@@ -1,4 +1,4 @@
--- The first line of a text, and the lines behind it.
+-- The first line of a text, and the lines after it.
 use Rattle.std.proofs.Common.{ℕ, zero, suc, inl, inr, ◌≡◌, ◌∙◌, ◌+◌, ◌<◌, ◌≤◌, length, Bool, true, false, not, List, [], ◌∷◌, ◌++◌, Option, take, ap, sym, refl, arith, append_assoc, append-nil, length-append}
 use Rattle.std.specs.Prelude.{◌==◌, Ok, Err, Some, None}
 use Rattle.std.specs.Io.KnownBytes.{Consumes}
@@ -34,7 +34,7 @@ pub raw_lines-are : (bytes : List ℕ) → AreLines bytes (raw_lines bytes)
 raw_lines-are [] = refl
 raw_lines-are (b ∷ bytes) = are_by b bytes (is_lf b) refl (raw_lines-are bytes)
 
--- a line before its LF is the first, and behind it stand the others
+-- a line before its LF is the first, and after it stand the others
 ended_first : (line rest : List ℕ) → has_no_end line ≡ true → raw_lines (line ++ 10 ∷ rest) ≡ line ∷ raw_lines rest
 ended_first [] rest h = refl
 ended_first (b ∷ line) rest h =
@@ -79,7 +79,7 @@ first_of : (lines : List (List ℕ)) → IsLong 1024 lines → (raw : List ℕ) 
 first_of [] h = absurd (omega (arith, h))
 first_of (line ∷ lines) h = (line, lines, refl, h)
 
--- what was left, by what came and what is behind it
+-- what was left, by what came and what is after it
 left_as : (old : LineReader) (before bytes middle : List ℕ) → before ≡ bytes ++ middle → left_of old before ≡ (pending_of old ++ bytes) ++ middle
 left_as old before bytes middle e = ap (λ xs. pending_of old ++ xs) e ∙ sym (append_assoc (pending_of old) bytes middle)
 

@@ -12,12 +12,12 @@ abbrev pub begun : ℕ → List (List ℕ) → List (List ℕ)
 begun b [] = (b ∷ []) ∷ []
 begun b (line ∷ lines) = (b ∷ line) ∷ lines
 
--- the pieces of a text that LF ends; what is empty behind the last LF is none
+-- the pieces of a text that LF ends; what is empty after the last LF is none
 abbrev pub raw_lines : List ℕ → List (List ℕ)
 raw_lines [] = []
 raw_lines (b ∷ bytes) = if is_lf b then [] ∷ raw_lines bytes else begun b (raw_lines bytes)
 
--- the bytes of which no line was handed out: those that came to the reader, and those that stand behind them
+-- the bytes of which no line was handed out: those that came to the reader, and those that stand after them
 abbrev pub left_of : LineReader → List ℕ → List ℕ
 left_of reader rest = pending_of reader ++ rest
 

@@ -156,7 +156,7 @@ pub record IsCertificateOf (view : View) (limit : Limit) (entries : List Entry) 
   pub spells : Spells bytes (version_for limit) entries tree
   pub right : IsRight view bytes (length entries)
 
--- a certificate was written and put in its place where a file for it is named, and else nothing was
+-- a certificate was written and put in its place where a file for it is named, and otherwise nothing was
 abbrev pub IsCertified : {C : Type 0} → View → Limit → List Entry → Option (Bor (List ℕ)) → Placing C → Type 0
 IsCertified view limit entries None cert = IsUnwritten cert.sink
 IsCertified view limit entries (Some file) cert =
@@ -221,7 +221,7 @@ pub data IsUnplanned {C : Type 0} (view : View) (limit : Limit) (most : Option �
   beyond : NeedsMore view most trouble → IsUnwritten cert.sink → IsUnplanned view limit most file cert trouble
   uncertified : BreaksCertificate view limit most file cert trouble → IsUnplanned view limit most file cert trouble
 
--- `plan`: the map is read, the certificate is written where one is asked for, and the plan behind it
+-- `plan`: the map is read, the certificate is written where one is asked for, and the plan after it
 pub data Plans {R C W : Type 0} (map : Bor (List ℕ)) (file : Option (Bor (List ℕ))) (limit : Limit) (at_most : Option ℕ) (format : Format) (first : Reading R) (cert : Placing C) (out : Writing W) : Result ℕ Trouble → Type 0 where
   planned :
       (runs : List Run) (entries : List Entry) (text : List ℕ) → HasMap first runs → IsPlanned (view_of_runs runs) (most_entries limit at_most format) entries
@@ -291,7 +291,7 @@ pub data HasNoPlatform {R : Type 0} (file : Bor (List ℕ)) (source : Reading R)
   no_platform : (bytes : List ℕ) → HasBytes (2 ^ 20) source bytes → ((platform : Layout) → IsPlatformFile bytes platform → ⊥) → HasNoPlatform file source (NotAPlatform file)
   memory : (bytes : List ℕ) → HasBytes (2 ^ 20) source bytes → HasNoPlatform file source Memory
 
--- the measurements of a machine's live enclaves were written where they are asked for, and else nothing more
+-- the measurements of a machine's live enclaves were written where they are asked for, and otherwise nothing more
 abbrev pub IsMeasured : Bool → Machine → Option (List ℕ) → Option (List ℕ) → Type 0
 IsMeasured false machine before after = after ≡ before
 IsMeasured true machine before after = (text : List ℕ) × AreMeasures (kept_of machine).table 64 text × Appends before after text
@@ -372,7 +372,7 @@ Performs (tasks.Audit map registers) first second cert out done = Audits map reg
 Performs (tasks.Lint map) first second cert out done = Lints map first out done × IsUnread second × IsUnwritten cert.sink
 Performs (tasks.Show map limit at_most) first second cert out done = Shows map limit at_most first out done × IsUnread second × IsUnwritten cert.sink
 
--- what standard error is told: nothing where there is no trouble, else its line, which breaks off only where the device does
+-- what standard error is told: nothing where there is no trouble, otherwise its line, which breaks off only where the device does
 pub data Tells {E : Type 0} (err : Writing E) : Result ℕ Trouble → Type 0 where
   quiet : (status : ℕ) → IsUnwritten err → Tells err (Ok status)
   told : (trouble : Trouble) → Appends err.before err.after (trouble_text trouble) → Tells err (Err trouble)

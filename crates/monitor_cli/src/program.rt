@@ -13,7 +13,7 @@ use program_tasks::Task;
 use program_troubles::Trouble;
 use std::alloc::Global;
 
-/// The status of a task, whose trouble is told on standard error.
+/// The status of a task, whose trouble is reported on standard error.
 fn ended<E: Sink>(done: Result<u8, Trouble<'_>>, err: &mut E) -> u8
     ensures status { result ≡ status_of done.entry }
     ensures quiet { IfOk done.entry (λ _. err.new ≡ err.old) }

@@ -1,4 +1,4 @@
-//! The parts of `run`: the platform, the machine that boots on it, and the measurements behind its report.
+//! The parts of `run`: the platform, the machine that boots on it, and the measurements after its report.
 
 ghost use Rattle.std.specs.Prelude.{◌≡◌, ◌-◌, ◌^◌, ◌<◌, ◌≤◌, ◌++◌, ◌⊎◌, ℕ, List, Err, IfErr, IfOk, IfSome, None};
 ghost use Rattle.std.specs.Io.KnownBytes.{Appends};

@@ -52,7 +52,7 @@ too_many old new wanted first count perm (Err Memory) inside is becomes = (
   (λ m. absurd (let same : m.1.0 ≡ wanted = one_wanted old first count perm m.1.0 wanted m.1.1 is in omega (arith, ap length same, m.1.2, becomes.1))),
 )
 
--- the runs that end before a range are before those that begin behind it
+-- the runs that end before a range are before those that begin after it
 pub in_order :
     (runs : List Run) (from to first end : ℕ) (d : Run) → from ≤ length runs → All (λ run. end_of run < first) (take from runs) → All (λ run. end < run.first) (drop to runs)
     → first ≤ end → from ≤ to

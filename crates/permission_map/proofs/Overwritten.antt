@@ -1,4 +1,4 @@
--- The parts below and behind a range, and the new run, put together.
+-- The parts below and after a range, and the new run, put together.
 use Rattle.std.proofs.Common.{◌≡◌, ◌≢◌, ℕ, ◌+◌, ◌^◌, ◌<◌, ◌≤◌, ⊎_elim, List, ◌∷◌, ◌++◌, Option, None, Some, option_to_list, sym, ◌∙◌, arith}
 use Rattle.std.proofs.lemmas.Bool.{cases_lt, cond-true, cond-false}
 use Rattle.pmp_encoding.specs.declared.perm.Perm.{Perm}
@@ -10,7 +10,7 @@ use Rattle.permission_map.specs.Overwriting.{AreOverwritten, last_end, last_perm
 use Rattle.permission_map.proofs.Rising.{range_above, range_past, range_has, view_above, view_past, view_in, view_before, view_second, runs_append, runs_earlier}
 use Rattle.permission_map.proofs.Seams.{view_only}
 
--- the view with the range overwritten, below, in and behind it
+-- the view with the range overwritten, below, in and after it
 pub changed_below : (view : ℕ → Perm) (first count : ℕ) (perm : Perm) (page : ℕ) → page < first → overwritten view first count perm page ≡ view page
 changed_below view first count perm page h = cond-false (in_range first count page) perm (view page) (range_above first count page h)
 

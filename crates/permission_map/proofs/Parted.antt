@@ -15,7 +15,7 @@ use Rattle.permission_map.proofs.Seams.{below_none, below_cut, below_joined, abo
 around : (runs : List Run) (i : ℕ) (d : Run) → i < length runs → runs ≡ take i runs ++ get_or runs i d ∷ drop (i + 1) runs
 around runs i d inside = sym (take-append-drop i runs) ∙ ap (λ rs. take i runs ++ rs) (drop_more runs i d inside)
 
--- what holds behind an index holds at it
+-- what holds after an index holds at it
 pub at_front : (P : Run → Type 0) (runs : List Run) (i : ℕ) (d : Run) → i < length runs → All P (drop i runs) → P (get_or runs i d)
 at_front P runs i d inside all =
     let here : i + 0 ≡ i = omega arith in
@@ -74,7 +74,7 @@ below_joined_at runs kept first perm d are high inside begin same =
     (at_front (λ run. first ≤ end_of run) runs kept d inside high)
     same
 
--- ---- behind the range
+-- ---- after the range
 
 pub above_all : (runs : List Run) (gone end : ℕ) (perm : Perm) → AreRuns runs → end ≤ 2 ^ 44 → All (λ run. end < run.first) (drop gone runs) → gone ≡ 0 → IsAbove runs end perm (drop gone runs) end
 above_all runs gone end perm are small high none =

@@ -23,7 +23,7 @@ UpTo page ps = AllByRecursion (λ q. page_of q ≤ page) ps
 
 -- ---- one list after another
 
--- the page behind the last point
+-- the page after the last point
 abbrev last_at : ℕ → List Point → ℕ
 last_at at [] = at
 last_at at (q ∷ ps) = last_at (page_of q + 1) ps
@@ -44,7 +44,7 @@ last_low : (at first : ℕ) (xs : List Point) → at ≤ first → AllByRecursio
 last_low at first [] low all = low
 last_low at first (x ∷ xs) low all = last_low (page_of x + 1) first xs (let here : page_of x < first = all.0 in omega (arith, here)) all.1
 
--- where the first point is does not count for those behind it
+-- where the first point is does not count for those after it
 points_from : (at from : ℕ) (p : Perm) (ps : List Point) → ArePointsAfter at p ps → AllByRecursion (λ q. from ≤ page_of q) ps → ArePointsAfter from p ps
 points_from at from p [] are all = tt
 points_from at from p (q ∷ ps) are all = (record { rising = all.0; changes = are.0.changes; inside = are.0.inside }, are.1)
@@ -83,7 +83,7 @@ turned_view page at before perm (Some q) ps high turn =
     let there : page_of q ≡ at = turn.1 in
     cond-false (nat_lt page (page_of q)) before (view_from (perm_of q) ps page) (le-ltb _ _ (omega (arith, there, high))) ∙ ap (λ p. view_from p ps page) turn.2
 
--- ---- a page and points before and behind it
+-- ---- a page and points before and after it
 
 stands : (p : Perm) (ps : List Point) (page : ℕ) → Behind page ps → view_from p ps page ≡ p
 stands p [] page behind = refl
@@ -100,7 +100,7 @@ view_second p (x ∷ xs) ys page low =
 
 -- ---- a range
 
--- where the points before a range, and those behind its end, are cut off
+-- where the points before a range, and those after its end, are cut off
 pub record IsCut (ps : List Point) (first end from to : ℕ) : Type 0 where
   pub before : All (λ q. page_of q < first) (take from ps)
   pub rest : All (λ q. first ≤ page_of q) (drop from ps)
@@ -219,7 +219,7 @@ replaced_count ps from to gone start stop parts =
 pub gone_few : (ps : List Point) (from to gone : ℕ) → count_by allows (take from ps) + (gone + count_by allows (drop to ps)) ≡ count_by allows ps → gone ≤ length (runs_of ps)
 gone_few ps from to gone parts = omega (arith, parts, runs_count ps)
 
--- where a point is behind a page, so are those from it on
+-- where a point is after a page, so are those from it on
 pub behind_from : (ps : List Point) (i page : ℕ) (e : Point) → ArePoints ps → i < length ps → page < page_of (get_or ps i e) → All (λ q. page < page_of q) (drop i ps)
 behind_from ps i page e are less low = λ k d inside.
     let rise : page_of (get_or ps i d) ≤ page_of (get_or ps (i + k) d) = pages_rise 0 NoAccess ps are i (i + k) d (omega arith) (omega (arith, length-drop i ps, inside)) in

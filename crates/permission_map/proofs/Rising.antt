@@ -1,4 +1,4 @@
--- Runs by rising page, one list after another, and what their view gives below, at and behind a run.
+-- Runs by rising page, one list after another, and what their view gives below, at and after a run.
 use Rattle.std.proofs.Common.{◌≡◌, ◌≢◌, ℕ, ◌+◌, ◌<◌, ◌≤◌, ⊎_elim, List, [], ◌∷◌, ◌++◌, true, false, cond, refl, sym, ap, ◌∙◌, arith}
 use Rattle.std.specs.List.{AllByRecursion}
 use Rattle.std.proofs.lemmas.Bool.{cases_eq, cond-true, cond-false}
@@ -80,7 +80,7 @@ last_end-le at p (x ∷ xs) are =
     let rest : end_of x ≤ last_end (end_of x) xs = last_end-le (end_of x) x.perm xs are.1 in
     omega arith
 
--- behind a list the second gives the view
+-- after a list the second gives the view
 pub view_second : (at : ℕ) (p : Perm) (xs ys : List Run) (page : ℕ) → AreRunsAfter at p xs → last_end at xs ≤ page → view_of_runs (xs ++ ys) page ≡ view_of_runs ys page
 view_second at p [] ys page are behind = refl
 view_second at p (x ∷ xs) ys page are behind =

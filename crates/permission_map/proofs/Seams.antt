@@ -10,7 +10,7 @@ use Rattle.permission_map.specs.Runs.{end_of, AreRunsAfter, AreRuns, view_of_run
 use Rattle.permission_map.specs.Overwriting.{last_end, last_perm, IsBelow, IsAbove}
 use Rattle.permission_map.proofs.Rising.{view_above, view_past, view_in, view_before, view_second, view_alike, runs_first, runs_second, runs_append, runs_apart, last_end-append, last_perm-append}
 
--- runs with a list behind that says nothing of a page
+-- runs with a list after that says nothing of a page
 pub view_only : (xs ys : List Run) (page : ℕ) → view_of_runs ys page ≡ NoAccess → view_of_runs xs page ≡ view_of_runs (xs ++ ys) page
 view_only xs ys page none = ap (λ rs. view_of_runs rs page) (sym (append-nil xs)) ∙ view_alike xs [] ys page (sym none)
 
@@ -103,7 +103,7 @@ below_joined runs before rest run first perm are parts begin end same_perm =
           ap (λ rs. view_of_runs rs page) parts ∙ view_second 0 NoAccess before (run ∷ rest) page front (omega arith) ∙ view_in run rest page over (omega arith) ∙ same_perm;
     }
 
--- ---- behind the range
+-- ---- after the range
 
 -- no run goes over its end
 pub above_none :
@@ -121,7 +121,7 @@ above_none runs before rest end perm are parts small low high =
       taken_in = λ page over under. absurd (omega arith);
     }
 
--- a run of another permission goes over it: what is behind stays
+-- a run of another permission goes over it: what is after stays
 pub above_cut :
     (runs before rest : List Run) (run : Run) (end : ℕ) (perm : Perm) → AreRuns runs → runs ≡ before ++ run ∷ rest → run.first ≤ end → end < end_of run → run.perm ≢ perm
     → IsAbove runs end perm (record { first = end; count = end_of run - end; perm = run.perm } ∷ rest) end

@@ -121,7 +121,7 @@ next_is runs page i d are over behind inside =
 
 -- ---- blocks that are not of one permission
 
--- a block in which the next run begins behind the first page
+-- a block in which the next run begins after the first page
 pub begins_inside :
     (runs : List Run) (first size : ℕ) (run : Run) → IsNext runs first run → first < run.first → run.first < first + size
     → (perm : Perm) → ((i : ℕ) → i < size → view_of_runs runs (first + i) ≡ perm) → ⊥
@@ -135,7 +135,7 @@ begins_inside runs first size run next low high perm same =
     ∙ sym (same 0 (omega arith))
     ∙ none)
 
--- a block that goes on behind the end of the run that has its first page
+-- a block that goes on after the end of the run that has its first page
 pub ends_inside :
     (runs : List Run) (first size : ℕ) (run : Run) → IsNext runs first run → run.first ≤ first → end_of run < first + size
     → (perm : Perm) → ((i : ℕ) → i < size → view_of_runs runs (first + i) ≡ perm) → ⊥

@@ -42,7 +42,7 @@ pub record IsBelow (runs : List Run) (first : ℕ) (perm : Perm) (below : List R
   pub same_below : (page : ℕ) → page < start → view_of_runs below page ≡ view_of_runs runs page
   pub taken_in : (page : ℕ) → start ≤ page → page < first → view_of_runs runs page ≡ perm
 
--- these runs stay behind a range that ends at `end`, and a new run of the permission, which takes in what it touches, ends at `stop`
+-- these runs stay after a range that ends at `end`, and a new run of the permission, which takes in what it touches, ends at `stop`
 pub record IsAbove (runs : List Run) (end : ℕ) (perm : Perm) (above : List Run) (stop : ℕ) : Type 0 where
   pub are_runs : AreRunsAfter stop perm above
   pub reaches : end ≤ stop

@@ -20,7 +20,7 @@ perm_of p = perm_for (p.number % 8)
 abbrev pub allows : Point → Bool
 allows p = not (p.number % 8 == 0)
 
--- a point at the page `at` or behind it, where `before` stands up to it
+-- a point at the page `at` or after it, where `before` stands up to it
 pub record IsPointAfter (at : ℕ) (before : Perm) (p : Point) : Type 0 where
   pub rising : at ≤ page_of p
   pub changes : perm_of p ≢ before
@@ -55,7 +55,7 @@ pub record IsBuilt (points : List Point) (runs capacity : ℕ) : Type 0 where
   pub few : runs ≤ 4096
   pub room : 0 < runs → 8195 ≤ capacity
 
--- the permission that stands behind the points, where p stands before them
+-- the permission that stands after the points, where p stands before them
 abbrev pub standing : Perm → List Point → Perm
 standing p [] = p
 standing p (q ∷ ps) = standing (perm_of q) ps

@@ -5,11 +5,11 @@ use Rattle.pmp_encoding.specs.declared.perm.Perm.TheVariants.{NoAccess}
 pub use Rattle.page_views.specs.Views.{in_range}
 use Rattle.permission_map.specs.declared.runs.Run.{Run}
 
--- the first page behind a run
+-- the first page after a run
 abbrev pub end_of : Run → ℕ
 end_of run = run.first + run.count
 
--- a run that comes behind the page `at`, where the page before it has the permission `before`
+-- a run that comes after the page `at`, where the page before it has the permission `before`
 pub record IsRunAfter (at : ℕ) (before : Perm) (run : Run) : Type 0 where
   pub rising : at ≤ run.first
   pub maximal : at ≡ run.first → run.perm ≢ before
@@ -17,7 +17,7 @@ pub record IsRunAfter (at : ℕ) (before : Perm) (run : Run) : Type 0 where
   pub allows : run.perm ≢ NoAccess
   pub inside : end_of run ≤ 2 ^ 44
 
--- runs by rising page, from `at` on, no two of which could be one: each starts behind the end of the one before it, or has another permission
+-- runs by rising page, from `at` on, no two of which could be one: each starts after the end of the one before it, or has another permission
 abbrev pub AreRunsAfter : ℕ → Perm → List Run → Type 0
 AreRunsAfter at before [] = ⊤
 AreRunsAfter at before (run ∷ runs) = IsRunAfter at before run × AreRunsAfter (end_of run) run.perm runs

@@ -1,10 +1,10 @@
--- The run that has a page, or else the next one behind it.
+-- The run that has a page, otherwise the next one after it.
 use Rattle.std.specs.Prelude.{◌≡◌, ◌≢◌, ℕ, ◌<◌, ◌≤◌, List}
 use Rattle.pmp_encoding.specs.declared.perm.Perm.TheVariants.{NoAccess}
 use Rattle.permission_map.specs.declared.runs.Run.{Run}
 use Rattle.permission_map.specs.Runs.{end_of, IsRunAfter, view_of_runs}
 
--- of the runs that end behind the page this is the first: none has a page between them, and the view changes at its end
+-- of the runs that end after the page this is the first: none has a page between them, and the view changes at its end
 pub record IsNext (runs : List Run) (page : ℕ) (run : Run) : Type 0 where
   pub is_run : IsRunAfter 0 NoAccess run
   pub behind : page < end_of run

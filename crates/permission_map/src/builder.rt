@@ -160,7 +160,7 @@ impl MapBuilder {
         overwrite(&mut self.points, &mut self.runs, first, count, perm)
     }
 
-    /// The map. It can fail for want of memory alone, and not where it has no run.
+    /// The map. It can fail only where memory runs out, and not where it has no run.
     pub fn finish(self) -> Result<PermissionMap, Memory>
         ensures map { IfOk result (λ map. map ≡ self) }
         ensures memory { OnErr result (0 < length self) }

@@ -3,7 +3,7 @@
 /// Why a range was not set. The map is as it was.
 #[derive(Clone, Copy, PartialEq, Eq, Debug)]
 pub enum MapFault {
-    /// The range ends behind the last page of the space.
+    /// The range ends after the last page of the space.
     PastEnd = 1,
     /// The map would have more than 4096 maximal runs of a permission other than none.
     TooManyRanges = 2,

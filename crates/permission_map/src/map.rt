@@ -71,7 +71,7 @@ impl PermissionMap {
         self.runs.as_slice()
     }
 
-    /// The run that has the page, or else the first one behind it; nothing where no page from this one on has a permission.
+    /// The run that has the page, otherwise the first one after it; nothing where no page from this one on has a permission.
     pub fn next_run(&self, page: u64) -> Option<Run>
         ensures { MatchOption result ((q : ℕ) → page ≤ q
             → view_of_runs self.now q ≡ NoAccess)
@@ -113,7 +113,7 @@ impl PermissionMap {
         Some(run.perm)
     }
 
-    /// A copy of the map. It can fail for want of memory alone, and not where the map has no run.
+    /// A copy of the map. It can fail only where memory runs out, and not where the map has no run.
     pub fn try_clone(&self) -> Result<PermissionMap, Memory>
         ensures copy { IfOk result (λ copy. copy ≡ self.now) }
         ensures memory { OnErr result (0 < length self.now) }

@@ -52,7 +52,7 @@ impl Point {
     }
 }
 
-/// The count, where the point comes before the page, else 0. The sign of the difference tells it: of a branch, a search
+/// The count, where the point comes before the page, otherwise 0. The sign of the difference tells it: of a branch, a search
 /// guesses every other one wrong.
 fn past(point: Point, page: u64, count: usize) -> usize
     requires { page ≤ 2 ^ 44 }
@@ -83,7 +83,7 @@ pub(crate) fn before(points: &[Point], page: u64) -> usize
     low
 }
 
-/// How many of the points come before the page or at it, where the first `from` do. Those behind them are passed one by
+/// How many of the points come before the page or at it, where the first `from` do. Those after them are passed one by
 /// one: all but the last go with the range that ends there.
 pub(crate) fn up_to(points: &[Point], from: usize, page: u64) -> usize
     requires points { ArePoints points.now }
@@ -104,7 +104,7 @@ pub(crate) fn up_to(points: &[Point], from: usize, page: u64) -> usize
     to
 }
 
-/// The permission that stands behind the first `count` points.
+/// The permission that stands after the first `count` points.
 pub(crate) fn standing_behind(points: &[Point], count: usize) -> Perm
     requires { count ≤ length points.now }
     ensures { result ≡ standing NoAccess (take count points.now) }
@@ -126,7 +126,7 @@ pub(crate) fn turn(before: Perm, page: u64, perm: Perm) -> Option<Point>
     Some(Point::new(page, perm))
 }
 
-/// The point at the end of a range, behind which `after` stands; none at the end of the space.
+/// The point at the end of a range, after which `after` stands; none at the end of the space.
 pub(crate) fn stop(perm: Perm, end: u64, after: Perm) -> Option<Point>
     requires { end ≤ 2 ^ 44 }
     ensures { IsStop perm end after result }
@@ -165,7 +165,7 @@ pub(crate) fn begun_at(point: &Option<Point>) -> usize
     }
 }
 
-/// Puts a point at an index, in the place of the first of those up to `end`, or else before what stands there. It answers
+/// Puts a point at an index, in the place of the first of those up to `end`, otherwise before what stands there. It answers
 /// how far those to be replaced reach now.
 fn put(points: &mut Vec<Point>, at: usize, end: usize, point: Point) -> usize
     requires order { at ≤ end }

@@ -17,7 +17,7 @@ fn over(runs: &[Run], page: u64) -> usize
     runs.partition_point(|run| run.is_over(page))
 }
 
-/// The first run that ends behind the page.
+/// The first run that ends after the page.
 pub(crate) fn next(runs: &[Run], page: u64) -> Option<Run>
     requires { AreRuns runs.now }
     ensures { MatchOption result ((q : ℕ) → page ≤ q → view_of_runs runs.now q ≡ NoAccess)

@@ -41,7 +41,7 @@ put_then held middle holds old mid new bytes more first second = record {
   unstalled = second.unstalled ∙ first.unstalled;
 }
 
--- bytes that are held behind others, for which room was made
+-- bytes that are held after others, for which room was made
 pub held_put : (held room new : List ℕ) (old mid : Taken) (bytes : List ℕ) → IsPut held room old mid [] → new ≡ room ++ bytes → IsPut held new old mid bytes
 held_put held room new old mid bytes put is = record {
   went = put.went;
@@ -106,7 +106,7 @@ part_of_cut old new bytes cut =
       subst (λ (xs : List ℕ). Appends old.contents new.contents xs) (sym front) cut.appended,
     )
 
--- entries up to one, that one, and those behind it
+-- entries up to one, that one, and those after it
 pub entries_more : (es : List Entry) (i : ℕ) (d : Entry) → i < length es → flat_map entry_bytes (take (i + 1) es) ≡ flat_map entry_bytes (take i es) ++ entry_bytes (get_or es i d)
 entries_more es i d inside = ap (flat_map entry_bytes) (take_more es i d inside) ∙ sym (flat_map_more entry_bytes [] (take i es) (get_or es i d))
 

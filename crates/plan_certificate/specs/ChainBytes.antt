@@ -13,7 +13,7 @@ head_bytes costs i (suc n) place before =
     (1 ∷ costs_bytes (cost_in costs i))
     ++ cond (ltb place (2 ^ n)) (head_bytes costs (i + 1) n place before) (node_bytes (Leaf before) ++ head_bytes costs (i + 1) n (place - 2 ^ n) before)
 
--- behind it: the leaf of each upper half that does not hold it
+-- after it: the leaf of each upper half that does not hold it
 abbrev pub tail_bytes : ℕ → ℕ → Perm → List ℕ
 tail_bytes zero place behind = []
 tail_bytes (suc n) place behind = cond (ltb place (2 ^ n)) (node_bytes (Leaf behind) ++ tail_bytes n place behind) (tail_bytes n (place - 2 ^ n) behind)

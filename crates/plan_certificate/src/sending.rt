@@ -34,7 +34,7 @@ fn version_for(limit: Limit) -> Version
     }
 }
 
-/// Puts bytes behind those that are held, for which there is room.
+/// Puts bytes after those that are held, for which there is room.
 fn hold(piece: &mut ArrayVec<u8, PIECE>, bytes: &[u8])
     requires { length piece.old.items + length bytes.now ≤ 32768 }
     ensures { piece.new.items ≡ piece.old.items ++ bytes.now }
@@ -44,7 +44,7 @@ fn hold(piece: &mut ArrayVec<u8, PIECE>, bytes: &[u8])
     };
 }
 
-/// Puts the form behind what is held.
+/// Puts the form after what is held.
 fn hold_version(piece: &mut ArrayVec<u8, PIECE>, version: Version)
     requires { length piece.old.items ≤ 32766 }
     ensures { piece.new.items ≡ piece.old.items ++ version_bytes version }
@@ -110,7 +110,7 @@ fn front_of(costs: SixCosts) -> [u8; 25]
     bytes
 }
 
-/// Makes room for so many bytes behind those that are held, which go to the sink where there is none.
+/// Makes room for so many bytes after those that are held, which go to the sink where there is none.
 fn make_room<W: Sink>(
     piece: &mut ArrayVec<u8, PIECE>,
     room: usize,
@@ -136,7 +136,7 @@ fn make_room<W: Sink>(
     Ok(())
 }
 
-/// Puts bytes behind those that are held, which go to the sink first where there is no room.
+/// Puts bytes after those that are held, which go to the sink first where there is no room.
 fn put<W: Sink>(
     piece: &mut ArrayVec<u8, PIECE>,
     bytes: &[u8],
@@ -206,7 +206,7 @@ fn hold_heads(piece: &mut ArrayVec<u8, PIECE>, chain: Chain, plan: &Plan, i: usi
     }
 }
 
-/// Puts what stands behind it: the leaves of the pages behind it.
+/// Puts what stands after it: the leaves of the pages after it.
 fn hold_tails(piece: &mut ArrayVec<u8, PIECE>, chain: Chain)
     requires chain { chain.place < 2 ^ chain.levels }
     requires most { chain.levels ≤ 44 }
@@ -255,7 +255,7 @@ fn put_heads<W: Sink>(
     Ok(())
 }
 
-/// Puts what stands behind it.
+/// Puts what stands after it.
 fn put_tails<W: Sink>(
     piece: &mut ArrayVec<u8, PIECE>,
     chain: Chain,
@@ -278,7 +278,7 @@ fn put_tails<W: Sink>(
     Ok(())
 }
 
-/// Puts the node of a block whose split blocks count from the i-th on, and answers the number of the first one behind it.
+/// Puts the node of a block whose split blocks count from the i-th on, and answers the number of the first one after it.
 fn put_node<H: Halving, W: Sink>(
     piece: &mut ArrayVec<u8, PIECE>,
     block: &H,

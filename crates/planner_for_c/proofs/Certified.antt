@@ -1,4 +1,4 @@
--- What C is told of a certificate, and that it is told nothing else.
+-- What C learns of a certificate, and that it learns nothing else.
 use Rattle.std.proofs.Common.{◌≡◌, ℕ, List, [], Result, Ok, Err, refl, subst, sym}
 use Rattle.permission_map.specs.declared.runs.Run.{Run}
 use Rattle.permission_map.specs.Runs.{view_of_runs}

@@ -1,4 +1,4 @@
--- What C is told of a plan or of a refusal, and that it is told nothing else.
+-- What C learns of a plan or of a refusal, and that it learns nothing else.
 use Rattle.std.proofs.Common.{◌≡◌, ◌∙◌, ◌⊎◌, ◌^◌, ◌<◌, ℕ, List, [], inl, inr, length, refl, sym, subst, ap, pos}
 use Rattle.std.proofs.lemmas.Int.{to_z-of_z}
 use lib.Signed.{mag}

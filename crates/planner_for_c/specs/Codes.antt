@@ -1,4 +1,4 @@
--- The numbers that C gets: of refusals, and of what becomes of an access.
+-- The numbers that C gets: of refusals, and of the outcome of an access.
 use Rattle.std.specs.Prelude.{ℕ, ℤ, negsuc, pos, Result, Ok, Err}
 use Rattle.pmp_encoding.specs.declared.fault.EncodingFault.{EncodingFault}
 use Rattle.pmp_encoding.specs.declared.fault.EncodingFault.TheVariants.{ReservedPerm, Tor, Locked, ReservedBits, AddressBits, NoSuchCsr}
@@ -43,7 +43,7 @@ pair_code ReservedBits = negsuc 13
 pair_code AddressBits = negsuc 14
 pair_code NoSuchCsr = negsuc 15
 
--- 64, which is no exception code, where an access is allowed; else the exception code
+-- 64, which is no exception code, where an access is allowed; otherwise the exception code
 abbrev pub answer_code : Result (Unit {0}) Cause → ℤ
 answer_code (Ok done) = pos 64
 answer_code (Err cause) = pos (cause_number cause)

@@ -46,7 +46,7 @@ fn entries_of(registers: &Registers, count: usize) -> Result<ArrayVec<Entry, 64>
     Ok(entries)
 }
 
-/// What becomes of the access under these entries.
+/// The outcome of the access under these entries.
 fn judged(entries: &[Entry], access: &Access) -> i64
     requires { length entries.now ≤ 64 }
     ensures { (answer : Result (Unit {0}) Cause) × Judges entries.now access.now answer
@@ -73,7 +73,7 @@ fn code_of(fault: EncodingFault) -> i64
     }
 }
 
-/// What becomes of the access on a hart with `entries` entries that has loaded the registers: 64 where it is allowed, else the
+/// The outcome of the access on a hart with `entries` entries that has loaded the registers: 64 where it is allowed, otherwise the
 /// exception code. A negative number is a refusal: no such access is there, or a pair of the registers has a fault.
 #[unsafe(no_mangle)]
 pub extern "C" fn pmpmon_judge(registers: &Registers, entries: u64, access: &AccessWords) -> i64

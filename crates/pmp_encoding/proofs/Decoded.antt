@@ -19,7 +19,7 @@ pub record IsDecoded (words addresses : List ℕ) (count : ℕ) (extents : List 
   pub room : length extents ≡ 64
   pub in_order : take used extents ≡ map extent_of entries
 
--- the pair of the next place comes behind the others
+-- the pair of the next place comes after the others
 pairs_more :
     (words addresses : List ℕ) (first count : ℕ)
     → pairs_from words addresses first (suc count) ≡ pairs_from words addresses first count ++ (cfg_byte words (first + count), slice_index addresses (first + count)) ∷ []

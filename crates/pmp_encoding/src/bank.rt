@@ -27,7 +27,7 @@ pub struct Bank {
     pub ghost decoded: { AreExtents words addresses (limit_number limit) extents used },
 }
 
-/// What stands in a bank behind the extents of its entries.
+/// What stands in a bank after the extents of its entries.
 const NOWHERE: Extent = Extent {
     base: 0,
     end: 0,
@@ -259,7 +259,7 @@ fn entry_of(cfg: u8, address: u64) -> Option<Entry>
     }
 }
 
-/// Fills registers with entries, each in its canonical pair, and zero behind them; and decodes each one beside it.
+/// Fills registers with entries, each in its canonical pair, and zero after them; and decodes each one beside it.
 fn fill(
     words: &mut [u64; 8],
     addresses: &mut [u64; 64],

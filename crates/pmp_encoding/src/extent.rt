@@ -11,7 +11,7 @@ use crate::region::{Entry, bytes_of};
 pub struct Extent {
     /// The lowest address.
     pub base: u64,
-    /// The first address behind it, at most 2^56.
+    /// The first address after it, at most 2^56.
     pub end: u64,
     pub perm: Perm,
 }

@@ -3,7 +3,7 @@
 //! An [`Entry`] is a permission on an aligned block of the physical address space, of 4 bytes (NA4) or of 2^3 to 2^56
 //! bytes (NAPOT). A pair of a configuration byte and an address register means an entry, means nothing (OFF), or has
 //! a fault; TOR, locked entries and reserved bits are faults here. `encode` gives the canonical pair of an entry, and
-//! `decode` answers what a pair means: an entry exactly where it means one, and else why not. A [`Bank`] holds eight
+//! `decode` answers what a pair means: an entry exactly where it means one, and otherwise why not. A [`Bank`] holds eight
 //! configuration words and 64 address registers, and its entries are those of the pairs below its limit, in order.
 //! Nothing here takes memory. (RISC-V Privileged Architecture, Physical Memory Protection)
 //!

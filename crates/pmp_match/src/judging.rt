@@ -136,7 +136,7 @@ fn judged(bank: &Bank, access: &Access) -> Result<(), Cause>
     Ok(())
 }
 
-/// What becomes of the access under the entries that the bank's registers mean. It looks at nothing else, and takes
+/// The outcome of the access under the entries that the bank's registers mean. It looks at nothing else, and takes
 /// no memory. (RISC-V Privileged Architecture, Physical Memory Protection, priority and matching logic; that a
 /// misaligned access comes before all else, and then one past the space, is this project's own order)
 pub fn judge(bank: &Bank, access: &Access) -> Result<(), Cause>

@@ -31,7 +31,7 @@ struct Segment {
     perm: Perm,
 }
 
-/// What stands behind the segments of a bank.
+/// What stands after the segments of a bank.
 const NOWHERE: Segment = Segment {
     base: SPACE_SIZE,
     end: SPACE_SIZE,
@@ -90,7 +90,7 @@ impl Segment {
             && u64::from(access.size) <= self.end - access.address
     }
 
-    /// What becomes of an aligned access within the segment.
+    /// The outcome of an aligned access within the segment.
     #[inline(always)]
     fn judge(&self, access: &Access) -> Result<(), Cause>
         ensures { result ≡
@@ -168,7 +168,7 @@ impl<'a> Segments<'a> {
         self.segments[at]
     }
 
-    /// What becomes of the access under the entries that the bank's registers mean, as [`judge`](crate::judge) says it. It
+    /// The outcome of the access under the entries that the bank's registers mean, as [`judge`](crate::judge) says it. It
     /// takes no memory.
     #[inline(always)]
     pub fn judge(&self, access: &Access) -> Result<(), Cause>

@@ -34,7 +34,7 @@ first_of (tasks.Audit map registers) = place_of map
 first_of (tasks.Lint map) = place_of map
 first_of (tasks.Show map limit at_most) = place_of map
 
--- what it reads behind that; a certificate is a file, whatever its name
+-- what it reads after that; a certificate is a file, whatever its name
 abbrev pub second_of : Task → Option Place
 second_of (tasks.Run platform trace measure) = Some (place_of trace)
 second_of (tasks.Judge map trace limit) = Some (place_of trace)

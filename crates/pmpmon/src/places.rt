@@ -42,7 +42,7 @@ pub fn first_of<'a>(task: &Task<'a>) -> Place<'a>
     }
 }
 
-/// What a task reads behind that, where it does. A certificate is a file, whatever its name.
+/// What a task reads after that, where it does. A certificate is a file, whatever its name.
 pub fn second_of<'a>(task: &Task<'a>) -> Option<Place<'a>>
     ensures { result ≡ second_of task.now }
 {

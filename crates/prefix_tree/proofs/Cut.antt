@@ -31,7 +31,7 @@ counted p (run ∷ runs) = cond (p run) (suc (counted p runs)) (counted p runs)
 counted-is : (p : Run → Bool) (runs : List Run) → counted p runs ≡ count_by p runs
 counted-is p runs = is_count_by (counted p) p refl (λ run rest. let e : suc (counted p rest) ≡ 1 + counted p rest = omega arith in ap (λ n. cond (p run) n (counted p rest)) e) runs
 
--- runs behind a page are none of those that begin before it, or end before it
+-- runs after a page are none of those that begin before it, or end before it
 none_begin : (at low high page : ℕ) (runs : List Run) → page ≤ at → MeetBehind at low high runs → counted (begins_before page) runs ≡ 0
 none_begin at low high page [] le meet = refl
 none_begin at low high page (run ∷ runs) le meet =
@@ -55,7 +55,7 @@ begun_meet at low high page (run ∷ runs) meet =
     (λ above. rw (le-ltb run.first page above, none_begin (end_of run) low high page runs (omega arith) meet.1) tt)
     (cases_lt run.first page)
 
--- runs behind a page do not have it
+-- runs after a page do not have it
 not_yet : (at low high page : ℕ) (runs : List Run) → page < at → MeetBehind at low high runs → view_of_runs runs page ≡ NoAccess
 not_yet at low high page [] lt meet = refl
 not_yet at low high page (run ∷ runs) lt meet =

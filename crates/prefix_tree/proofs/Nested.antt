@@ -108,7 +108,7 @@ parts_below place parts m less = let more : suc place * m ≤ parts * m = mul-le
 parts_back : (place parts m : ℕ) → parts ≤ place → (place - parts) * m + parts * m ≡ place * m
 parts_back place parts m more = let back : place - parts + parts ≡ place = omega arith in sym (add-mul (place - parts) parts m) ∙ ap (λ n. n * m) back
 
--- a block, of one permission before a smaller one and of one behind it, that is not of one in all
+-- a block, of one permission before a smaller one and of one after it, that is not of one in all
 abbrev Nests : (ℕ → Perm) → ℕ → ℕ → ℕ → ℕ → ℕ → Perm → Perm → Type 0
 Nests v n h k first place before behind =
     (tree_at v h first ≡ nested n place before behind (tree_at v k (first + place * 2 ^ k))) × (one_perm (tree_at v h first) ≡ None)

@@ -155,7 +155,7 @@ run_apart :
 run_apart v before at zero run is e gap = is.maximal (omega arith)
 run_apart v before at (suc g) run is e gap = λ same. is.allows (same ∙ some_last v before NoAccess at (suc g) (omega arith) gap)
 
--- one run, and what is behind it
+-- one run, and what is after it
 run_counts :
     (v : ℕ → Perm) (before : Perm) (at g m : ℕ) (run : Run) (runs : List Run) → AreRunsAfter at before (run ∷ runs) → at + g ≡ run.first
     → ((i : ℕ) → i < g + (run.count + m) → v (at + i) ≡ view_of_runs (run ∷ runs) (at + i))

@@ -6,7 +6,7 @@ use Rattle.prefix_tree.specs.declared.chains.Edges.{Edges}
 use Rattle.prefix_tree.specs.declared.chains.Part.{Part}
 use Rattle.prefix_tree.specs.Trees.{PermTree, Uniform, Split}
 
--- a block 2 ^ n times as large as one that lies in it behind so many of its size, with one permission before that and one behind it
+-- a block 2 ^ n times as large as one that lies in it after so many of its size, with one permission before that and one after it
 abbrev pub nested : ℕ → ℕ → Perm → Perm → PermTree → PermTree
 nested zero place before behind tree = tree
 nested (suc n) place before behind tree =
@@ -35,7 +35,7 @@ smaller chain = record {
   behind = chain.behind;
 }
 
--- from the page `first` on and before the page `end`, the view has one permission before its edges and one behind them
+-- from the page `first` on and before the page `end`, the view has one permission before its edges and one after them
 pub record AreEdges (view : ℕ → Perm) (first end : ℕ) (edges : Edges) : Type 0 where
   pub low : first < edges.low
   pub rising : edges.low ≤ edges.high

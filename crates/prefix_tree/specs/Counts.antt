@@ -24,7 +24,7 @@ abbrev pub last_perm : PermTree → Perm
 last_perm (Uniform q) = q
 last_perm (Split lower upper) = last_perm upper
 
--- whether a run starts at a page of permission q behind one of permission p
+-- whether a run starts at a page of permission q after one of permission p
 abbrev pub starts : Perm → Perm → ℕ
 starts p q = if perm_eq q NoAccess || perm_eq q p then 0 else 1
 

@@ -13,7 +13,7 @@ pub struct Summary {
     pub first: Perm,
     /// The permission of the last page.
     pub last: Perm,
-    /// How many runs start behind the first page.
+    /// How many runs start after the first page.
     pub starts: u64,
     /// How many blocks are split, this one among them.
     pub branches: usize,

@@ -20,7 +20,7 @@ pub struct Chain {
     pub place: u64,
     /// The permission of the pages before the smallest.
     pub before: Perm,
-    /// The permission of the pages behind it.
+    /// The permission of the pages after it.
     pub behind: Perm,
 }
 
@@ -56,7 +56,7 @@ impl Chain {
     }
 }
 
-/// The first and the last page of a block that differ from the page before them, and the permissions round about.
+/// The first and the last page of a block that differ from the page before them, and the permissions around.
 #[derive(Clone, Copy)]
 pub struct Edges {
     pub low: u64,

@@ -11,7 +11,7 @@ use pmp_encoding::Perm;
 use std::alloc::{AllocError, Global};
 use std::rc::Rc;
 
-/// How many runs start at a page with the permission `perm` behind one with the permission `before`.
+/// How many runs start at a page with the permission `perm` after one with the permission `before`.
 pub fn starts_behind(before: Perm, perm: Perm) -> u64
     ensures { result ≡ starts before perm }
 {

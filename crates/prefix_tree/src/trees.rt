@@ -72,7 +72,7 @@ impl Tree {
     /// The tree of the view with the permission in the `count` pages from `first` on. This tree stays as it is.
     ///
     /// New blocks are made only where the range is met, at most 44 on either end of it; all others are shared.
-    /// It is refused with `PastEnd` where the range ends behind the last page, with `TooManyRanges` where the new
+    /// It is refused with `PastEnd` where the range ends after the last page, with `TooManyRanges` where the new
     /// view has more than 4096 maximal runs of a permission other than none, and with `Memory` where a growth was
     /// refused. An empty range gives the same tree.
     pub fn with_range(&self, first: u64, count: u64, perm: Perm) -> Result<Tree, MapFault>

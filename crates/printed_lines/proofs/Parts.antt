@@ -8,7 +8,7 @@ use Rattle.printed_lines.specs.Plans.{TakesPart}
 taken_in : (n : ℕ) (done line rest : List ℕ) → n < length line → take (length done + n) (done ++ (line ++ rest)) ≡ done ++ take n line
 taken_in n done line rest below = take-append-add done (line ++ rest) n ∙ ap (λ x. done ++ x) (take-append-le n line rest (omega (arith, below)))
 
--- of the text behind what was written
+-- of the text after what was written
 pub part_behind :
     (done line rest : List ℕ) (old mid new : Option (List ℕ)) → Appends old mid done → TakesPart line mid new → TakesPart (done ++ (line ++ rest)) old new
 part_behind done line rest old mid new written part = (

@@ -31,7 +31,7 @@ pub record HasWords (limit : Limit) (entries : List Entry) (text : List ℕ) : T
   pub words : count * 8 ≡ limit_number limit
   pub lines : text ≡ words_text bank 0 count
 
--- the number of entries, a line for each, and behind them the words of their bank, where they fit in one
+-- the number of entries, a line for each, and after them the words of their bank, where they fit in one
 pub record IsPlanText (limit : Limit) (entries : List Entry) (text : List ℕ) : Type 0 where
   pub words : List ℕ
   pub lines : text ≡ list_text entries ++ words

@@ -5,6 +5,6 @@ use Rattle.std.specs.Prelude.{ℕ, ◌+◌, ◌<◌, List, ◌≡◌, ◌++◌, 
 abbrev pub part_name : List ℕ → List ℕ
 part_name place = place ++ codes ".part"
 
--- a name with one digit behind it
+-- a name with one digit after it
 abbrev pub IsNumbered : List ℕ → List ℕ → Type 0
 IsNumbered name numbered = (digit : ℕ) × (digit < 10) × (numbered ≡ name ++ encode_utf8 (48 + digit))

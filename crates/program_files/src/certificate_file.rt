@@ -153,7 +153,7 @@ fn led_to<R: Files>(files: &R, alloc: Global, name: &str) -> Option<PathBuf> {
     files.canonicalize(alloc, name).ok()
 }
 
-/// The place of a file of that name: what it leads to, and else the name itself.
+/// The place of a file of that name: what it leads to, and otherwise the name itself.
 fn place_of(alloc: Global, name: &str, led: Option<PathBuf>) -> Result<String, AllocError>
     ensures led { IfSome led (λ path. IfOk result (λ place.
         string_bytes place ≡ path_buf_bytes path)) }
@@ -165,7 +165,7 @@ fn place_of(alloc: Global, name: &str, led: Option<PathBuf>) -> Result<String, A
     }
 }
 
-/// The name beside a place, with room for a digit behind it.
+/// The name beside a place, with room for a digit after it.
 fn beside_of(alloc: Global, place: &str) -> Result<String, AllocError>
     ensures { IfOk result (λ name. string_bytes name ≡ part_name place.now) }
 {
@@ -175,7 +175,7 @@ fn beside_of(alloc: Global, place: &str) -> Result<String, AllocError>
     Ok(name)
 }
 
-/// A new file under a name with a digit behind it, the first that is free.
+/// A new file under a name with a digit after it, the first that is free.
 fn new_file<R: Files>(files: &R, name: &mut String) -> io::Result<R::File>
     ensures made { IfOk result (λ _. IsNumbered (string_bytes name.old) (string_bytes name.new)) }
     ensures stays { IfErr result (λ _. string_bytes name.new ≡ string_bytes name.old) }

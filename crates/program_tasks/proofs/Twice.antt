@@ -16,7 +16,7 @@ pub if_err : {T E P : Type 0} (result : Result T E) → P → IfErr result (λ _
 if_err (Ok x) p = tt
 if_err (Err e) p = p
 
--- a fault handed on as it is
+-- a fault passed on as it is
 pub handed_on : {T : Type 0} (result : Result T Fault) (fault : Fault) (P : Fault → Type 0) → IsErrAnd result (λ f. f ≡ fault) → P fault → IfErr result P
 handed_on (Ok x) fault P h p = tt
 handed_on (Err f) fault P h p = subst P (sym h) p

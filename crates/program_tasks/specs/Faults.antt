@@ -49,7 +49,7 @@ Tells value (reads_once other) fault = fault ≡ faults.InputTwice
 Tells value keeps_map (faults.TakesPlace map) = value (codes "MAP") ≡ Some map.now
 Tells value demand fault = ⊥
 
--- the fault of one demand: the values lack it, and that is told
+-- the fault of one demand: the values lack it, and that is reported
 abbrev pub Breaks : (Text → Option Text) → Demand → Fault → Type 0
 Breaks value demand fault = Lacks value demand × Tells value demand fault
 

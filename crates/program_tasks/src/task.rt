@@ -5,7 +5,7 @@ use pmp_encoding::Limit;
 /// How a plan is printed.
 #[derive(Clone, Copy, Debug, PartialEq, Eq)]
 pub enum Format {
-    /// A line for each entry, and the configuration words behind them.
+    /// A line for each entry, and the configuration words after them.
     Text,
     /// Arrays of C.
     C,
@@ -24,7 +24,7 @@ pub enum Task<'a> {
         platform: &'a str,
         /// The trace.
         trace: &'a str,
-        /// Whether the measurement of each live enclave is printed behind the report.
+        /// Whether the measurement of each live enclave is printed after the report.
         measure: bool,
     },
     /// Plan a map, and write the certificate where a file for it is named.

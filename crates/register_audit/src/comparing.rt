@@ -45,7 +45,7 @@ fn first_odd(all: &[Stretch]) -> Option<Stretch>
     None
 }
 
-/// Whether a list of at most 64 entries means the map, or where it does not. The only error is want of memory.
+/// Whether a list of at most 64 entries means the map, or where it does not. The only error is out of memory.
 pub fn compared(alloc: Global, map: &PermissionMap, entries: &[Entry]) -> Result<Finding, Memory>
     requires { length entries.now ≤ 64 }
     ensures { IfOk result (IsFinding (view_of_runs map.now) entries.now) }

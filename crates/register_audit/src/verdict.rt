@@ -46,7 +46,7 @@ fn place_of(places: &[usize], entry: Option<usize>) -> Option<usize>
     places.get(i).copied()
 }
 
-/// What the registers say of a map. The only error is want of memory.
+/// What the registers say of a map. The only error is out of memory.
 pub fn verdict_of(
     alloc: Global,
     map: &PermissionMap,

@@ -1,4 +1,4 @@
--- Rows one after another: the next of them, and those behind it.
+-- Rows one after another: the next of them, and those after it.
 use Rattle.std.proofs.Common.{ℕ, List, ◌++◌, ◌≡◌, ◌+◌, ◌-◌, ◌<◌, suc, ap, arith}
 use Rattle.register_formats.specs.Rows.{rows_text}
 

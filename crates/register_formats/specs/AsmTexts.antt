@@ -26,7 +26,7 @@ asm_word_row bank i =
     (codes "    li      t0, 0x" ++ hex 16 (word_at bank (2 * i)) ++ codes "\n")
     ++ (codes "    csrw    pmpcfg" ++ decimal (2 * i) ++ codes ", t0\n")
 
--- the address registers of the entries, then all configuration words, in which the entries behind them are off
+-- the address registers of the entries, then all configuration words, in which the entries after them are off
 abbrev pub asm_text : Limit → List Entry → Bank → List ℕ
 asm_text limit entries bank =
     head_text

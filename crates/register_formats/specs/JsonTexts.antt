@@ -11,7 +11,7 @@ use Rattle.text_lines.specs.Written.{hex}
 use Rattle.printed_lines.specs.Fields.{perm_name}
 use Rattle.register_formats.specs.Rows.{rows_text}
 
--- a byte of a name in a string: a quote and a backslash behind a backslash, a control character by its number
+-- a byte of a name in a string: a quote and a backslash after a backslash, a control character by its number
 abbrev pub json_byte : ℕ → List ℕ
 json_byte b = if b == 34 then codes "\\\"" else if b == 92 then codes "\\\\" else if nat_lt b 32 then codes "\\u" ++ hex 4 b else b ∷ []
 

@@ -66,7 +66,7 @@ pub fn print_c<W: Sink>(entries: &[Entry], limit: Limit, out: &mut W) -> Result<
 }
 
 /// Writes the registers of a list as assembly: the instructions that write the address registers of its entries, then those
-/// that write all configuration words, in which the entries behind it are off, then `sfence.vma`, below the same comment.
+/// that write all configuration words, in which the entries after it are off, then `sfence.vma`, below the same comment.
 ///
 /// On an `Err` a beginning of this text was written, not all of it, and the device failed, or took none of some bytes, in
 /// this call.

@@ -71,7 +71,7 @@ fn print_rows<R: Rows, W: Sink>(rows: &R, count: usize, out: &mut W) -> Result<(
     Ok(())
 }
 
-/// Writes a text, and rows behind it.
+/// Writes a text, and rows after it.
 pub(crate) fn print_section<R: Rows, W: Sink>(
     text: &[u8],
     rows: &R,

@@ -14,7 +14,7 @@ IsInside (settings.Pair place cfg address) = place < 64
 IsInside (settings.Address place value) = place < 64
 IsInside (settings.Word place value) = place + 8 ≤ 64
 
--- what stands behind a name that a word begins with
+-- what stands after a name that a word begins with
 abbrev pub behind : List ℕ → List ℕ → Option (List ℕ)
 behind word name = if nat_le (length name) (length word) && bytes_eq (take (length name) word) name then Some (drop (length name) word) else None
 

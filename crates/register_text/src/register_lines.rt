@@ -43,7 +43,7 @@ fn is_text(word: &[u8], text: &[u8]) -> bool
     word == text
 }
 
-/// What stands behind a name that a word begins with.
+/// What stands after a name that a word begins with.
 fn behind<'a>(word: &'a [u8], name: &[u8]) -> Option<&'a [u8]>
     ensures { option_map (λ rest. rest.now) result ≡ behind word.now name.now }
 {

@@ -1,7 +1,7 @@
 //! The calls of the monitor.
 
 /// The SBI extension id of the monitor, in the experimental space 0x08000000 to 0x08FFFFFF (SBI, section Binary
-/// Encoding): the letters "ENC" behind it.
+/// Encoding): the letters "ENC" after it.
 pub const EXTENSION_ID: u64 = 0x0845_4E43;
 
 /// A call of the monitor, with its arguments. All numbers are the registers' 64-bit words as they stand: the monitor

@@ -71,7 +71,7 @@ more entries i at end to e split shorter lacks turned passed = record {
   turned = turned;
 }
 
--- an entry that begins behind `at`
+-- an entry that begins after `at`
 pub passed_later :
     (entries : List Entry) (i at end to last : ℕ) (e : Entry) → drop i entries ≡ e ∷ drop (i + 1) entries → last ≡ e.region.base + 2 ^ e.region.log2 → e.region.base < last → at < e.region.base → to ≡ min end e.region.base
     → Passed entries i at end → Passed entries (i + 1) at to

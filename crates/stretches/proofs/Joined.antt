@@ -1,4 +1,4 @@
--- Stretches one behind another.
+-- Stretches one after another.
 use Rattle.std.proofs.Common.{◌≡◌, ◌∙◌, ℕ, List, [], ◌∷◌, ◌++◌, sym, refl}
 use Rattle.pmp_encoding.specs.declared.region.Entry.{Entry}
 use Rattle.page_views.specs.Views.{View}

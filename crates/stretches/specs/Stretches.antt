@@ -23,7 +23,7 @@ pub record IsStretch (view : View) (entries : List Entry) (s : Stretch) : Type 0
   pub given : (byte : ℕ) → s.first ≤ byte → byte < s.end → perm_at NoAccess entries byte ≡ s.given
   pub maximal : s.end < 2 ^ 56 → (view (s.end / 4096) ≢ s.wanted) ⊎ (decider entries s.end ≢ s.entry)
 
--- stretches one behind another, from one byte to before another
+-- stretches one after another, from one byte to before another
 abbrev pub AreStretches : View → List Entry → ℕ → List Stretch → ℕ → Type 0
 AreStretches view entries from [] to = from ≡ to
 AreStretches view entries from (s ∷ stretches) to = (s.first ≡ from) × IsStretch view entries s × AreStretches view entries s.end stretches to

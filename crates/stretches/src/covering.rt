@@ -15,7 +15,7 @@ pub(crate) struct Covering {
     pub(crate) given: Perm,
 }
 
-/// The first byte behind a region.
+/// The first byte after a region.
 fn end_of(region: &Region) -> u64
     ensures value { result ≡ region.now.base + 2 ^ region.now.log2 }
     ensures inside { result ≤ 2 ^ 56 }

@@ -17,7 +17,7 @@ use std::alloc::Global;
 pub struct Stretch {
     /// Its lowest byte.
     pub first: u64,
-    /// The first byte behind it, at most 2^56.
+    /// The first byte after it, at most 2^56.
     pub end: u64,
     /// What the map says of it.
     pub wanted: Perm,
@@ -46,7 +46,7 @@ fn stretch_from(map: &PermissionMap, entries: &[Entry], at: u64) -> Stretch
 }
 
 /// The maximal stretches of one permission of the map and one deciding entry, in order, from byte 0 to the end of the
-/// space. The only error is want of memory.
+/// space. The only error is out of memory.
 pub fn stretches(
     alloc: Global,
     map: &PermissionMap,

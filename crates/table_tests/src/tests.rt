@@ -57,7 +57,7 @@ fn page_at(base: u64) -> Create {
     }
 }
 
-/// The host creates enclaves of one page each, the next so far behind the last.
+/// The host creates enclaves of one page each, the next so far after the last.
 fn creates_pages(table: &mut Table, count: u64, apart: u64) -> Result<(), Refusal> {
     for i in 0..count.min(64) {
         let asked = page_at(0x8020_0000 + i * apart.min(0x1_0000));
@@ -66,7 +66,7 @@ fn creates_pages(table: &mut Table, count: u64, apart: u64) -> Result<(), Refusa
     Ok(())
 }
 
-/// The table with enclaves of one page each, the next so far behind the last.
+/// The table with enclaves of one page each, the next so far after the last.
 fn table_of(alloc: Global, entries: u8, count: u64, apart: u64) -> Result<Table, Fail> {
     let mut table = example_table(alloc, entries)?;
     creates_pages(&mut table, count, apart)?;
@@ -104,9 +104,9 @@ fn configures(rt: &impl Abort, table: &Table, wanted: u64) {
 #[derive(Clone, Copy)]
 enum Step {
     Creates(Create, Result<u64, Refusal>),
-    /// That many enclaves, and the tree as if built anew behind each.
+    /// That many enclaves, and the tree as if built anew after each.
     CreatesSideBySide(u64),
-    /// From the first number on as many as the second one says, and the tree as if built anew behind each.
+    /// From the first number on as many as the second one says, and the tree as if built anew after each.
     DestroysEverySecond(u64, u64),
     Keeps(u64),
     Uses(usize),
@@ -114,7 +114,7 @@ enum Step {
     Configures(u64),
 }
 
-/// Takes the steps, one behind the other.
+/// Takes the steps, one after the other.
 ///
 /// The tests hand their steps to this one and own no table meanwhile: each call beside a table that is owned has one
 /// more way out to prove, on which the table is dropped.
@@ -137,7 +137,7 @@ fn takes(rt: &impl Abort, alloc: Global, table: &mut Table, steps: &[Step]) -> R
     Ok(())
 }
 
-/// Takes the steps on a new table with enclaves of one page each, the next so far behind the last.
+/// Takes the steps on a new table with enclaves of one page each, the next so far after the last.
 fn takes_on(
     rt: &impl Abort,
     alloc: Global,

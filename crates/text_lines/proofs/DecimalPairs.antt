@@ -28,13 +28,13 @@ pair_put before between after p small one two =
     two ∙ ap (λ xs. xs ++ get_or PAIRS (p * 2 + 1) 0 ∷ []) one ∙ append_assoc before (get_or PAIRS (p * 2) 0 ∷ []) (get_or PAIRS (p * 2 + 1) 0 ∷ [])
     ∙ ap (λ d. before ++ d ∷ get_or PAIRS (p * 2 + 1) 0 ∷ []) digits.0 ∙ ap (λ d. before ++ (48 + p / 10) ∷ d ∷ []) digits.1
 
--- a pair behind a number
+-- a pair after a number
 pub short_put : (before between after : List ℕ) (n : ℕ) → 100 ≤ n → n < 2 ^ 64 → between ≡ before ++ decimal (n / 100) → after ≡ between ++ (48 + n % 100 / 10) ∷ (48 + n % 100 % 10) ∷ [] → after ≡ before ++ decimal n
 short_put before between after n large fits one two =
     let pair = (48 + n % 100 / 10) ∷ (48 + n % 100 % 10) ∷ [] in
     two ∙ ap (λ xs. xs ++ pair) one ∙ append_assoc before (decimal (n / 100)) pair ∙ ap (λ xs. before ++ xs) (sym (decimal_pair n large fits))
 
--- two pairs behind a number
+-- two pairs after a number
 pub four_put : (before number between after : List ℕ) (n : ℕ) → 10000 ≤ n → n < 2 ^ 64 → number ≡ before ++ decimal (n / 10000)
     → between ≡ number ++ (48 + n % 10000 / 100 / 10) ∷ (48 + n % 10000 / 100 % 10) ∷ []
     → after ≡ between ++ (48 + n % 10000 % 100 / 10) ∷ (48 + n % 10000 % 100 % 10) ∷ [] → after ≡ before ++ decimal n

@@ -14,7 +14,7 @@ use Rattle.text_lines.specs.declared.lines.LineReader.{LineReader}
 use Rattle.text_lines.specs.Lines.{has_no_end, IsShortLine, BeginsLongLine, without_return}
 use Rattle.text_lines.specs.LineReaders.{line_of, pending_of, number_of, came_of, ended_of, Came, Hands, Holds, NextLine, ReadsMore}
 
--- the bytes that have come since the last line stand behind those that were there
+-- the bytes that have come since the last line stand after those that were there
 pub record Gathers (old now : LineReader) (before after : Option (List ℕ)) (bytes : List ℕ) : Type 0 where
   pub consumed : Consumes before after bytes
   pub held : now.buffer ≡ pending_of old ++ bytes
@@ -51,7 +51,7 @@ split_at_end bytes len is inside =
 pub long_line : (bytes : List ℕ) (len : ℕ) → len ≡ position_or_len (λ b. b == 10) bytes → len ≤ length bytes → 1023 < len → BeginsLongLine bytes
 long_line bytes len is inside long = (omega arith, has_no_end-front bytes len 1024 is long)
 
--- what came with the last read stands behind what came before
+-- what came with the last read stands after what came before
 pub gathers_more : (old now next : LineReader) (before middle after : Option (List ℕ)) (bytes more : List ℕ) → Gathers old now before middle bytes → has_no_end now.buffer ≡ true → Consumes middle after more → next.buffer ≡ now.buffer ++ more → next.came ≡ now.came + length more → Gathers old next before after (bytes ++ more)
 gathers_more old now next before middle after bytes more g none read grown counted =
     let none = ap has_no_end (sym g.held) ∙ none in

@@ -14,7 +14,7 @@ use Rattle.text_lines.specs.LineReaders.{line_of, pending_of, number_of, came_of
 use Rattle.text_lines.specs.LineLoop.{Meaning, Does, counted, told, ended, Stands, DoesAll, DoesLines, ComesTo, StopsAt, StopsForMemory, StopsReading, StopsTooLong, StopsWriting}
 use Rattle.text_lines.specs.LineLoop.{none, silent, answer}
 
--- the lines that were handed out are interpreted, and what came behind them is held
+-- the lines that were handed out are interpreted, and what came after them is held
 pub record Progress {S : Type 0} (does : Meaning S) (old now : S) (reader : LineReader) (count : ℕ) (before after held holds : Option (List ℕ)) : Type 0 where
   pub lines : List (List ℕ)
   pub answers : List (List ℕ)
@@ -43,12 +43,12 @@ ended-snoc : (lines : List (List ℕ)) (line : List ℕ) → ended (lines ++ lin
 ended-snoc [] line = refl
 ended-snoc (first ∷ lines) line = ap (λ xs. first ++ 10 ∷ xs) (ended-snoc lines line) ∙ sym (append_assoc first (10 ∷ ended lines) (line ++ 10 ∷ []))
 
--- one line more, and what stands behind its LF
+-- one line more, and what stands after its LF
 ended-rest : (lines : List (List ℕ)) (line rest : List ℕ) → ended lines ++ (line ++ 10 ∷ rest) ≡ ended (lines ++ line ∷ []) ++ rest
 ended-rest lines line rest =
     sym (ap (λ xs. xs ++ rest) (ended-snoc lines line) ∙ append_assoc (ended lines) (line ++ 10 ∷ []) rest ∙ ap (λ xs. ended lines ++ xs) (append_assoc line (10 ∷ []) rest))
 
--- lines with their LFs, and the lines of what stands behind them
+-- lines with their LFs, and the lines of what stands after them
 are_lines : (lines : List (List ℕ)) (rest : List ℕ) (tail : List (List ℕ)) → NoEnds lines → AreLines rest tail → AreLines (ended lines ++ rest) (lines ++ tail)
 are_lines [] rest tail h a = a
 are_lines (line ∷ lines) rest tail h a = (h.0, ended lines ++ rest, inl (append_assoc line (10 ∷ ended lines) rest), are_lines lines rest tail h.1 a)
@@ -84,7 +84,7 @@ few_as n xs e h = omega (arith, e, h)
 pub few_by : (reader next : LineReader) → came_of next ≤ most_of next → most_of next ≡ most_of reader → most_of reader ≡ 2 ^ 40 → came_of next ≤ 2 ^ 40
 few_by reader next few same limit = omega (arith, few, same, limit)
 
--- a line was handed out behind those that are interpreted
+-- a line was handed out after those that are interpreted
 pub record Handed {S : Type 0} (does : Meaning S) (old now : S) (reader : LineReader) (count : ℕ) (before after held holds : Option (List ℕ)) : Type 0 where
   pub lines : List (List ℕ)
   pub answers : List (List ℕ)
@@ -212,7 +212,7 @@ stops_long does refuses old now reader next count m before middle after held hol
   refused = inl n.6.1;
 }
 
--- a byte came behind the limit
+-- a byte came after the limit
 pub stops_past : {S : Type 0} (does : Meaning S) (old now : S) (reader next : LineReader) (count : ℕ) (before middle after held holds : Option (List ℕ)) → Progress does old now reader count before middle held holds → NextLine (Err TooManyBytes) reader next middle after → most_of reader ≡ 2 ^ 40 → StopsTooLong does old now before after held holds
 stops_past does old now reader next count before middle after held holds p n limit = record {
   lines = p.lines;

@@ -3,7 +3,7 @@ use Rattle.std.proofs.Common.{ℕ, inl, inr, List, ◌++◌, Option}
 use Rattle.text_lines.specs.LineLoop.{Meaning, Does, DoesAll, DoesLines, ComesTo, StopsAt, StopsReading, StopsTooLong, StopsWriting, StopsForMemory}
 use Rattle.text_lines.specs.LineLoop.{none, silent, answer}
 
--- what a line does in one state it does where that is mapped to, and what holds before it holds behind it
+-- what a line does in one state it does where that is mapped to, and what holds before it holds after it
 abbrev pub Follows : {S T : Type 0} → (S → Type 0) → (S → T) → Meaning S → Meaning T → Type 0
 Follows {S} {T} holds f does other = (s : S) (n : ℕ) (line : List ℕ) (said : Option (List ℕ)) (t : S) → holds s → does s n line said t → holds t × other (f s) n line said (f t)
 

@@ -23,7 +23,7 @@ pub joined_alone : (p : ℕ → Bool) (b next : ℕ) (rest : List ℕ) (words : 
 joined_alone p b next rest [] h = refl
 joined_alone p b next rest (word ∷ words) h = rw h refl
 
--- what is left of a text behind its first word
+-- what is left of a text after its first word
 abbrev pub behind : (ℕ → Bool) → List ℕ → List ℕ
 behind p bytes = drop (position_or_len p bytes) bytes
 
@@ -31,7 +31,7 @@ word_joined : (p : ℕ → Bool) (b c : ℕ) (bytes : List ℕ) (t : Bool) → p
 word_joined p b c bytes true h e = joined_alone p b c bytes (split_by p (c ∷ bytes)) h ∙ rw (h, h) refl
 word_joined p b c bytes false h e = ap (joined p b (c ∷ bytes)) (e h) ∙ rw (h, one_more (position_or_len p bytes)) refl
 
--- a text that begins with a byte of a word has that word first, and then the words behind it
+-- a text that begins with a byte of a word has that word first, and then the words after it
 pub split_by-word : (p : ℕ → Bool) (b : ℕ) (bytes : List ℕ) → p b ≡ false → split_by p (b ∷ bytes) ≡ (b ∷ before_first p bytes) ∷ split_by p (behind p bytes)
 split_by-word p b [] h = rw h refl
 split_by-word p b (c ∷ bytes) h = rw h (word_joined p b c bytes (p c) refl (split_by-word p c bytes))
@@ -41,7 +41,7 @@ pub first_word : (p : ℕ → Bool) (text : List ℕ) → 0 < length text → p 
 first_word p [] h f = absurd (omega arith)
 first_word p (b ∷ bytes) h f = split_by-word p b bytes f ∙ rw (f, one_more (position_or_len p bytes)) refl
 
--- what stands behind the blanks does not begin with one
+-- what stands after the blanks does not begin with one
 pub begins_word : (p : ℕ → Bool) (text : List ℕ) → 0 < length (drop (prefix_len p text) text) → p (get_or (drop (prefix_len p text) text) 0 0) ≡ false
 begins_word p text h = let e = prefix_len_stops p text 0 in grind (arith, common_steps, e)
 
@@ -57,7 +57,7 @@ nothing_split p (b ∷ bytes) h = absurd (omega arith)
 pub only_blanks : (p : ℕ → Bool) (text rest : List ℕ) → rest ≡ drop (prefix_len p text) text → length rest ≡ 0 → split_by p text ≡ []
 only_blanks p text rest e h = sym (split_by-blanks p text) ∙ ap (split_by p) (sym e) ∙ nothing_split p rest h
 
--- the first word is behind the blanks, and the other words behind it
+-- the first word is after the blanks, and the other words after it
 pub next_word_is : (p : ℕ → Bool) (text rest : List ℕ) (n : ℕ) → rest ≡ drop (prefix_len p text) text → (length rest ≡ 0 → ⊥) → n ≡ position_or_len p rest → split_by p text ≡ take n rest ∷ split_by p (drop n rest)
 next_word_is p text rest n e h f =
     let some : 0 < length rest = omega arith in

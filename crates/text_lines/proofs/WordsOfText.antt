@@ -66,7 +66,7 @@ word_first p b (c ∷ word) rest letter all ends =
     ∙ ap (joined p b text) (word_first p c word rest also both.1 ends)
     ∙ cond-false (p c) ((b ∷ []) ∷ (c ∷ word) ∷ split_by p rest) ((b ∷ c ∷ word) ∷ split_by p rest) also
 
--- the first word, and the words behind it
+-- the first word, and the words after it
 pub word_split : (p : ℕ → Bool) (word rest : List ℕ) → IsWord p word → EndsWord p rest → split_by p (word ++ rest) ≡ word ∷ split_by p rest
 word_split p [] rest h ends = absurd (omega (arith, h.0))
 word_split p (b ∷ word) rest h ends =

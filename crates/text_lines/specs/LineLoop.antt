@@ -8,7 +8,7 @@ use Rattle.text_lines.specs.declared.fault.RunFault.{RunFault}
 use Rattle.text_lines.specs.declared.fault.RunFault.TheVariants as faults
 use Rattle.text_lines.specs.Lines.{AreLines, BeginsLongLine, IsShortLine, without_return}
 
--- what a line does, behind so many answers: from one state to the next, with the text of its answer where it has one
+-- what a line does, after so many answers: from one state to the next, with the text of its answer where it has one
 abbrev pub Meaning : Type 0 → Type 1
 Meaning S = S → ℕ → List ℕ → Option (List ℕ) → S → Type 0
 
@@ -53,7 +53,7 @@ pub record DoesAll {S : Type 0} (does : Meaning S) (old new : S) (before after h
   pub done : Does does old lines answers new
   pub written : Appends held holds (concat answers)
 
--- lines that a LF ended were interpreted and answered, and `bytes` came behind them
+-- lines that a LF ended were interpreted and answered, and `bytes` came after them
 pub record DoesLines {S : Type 0} (does : Meaning S) (old new : S) (before after held holds : Option (List ℕ)) (lines : List (List ℕ)) (bytes : List ℕ) : Type 0 where
   pub answers : List (List ℕ)
   pub done : Does does old lines answers new
@@ -69,7 +69,7 @@ pub record StopsAt {S : Type 0} (n : ℕ) (does : Meaning S) (refuses : S → Li
   pub number : length lines + 1 ≡ n
   pub refused : BeginsLongLine bytes ⊎ ((line : List ℕ) × IsShortLine line × Stands bytes after line × refuses new (without_return line))
 
--- a byte came behind the first 2^40, and the lines that a LF ended among these were interpreted
+-- a byte came after the first 2^40, and the lines that a LF ended among these were interpreted
 pub record StopsTooLong {S : Type 0} (does : Meaning S) (old new : S) (before after held holds : Option (List ℕ)) : Type 0 where
   pub lines : List (List ℕ)
   pub bytes : List ℕ
@@ -87,7 +87,7 @@ pub record StopsReading {S : Type 0} (does : Meaning S) (old new : S) (before af
   pub few : length (ended lines ++ bytes) ≤ 2 ^ 40
   pub unended : IsShortLine bytes
 
--- a line stands in what was read, behind lines that were interpreted and have these answers
+-- a line stands in what was read, after lines that were interpreted and have these answers
 pub record ComesTo {S : Type 0} (does : Meaning S) (old now : S) (before after : Option (List ℕ)) (answers : List (List ℕ)) (line : List ℕ) : Type 0 where
   pub lines : List (List ℕ)
   pub bytes : List ℕ
@@ -118,12 +118,12 @@ pub record StopsForMemory {S : Type 0} (does : Meaning S) (starves : S → List 
   pub starved : starves now (without_return line) new
   pub written : Appends held holds (concat answers)
 
--- a read failed where the run ended so, and else none did
+-- a read failed where the run ended so, and otherwise none did
 abbrev pub CountsReads : Result (Unit {0}) RunFault → ℕ → ℕ → Type 0
 CountsReads (Err faults.Read) before after = after ≡ one_failure_more before
 CountsReads _ before after = after ≡ before
 
--- a write failed or took none where the run ended so, and else none did
+-- a write failed or took none where the run ended so, and otherwise none did
 abbrev pub CountsWrites : Result (Unit {0}) RunFault → ℕ → ℕ → ℕ → ℕ → Type 0
 CountsWrites (Err faults.Write) failures failed stalls stalled = WriteFails failures failed stalls stalled
 CountsWrites _ failures failed stalls stalled = (failed ≡ failures) × (stalled ≡ stalls)

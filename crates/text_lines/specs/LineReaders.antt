@@ -11,7 +11,7 @@ use Rattle.text_lines.specs.Lines.{has_no_end, IsShortLine, BeginsLongLine, with
 abbrev pub line_of : LineReader → List ℕ
 line_of reader = take reader.text_len reader.buffer
 
--- the bytes behind it that have come
+-- the bytes after it that have come
 abbrev pub pending_of : LineReader → List ℕ
 pending_of reader = drop reader.taken reader.buffer
 
@@ -60,7 +60,7 @@ abbrev pub BeyondLimit : Result Bool ReadFault → List ℕ → Type 0
 BeyondLimit (Err TooManyBytes) beyond = length beyond ≡ 1
 BeyondLimit _ beyond = beyond ≡ []
 
--- the source failed in this call, where that is the answer, and else it did not
+-- the source failed in this call, where that is the answer, and otherwise it did not
 abbrev pub FailsOnRead : Result Bool ReadFault → ℕ → ℕ → Type 0
 FailsOnRead (Err Device) before after = after ≡ one_failure_more before
 FailsOnRead _ before after = after ≡ before
@@ -69,7 +69,7 @@ FailsOnRead _ before after = after ≡ before
 abbrev pub NextLine : Result Bool ReadFault → LineReader → LineReader → Option (List ℕ) → Option (List ℕ) → Type 0
 NextLine result old new before after = (bytes beyond : List ℕ) × (middle : Option (List ℕ)) × Came old new before middle bytes × Consumes middle after beyond × BeyondLimit result beyond × Answers result old new (pending_of old ++ bytes) after
 
--- the same of one read: new bytes stand behind the others, and none came at the end alone
+-- the same of one read: new bytes stand after the others, and none came at the end alone
 abbrev pub ReadsMore : Result Bool ReadFault → LineReader → LineReader → Option (List ℕ) → Option (List ℕ) → List ℕ → Type 0
 ReadsMore (Ok more) old new before after bytes = Consumes before after bytes × (new.buffer ≡ old.buffer ++ bytes) × (new.came ≡ old.came + length bytes) × (more ≡ nat_lt 0 (length bytes)) × (more ≡ false → IsAtEnd after)
 ReadsMore (Err TooManyBytes) old new before after bytes = Consumes before after bytes × (length bytes ≡ 1) × (new.buffer ≡ old.buffer) × (old.came ≡ old.limit) × (new.came ≡ old.came)

@@ -54,7 +54,7 @@ impl Buffer {
         self.start += count;
     }
 
-    /// Reads at most `most` bytes behind the others, and says how many; none at the end of the
+    /// Reads at most `most` bytes after the others, and says how many; none at the end of the
     /// input alone. The bytes move to the front of the array first.
     pub(crate) fn fill<R: Source>(
         &mut self,

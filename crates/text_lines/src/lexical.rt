@@ -191,7 +191,7 @@ fn leading_fours(text: &[u8], base: u8) -> (u64, usize)
     (value, len)
 }
 
-/// The value of the digits that a text begins with, of a base from 2 to 16, and what stands behind them. None where there are
+/// The value of the digits that a text begins with, of a base from 2 to 16, and what stands after them. None where there are
 /// none, or their value is 2^64 or more.
 #[inline(always)]
 pub fn leading_numeral(text: &[u8], base: u8) -> Option<(u64, &[u8])>

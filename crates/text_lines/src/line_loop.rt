@@ -26,7 +26,7 @@ pub enum Refusal {
 
 /// What understands lines and does what they say.
 pub trait Interpreter {
-    /// What a line does behind so many answers, from one state to the next, with the text of its answer where it has one.
+    /// What a line does after so many answers, from one state to the next, with the text of its answer where it has one.
     ghost does: { Self → ℕ → List ℕ → Option (List ℕ) → Self → Type 0 };
 
     /// A line that is not understood.
@@ -38,7 +38,7 @@ pub trait Interpreter {
     /// What is kept from line to line.
     ghost keeps: { Self → Type 0 };
 
-    /// Does what a line says, which comes without its LF and its CR, and writes its answer, the one behind `count` others, to
+    /// Does what a line says, which comes without its LF and its CR, and writes its answer, the one after `count` others, to
     /// an empty line. Says whether it has one.
     fn interpret(&mut self, line: &[u8], count: u64, answer: &mut Line) -> Result<bool, Refusal>
         requires count { count < 2 ^ 64 - 1 }

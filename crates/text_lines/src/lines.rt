@@ -166,7 +166,7 @@ impl LineReader {
         self.number += 1;
     }
 
-    /// Reads some bytes behind those that have come, and says whether there were any.
+    /// Reads some bytes after those that have come, and says whether there were any.
     #[cold]
     #[inline(never)]
     fn read_more<R: Source>(&mut self, source: &mut R) -> Result<bool, ReadFault>

@@ -34,13 +34,13 @@ fn board(rt: &impl Abort) -> [Entry; 3] {
     ]
 }
 
-/// Whether a sink took a text, behind the head where there is one.
+/// Whether a sink took a text, after the head where there is one.
 fn took(sink: &PieceSink, head: &[u8], text: &[u8]) -> bool {
     let written = sink.written();
     written.len() == head.len() + text.len() && written.starts_with(head) && written.ends_with(text)
 }
 
-/// What a sink took behind the head.
+/// What a sink took after the head.
 fn behind_head(sink: &PieceSink) -> &[u8] {
     sink.written().get(HEAD.len()..).unwrap_or_default()
 }

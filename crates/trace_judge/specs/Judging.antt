@@ -28,7 +28,7 @@ only_access (Some (Some (hart, _))) = None
 abbrev pub access_on : List ℕ → Option (Option Access)
 access_on line = only_access (meaning_of 0 line)
 
--- the answer behind n others: none without an access, else its judgement by the list that a bank's registers mean
+-- the answer after n others: none without an access, otherwise its judgement by the list that a bank's registers mean
 abbrev pub IsAnswer : Bank → ℕ → Option Access → Option (List ℕ) → Type 0
 IsAnswer bank n None answer = answer ≡ None
 IsAnswer bank n (Some access) answer = (result : Result (Unit {0}) Cause)

@@ -1,4 +1,4 @@
-//! Entries in other orders than a planner's, behind them the tree that the planner's certificate has.
+//! Entries in other orders than a planner's, after them the tree that the planner's certificate has.
 
 use certificate_check::{CheckRefusal, check};
 use entry_planner::plan_map;

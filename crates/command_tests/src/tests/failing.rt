@@ -72,7 +72,7 @@ fn ended_by(rt: &impl Abort, device: Device, tried: &Tried, ample: &Tried) {
     assert_eq!(rt; tried.status, 3);
     assert_eq!(rt; tried.err.as_slice(), device.said().as_bytes());
     assert!(rt; ample.out.as_slice().starts_with(printed));
-    // All lines may have been judged when the read behind the last one fails.
+    // All lines may have been judged when the read after the last one fails.
     assert!(rt; matches!(device, Device::Second) || printed.len() < ample.out.len());
     assert!(rt; device.may_print() || printed.is_empty());
     assert!(rt; device.may_place() || !tried.is_placed);

@@ -74,7 +74,7 @@ fn digit(byte: u8) -> u64 {
     }
 }
 
-/// The word that sixteen digits are, as bytes from the lowest on where `is_little`, and else as a number.
+/// The word that sixteen digits are, as bytes from the lowest on where `is_little`, and otherwise as a number.
 fn word(digits: &[u8], is_little: bool) -> u64 {
     let mut value: u64 = 0;
     for i in 0..8usize {
@@ -95,7 +95,7 @@ fn word(digits: &[u8], is_little: bool) -> u64 {
     value
 }
 
-/// The digits of the words that the calls behind the first answered, and those of the line that is behind all answers.
+/// The digits of the words that the calls after the first answered, and those of the line that is after all answers.
 fn digits(alloc: Global, plain: &[u8], measured: &[u8]) -> Result<(Vec<u64>, Vec<u64>), Fail> {
     let answer: &[u8] = b"2 call 0 0x";
     let line = measured.get(plain.len()..).unwrap_or(&[]);
@@ -144,7 +144,7 @@ fn harts_are_those_of_the_platform(rt: HostRuntime) -> Result<(), Fail> {
     stops(&rt, rt.alloc(), &RUN, two.as_slice(), trace, report, said)
 }
 
-/// Fourteen enclaves of a page, each two pages behind the last.
+/// Fourteen enclaves of a page, each two pages after the last.
 fn scattered(alloc: Global) -> Result<Vec<u8>, Fail> {
     let mut trace = Vec::new(alloc);
     for i in 0..14u64 {
@@ -206,7 +206,7 @@ fn a_platform_at_fault_is_told_before_the_trace_is_opened(rt: HostRuntime) -> Re
     refuses(&rt, rt.alloc(), &RUN, far.as_slice(), b"what\n", said)
 }
 
-/// A run whose trace or report fails at a call ends behind what it took.
+/// A run whose trace or report fails at a call ends after what it took.
 fn ends_behind(
     rt: &impl Abort,
     alloc: Global,

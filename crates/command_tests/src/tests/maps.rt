@@ -3,7 +3,7 @@
 use std::alloc::Global;
 use std::test::Fail;
 
-/// A map of single pages of one permission, each two pages behind the last.
+/// A map of single pages of one permission, each two pages after the last.
 pub fn pages(alloc: Global, count: u64) -> Result<Vec<u8>, Fail> {
     let mut map = Vec::new(alloc);
     for i in 0..count {

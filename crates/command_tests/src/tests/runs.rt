@@ -95,7 +95,7 @@ pub fn refuses(
     ends(rt, alloc, words, (first, second), 2, b"", said.as_bytes())
 }
 
-/// The second input is bad: this is said behind the answers to what stands before.
+/// The second input is bad: this is said after the answers to what stands before.
 pub fn stops(
     rt: &impl Abort,
     alloc: Global,

@@ -61,7 +61,7 @@ fn first_word(table: &Table, id: u64) -> Option<u64> {
     table.word(id, 0).ok()
 }
 
-/// An enclave is not destroyed, for want of entries, and keeps its digest.
+/// An enclave is not destroyed, for too few entries, and keeps its digest.
 pub fn keeps(rt: &impl Abort, table: &mut Table, id: u64) {
     let first = first_word(table, id);
     destroys(rt, table, id, Err(Refusal::NoEntries));

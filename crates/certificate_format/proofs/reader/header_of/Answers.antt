@@ -1,4 +1,4 @@
--- A fault of the version stands behind the magic, and one of the count behind both.
+-- A fault of the version stands after the magic, and one of the count after both.
 use Rattle.std.proofs.Common.{◌∙◌, ◌++◌, ap, List, ℕ}
 use Rattle.std.proofs.lemmas.Result.{err_from_is_err_and}
 use Rattle.certificate_format.specs.Spelling.{magic}

@@ -1,4 +1,4 @@
--- Each of the three choices is the one that is handed on.
+-- Each of the three choices is the one that is passed on.
 use Rattle.std.proofs.Common.{sym, ◌∙◌}
 use Rattle.entry_planner.proofs.Choices.{first_handed, kept_handed, none_handed}
 use Rattle.entry_planner.proofs.placing.chosen.Goals as goal

@@ -1,4 +1,4 @@
--- The pieces come one behind the other.
+-- The pieces come one after the other.
 use Rattle.std.proofs.Common.{◌∙◌, ◌++◌, ap, ap₂, codes, decimal}
 use Rattle.text_lines.specs.Written.{hex}
 use Rattle.printed_lines.proofs.Printed.{line_behind}
