@@ -1,0 +1,5 @@
+pub mod Decided
+pub mod Matched
+pub mod Instance
+pub mod EachByte
+pub mod Uncut

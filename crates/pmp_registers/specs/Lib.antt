@@ -1,0 +1,6 @@
+pub mod Registers
+pub mod Reserved
+pub mod Tor
+pub mod Matching
+pub mod Decision
+pub mod Bytes

@@ -1,0 +1,50 @@
+//! What the extents of registers are, and that lists of NA4 and NAPOT entries are an instance.
+
+ghost use Rattle.std.specs.Prelude.{◌≡◌, ◌≢◌, ◌<◌, ◌↔◌, ℕ, All, List, map};
+ghost use Rattle.pmp_encoding.specs.declared.extent.Extent.{Extent};
+ghost use Rattle.pmp_encoding.specs.declared.region.Entry.{Entry};
+ghost use Rattle.pmp_encoding.specs.Extents.{extent_of};
+ghost use Rattle.pmp_encoding.specs.Lists.{MeansList};
+ghost use Rattle.page_views.specs.Views.{View};
+ghost use Rattle.pmp_match.specs.declared.access.Access.{Access};
+ghost use Rattle.pmp_match.specs.declared.access.Mode.TheVariants.{Machine};
+ghost use Rattle.pmp_match.specs.Decision.{Allows};
+ghost use Rattle.pmp_match.specs.Meaning.{Means};
+ghost use Rattle.pmp_registers.specs.declared.registers.Registers.{Registers};
+ghost use Rattle.pmp_registers.specs.Bytes.{IsGiven};
+ghost use Rattle.pmp_registers.specs.Decision.{ExtentsMean, IsNeverCut, IsWords, Permits};
+ghost use Rattle.pmp_registers.specs.Matching.{AreExtents};
+ghost use Rattle.pmp_registers.specs.Registers.{cfg_at, pairs_of};
+ghost use Rattle.pmp_registers.specs.Reserved.{IsDefined};
+
+/// Registers have at most one list of extents, and none where an entry has a reserved value. Each
+/// extent is of whole words.
+pub fn extents_law()
+    ensures one { (registers : Registers) (xs ys : List Extent)
+        → AreExtents registers xs → AreExtents registers ys → xs ≡ ys }
+    ensures defined { (registers : Registers) (xs : List Extent) → AreExtents registers xs
+        → (place : ℕ) → place < 64 → IsDefined (cfg_at registers place) }
+    ensures words { (registers : Registers) (xs : List Extent) → AreExtents registers xs → All IsWords xs }
+{}
+
+/// A list of NA4 and NAPOT entries says of supervisor and user mode what its extents say; and so do
+/// registers that mean such a list, by which `decode` reads them.
+pub fn instance_law()
+    ensures decision { (entries : List Entry) (a : Access) → a.mode ≢ Machine
+        → Permits (map extent_of entries) a ↔ Allows entries a }
+    ensures meaning { (entries : List Entry) (view : View)
+        → ExtentsMean (map extent_of entries) view ↔ Means entries view }
+    ensures registers_decision { (registers : Registers) (xs : List Extent) (entries : List Entry)
+        → AreExtents registers xs → MeansList (pairs_of registers) entries
+        → (a : Access) → a.mode ≢ Machine → Permits xs a ↔ Allows entries a }
+    ensures registers_meaning { (registers : Registers) (xs : List Extent) (entries : List Entry)
+        → AreExtents registers xs → MeansList (pairs_of registers) entries
+        → (view : View) → ExtentsMean xs view ↔ Means entries view }
+{}
+
+/// Extents mean a view exactly where they give each byte the view's permission of its page, and cut
+/// no access that the view lets through.
+pub fn byte_law()
+    ensures { (extents : List Extent) (view : View) → All IsWords extents
+        → ExtentsMean extents view ↔ (IsGiven extents view × IsNeverCut extents view) }
+{}

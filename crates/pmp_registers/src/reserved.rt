@@ -1,0 +1,18 @@
+//! Reserved values of a configuration byte.
+
+/// A value that the architecture keeps for a later use. It says nothing of any access.
+#[derive(Clone, Copy, PartialEq, Eq, Debug)]
+pub enum Reserved {
+    /// W without R.
+    Permission,
+    /// A bit of 6:5.
+    Bits,
+}
+
+/// A reserved value and the entry that has it. Of two values of one entry the permission is named.
+#[derive(Clone, Copy, PartialEq, Eq, Debug)]
+pub struct ReservedAt {
+    /// The number of the entry.
+    pub place: usize,
+    pub value: Reserved,
+}
