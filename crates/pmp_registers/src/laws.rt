@@ -24,7 +24,8 @@ pub fn extents_law()
         → AreExtents registers xs → AreExtents registers ys → xs ≡ ys }
     ensures defined { (registers : Registers) (xs : List Extent) → AreExtents registers xs
         → (place : ℕ) → place < 64 → IsDefined (cfg_at registers place) }
-    ensures words { (registers : Registers) (xs : List Extent) → AreExtents registers xs → All IsWords xs }
+    ensures words { (registers : Registers) (xs : List Extent)
+        → AreExtents registers xs → All IsWords xs }
 {}
 
 /// A list of NA4 and NAPOT entries says of supervisor and user mode what its extents say; and so do
