@@ -2,7 +2,7 @@
 use Rattle.std.proofs.Common.{ℕ, suc, ◌≡◌, ◌+◌, ◌<◌, length, Bool, true, false, List, [], ◌∷◌, take, drop, ap, refl, arith}
 use Rattle.std.specs.Prelude.{◌==◌}
 use Rattle.std.specs.List.{position_or_len}
-use Rattle.map_text.specs.Lines.{begun, is_lf, raw_lines}
+use Rattle.text_lines.specs.Lines.{begun, is_lf, raw_lines}
 
 abbrev before_lf : List ℕ → ℕ
 before_lf bytes = position_or_len (λ b. b == 10) bytes

@@ -1,7 +1,7 @@
 -- What is written of a map file.
 use Rattle.std.specs.Prelude.{◌≡◌, ℕ, ◌+◌, Bool, List, [], ◌∷◌, ◌++◌, codes, Option, Some, None}
 use Rattle.permission_map.specs.declared.runs.Run.{Run}
-use Rattle.map_text.specs.Lines.{raw_lines}
+use Rattle.text_lines.specs.Lines.{raw_lines}
 use Rattle.map_text.specs.MapFile.{raw_says}
 use Rattle.map_lint.specs.Pieces.{place_text}
 use Rattle.map_lint.specs.Reasons.{reason_of}

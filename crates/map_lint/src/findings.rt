@@ -1,7 +1,7 @@
 //! The findings of a map file.
 
 ghost use Rattle.std.specs.Prelude.{◌≡◌, ◌∷◌, ◌-◌, ◌^◌, ◌<◌, IfOk, length};
-ghost use Rattle.map_text.specs.Lines.{raw_lines};
+ghost use Rattle.text_lines.specs.Lines.{raw_lines};
 ghost use Rattle.map_lint.specs.Findings.{IsLintText};
 
 use crate::columns::len_before;

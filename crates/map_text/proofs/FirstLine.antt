@@ -8,31 +8,8 @@ use Rattle.text_lines.specs.Lines.{has_no_end, AreLines, EndsLine}
 use Rattle.text_lines.specs.declared.lines.LineReader.{LineReader}
 use Rattle.text_lines.specs.declared.fault.ReadFault.TheVariants.{LongLine}
 use Rattle.text_lines.specs.LineReaders.{came_of, pending_of, Hands, NextLine}
-use Rattle.map_text.specs.Lines.{is_lf, begun, left_of, raw_lines, HandsFirst, NextOf}
-
-alone_is : (b : ℕ) → is_lf b ≡ false → has_no_end (b ∷ []) ≡ true
-alone_is b h = rw h refl
-
-longer_is : (b : ℕ) (line : List ℕ) → is_lf b ≡ false → has_no_end line ≡ true → has_no_end (b ∷ line) ≡ true
-longer_is b line h e = rw h e
-
--- a byte more at the front of the line that an input begins with
-ends_with : (b : ℕ) (bytes line rest : List ℕ) → EndsLine bytes line rest → EndsLine (b ∷ bytes) (b ∷ line) rest
-ends_with b bytes line rest (inl e) = inl (ap (λ xs. b ∷ xs) e)
-ends_with b bytes line rest (inr e) = inr (omega arith, ap (λ xs. b ∷ xs) e.1, e.2)
-
--- the lines of a text, one after another
-begun_are : (b : ℕ) (bytes : List ℕ) (lines : List (List ℕ)) → is_lf b ≡ false → AreLines bytes lines → AreLines (b ∷ bytes) (begun b lines)
-begun_are b bytes [] h a = (alone_is b h, [], inr (omega arith, ap (λ xs. b ∷ xs) a, refl), refl)
-begun_are b bytes (line ∷ lines) h a = (longer_is b line h a.0, a.1, ends_with b bytes line a.1 a.2, a.3)
-
-are_by : (b : ℕ) (bytes : List ℕ) (t : Bool) → is_lf b ≡ t → AreLines bytes (raw_lines bytes) → AreLines (b ∷ bytes) (raw_lines (b ∷ bytes))
-are_by b bytes true h a = rw h (refl, bytes, inl (ap (λ x. x ∷ bytes) (eqb-true b 10 h)), a)
-are_by b bytes false h a = rw h (begun_are b bytes (raw_lines bytes) h a)
-
-pub raw_lines-are : (bytes : List ℕ) → AreLines bytes (raw_lines bytes)
-raw_lines-are [] = refl
-raw_lines-are (b ∷ bytes) = are_by b bytes (is_lf b) refl (raw_lines-are bytes)
+use Rattle.map_text.specs.Lines.{left_of, HandsFirst, NextOf}
+use Rattle.text_lines.specs.Lines.{begun, is_lf, raw_lines}
 
 -- a line before its LF is the first, and after it stand the others
 ended_first : (line rest : List ℕ) → has_no_end line ≡ true → raw_lines (line ++ 10 ∷ rest) ≡ line ∷ raw_lines rest

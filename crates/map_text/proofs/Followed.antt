@@ -5,9 +5,9 @@ use Rattle.std.proofs.lemmas.Bool.Decides.{nat_tests}
 use Rattle.std.proofs.lemmas.Grind.{common_steps}
 use Rattle.permission_map.specs.declared.runs.Run.{Run}
 use Rattle.text_lines.specs.Lines.{IsShortLine, without_return}
-use Rattle.map_text.specs.Lines.{raw_lines}
+use Rattle.text_lines.specs.Lines.{raw_lines}
 use Rattle.map_text.specs.MapFile.{FaultAt, LeadTo, line_says, raw_says}
-use Rattle.map_text.proofs.FirstLine.{raw_lines-are}
+use Rattle.text_lines.proofs.InputLines.{raw_lines-are}
 
 pub short_says : (raw text : List ℕ) → IsShortLine raw → text ≡ without_return raw → raw_says raw ≡ line_says text
 short_says raw text short is = rw (le-leb (length raw) 1023 short.1) (ap line_says (sym is))

@@ -1,21 +1,8 @@
--- The lines of a text, computed, and what a reader over it hands out.
-use Rattle.std.specs.Prelude.{◌≡◌, ℕ, ◌+◌, ◌<◌, ◌≤◌, Bool, true, false, ◌==◌, if◌then◌else◌, List, [], ◌∷◌, ◌++◌, length, Result, Ok, Err}
+-- What a reader over the lines of a text hands out.
+use Rattle.std.specs.Prelude.{◌≡◌, ℕ, ◌+◌, ◌<◌, ◌≤◌, Bool, true, false, List, [], ◌∷◌, ◌++◌, length, Result, Ok, Err}
 use Rattle.text_lines.specs.declared.lines.LineReader.{LineReader}
 use Rattle.text_lines.specs.LineReaders.{line_of, number_of, pending_of}
-use Rattle.text_lines.specs.Lines.{IsShortLine, without_return}
-
-abbrev pub is_lf : ℕ → Bool
-is_lf b = b == 10
-
--- a byte before some lines begins the first of them
-abbrev pub begun : ℕ → List (List ℕ) → List (List ℕ)
-begun b [] = (b ∷ []) ∷ []
-begun b (line ∷ lines) = (b ∷ line) ∷ lines
-
--- the pieces of a text that LF ends; what is empty after the last LF is none
-abbrev pub raw_lines : List ℕ → List (List ℕ)
-raw_lines [] = []
-raw_lines (b ∷ bytes) = if is_lf b then [] ∷ raw_lines bytes else begun b (raw_lines bytes)
+use Rattle.text_lines.specs.Lines.{IsShortLine, raw_lines, without_return}
 
 -- the bytes of which no line was handed out: those that came to the reader, and those that stand after them
 abbrev pub left_of : LineReader → List ℕ → List ℕ

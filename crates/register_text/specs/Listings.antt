@@ -4,7 +4,7 @@ use Rattle.std.specs.Option.{option_and_then}
 use Rattle.register_text.specs.declared.registers.Registers.{Registers}
 use Rattle.register_text.specs.declared.register_lines.Setting.{Setting}
 use Rattle.register_text.specs.declared.register_lines.Setting.TheVariants as settings
-use Rattle.map_text.specs.Lines.{raw_lines}
+use Rattle.text_lines.specs.Lines.{raw_lines}
 use Rattle.register_text.specs.Lines.{raw_sets}
 
 -- registers that are all zero

@@ -31,6 +31,23 @@ abbrev pub AreLines : List ℕ → List (List ℕ) → Type 0
 AreLines input [] = input ≡ []
 AreLines input (line ∷ lines) = (has_no_end line ≡ true) × (rest : List ℕ) × EndsLine input line rest × AreLines rest lines
 
+abbrev pub is_lf : ℕ → Bool
+is_lf b = b == 10
+
+-- a byte before some lines begins the first of them
+abbrev pub begun : ℕ → List (List ℕ) → List (List ℕ)
+begun b [] = (b ∷ []) ∷ []
+begun b (line ∷ lines) = (b ∷ line) ∷ lines
+
+-- the lines of an input, computed: the pieces that LF ends; what is empty after the last LF is none
+abbrev pub raw_lines : List ℕ → List (List ℕ)
+raw_lines [] = []
+raw_lines (b ∷ bytes) = if is_lf b then [] ∷ raw_lines bytes else begun b (raw_lines bytes)
+
+-- these are its lines
+abbrev pub AreItsLines : Type 0
+AreItsLines = (input : List ℕ) → AreLines input (raw_lines input)
+
 -- no input is two lists of lines
 abbrev pub OneListOfLines : Type 0
 OneListOfLines = (input : List ℕ) (lines others : List (List ℕ)) → AreLines input lines → AreLines input others → lines ≡ others

@@ -1,6 +1,6 @@
 use Rattle.std.proofs.Common.{◌≡◌, ◌++◌, ◌+◌, ◌≤◌, length}
 use Rattle.std.specs.List.{All}
-use Rattle.map_text.specs.Lines.{raw_lines}
+use Rattle.text_lines.specs.Lines.{raw_lines}
 use Rattle.map_lint.specs.Findings.{findings_from}
 use Rattle.map_lint.specs.Settings.{IsInside, settings_from}
 use Rattle.map_lint.proofs.findings.findings.Given as goal

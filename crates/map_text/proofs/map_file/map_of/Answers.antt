@@ -1,9 +1,10 @@
 use Rattle.std.proofs.Common.{⊎_elim, List, Err, ◌≡◌, ◌∙◌, ◌+◌, ◌∷◌, ◌++◌, [], ap, refl, append_assoc, append-nil, sym, subst, arith, length, length-append}
 use Rattle.std.proofs.lemmas.Bool.{cases_lt}
 use Rattle.permission_map.specs.declared.runs.Run.{Run}
-use Rattle.map_text.specs.Lines.{left_of, raw_lines}
+use Rattle.map_text.specs.Lines.{left_of}
+use Rattle.text_lines.specs.Lines.{raw_lines}
 use Rattle.map_text.specs.MapFile.{IsUnknown, Leads, Makes, MakesFirst, MakesTooMany, raw_says, start, line}
-use Rattle.map_text.proofs.FirstLine.{raw_lines-are}
+use Rattle.text_lines.proofs.InputLines.{raw_lines-are}
 use Rattle.map_text.proofs.Followed.{fault_at, long_says, short_says}
 use Rattle.map_text.proofs.Growing.{grows}
 use Rattle.map_text.proofs.map_file.map_of.Goals as goal

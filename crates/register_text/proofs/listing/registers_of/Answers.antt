@@ -1,5 +1,6 @@
 use Rattle.std.proofs.Common.{◌≡◌, ◌∙◌, ◌+◌, ◌++◌, ◌∷◌, [], Some, ap, append_assoc, length-append, sym}
-use Rattle.map_text.specs.Lines.{left_of, raw_lines}
+use Rattle.map_text.specs.Lines.{left_of}
+use Rattle.text_lines.specs.Lines.{raw_lines}
 use Rattle.register_text.specs.Lines.{raw_sets}
 use Rattle.register_text.proofs.Followed.{set_by_more, short_sets}
 use Rattle.register_text.proofs.listing.registers_of.Goals as goal

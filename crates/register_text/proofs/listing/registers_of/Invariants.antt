@@ -1,6 +1,7 @@
 use Rattle.std.proofs.Common.{◌≡◌, ◌+◌, ◌-◌, ◌^◌, ℕ, List, ◌++◌, Some, length}
 use Rattle.text_lines.specs.LineReaders.{came_of, most_of, number_of}
-use Rattle.map_text.specs.Lines.{left_of, raw_lines}
+use Rattle.map_text.specs.Lines.{left_of}
+use Rattle.text_lines.specs.Lines.{raw_lines}
 use Rattle.register_text.specs.Listings.{are_off, set_by_lines}
 use Rattle.register_text.proofs.listing.registers_of.Given as goal
 
