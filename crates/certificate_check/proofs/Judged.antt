@@ -98,8 +98,10 @@ fewest_of view bytes n h = record {
   tree = h.tree;
   spells = h.certificate.spells;
   count = h.count;
-  means = h.means;
-  fewest = λ others m. (let most : bound_of h.tree NoAccess ≤ length others = least view h.tree others h.sound m in let few = h.certificate.few in let c = h.count in omega arith);
+  fewest = record {
+    means = h.means;
+    least = λ others m. (let most : bound_of h.tree NoAccess ≤ length others = least view h.tree others h.sound m in let few = h.certificate.few in omega arith);
+  };
 }
 
 pub if_fewest : (view : View) (bytes : List ℕ) (result : Result ℕ CheckRefusal) → IfOk result (IsRight view bytes) → IfOk result (HoldsFewest view bytes)
@@ -109,7 +111,11 @@ if_fewest view bytes (Err r) h = tt
 pub if_least :
     (view : View) (bytes : List ℕ) (result : Result ℕ CheckRefusal) → IfOk result (IsRight view bytes)
     → IfOk result (λ n. (others : List Entry) → Means others view → n ≤ length others)
-if_least view bytes (Ok n) h = (fewest_of view bytes n h).fewest
+if_least view bytes (Ok n) h = λ others m.
+    (let f = fewest_of view bytes n h in
+    let most : length f.entries ≤ length others = f.fewest.least others m in
+    let count : length f.entries ≡ n = f.count in
+    omega arith)
 if_least view bytes (Err r) h = tt
 
 pub right_where : (view : View) (bytes : List ℕ) (result : Result ℕ CheckRefusal) (n : ℕ) → IfOk result (IsRight view bytes) → result ≡ Ok n → IsRight view bytes n

@@ -2,7 +2,7 @@
 use Rattle.std.specs.Prelude.{◌≡◌, ◌≢◌, ℕ, ◌^◌, ◌<◌, ◌≤◌, List, [], ◌++◌, length}
 use Rattle.pmp_encoding.specs.declared.perm.Perm.TheVariants.{NoAccess}
 use Rattle.pmp_encoding.specs.declared.region.Entry.{Entry}
-use Rattle.pmp_match.specs.Meaning.{View, Means}
+use Rattle.pmp_match.specs.Meaning.{View, IsFewest, Means}
 use Rattle.pmp_match.specs.Bounds.{BoundTree, bound_of, IsSoundBound}
 use Rattle.certificate_format.specs.declared.fault.ReadFault.{ReadFault}
 use Rattle.certificate_format.specs.declared.header.Header.{Header}
@@ -25,15 +25,14 @@ pub record IsRight (view : View) (bytes : List ℕ) (n : ℕ) : Type 0 where
   pub means : Means entries view
   pub count : length entries ≡ n
 
--- the bytes spell n entries that mean the view, and no list of fewer entries, of any regions and in any order, does
+-- the bytes spell n entries, which are the fewest that mean the view
 pub record HoldsFewest (view : View) (bytes : List ℕ) (n : ℕ) : Type 0 where
   pub version : Version
   pub entries : List Entry
   pub tree : BoundTree
   pub spells : Spells bytes version entries tree
   pub count : length entries ≡ n
-  pub means : Means entries view
-  pub fewest : (others : List Entry) → Means others view → n ≤ length others
+  pub fewest : IsFewest view entries
 
 -- header, entries of a page at least and a right root stand at the front of the bytes, before the rest
 pub record IsReadWhole (view : View) (bytes rest : List ℕ) (entries : List Entry) (tree : BoundTree) : Type 0 where

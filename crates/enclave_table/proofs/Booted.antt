@@ -8,7 +8,8 @@ use Rattle.pmp_match.specs.Meaning.{View}
 use Rattle.permission_map.specs.Views.{SameView}
 use Rattle.enclave_table.specs.Platform.{Layout, IsLayout, is_monitor, platform_perm}
 use Rattle.enclave_table.specs.Enclaves.{enclave_at}
-use Rattle.enclave_table.specs.Views.{any_private, host_view}
+use Rattle.enclave_table.specs.Views.{host_view}
+use Rattle.enclave_table.proofs.ShortNames.{any_private}
 use Rattle.enclave_table.specs.Fewest.{IsListOf}
 use Rattle.enclave_table.specs.Tables.{IsKept}
 use Rattle.enclave_table.specs.Booting.{opening}

@@ -10,7 +10,7 @@ use Rattle.enclave_table.specs.Enclaves.{EnclaveTable, Live, with_enclave, IsNex
 use Rattle.enclave_table.specs.Requests.{parts_of, is_part, ArePartsApart}
 use Rattle.enclave_table.specs.Views.{host_view, enclave_view}
 use Rattle.enclave_table.specs.Refusals.{AllPass}
-use Rattle.enclave_table.specs.Checks.{PassesCreate, create_checks, IsClear}
+use Rattle.enclave_table.specs.Checks.{create_checks, IsClear}
 use Rattle.enclave_table.specs.Fewest.{FitsIn, IsWant, IsListOf}
 use Rattle.enclave_table.specs.Creating.{fresh, RefusesCreate, Creates}
 use Rattle.enclave_table.specs.Tables.{IsSound}
@@ -19,9 +19,10 @@ use Rattle.enclave_table.specs.declared.enclave.Enclave.{Enclave}
 use Rattle.page_views.specs.declared.pages.PageRange.{PageRange}
 use Rattle.enclave_table.specs.declared.refusal.Refusal.{Refusal}
 use Rattle.worlds.specs.declared.world.World.{World}
+use Rattle.enclave_table.proofs.SameViews.{needs_of}
 use Rattle.enclave_table.proofs.Refused.{create_host_want, create_enclave_want}
 
-pub sound_from : (table : EnclaveTable) (world : World) (parts : Create) → AllPass (PassesCreate table world parts) create_checks → IsSound table parts
+pub sound_from : (table : EnclaveTable) (world : World) (parts : Create) → AllPass (create_checks table world parts) → IsSound table parts
 sound_from table world parts passes =
     let clear : IsClear table parts = passes.1.1.1.1.1.0 in
     record {
@@ -34,39 +35,39 @@ sound_from table world parts passes =
     }
 
 pub apart_from :
-    (table : EnclaveTable) (world : World) (parts : Create) → AllPass (PassesCreate table world parts) create_checks → (other : ℕ) (f : Enclave) → Live table other f
+    (table : EnclaveTable) (world : World) (parts : Create) → AllPass (create_checks table world parts) → (other : ℕ) (f : Enclave) → Live table other f
     → ArePartsApart parts f.parts
 apart_from table world parts passes other f live page part part_f =
     let clear : IsClear table parts = passes.1.1.1.1.1.0 in both_ways (is_part f.parts page) ((clear.owned page part).1 other f live) part_f
 
 pub fits_from : (limit : Limit) (view : View) (list : List Entry) → IsListOf limit view list → FitsIn limit view
-fits_from limit view list is = (length list, is.needs, is.room)
+fits_from limit view list is = (length list, needs_of view list is.fewest, is.room)
 
 pub host_want :
     (pages : ℕ → List ℕ) (old : EnclaveTable) (world : World) (asked parts : Create) (id : ℕ) (view : View) (refusal : Refusal) → parts ≡ parts_of asked
-    → AllPass (PassesCreate old world parts) create_checks → IsNextId old id → SameView view (host_view (with_enclave old id (Some (fresh pages parts))))
+    → AllPass (create_checks old world parts) → IsNextId old id → SameView view (host_view (with_enclave old id (Some (fresh pages parts))))
     → IsWant old.layout.limit view refusal → RefusesCreate pages old world asked refusal
 host_want pages old world asked parts id view refusal is passes next same want =
-    let P : Create → Type 0 = λ p. AllPass (PassesCreate old world p) create_checks in
+    let P : Create → Type 0 = λ p. AllPass (create_checks old world p) in
     let S : Create → Type 0 = λ p. SameView view (host_view (with_enclave old id (Some (fresh pages p)))) in
     create_host_want pages old world asked id view refusal (subst P is passes) next (subst S is same) want
 
 pub enclave_want :
     (pages : ℕ → List ℕ) (old : EnclaveTable) (world : World) (asked parts : Create) (limit : Limit) (refusal : Refusal) → parts ≡ parts_of asked → limit ≡ old.layout.limit
-    → AllPass (PassesCreate old world parts) create_checks → IsWant limit (enclave_view parts) refusal → RefusesCreate pages old world asked refusal
+    → AllPass (create_checks old world parts) → IsWant limit (enclave_view parts) refusal → RefusesCreate pages old world asked refusal
 enclave_want pages old world asked parts limit refusal is same passes want =
-    let P : Create → Type 0 = λ p. AllPass (PassesCreate old world p) create_checks in
+    let P : Create → Type 0 = λ p. AllPass (create_checks old world p) in
     let W : Create → Type 0 = λ p. IsWant old.layout.limit (enclave_view p) refusal in
     let L : Limit → Type 0 = λ l. IsWant l (enclave_view parts) refusal in
     create_enclave_want pages old world asked refusal (subst P is passes) (subst W is (subst L same want))
 
 pub creates :
     (pages : ℕ → List ℕ) (old : EnclaveTable) (world : World) (asked parts : Create) (id : ℕ) (new : EnclaveTable) → parts ≡ parts_of asked
-    → AllPass (PassesCreate old world parts) create_checks → IsNextId old id → new ≡ with_enclave old id (Some (fresh pages parts))
+    → AllPass (create_checks old world parts) → IsNextId old id → new ≡ with_enclave old id (Some (fresh pages parts))
     → FitsIn old.layout.limit (host_view (with_enclave old id (Some (fresh pages parts)))) → FitsIn old.layout.limit (enclave_view parts)
     → Creates pages old world asked id new
 creates pages old world asked parts id new is passes next added host enclave =
-    let P : Create → Type 0 = λ p. AllPass (PassesCreate old world p) create_checks in
+    let P : Create → Type 0 = λ p. AllPass (create_checks old world p) in
     let E : Create → Type 0 = λ p. FitsIn old.layout.limit (enclave_view p) in
     let H : EnclaveTable → Type 0 = λ t. FitsIn t.layout.limit (host_view t) in
     let L : EnclaveTable → Type 0 = λ t. FitsIn t.layout.limit (enclave_view (parts_of asked)) in

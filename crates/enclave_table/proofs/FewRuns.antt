@@ -11,10 +11,12 @@ use Rattle.permission_map.proofs.Determined.{determined}
 use Rattle.prefix_tree.specs.RunsOf.{AreRunsOf}
 use Rattle.prefix_tree.proofs.RunsExist.{runs_exist}
 use Rattle.enclave_table.specs.Platform.{device_perm, is_monitor, platform_perm}
-use Rattle.enclave_table.specs.Ranges.{has_page, is_among}
+use Rattle.enclave_table.specs.Ranges.{has_page}
+use Rattle.enclave_table.proofs.ShortNames.{is_among}
 use Rattle.enclave_table.specs.Enclaves.{EnclaveTable}
 use Rattle.enclave_table.specs.Requests.{is_private}
-use Rattle.enclave_table.specs.Views.{any_private, host_view}
+use Rattle.enclave_table.specs.Views.{host_view}
+use Rattle.enclave_table.proofs.ShortNames.{any_private}
 use Rattle.enclave_table.specs.Tables.{IsTable}
 use Rattle.enclave_table.specs.declared.enclave.Enclave.{Enclave}
 
@@ -85,8 +87,10 @@ host_few table is =
     let monitor : HasFewRuns (λ page. cond (is_monitor table.layout page) NoAccess (platform_perm table.layout page)) (2 * length table.layout.ram + 2 * length table.layout.devices + 2) =
     two_runs_more (platform_perm table.layout) (λ page. cond (is_monitor table.layout page) NoAccess (platform_perm table.layout page)) (table.layout.monitor.0 / 4096)
     (table.layout.monitor.1 / 4096) NoAccess (2 * length table.layout.ram + 2 * length table.layout.devices) (λ page small. refl) platform in
+    let few_ram : length table.layout.ram ≤ 32 = is.layout.rules.1.1.1.0.1 in
+    let few_devices : length table.layout.devices ≤ 32 = is.layout.rules.1.1.1.0.2 in
     more (host_view table) (2 * length table.enclaves + (2 * length table.layout.ram + 2 * length table.layout.devices + 2)) 258
-    (omega (arith, is.places, is.layout.ranges.few.few_ram, is.layout.ranges.few.few_devices))
+    (omega (arith, is.places, few_ram, few_devices))
     (enclaves_few table.enclaves (is_monitor table.layout) (platform_perm table.layout) (2 * length table.layout.ram + 2 * length table.layout.devices + 2) monitor)
 
 -- with one range more it is still far from too many

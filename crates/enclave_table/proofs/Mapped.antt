@@ -7,9 +7,10 @@ use Rattle.pmp_match.specs.Meaning.{View}
 use Rattle.permission_map.specs.Runs.{in_range}
 use Rattle.permission_map.specs.Views.{SameView, overwritten}
 use Rattle.enclave_table.specs.Platform.{Layout, device_perm, is_monitor, platform_perm}
-use Rattle.enclave_table.specs.Ranges.{has_page, is_among}
+use Rattle.enclave_table.specs.Ranges.{has_page}
+use Rattle.enclave_table.proofs.ShortNames.{is_among}
 use Rattle.enclave_table.specs.Requests.{is_private}
-use Rattle.enclave_table.specs.Views.{any_private}
+use Rattle.enclave_table.proofs.ShortNames.{any_private}
 use Rattle.enclave_table.specs.declared.enclave.Enclave.{Enclave}
 use Rattle.page_views.specs.declared.pages.PageRange.{PageRange}
 

@@ -8,7 +8,7 @@ use Rattle.enclave_table.specs.Enclaves.{EnclaveTable, with_enclave, IsNextId}
 use Rattle.enclave_table.specs.Requests.{parts_of}
 use Rattle.enclave_table.specs.Views.{host_view, enclave_view}
 use Rattle.enclave_table.specs.Refusals.{AllPass, FailsFirst}
-use Rattle.enclave_table.specs.Checks.{PassesCreate, create_checks, PassesOn, host_checks, MayDestroy}
+use Rattle.enclave_table.specs.Checks.{create_checks, host_checks, MayDestroy}
 use Rattle.enclave_table.specs.Fewest.{IsWant}
 use Rattle.enclave_table.specs.Creating.{fresh, RefusesCreate}
 use Rattle.enclave_table.specs.Destroying.{RefusesDestroy}
@@ -23,21 +23,21 @@ is_want NoEntries = true
 is_want NoMemory = true
 is_want _ = false
 
-none_want : List Refusal → Type 0
+none_want : List (Refusal × Type 0) → Type 0
 none_want [] = Unit {0}
-none_want (c ∷ cs) = (is_want c ≡ false) × none_want cs
+none_want (c ∷ cs) = (is_want c.0 ≡ false) × none_want cs
 
-unwanted : (Passes : Refusal → Type 0) (checks : List Refusal) (refusal : Refusal) → none_want checks → FailsFirst Passes checks refusal → is_want refusal ≡ false
+unwanted : (checks : List (Refusal × Type 0)) (refusal : Refusal) → none_want checks → FailsFirst checks refusal → is_want refusal ≡ false
 unfolding is_want none_want
-unwanted Passes [] refusal none fails = absurd fails
-unwanted Passes (c ∷ cs) refusal none fails = ⊎_elim (λ here. ap is_want here.0 ∙ none.0) (λ later. unwanted Passes cs refusal none.1 later.1) fails
+unwanted [] refusal none fails = absurd fails
+unwanted (c ∷ cs) refusal none fails = ⊎_elim (λ here. ap is_want here.0 ∙ none.0) (λ later. unwanted cs refusal none.1 later.1) fails
 
 pub create_fails :
-    (pages : ℕ → List ℕ) (old : EnclaveTable) (world : World) (asked : Create) (refusal : Refusal) → FailsFirst (PassesCreate old world (parts_of asked)) create_checks refusal
+    (pages : ℕ → List ℕ) (old : EnclaveTable) (world : World) (asked : Create) (refusal : Refusal) → FailsFirst (create_checks old world (parts_of asked)) refusal
     → RefusesCreate pages old world asked refusal
 unfolding is_want none_want
-create_fails pages old world asked NoEntries fails = absurd (true≢false (unwanted (PassesCreate old world (parts_of asked)) create_checks NoEntries (refl, (refl, (refl, (refl, (refl, (refl, (refl, tt))))))) fails))
-create_fails pages old world asked NoMemory fails = absurd (true≢false (unwanted (PassesCreate old world (parts_of asked)) create_checks NoMemory (refl, (refl, (refl, (refl, (refl, (refl, (refl, tt))))))) fails))
+create_fails pages old world asked NoEntries fails = absurd (true≢false (unwanted (create_checks old world (parts_of asked)) NoEntries (refl, (refl, (refl, (refl, (refl, (refl, (refl, tt))))))) fails))
+create_fails pages old world asked NoMemory fails = absurd (true≢false (unwanted (create_checks old world (parts_of asked)) NoMemory (refl, (refl, (refl, (refl, (refl, (refl, (refl, tt))))))) fails))
 create_fails pages old world asked NotHost fails = fails
 create_fails pages old world asked NotEnclave fails = fails
 create_fails pages old world asked BadCount fails = fails
@@ -50,10 +50,10 @@ create_fails pages old world asked BadId fails = fails
 create_fails pages old world asked BadState fails = fails
 create_fails pages old world asked BadWord fails = fails
 
-pub destroy_fails : (old : EnclaveTable) (world : World) (id : ℕ) (refusal : Refusal) → FailsFirst (PassesOn MayDestroy old world id) host_checks refusal → RefusesDestroy old world id refusal
+pub destroy_fails : (old : EnclaveTable) (world : World) (id : ℕ) (refusal : Refusal) → FailsFirst (host_checks MayDestroy old world id) refusal → RefusesDestroy old world id refusal
 unfolding is_want none_want
-destroy_fails old world id NoEntries fails = absurd (true≢false (unwanted (PassesOn MayDestroy old world id) host_checks NoEntries (refl, (refl, (refl, tt))) fails))
-destroy_fails old world id NoMemory fails = absurd (true≢false (unwanted (PassesOn MayDestroy old world id) host_checks NoMemory (refl, (refl, (refl, tt))) fails))
+destroy_fails old world id NoEntries fails = absurd (true≢false (unwanted (host_checks MayDestroy old world id) NoEntries (refl, (refl, (refl, tt))) fails))
+destroy_fails old world id NoMemory fails = absurd (true≢false (unwanted (host_checks MayDestroy old world id) NoMemory (refl, (refl, (refl, tt))) fails))
 destroy_fails old world id NotHost fails = fails
 destroy_fails old world id NotEnclave fails = fails
 destroy_fails old world id BadCount fails = fails
@@ -67,7 +67,7 @@ destroy_fails old world id BadState fails = fails
 destroy_fails old world id BadWord fails = fails
 
 pub create_host_want :
-    (pages : ℕ → List ℕ) (old : EnclaveTable) (world : World) (asked : Create) (id : ℕ) (view : View) (refusal : Refusal) → AllPass (PassesCreate old world (parts_of asked)) create_checks → IsNextId old id
+    (pages : ℕ → List ℕ) (old : EnclaveTable) (world : World) (asked : Create) (id : ℕ) (view : View) (refusal : Refusal) → AllPass (create_checks old world (parts_of asked)) → IsNextId old id
     → SameView view (host_view (with_enclave old id (Some (fresh pages (parts_of asked))))) → IsWant old.layout.limit view refusal → RefusesCreate pages old world asked refusal
 create_host_want pages old world asked id view NoEntries passes next same want =
     (passes, inl (id, next, more_same old.layout.limit view (host_view (with_enclave old id (Some (fresh pages (parts_of asked))))) same want))
@@ -85,7 +85,7 @@ create_host_want pages old world asked id view BadState passes next same want = 
 create_host_want pages old world asked id view BadWord passes next same want = absurd want
 
 pub create_enclave_want :
-    (pages : ℕ → List ℕ) (old : EnclaveTable) (world : World) (asked : Create) (refusal : Refusal) → AllPass (PassesCreate old world (parts_of asked)) create_checks
+    (pages : ℕ → List ℕ) (old : EnclaveTable) (world : World) (asked : Create) (refusal : Refusal) → AllPass (create_checks old world (parts_of asked))
     → IsWant old.layout.limit (enclave_view (parts_of asked)) refusal → RefusesCreate pages old world asked refusal
 create_enclave_want pages old world asked NoEntries passes want = (passes, inr want)
 create_enclave_want pages old world asked NoMemory passes want = passes
@@ -102,7 +102,7 @@ create_enclave_want pages old world asked BadState passes want = absurd want
 create_enclave_want pages old world asked BadWord passes want = absurd want
 
 pub destroy_want :
-    (old : EnclaveTable) (world : World) (id : ℕ) (view : View) (refusal : Refusal) → AllPass (PassesOn MayDestroy old world id) host_checks
+    (old : EnclaveTable) (world : World) (id : ℕ) (view : View) (refusal : Refusal) → AllPass (host_checks MayDestroy old world id)
     → SameView view (host_view (with_enclave old id None)) → IsWant old.layout.limit view refusal → RefusesDestroy old world id refusal
 destroy_want old world id view NoEntries passes same want = (passes, more_same old.layout.limit view (host_view (with_enclave old id None)) same want)
 destroy_want old world id view NoMemory passes same want = passes

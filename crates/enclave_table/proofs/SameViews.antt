@@ -1,10 +1,10 @@
 -- What is said of a view is said of each view that is the same at the pages of the space.
-use Rattle.std.proofs.Common.{ℕ, ◌≡◌, ◌+◌, ◌/◌, ◌^◌, ◌<◌, ◌∙◌, sym, ap, cond, List, length, arith}
+use Rattle.std.proofs.Common.{ℕ, ◌≡◌, ◌+◌, ◌/◌, ◌^◌, ◌<◌, ◌∙◌, refl, sym, ap, cond, List, length, arith}
 use Rattle.pmp_encoding.specs.declared.perm.Perm.{Perm}
 use Rattle.permission_map.specs.Runs.{in_range}
 use Rattle.pmp_encoding.specs.declared.limit.Limit.{Limit}
 use Rattle.pmp_encoding.specs.declared.region.Entry.{Entry}
-use Rattle.pmp_match.specs.Meaning.{View, Means, Needs}
+use Rattle.pmp_match.specs.Meaning.{View, Means, IsFewest, Needs}
 use Rattle.permission_map.specs.Views.{SameView, overwritten}
 use Rattle.prefix_tree.specs.Trees.{PermTree, TreeMeans, view_of_tree}
 use Rattle.prefix_tree.proofs.Meant.{means_along, perm_in-means}
@@ -13,20 +13,29 @@ use Rattle.enclave_table.specs.Fewest.{IsListOf, FitsIn, NeedsMore}
 pub means_same : (view other : View) (entries : List Entry) → SameView view other → Means entries view → Means entries other
 means_same view other entries same means = λ a aligned inside mode. rw (← same (a.address / 4096) (omega (arith, inside))) (means a aligned inside mode)
 
+pub fewest_same : (view other : View) (entries : List Entry) → SameView view other → IsFewest view entries → IsFewest other entries
+fewest_same view other entries same fewest =
+    record {
+      means = means_same view other entries same fewest.means;
+      least = λ others means. fewest.least others (means_same other view others (λ page inside. sym (same page inside)) means);
+    }
+
+-- a view needs as many entries as its fewest are
+pub needs_of : (view : View) (entries : List Entry) → IsFewest view entries → Needs view (length entries)
+needs_of view entries fewest = record { entries = entries; fewest = fewest; count = refl }
+
 pub needs_same : (view other : View) (n : ℕ) → SameView view other → Needs view n → Needs other n
 needs_same view other n same needs =
     record {
       entries = needs.entries;
-      means = means_same view other needs.entries same needs.means;
+      fewest = fewest_same view other needs.entries same needs.fewest;
       count = needs.count;
-      least = λ others means. needs.least others (means_same other view others (λ page inside. sym (same page inside)) means);
     }
 
 pub list_same : (limit : Limit) (view other : View) (entries : List Entry) → SameView view other → IsListOf limit view entries → IsListOf limit other entries
 list_same limit view other entries same list =
     record {
-      means = means_same view other entries same list.means;
-      needs = needs_same view other (length entries) same list.needs;
+      fewest = fewest_same view other entries same list.fewest;
       room = list.room;
     }
 

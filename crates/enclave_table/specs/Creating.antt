@@ -5,7 +5,7 @@ use Rattle.enclave_table.specs.Requests.{parts_of}
 use Rattle.enclave_table.specs.Enclaves.{EnclaveTable, with_enclave, IsNextId}
 use Rattle.enclave_table.specs.Views.{host_view, enclave_view}
 use Rattle.enclave_table.specs.Refusals.{AllPass, FailsFirst}
-use Rattle.enclave_table.specs.Checks.{PassesCreate, create_checks}
+use Rattle.enclave_table.specs.Checks.{create_checks}
 use Rattle.enclave_table.specs.Fewest.{FitsIn, NeedsMore}
 use Rattle.enclave_table.specs.Digests.{measured}
 use Rattle.enclave_table.specs.declared.enclave.Enclave.{Enclave}
@@ -20,7 +20,7 @@ fresh pages parts = record { parts = parts; state = Fresh; digest = measured pag
 
 -- create, where it is not refused: one more enclave under the next id, and it and the host fit
 pub record Creates (pages : ℕ → List ℕ) (old : EnclaveTable) (world : World) (asked : Create) (id : ℕ) (new : EnclaveTable) : Type 0 where
-  pub passes : AllPass (PassesCreate old world (parts_of asked)) create_checks
+  pub passes : AllPass (create_checks old world (parts_of asked))
   pub next : IsNextId old id
   pub added : new ≡ with_enclave old id (Some (fresh pages (parts_of asked)))
   pub host_fits : FitsIn new.layout.limit (host_view new)
@@ -34,6 +34,6 @@ OutgrowsByCreate pages old asked =
 
 -- why it is refused: for too few entries or out of memory only after all checks
 abbrev pub RefusesCreate : (ℕ → List ℕ) → EnclaveTable → World → Create → Refusal → Type 0
-RefusesCreate pages old world asked NoEntries = AllPass (PassesCreate old world (parts_of asked)) create_checks × OutgrowsByCreate pages old asked
-RefusesCreate pages old world asked NoMemory = AllPass (PassesCreate old world (parts_of asked)) create_checks
-RefusesCreate pages old world asked refusal = FailsFirst (PassesCreate old world (parts_of asked)) create_checks refusal
+RefusesCreate pages old world asked NoEntries = AllPass (create_checks old world (parts_of asked)) × OutgrowsByCreate pages old asked
+RefusesCreate pages old world asked NoMemory = AllPass (create_checks old world (parts_of asked))
+RefusesCreate pages old world asked refusal = FailsFirst (create_checks old world (parts_of asked)) refusal

@@ -4,8 +4,8 @@ use Rattle.byteorder.specs.Endian.{little_number}
 use Rattle.measurement.specs.Measured.{digest_of}
 use Rattle.measurement.specs.declared.measured.Layout.{Layout}
 use Rattle.enclave_table.specs.Enclaves.{EnclaveTable, Live}
-use Rattle.enclave_table.specs.Refusals.{AllPass, FailsFirst}
-use Rattle.enclave_table.specs.Checks.{PassesWord, word_checks}
+use Rattle.enclave_table.specs.Refusals.{AllPass}
+use Rattle.enclave_table.specs.Checks.{word_checks}
 use Rattle.enclave_table.specs.declared.enclave.Enclave.{Enclave}
 use Rattle.enclave_table.specs.declared.refusal.Refusal.{Refusal}
 use Rattle.enclave_table.specs.declared.request.Create.{Create}
@@ -30,8 +30,5 @@ measured pages parts = digest_of (layout_of parts) (pages_from pages (parts.base
 
 -- measure: the k-th word of the digest
 pub record AnswersWord (table : EnclaveTable) (id k word : ℕ) : Type 0 where
-  pub passes : AllPass (PassesWord table id k) word_checks
+  pub passes : AllPass (word_checks table id k)
   pub value : (e : Enclave) → Live table id e → word ≡ little_number 8 (drop (8 * k) e.digest)
-
-abbrev pub RefusesWord : EnclaveTable → ℕ → ℕ → Refusal → Type 0
-RefusesWord table id k refusal = FailsFirst (PassesWord table id k) word_checks refusal

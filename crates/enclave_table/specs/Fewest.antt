@@ -3,7 +3,7 @@ use Rattle.std.specs.Prelude.{ℕ, ◌≤◌, List, ◌<◌, ⊤, length}
 use Rattle.pmp_encoding.specs.Limits.{limit_number}
 use Rattle.pmp_encoding.specs.declared.limit.Limit.{Limit}
 use Rattle.pmp_encoding.specs.declared.region.Entry.{Entry}
-use Rattle.pmp_match.specs.Meaning.{View, Needs, Means}
+use Rattle.pmp_match.specs.Meaning.{View, IsFewest, Needs}
 use Rattle.enclave_table.specs.declared.refusal.Refusal.{Refusal}
 use Rattle.enclave_table.specs.declared.refusal.Refusal.TheVariants.{NoEntries, NoMemory}
 
@@ -22,6 +22,5 @@ IsWant limit view _ = ⊥
 
 -- the entries mean the view, no list of fewer does, and there is room for them
 pub record IsListOf (limit : Limit) (view : View) (entries : List Entry) : Type 0 where
-  pub means : Means entries view
-  pub needs : Needs view (length entries)
+  pub fewest : IsFewest view entries
   pub room : length entries ≤ limit_number limit

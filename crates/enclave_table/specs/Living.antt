@@ -3,8 +3,8 @@ use Rattle.std.specs.Prelude.{◌≡◌, ℕ, Some}
 use Rattle.worlds.specs.declared.world.World.{World}
 use Rattle.worlds.specs.declared.world.World.TheVariants.{Enclave as InEnclave}
 use Rattle.enclave_table.specs.Enclaves.{EnclaveTable, Live, with_enclave}
-use Rattle.enclave_table.specs.Refusals.{AllPass, FailsFirst}
-use Rattle.enclave_table.specs.Checks.{PassesOn, host_checks, MayEnter, PassesLeave, leave_checks}
+use Rattle.enclave_table.specs.Refusals.{AllPass}
+use Rattle.enclave_table.specs.Checks.{host_checks, MayEnter, leave_checks}
 use Rattle.enclave_table.specs.declared.enclave.Enclave.{Enclave}
 use Rattle.enclave_table.specs.declared.enclave.State.{State}
 use Rattle.enclave_table.specs.declared.enclave.State.TheVariants.{Running, Stopped, Exited}
@@ -19,11 +19,8 @@ Turns old id state new = (e : Enclave) × Live old id e × (new ≡ with_enclave
 
 -- run and resume
 pub record Enters (old : EnclaveTable) (world : World) (id : ℕ) (entering : Entering) (new : EnclaveTable) : Type 0 where
-  pub passes : AllPass (PassesOn (MayEnter entering) old world id) host_checks
+  pub passes : AllPass (host_checks (MayEnter entering) old world id)
   pub turned : Turns old id Running new
-
-abbrev pub RefusesEnter : EnclaveTable → World → ℕ → Entering → Refusal → Type 0
-RefusesEnter old world id entering refusal = FailsFirst (PassesOn (MayEnter entering) old world id) host_checks refusal
 
 -- what an enclave is after it was left
 abbrev pub state_after : Leaving → State
@@ -32,9 +29,6 @@ state_after Exit = Exited
 
 -- stop, exit, and an interrupt in an enclave: the id is that of the enclave that was left
 pub record Leaves (old : EnclaveTable) (world : World) (leaving : Leaving) (id : ℕ) (new : EnclaveTable) : Type 0 where
-  pub passes : AllPass (PassesLeave world) leave_checks
+  pub passes : AllPass (leave_checks world)
   pub left : world ≡ InEnclave id
   pub turned : Turns old id (state_after leaving) new
-
-abbrev pub RefusesLeave : World → Refusal → Type 0
-RefusesLeave world refusal = FailsFirst (PassesLeave world) leave_checks refusal

@@ -1,5 +1,6 @@
 -- What the host and each enclave may do with each page.
-use Rattle.std.specs.Prelude.{ℕ, Bool, ◌||◌, cond, List, Option, None, Some, false, [], ◌∷◌}
+use Rattle.std.specs.Prelude.{ℕ, Bool, ◌||◌, cond, List, Option, None, Some, false, option_map, unwrap_or}
+use Rattle.std.specs.List.{list_any}
 use Rattle.pmp_encoding.specs.declared.perm.Perm.{Perm}
 use Rattle.pmp_encoding.specs.declared.perm.Perm.TheVariants.{NoAccess, ReadWrite, ReadExecute}
 use Rattle.worlds.specs.declared.world.World.{World}
@@ -12,19 +13,15 @@ use Rattle.enclave_table.specs.declared.owner.Owner.TheVariants.{Monitor, Privat
 use Rattle.enclave_table.specs.declared.request.Create.{Create}
 use Rattle.worlds.specs.declared.world.World.TheVariants as world
 
--- whether a page is private to one of the enclaves
+-- whether a page is private to the enclave of a slot, if there is one
 abbrev pub has_private : Option Enclave → ℕ → Bool
 has_private None page = false
 has_private (Some e) page = is_private e.parts page
 
-abbrev pub any_private : List (Option Enclave) → ℕ → Bool
-any_private [] page = false
-any_private (slot ∷ slots) page = has_private slot page || any_private slots page
-
 -- the host: nothing on what is the monitor's or private to an enclave, elsewhere what the platform allows
 abbrev pub host_view : EnclaveTable → ℕ → Perm
 host_view table page =
-    cond (is_monitor table.layout page || any_private table.enclaves page) NoAccess (platform_perm table.layout page)
+    cond (is_monitor table.layout page || list_any (λ slot. has_private slot page) table.enclaves) NoAccess (platform_perm table.layout page)
 
 -- what the host may do on a page, by its owner and by what the platform allows there
 abbrev pub host_perm : Owner → Perm → Perm
@@ -38,10 +35,6 @@ abbrev pub enclave_view : Create → ℕ → Perm
 enclave_view parts page = cond (is_text parts page) ReadExecute (cond (is_data parts page || is_shared parts page) ReadWrite NoAccess)
 
 -- the view of a world: that of the host, or that of the enclave which runs
-abbrev pub view_in : Option Enclave → ℕ → Perm
-view_in None page = NoAccess
-view_in (Some e) page = enclave_view e.parts page
-
 abbrev pub current_view : EnclaveTable → World → ℕ → Perm
 current_view table world.Host page = host_view table page
-current_view table (world.Enclave id) page = view_in (enclave_at table.enclaves id) page
+current_view table (world.Enclave id) page = unwrap_or (option_map (λ e. enclave_view e.parts page) (enclave_at table.enclaves id)) NoAccess

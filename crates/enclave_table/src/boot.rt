@@ -62,7 +62,7 @@ impl Table {
             FitsIn platform.limit (host_view (opening platform))) }
         ensures fault { IfErr result (λ fault. IsBootFault platform fault) }
     {
-        platform.rules();
+        platform.cite_invariant();
         let Ok(map) = platform.permissions(alloc) else {
             return Err(BootFault::Memory);
         };

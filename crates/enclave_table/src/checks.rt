@@ -1,10 +1,11 @@
 //! The checks of each call, in their order.
 
-ghost use Rattle.std.specs.Prelude.{ℕ, ◌<◌, ◌≤◌, ◌↔◌, IsTrue, IfOk, IfErr, true, false};
+ghost use Rattle.std.specs.Prelude.{◌≡◌, ℕ, ◌<◌, ◌≤◌, ◌↔◌, IsTrue, IfOk, IfErr, true, false};
 ghost use Rattle.enclave_table.specs.Enclaves.{Live, IsNextId};
-ghost use Rattle.enclave_table.specs.Requests.{ArePartsApart, HasCounts, HasPlaces};
+ghost use Rattle.enclave_table.specs.Platform.{is_ram};
+ghost use Rattle.enclave_table.specs.Requests.{ArePartsApart, HasCounts, HasPlaces, is_part};
 ghost use Rattle.enclave_table.specs.Refusals.{AllPass, FailsFirst};
-ghost use Rattle.enclave_table.specs.Checks.{IsInRam, IsClear, PassesCreate, create_checks, PassesOn, host_checks, MayDestroy};
+ghost use Rattle.enclave_table.specs.Checks.{IsClear, create_checks, host_checks, MayDestroy};
 ghost use Rattle.enclave_table.specs.Tables.{IsSound};
 ghost use Rattle.enclave_table.specs.declared.enclave.Enclave.{Enclave};
 
@@ -18,7 +19,9 @@ impl Table {
     /// Whether each page is memory.
     fn is_in_ram(&self, parts: &Create) -> bool
         requires { HasCounts parts.now }
-        ensures { IsTrue result ↔ IsInRam self.now.table parts.now }
+        ensures { IsTrue result
+            ↔ ((page : ℕ) → is_part parts.now page ≡ true
+            → is_ram self.now.table.layout page ≡ true) }
     {
         let platform = self.platform();
         platform.has_memory(parts.private_pages()) && platform.has_memory(parts.shared_pages())
@@ -31,7 +34,7 @@ impl Table {
             ↔ ((id : ℕ) (e : Enclave) → Live self.now.table id e
             → ArePartsApart parts.now e.parts) }
     {
-        self.rules();
+        self.cite_invariant();
         for id in 1..65 {
             let Some(enclave) = self.find(id) else {
                 continue;
@@ -56,12 +59,12 @@ impl Table {
     /// The id of a new enclave with these parts, or the first check that does not pass.
     pub(crate) fn checked_create(&self, world: World, parts: &Create) -> Result<u64, Refusal>
         ensures passes { IfOk result (λ id.
-            AllPass (PassesCreate self.now.table world parts.now) create_checks) }
+            AllPass (create_checks self.now.table world parts.now)) }
         ensures counts { IfOk result (λ _. HasCounts parts.now) }
         ensures places { IfOk result (λ _. HasPlaces parts.now) }
         ensures next { IfOk result (λ id. IsNextId self.now.table id) }
         ensures fails { IfErr result (λ refusal.
-            FailsFirst (PassesCreate self.now.table world parts.now) create_checks refusal) }
+            FailsFirst (create_checks self.now.table world parts.now) refusal) }
     {
         if world != World::Host {
             return Err(Refusal::NotHost);
@@ -90,13 +93,13 @@ impl Table {
     /// The enclave of an id that may be destroyed, or the first check that does not pass.
     pub(crate) fn checked_destroy(&self, world: World, id: u64) -> Result<Enclave, Refusal>
         ensures passes { IfOk result (λ _.
-            AllPass (PassesOn MayDestroy self.now.table world id) host_checks) }
+            AllPass (host_checks MayDestroy self.now.table world id)) }
         ensures live { IfOk result (λ e. Live self.now.table id e) }
         ensures sound { IfOk result (λ e. IsSound self.now.table e.parts) }
         ensures above { IfOk result (λ _. 1 ≤ id) }
         ensures below { IfOk result (λ _. id ≤ 64) }
         ensures fails { IfErr result (λ refusal.
-            FailsFirst (PassesOn MayDestroy self.now.table world id) host_checks refusal) }
+            FailsFirst (host_checks MayDestroy self.now.table world id) refusal) }
     {
         if world != World::Host {
             return Err(Refusal::NotHost);

@@ -40,7 +40,7 @@ impl Table {
             RefusesCreate (P.bytes_of pages.now) self.old.table world asked refusal) }
         ensures kept { OnErr result (self.new ≡ self.old) }
     {
-        self.rules();
+        self.cite_invariant();
         let parts = asked.kept();
         let id = self.checked_create(world, &parts)?;
         let host = self.host_with(parts.private_pages(), Perm::NoAccess)?;

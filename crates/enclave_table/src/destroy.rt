@@ -21,7 +21,7 @@ impl Table {
             RefusesDestroy self.old.table world id refusal) }
         ensures kept { OnErr result (self.new ≡ self.old) }
     {
-        self.rules();
+        self.cite_invariant();
         let enclave = self.checked_destroy(world, id)?;
         let range = enclave.parts.private_pages();
         let host = self.host_with(range, Perm::ReadWriteExecute)?;

@@ -65,7 +65,8 @@ fn are_blank<P: Pages>(pages: &P, first: u64, count: u64) -> bool
 pub(crate) struct BlankDigest {
     layout: Layout,
     digest: [u8; 32],
-    ghost taken: { digest ≡ digest_of layout (pages_from (λ page. blank_page) 0 (layout.text_pages + layout.data_pages)) },
+    ghost taken: { digest ≡ digest_of layout (pages_from
+        (λ page. blank_page) 0 (layout.text_pages + layout.data_pages)) },
 }
 
 /// The digest of an enclave with these parts, over its private pages as they are.

@@ -2,7 +2,7 @@
 
 ghost use Rattle.std.specs.Prelude.{ℕ, ◌+◌, ◌^◌, ◌<◌, ◌≤◌, IfOk, IfErr, length};
 ghost use Rattle.pmp_encoding.specs.declared.perm.Perm.{Perm};
-ghost use Rattle.pmp_match.specs.Meaning.{Means, Needs};
+ghost use Rattle.pmp_match.specs.Meaning.{IsFewest};
 ghost use Rattle.permission_map.specs.Views.{overwritten};
 ghost use Rattle.prefix_tree.specs.Trees.{TreeMeans, IsCanonical};
 ghost use Rattle.enclave_table.specs.Requests.{HasCounts, HasPlaces};
@@ -23,10 +23,9 @@ use std::alloc::Global;
 
 /// The entries of a plan, if there are as many.
 fn listed(alloc: Global, limit: Limit, plan: &Plan) -> Result<EntryList, Refusal>
-    ensures list { (view : ℕ → Perm) → Means plan.now.entries view
-        → Needs view (length plan.now.entries)
+    ensures list { (view : ℕ → Perm) → IsFewest view plan.now.entries
         → IfOk result (λ list. IsListOf limit view list) }
-    ensures want { (view : ℕ → Perm) → Needs view (length plan.now.entries)
+    ensures want { (view : ℕ → Perm) → IsFewest view plan.now.entries
         → IfErr result (λ refusal. IsWant limit view refusal) }
 {
     if plan.needed() > limit.number() {
@@ -80,7 +79,7 @@ impl Table {
             IsWant self.now.table.layout.limit
             (overwritten (host_view self.now.table) pages.first pages.count perm) refusal) }
     {
-        self.rules();
+        self.cite_invariant();
         let tree = match self.host_tree().with_range(pages.first, pages.count, perm) {
             Ok(tree) => tree,
             Err(MapFault::Memory) => return Err(Refusal::NoMemory),

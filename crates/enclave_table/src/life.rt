@@ -2,8 +2,9 @@
 
 ghost use Rattle.std.specs.Prelude.{◌≡◌, IfOk, OnOk, IfErr, OnErr, Some};
 ghost use Rattle.enclave_table.specs.Tables.{IsCurrent};
-ghost use Rattle.enclave_table.specs.Checks.{state_before};
-ghost use Rattle.enclave_table.specs.Living.{state_after, Enters, RefusesEnter, Leaves, RefusesLeave};
+ghost use Rattle.enclave_table.specs.Checks.{host_checks, leave_checks, state_before, MayEnter};
+ghost use Rattle.enclave_table.specs.Refusals.{FailsFirst};
+ghost use Rattle.enclave_table.specs.Living.{state_after, Enters, Leaves};
 
 use crate::enclave::State;
 use crate::refusal::Refusal;
@@ -59,7 +60,7 @@ impl Table {
         ensures done { OnOk result (Enters self.old.table world id entering self.new.table) }
         ensures lists { OnOk result (self.new ≡ record self.old { table = self.new.table }) }
         ensures refused { IfErr result (λ refusal.
-            RefusesEnter self.old.table world id entering refusal) }
+            FailsFirst (host_checks (MayEnter entering) self.old.table world id) refusal) }
         ensures kept { OnErr result (self.new ≡ self.old) }
     {
         if world != World::Host {
@@ -80,7 +81,7 @@ impl Table {
         requires { IsCurrent self.old.table world }
         ensures done { IfOk result (λ id. Leaves self.old.table world leaving id self.new.table) }
         ensures lists { OnOk result (self.new ≡ record self.old { table = self.new.table }) }
-        ensures refused { IfErr result (λ refusal. RefusesLeave world refusal) }
+        ensures refused { IfErr result (λ refusal. FailsFirst (leave_checks world) refusal) }
         ensures kept { OnErr result (self.new ≡ self.old) }
     {
         let World::Enclave(id) = world else {

@@ -9,7 +9,7 @@ use Rattle.pmp_encoding.specs.declared.perm.Perm.{Perm}
 use Rattle.pmp_encoding.specs.declared.perm.Perm.TheVariants.{NoAccess}
 use Rattle.pmp_encoding.specs.declared.region.Entry.{Entry}
 use Rattle.pmp_match.specs.Bounds.{IsSoundAt, IsSoundBound, bound_of}
-use Rattle.pmp_match.specs.Meaning.{View, Means, Needs}
+use Rattle.pmp_match.specs.Meaning.{View, Means, IsFewest}
 use Rattle.pmp_match.proofs.Meant.{least}
 use Rattle.prefix_tree.specs.Counts.{splits}
 use Rattle.prefix_tree.specs.Trees.{PermTree, Uniform, Split, TreeMeansAt, TreeMeans}
@@ -196,9 +196,7 @@ made_is tree made plan is own = let M : Planned → Type 0 = IsMade tree in subs
 
 -- what the plan of a tree promises of a view that the tree means
 pub record IsPlanOf (view : View) (tree : PermTree) (plan : Planned) : Type 0 where
-  pub means : Means plan.entries view
-  pub least : (others : List Entry) → Means others view → length plan.entries ≤ length others
-  pub needs : Needs view (length plan.entries)
+  pub fewest : IsFewest view plan.entries
   pub pages : All (λ e. 12 ≤ e.region.log2) plan.entries
   pub order : AreInOrder plan.entries
   pub choice : AreChosen tree plan.entries
@@ -212,12 +210,8 @@ promised view tree shape plan meant same made =
     let M : PermTree → Type 0 = λ t. IsMade t plan in
     let m = subst M same made in
     let listed = chosen_listed tree plan.entries m.chosen in
-    let means = listed_means view tree plan.entries meant listed m.order in
-    let least = listed_least view tree plan.entries meant listed in
     record {
-      means = means;
-      least = least;
-      needs = record { entries = plan.entries; means = means; count = refl; least = least };
+      fewest = record { means = listed_means view tree plan.entries meant listed m.order; least = listed_least view tree plan.entries meant listed };
       pages = listed_pages tree plan.entries listed;
       order = m.order;
       choice = m.chosen;

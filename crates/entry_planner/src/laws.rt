@@ -2,13 +2,11 @@
 
 ghost use Rattle.std.specs.Prelude.{◌≡◌, ◌+◌, if◌then◌else◌};
 ghost use Rattle.pmp_encoding.specs.declared.perm.Perm.{Perm};
-ghost use Rattle.pmp_encoding.specs.declared.perm.Perm.TheVariants.{NoAccess, ReadWriteExecute};
+ghost use Rattle.pmp_encoding.specs.declared.perm.Perm.TheVariants.{NoAccess};
 ghost use Rattle.pmp_match.specs.Meaning.{Needs, View};
-ghost use Rattle.pmp_match.specs.Rows.{boot_view};
-ghost use Rattle.prefix_tree.specs.Trees.{PermTree, TreeMeans, Uniform};
+ghost use Rattle.prefix_tree.specs.Trees.{PermTree, TreeMeans};
 ghost use Rattle.entry_planner.specs.Best.{is_best, least_cost};
 ghost use Rattle.entry_planner.specs.Costs.{cost};
-ghost use Rattle.entry_planner.specs.Rows.{boot_tree, seven_tree};
 
 /// The root's cost for no access is the number of entries that the view of the tree needs.
 pub fn least_cost_law()
@@ -20,17 +18,4 @@ pub fn least_cost_law()
 pub fn best_law()
     ensures { (tree : PermTree) (p : Perm)
         → cost tree p ≡ least_cost tree + (if is_best tree p then 0 else 1) }
-{}
-
-/// Costs worked out by hand.
-pub fn worked_rows()
-    ensures empty { cost (Uniform NoAccess) NoAccess ≡ 0 }
-    ensures whole { cost (Uniform ReadWriteExecute) NoAccess ≡ 1 }
-    ensures boot { cost boot_tree NoAccess ≡ 3 }
-    ensures seven { cost seven_tree NoAccess ≡ 2 }
-{}
-
-/// The host's view at boot needs three entries.
-pub fn boot_row()
-    ensures { Needs boot_view 3 }
 {}

@@ -4,7 +4,7 @@ ghost use Rattle.std.specs.Prelude.{◌≡◌, ◌≤◌, ◌*◌, List, length,
 ghost use Rattle.pmp_encoding.specs.declared.perm.Perm.TheVariants.{NoAccess};
 ghost use Rattle.pmp_encoding.specs.declared.region.Entry.{Entry};
 ghost use Rattle.pmp_match.specs.Bounds.{IsSoundBound, bound_of};
-ghost use Rattle.pmp_match.specs.Meaning.{Means, Needs};
+ghost use Rattle.pmp_match.specs.Meaning.{IsFewest};
 ghost use Rattle.prefix_tree.specs.Counts.{splits};
 ghost use Rattle.prefix_tree.specs.Trees.{Fits, view_of_tree};
 ghost use Rattle.entry_planner.specs.Order.{AreInOrder};
@@ -54,11 +54,7 @@ fn entries_of<H: Halving>(
 /// (RISC-V Privileged Architecture, Physical Memory Protection: priority and matching logic. The passes up and down
 /// are those of ORTC, Draves and others, 1999, with permissions for next hops and no access for the default route.)
 pub fn plan(alloc: Global, tree: &Tree) -> Result<Plan, Memory>
-    ensures means { IfOk result (λ plan. Means plan.entries (view_of_tree tree.now)) }
-    ensures least { IfOk result (λ plan.
-        (others : List Entry) → Means others (view_of_tree tree.now)
-        → length plan.entries ≤ length others) }
-    ensures needs { IfOk result (λ plan. Needs (view_of_tree tree.now) (length plan.entries)) }
+    ensures fewest { IfOk result (λ plan. IsFewest (view_of_tree tree.now) plan.entries) }
     ensures pages { IfOk result (λ plan. All (λ e. 12 ≤ e.region.log2) plan.entries) }
     ensures order { IfOk result (λ plan. AreInOrder plan.entries) }
     ensures choice { IfOk result (λ plan. AreChosen tree.now plan.entries) }
@@ -76,11 +72,7 @@ pub fn plan(alloc: Global, tree: &Tree) -> Result<Plan, Memory>
 /// The plan of a map, as [`plan`] has it for the canonical tree of its view. That tree has at most 44 split blocks for
 /// each of the two ends of a run, and is not made.
 pub fn plan_map(alloc: Global, map: &PermissionMap) -> Result<Plan, Memory>
-    ensures means { IfOk result (λ plan. Means plan.entries (view_of_runs map.now)) }
-    ensures least { IfOk result (λ plan.
-        (others : List Entry) → Means others (view_of_runs map.now)
-        → length plan.entries ≤ length others) }
-    ensures needs { IfOk result (λ plan. Needs (view_of_runs map.now) (length plan.entries)) }
+    ensures fewest { IfOk result (λ plan. IsFewest (view_of_runs map.now) plan.entries) }
     ensures pages { IfOk result (λ plan. All (λ e. 12 ≤ e.region.log2) plan.entries) }
     ensures order { IfOk result (λ plan. AreInOrder plan.entries) }
     ensures choice { IfOk result (λ plan.

@@ -16,7 +16,8 @@ use Rattle.hart_trace.specs.declared.event.Event.TheVariants as events
 use Rattle.hart_sim.specs.declared.reply.Reply.{Reply}
 use Rattle.hart_sim.specs.declared.reply.Reply.TheVariants as replies
 use Rattle.hart_sim.specs.Memory.{bytes_at, number_of, in_range}
-use Rattle.hart_sim.specs.States.{State, SameState, HasRegisters, view_of, view_in, current_view, who_runs, running_registers}
+use Rattle.hart_sim.specs.States.{State, SameState, HasRegisters, view_of, current_view, who_runs, running_registers}
+use Rattle.enclave_table.proofs.ShortNames.{view_in}
 use Rattle.hart_sim.specs.Changes.{is_same, with_x, with_running, storing, without_mark}
 use Rattle.hart_sim.specs.Steps.{Step, verdict, Accesses, TakesEffect}
 use Rattle.hart_sim.specs.Privacy.{RunsOn, LooksSame, ChangesOwn, IsOwn, IsPrivate}

@@ -19,9 +19,10 @@ use Rattle.enclave_table.specs.declared.enclave.State.TheVariants.{Fresh, Runnin
 use Rattle.enclave_table.specs.declared.life.Entering.{Entering}
 use Rattle.enclave_table.specs.declared.life.Entering.TheVariants.{Run, Resume}
 use Rattle.enclave_table.specs.declared.life.Leaving.{Leaving}
-use Rattle.enclave_table.specs.Checks.{state_before}
+use Rattle.enclave_table.specs.Checks.{leave_checks, state_before}
 use Rattle.enclave_table.specs.Living.{state_after}
-use Rattle.enclave_table.specs.Living.{Enters, Leaves, Turns, RefusesLeave}
+use Rattle.enclave_table.specs.Living.{Enters, Leaves, Turns}
+use Rattle.enclave_table.specs.Refusals.{FailsFirst}
 use Rattle.enclave_table.specs.Destroying.{Destroys}
 use Rattle.enclave_table.specs.declared.refusal.Refusal.{Refusal}
 use Rattle.page_views.specs.declared.pages.PageRange.{PageRange}
@@ -31,14 +32,15 @@ use Rattle.hart_sim.specs.Harts.{runner_on}
 use Rattle.worlds.specs.declared.world.World.{World}
 use Rattle.worlds.specs.declared.world.World.TheVariants.{Host, Enclave as InEnclave}
 use Rattle.enclave_table.proofs.Places.{live_above, live_inside, set_same, set_other}
-use Rattle.enclave_table.proofs.SameViews.{means_same}
+use Rattle.enclave_table.proofs.SameViews.{fewest_same}
 use Rattle.enclave_table.proofs.Turned.{same_host_view}
 use Rattle.context_switch.specs.Harts.{bank_of, number_of}
 use Rattle.hart_sim.specs.declared.hardware.Hardware.{Hardware}
 use Rattle.hart_trace.specs.declared.event.Event.{Event}
 use Rattle.hart_trace.specs.declared.event.Event.TheVariants as events
 use Rattle.pmp_match.specs.declared.access.Access.{Access}
-use Rattle.hart_sim.specs.States.{current_view, view_of, view_in}
+use Rattle.hart_sim.specs.States.{current_view, view_of}
+use Rattle.enclave_table.proofs.ShortNames.{view_in}
 use Rattle.hart_sim.specs.Changes.{is_host}
 use Rattle.hart_sim.specs.Hardware.{world_in, BankOn, KeepsBanks}
 use Rattle.hart_sim.specs.Parts.{machine_state, IsWhole, LoadsFewest, AreBanksRight}
@@ -65,17 +67,16 @@ view_turned table id e state Host live other = same_host_view table id e state l
 view_turned table id e state (InEnclave k) live other = view_other table id (Some (record e { state = state })) (InEnclave k) (live_above table.enclaves id e live) other refl
 
 -- what is loaded for a view is loaded for the same one
-pub fewest_same : (bank : Bank) (view other : ℕ → Perm) → SameView view other → LoadsFewest bank view → LoadsFewest bank other
-fewest_same bank view other same l = record {
+pub loads_same : (bank : Bank) (view other : ℕ → Perm) → SameView view other → LoadsFewest bank view → LoadsFewest bank other
+loads_same bank view other same l = record {
   list = l.list;
   loaded = l.loaded;
-  means = means_same view other l.list same l.means;
-  least = λ others means. l.least others (means_same other view others (λ page small. sym (same page small)) means);
+  fewest = fewest_same view other l.list same l.fewest;
 }
 
 -- a list of the table, loaded
 pub fewest_of : (bank : Bank) (limit : Limit) (view : ℕ → Perm) (entries : List Entry) → HasList bank entries → IsListOf limit view entries → LoadsFewest bank view
-fewest_of bank limit view entries loaded is = record { list = entries; loaded = loaded; means = is.means; least = is.needs.least }
+fewest_of bank limit view entries loaded is = record { list = entries; loaded = loaded; fewest = is.fewest }
 
 -- the same hart's bank
 pub one_bank : (h : Hardware) (i : ℕ) (a b : Bank) → BankOn h i a → BankOn h i b → a ≡ b
@@ -100,7 +101,7 @@ banks_after kept now old new hart few harts here others stay right = λ i b low 
     let was = stay i other under off in
     let loads = right i (bank_of there.0) under was.0 (there.0, there.1, refl) in
     let same : b ≡ bank_of there.0 = one_bank new i b (bank_of there.0) has (others i (bank_of there.0) other (there.0, there.1, refl)) in
-    subst (λ x. LoadsFewest x (current_view (machine_state now new) i)) (sym same) (fewest_same (bank_of there.0) (current_view (machine_state kept old) i) (current_view (machine_state now new) i) was.1 loads))
+    subst (λ x. LoadsFewest x (current_view (machine_state now new) i)) (sym same) (loads_same (bank_of there.0) (current_view (machine_state kept old) i) (current_view (machine_state now new) i) was.1 loads))
 
 -- what is true of the machine after a hart went to another world
 pub whole_gone : (kept now : Kept) (old new : Hardware) (hart : ℕ) (to : World) → IsWhole kept old → hart < kept.table.layout.harts → now.table.layout ≡ kept.table.layout → new.limit ≡ old.limit
@@ -237,7 +238,7 @@ pub id_below : (table : EnclaveTable) (id : ℕ) (e : Enclave) → IsTable table
 id_below table id e is live = omega (arith, is.places, live_inside table.enclaves id e live, live_above table.enclaves id e live)
 
 -- an enclave is never refused to leave
-pub never_refused : (world : World) (id : ℕ) (refusal : Refusal) → world ≡ InEnclave id → RefusesLeave world refusal → ⊥
+pub never_refused : (world : World) (id : ℕ) (refusal : Refusal) → world ≡ InEnclave id → FailsFirst (leave_checks world) refusal → ⊥
 never_refused world id refusal is refused = elim refused [ inl p ↦ p.1 (id, is) | inr q ↦ q.1 ]
 
 pub neither : (a b : Bool) → (a || b) ≡ false → (a ≡ false) × (b ≡ false)

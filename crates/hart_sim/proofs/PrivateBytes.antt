@@ -12,7 +12,8 @@ use Rattle.permission_map.specs.Runs.{in_range}
 use Rattle.enclave_table.proofs.Places.{live_place}
 use Rattle.enclave_table.specs.Enclaves.{EnclaveTable, Live, enclave_at}
 use Rattle.enclave_table.specs.Requests.{is_text, is_data, is_private, is_shared, is_part}
-use Rattle.enclave_table.specs.Views.{has_private, any_private, host_view, enclave_view}
+use Rattle.enclave_table.specs.Views.{has_private, host_view, enclave_view}
+use Rattle.enclave_table.proofs.ShortNames.{any_private}
 use Rattle.enclave_table.specs.Platform.{is_monitor, platform_perm}
 use Rattle.enclave_table.specs.Tables.{IsTable}
 use Rattle.enclave_table.specs.declared.request.Create.{Create}
@@ -25,7 +26,8 @@ use Rattle.sbi_decode.specs.declared.calls.Call.TheVariants as calls
 use Rattle.hart_trace.specs.declared.event.Event.{Event}
 use Rattle.hart_trace.specs.declared.event.Event.TheVariants as events
 use Rattle.hart_sim.specs.declared.reply.Reply.{Reply}
-use Rattle.hart_sim.specs.States.{State, view_of, view_in, current_view, running_registers}
+use Rattle.hart_sim.specs.States.{State, view_of, current_view, running_registers}
+use Rattle.enclave_table.proofs.ShortNames.{view_in}
 use Rattle.hart_sim.specs.Changes.{calling, without_mark}
 use Rattle.hart_sim.specs.Steps.{Step, DoesCall, Accesses, TakesEffect, Interrupts, verdict}
 use Rattle.hart_sim.specs.Privacy.{StoresTo, KeepsPrivate}

@@ -10,8 +10,10 @@ use Rattle.enclave_table.specs.Refusals.{refusal_number}
 use Rattle.enclave_table.specs.Tables.{IsCurrent}
 use Rattle.enclave_table.specs.Creating.{Creates, RefusesCreate}
 use Rattle.enclave_table.specs.Destroying.{Destroys, RefusesDestroy}
-use Rattle.enclave_table.specs.Living.{Enters, RefusesEnter, Leaves, RefusesLeave}
-use Rattle.enclave_table.specs.Digests.{AnswersWord, RefusesWord}
+use Rattle.enclave_table.specs.Living.{Enters, Leaves}
+use Rattle.enclave_table.specs.Checks.{MayEnter, host_checks, leave_checks, word_checks}
+use Rattle.enclave_table.specs.Refusals.{FailsFirst}
+use Rattle.enclave_table.specs.Digests.{AnswersWord}
 use Rattle.enclave_table.specs.declared.request.Create.{Create}
 use Rattle.enclave_table.specs.declared.enclave.Enclave.{Enclave}
 use Rattle.enclave_table.specs.declared.life.Entering.{Entering}
@@ -94,7 +96,7 @@ enters way id a b hart reply new l (inl d) =
           (both_in_world (entering_with way (with_table a t) id d.0) (entering_with way (with_table b t) id d.0) hart (InEnclave id) (entered way a b hart id d.0 t l low)),
       d.5,
     )
-enters way id a b hart reply new l (inr d) = inr (d.0, moved (λ x w. RefusesEnter x w id way d.0) a b hart l d.1, refuses (refusal_number d.0) a b hart reply new l d.2)
+enters way id a b hart reply new l (inr d) = inr (d.0, moved (λ x w. FailsFirst (host_checks (MayEnter way) x w id) d.0) a b hart l d.1, refuses (refusal_number d.0) a b hart reply new l d.2)
 
 -- calls
 pub does_call : (call : Option Call) (a b : State) (hart : ℕ) (reply : Reply) (new : State) → Like a b hart → DoesCall call a hart reply new → DoesCall call b hart reply new
@@ -141,7 +143,7 @@ does_call (Some calls.Stop) a b hart reply new l (inl d) =
           (both_back (answering (with_table a t) hart 0 0) (answering (with_table b t) hart 0 0) hart 1 0 (both_answering (with_table a t) (with_table b t) hart 0 0 (l.all t low) low l.running) low),
       d.4,
     )
-does_call (Some calls.Stop) a b hart reply new l (inr d) = inr (d.0, subst (λ w. RefusesLeave w d.0) l.world d.1, refuses (refusal_number d.0) a b hart reply new l d.2)
+does_call (Some calls.Stop) a b hart reply new l (inr d) = inr (d.0, subst (λ w. FailsFirst (leave_checks w) d.0) l.world d.1, refuses (refusal_number d.0) a b hart reply new l d.2)
 does_call (Some (calls.Exit value)) a b hart reply new l (inl d) =
     let t = d.1 in
     let low = under a b hart t l (ap (λ x. x.layout) d.2.turned.2) in
@@ -152,10 +154,10 @@ does_call (Some (calls.Exit value)) a b hart reply new l (inl d) =
       one_state new (back_to_host (with_table a t) hart 0 value) (back_to_host (with_table b t) hart 0 value) d.3 (both_back (with_table a t) (with_table b t) hart 0 value (l.all t low) low),
       d.4,
     )
-does_call (Some (calls.Exit value)) a b hart reply new l (inr d) = inr (d.0, subst (λ w. RefusesLeave w d.0) l.world d.1, refuses (refusal_number d.0) a b hart reply new l d.2)
+does_call (Some (calls.Exit value)) a b hart reply new l (inr d) = inr (d.0, subst (λ w. FailsFirst (leave_checks w) d.0) l.world d.1, refuses (refusal_number d.0) a b hart reply new l d.2)
 does_call (Some (calls.Measure id k)) a b hart reply new l (inl d) =
     inl (d.0, subst (λ x. AnswersWord x id k d.0) l.table d.1, one_state new (answering a hart 0 d.0) (answering b hart 0 d.0) d.2 (both_answering a b hart 0 d.0 (is_state a b hart l) l.low l.running), d.3)
-does_call (Some (calls.Measure id k)) a b hart reply new l (inr d) = inr (d.0, subst (λ x. RefusesWord x id k d.0) l.table d.1, refuses (refusal_number d.0) a b hart reply new l d.2)
+does_call (Some (calls.Measure id k)) a b hart reply new l (inr d) = inr (d.0, subst (λ x. FailsFirst (word_checks x id k) d.0) l.table d.1, refuses (refusal_number d.0) a b hart reply new l d.2)
 
 -- accesses
 both_storing : (a b : State) (address size value : ℕ) → SameState a b → SameState (storing a address size value) (storing b address size value)

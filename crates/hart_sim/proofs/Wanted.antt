@@ -11,7 +11,7 @@ use Rattle.enclave_table.specs.Enclaves.{EnclaveTable, with_enclave}
 use Rattle.enclave_table.specs.Requests.{parts_of}
 use Rattle.enclave_table.specs.Views.{host_view, enclave_view}
 use Rattle.enclave_table.specs.Refusals.{AllPass, FailsFirst, refusal_number}
-use Rattle.enclave_table.specs.Checks.{PassesCreate, create_checks, PassesOn, host_checks, MayDestroy, MayEnter, PassesLeave, leave_checks, PassesWord, word_checks}
+use Rattle.enclave_table.specs.Checks.{create_checks, host_checks, MayDestroy, MayEnter, leave_checks, word_checks}
 use Rattle.enclave_table.specs.Fewest.{FitsIn, NeedsMore}
 use Rattle.enclave_table.specs.Creating.{OutgrowsByCreate, RefusesCreate, fresh}
 use Rattle.enclave_table.specs.Destroying.{RefusesDestroy}
@@ -40,10 +40,10 @@ use Rattle.hart_sim.specs.Steps.{Step, Refuses, DoesCall, Accesses, TakesEffect,
 use Rattle.hart_sim.specs.Wants.{IsAnsweredBy, IsRefusedExactlyWhere, CreatesByNeed, DestroysByNeed, PassesOthers, Outgrows, IsRefusedByNeed, RefusesByNeed, host_view_without}
 
 -- where all checks pass, none fails
-none_fails : (Passes : Refusal → Type 0) (checks : List Refusal) (refusal : Refusal) → AllPass Passes checks → FailsFirst Passes checks refusal → ⊥
-none_fails Passes [] refusal pass fails = fails
-none_fails Passes (check ∷ checks) refusal pass (inl f) = f.1 pass.0
-none_fails Passes (check ∷ checks) refusal pass (inr f) = none_fails Passes checks refusal pass.1 f.1
+none_fails : (checks : List (Refusal × Type 0)) (refusal : Refusal) → AllPass checks → FailsFirst checks refusal → ⊥
+none_fails [] refusal pass fails = fails
+none_fails (check ∷ checks) refusal pass (inl f) = f.1 pass.0
+none_fails (check ∷ checks) refusal pass (inr f) = none_fails checks refusal pass.1 f.1
 
 -- a view that fits does not need more
 fits_not_more : (limit : Limit) (view : View) → FitsIn limit view → NeedsMore limit view → ⊥
@@ -73,21 +73,21 @@ not_both reply x y = let z : 108 ≡ 107 = ap (λ r. under_zero (status_of r)) (
 one_next : (table : EnclaveTable) (id other : ℕ) → IsNextId table id → IsNextId table other → id ≡ other
 one_next table id other n m = omega (arith, n.smallest other m.free, m.smallest id n.free)
 
-create_refused : (asked : Create) (s : State) (hart : ℕ) (reply : Reply) (new : State) (refusal : Refusal) → AllPass (PassesCreate s.table (s.worlds hart) (parts_of asked)) create_checks
+create_refused : (asked : Create) (s : State) (hart : ℕ) (reply : Reply) (new : State) (refusal : Refusal) → AllPass (create_checks s.table (s.worlds hart) (parts_of asked))
     → RefusesCreate (page_bytes s) s.table (s.worlds hart) asked refusal → Refuses (refusal_number refusal) s hart reply new → IsRefusedExactlyWhere (OutgrowsByCreate (page_bytes s) s.table asked) reply
 create_refused asked s hart reply new NoEntries pass why x = ((λ is. why.1), (λ out. inl (answered NoEntries s new hart reply x)))
 create_refused asked s hart reply new NoMemory pass why x = ((λ is. absurd (not_both reply (answered NoMemory s new hart reply x) is)), (λ out. inr (answered NoMemory s new hart reply x)))
-create_refused asked s hart reply new NotHost pass why x = absurd (none_fails (PassesCreate s.table (s.worlds hart) (parts_of asked)) create_checks NotHost pass why)
-create_refused asked s hart reply new NotEnclave pass why x = absurd (none_fails (PassesCreate s.table (s.worlds hart) (parts_of asked)) create_checks NotEnclave pass why)
-create_refused asked s hart reply new BadCount pass why x = absurd (none_fails (PassesCreate s.table (s.worlds hart) (parts_of asked)) create_checks BadCount pass why)
-create_refused asked s hart reply new BadAddress pass why x = absurd (none_fails (PassesCreate s.table (s.worlds hart) (parts_of asked)) create_checks BadAddress pass why)
-create_refused asked s hart reply new BadEntry pass why x = absurd (none_fails (PassesCreate s.table (s.worlds hart) (parts_of asked)) create_checks BadEntry pass why)
-create_refused asked s hart reply new NotRam pass why x = absurd (none_fails (PassesCreate s.table (s.worlds hart) (parts_of asked)) create_checks NotRam pass why)
-create_refused asked s hart reply new Overlap pass why x = absurd (none_fails (PassesCreate s.table (s.worlds hart) (parts_of asked)) create_checks Overlap pass why)
-create_refused asked s hart reply new TableFull pass why x = absurd (none_fails (PassesCreate s.table (s.worlds hart) (parts_of asked)) create_checks TableFull pass why)
-create_refused asked s hart reply new BadId pass why x = absurd (none_fails (PassesCreate s.table (s.worlds hart) (parts_of asked)) create_checks BadId pass why)
-create_refused asked s hart reply new BadState pass why x = absurd (none_fails (PassesCreate s.table (s.worlds hart) (parts_of asked)) create_checks BadState pass why)
-create_refused asked s hart reply new BadWord pass why x = absurd (none_fails (PassesCreate s.table (s.worlds hart) (parts_of asked)) create_checks BadWord pass why)
+create_refused asked s hart reply new NotHost pass why x = absurd (none_fails (create_checks s.table (s.worlds hart) (parts_of asked)) NotHost pass why)
+create_refused asked s hart reply new NotEnclave pass why x = absurd (none_fails (create_checks s.table (s.worlds hart) (parts_of asked)) NotEnclave pass why)
+create_refused asked s hart reply new BadCount pass why x = absurd (none_fails (create_checks s.table (s.worlds hart) (parts_of asked)) BadCount pass why)
+create_refused asked s hart reply new BadAddress pass why x = absurd (none_fails (create_checks s.table (s.worlds hart) (parts_of asked)) BadAddress pass why)
+create_refused asked s hart reply new BadEntry pass why x = absurd (none_fails (create_checks s.table (s.worlds hart) (parts_of asked)) BadEntry pass why)
+create_refused asked s hart reply new NotRam pass why x = absurd (none_fails (create_checks s.table (s.worlds hart) (parts_of asked)) NotRam pass why)
+create_refused asked s hart reply new Overlap pass why x = absurd (none_fails (create_checks s.table (s.worlds hart) (parts_of asked)) Overlap pass why)
+create_refused asked s hart reply new TableFull pass why x = absurd (none_fails (create_checks s.table (s.worlds hart) (parts_of asked)) TableFull pass why)
+create_refused asked s hart reply new BadId pass why x = absurd (none_fails (create_checks s.table (s.worlds hart) (parts_of asked)) BadId pass why)
+create_refused asked s hart reply new BadState pass why x = absurd (none_fails (create_checks s.table (s.worlds hart) (parts_of asked)) BadState pass why)
+create_refused asked s hart reply new BadWord pass why x = absurd (none_fails (create_checks s.table (s.worlds hart) (parts_of asked)) BadWord pass why)
 
 pub creates_by_need : CreatesByNeed
 creates_by_need asked s hart reply new pass (inr x) = create_refused asked s hart reply new x.0 pass x.1 x.2
@@ -104,21 +104,21 @@ creates_by_need asked s hart reply new pass (inl x) = (
   ])),
 )
 
-destroy_refused : (id : ℕ) (s : State) (hart : ℕ) (reply : Reply) (new : State) (refusal : Refusal) → AllPass (PassesOn MayDestroy s.table (s.worlds hart) id) host_checks
+destroy_refused : (id : ℕ) (s : State) (hart : ℕ) (reply : Reply) (new : State) (refusal : Refusal) → AllPass (host_checks MayDestroy s.table (s.worlds hart) id)
     → RefusesDestroy s.table (s.worlds hart) id refusal → Refuses (refusal_number refusal) s hart reply new → IsRefusedExactlyWhere (NeedsMore s.table.layout.limit (host_view (with_enclave s.table id None))) reply
 destroy_refused id s hart reply new NoEntries pass why x = ((λ is. why.1), (λ out. inl (answered NoEntries s new hart reply x)))
 destroy_refused id s hart reply new NoMemory pass why x = ((λ is. absurd (not_both reply (answered NoMemory s new hart reply x) is)), (λ out. inr (answered NoMemory s new hart reply x)))
-destroy_refused id s hart reply new NotHost pass why x = absurd (none_fails (PassesOn MayDestroy s.table (s.worlds hart) id) host_checks NotHost pass why)
-destroy_refused id s hart reply new NotEnclave pass why x = absurd (none_fails (PassesOn MayDestroy s.table (s.worlds hart) id) host_checks NotEnclave pass why)
-destroy_refused id s hart reply new BadCount pass why x = absurd (none_fails (PassesOn MayDestroy s.table (s.worlds hart) id) host_checks BadCount pass why)
-destroy_refused id s hart reply new BadAddress pass why x = absurd (none_fails (PassesOn MayDestroy s.table (s.worlds hart) id) host_checks BadAddress pass why)
-destroy_refused id s hart reply new BadEntry pass why x = absurd (none_fails (PassesOn MayDestroy s.table (s.worlds hart) id) host_checks BadEntry pass why)
-destroy_refused id s hart reply new NotRam pass why x = absurd (none_fails (PassesOn MayDestroy s.table (s.worlds hart) id) host_checks NotRam pass why)
-destroy_refused id s hart reply new Overlap pass why x = absurd (none_fails (PassesOn MayDestroy s.table (s.worlds hart) id) host_checks Overlap pass why)
-destroy_refused id s hart reply new TableFull pass why x = absurd (none_fails (PassesOn MayDestroy s.table (s.worlds hart) id) host_checks TableFull pass why)
-destroy_refused id s hart reply new BadId pass why x = absurd (none_fails (PassesOn MayDestroy s.table (s.worlds hart) id) host_checks BadId pass why)
-destroy_refused id s hart reply new BadState pass why x = absurd (none_fails (PassesOn MayDestroy s.table (s.worlds hart) id) host_checks BadState pass why)
-destroy_refused id s hart reply new BadWord pass why x = absurd (none_fails (PassesOn MayDestroy s.table (s.worlds hart) id) host_checks BadWord pass why)
+destroy_refused id s hart reply new NotHost pass why x = absurd (none_fails (host_checks MayDestroy s.table (s.worlds hart) id) NotHost pass why)
+destroy_refused id s hart reply new NotEnclave pass why x = absurd (none_fails (host_checks MayDestroy s.table (s.worlds hart) id) NotEnclave pass why)
+destroy_refused id s hart reply new BadCount pass why x = absurd (none_fails (host_checks MayDestroy s.table (s.worlds hart) id) BadCount pass why)
+destroy_refused id s hart reply new BadAddress pass why x = absurd (none_fails (host_checks MayDestroy s.table (s.worlds hart) id) BadAddress pass why)
+destroy_refused id s hart reply new BadEntry pass why x = absurd (none_fails (host_checks MayDestroy s.table (s.worlds hart) id) BadEntry pass why)
+destroy_refused id s hart reply new NotRam pass why x = absurd (none_fails (host_checks MayDestroy s.table (s.worlds hart) id) NotRam pass why)
+destroy_refused id s hart reply new Overlap pass why x = absurd (none_fails (host_checks MayDestroy s.table (s.worlds hart) id) Overlap pass why)
+destroy_refused id s hart reply new TableFull pass why x = absurd (none_fails (host_checks MayDestroy s.table (s.worlds hart) id) TableFull pass why)
+destroy_refused id s hart reply new BadId pass why x = absurd (none_fails (host_checks MayDestroy s.table (s.worlds hart) id) BadId pass why)
+destroy_refused id s hart reply new BadState pass why x = absurd (none_fails (host_checks MayDestroy s.table (s.worlds hart) id) BadState pass why)
+destroy_refused id s hart reply new BadWord pass why x = absurd (none_fails (host_checks MayDestroy s.table (s.worlds hart) id) BadWord pass why)
 
 pub destroys_by_need : DestroysByNeed
 destroys_by_need id s hart reply new pass (inr x) = destroy_refused id s hart reply new x.0 pass x.1 x.2
@@ -191,14 +191,14 @@ checked refusal s new hart reply o x = numbered (refusal_number refusal) s new h
     not_memory BadWord o e = let z : 111 ≡ 108 = e in omega (arith, z)
 
 -- the first of some checks that fails is one of them
-abbrev AreOthers : List Refusal → Type 0
+abbrev AreOthers : List (Refusal × Type 0) → Type 0
 AreOthers [] = Unit {0}
-AreOthers (check ∷ checks) = IsOther check × AreOthers checks
+AreOthers (check ∷ checks) = IsOther check.0 × AreOthers checks
 
-fails_other : (Passes : Refusal → Type 0) (checks : List Refusal) (refusal : Refusal) → AreOthers checks → FailsFirst Passes checks refusal → IsOther refusal
-fails_other Passes [] refusal o x = absurd x
-fails_other Passes (check ∷ checks) refusal o (inl x) = subst IsOther (sym x.0) o.0
-fails_other Passes (check ∷ checks) refusal o (inr x) = fails_other Passes checks refusal o.1 x.1
+fails_other : (checks : List (Refusal × Type 0)) (refusal : Refusal) → AreOthers checks → FailsFirst checks refusal → IsOther refusal
+fails_other [] refusal o x = absurd x
+fails_other (check ∷ checks) refusal o (inl x) = subst IsOther (sym x.0) o.0
+fails_other (check ∷ checks) refusal o (inr x) = fails_other checks refusal o.1 x.1
 
 -- the host's view of the table with the new enclave is the one with its private pages closed
 closes : (pages : ℕ → List ℕ) (table : EnclaveTable) (id : ℕ) (parts : Create) → IsTable table → IsNextId table id → SameView (host_view_without table parts) (host_view (with_enclave table id (Some (fresh pages parts))))
@@ -214,10 +214,10 @@ otherwise call table world reply none n = record { entries = λ is. absurd (n.en
 abbrev creates_of : Create → Option Call
 creates_of asked = Some (calls.Create asked.base asked.text_pages asked.data_pages asked.shared_base asked.shared_count asked.entry_offset)
 
-create_failed : (asked : Create) (s : State) (hart : ℕ) (reply : Reply) (new : State) (refusal : Refusal) → FailsFirst (PassesCreate s.table (s.worlds hart) (parts_of asked)) create_checks refusal → IsOther refusal
+create_failed : (asked : Create) (s : State) (hart : ℕ) (reply : Reply) (new : State) (refusal : Refusal) → FailsFirst (create_checks s.table (s.worlds hart) (parts_of asked)) refusal → IsOther refusal
     → Refuses (refusal_number refusal) s hart reply new → IsRefusedByNeed (creates_of asked) s.table (s.worlds hart) reply
 create_failed asked s hart reply new refusal why other x =
-    otherwise (creates_of asked) s.table (s.worlds hart) reply (λ pass out. none_fails (PassesCreate s.table (s.worlds hart) (parts_of asked)) create_checks refusal pass why) (checked refusal s new hart reply other x)
+    otherwise (creates_of asked) s.table (s.worlds hart) reply (λ pass out. none_fails (create_checks s.table (s.worlds hart) (parts_of asked)) refusal pass why) (checked refusal s new hart reply other x)
 
 -- a creation that is refused, by its refusal
 create_by_need : (asked : Create) (s : State) (hart : ℕ) (reply : Reply) (new : State) (refusal : Refusal) → IsTable s.table → RefusesCreate (page_bytes s) s.table (s.worlds hart) asked refusal
@@ -250,10 +250,10 @@ create_by_need asked s hart reply new BadId t why x = create_failed asked s hart
 create_by_need asked s hart reply new BadState t why x = create_failed asked s hart reply new BadState why tt x
 create_by_need asked s hart reply new BadWord t why x = create_failed asked s hart reply new BadWord why tt x
 
-destroy_failed : (id : ℕ) (s : State) (hart : ℕ) (reply : Reply) (new : State) (refusal : Refusal) → FailsFirst (PassesOn MayDestroy s.table (s.worlds hart) id) host_checks refusal → IsOther refusal
+destroy_failed : (id : ℕ) (s : State) (hart : ℕ) (reply : Reply) (new : State) (refusal : Refusal) → FailsFirst (host_checks MayDestroy s.table (s.worlds hart) id) refusal → IsOther refusal
     → Refuses (refusal_number refusal) s hart reply new → IsRefusedByNeed (Some (calls.Destroy id)) s.table (s.worlds hart) reply
 destroy_failed id s hart reply new refusal why other x =
-    otherwise (Some (calls.Destroy id)) s.table (s.worlds hart) reply (λ pass out. none_fails (PassesOn MayDestroy s.table (s.worlds hart) id) host_checks refusal pass why) (checked refusal s new hart reply other x)
+    otherwise (Some (calls.Destroy id)) s.table (s.worlds hart) reply (λ pass out. none_fails (host_checks MayDestroy s.table (s.worlds hart) id) refusal pass why) (checked refusal s new hart reply other x)
 
 destroy_by_need : (id : ℕ) (s : State) (hart : ℕ) (reply : Reply) (new : State) (refusal : Refusal) → RefusesDestroy s.table (s.worlds hart) id refusal
     → Refuses (refusal_number refusal) s hart reply new → IsRefusedByNeed (Some (calls.Destroy id)) s.table (s.worlds hart) reply
@@ -280,10 +280,10 @@ destroy_by_need id s hart reply new BadState why x = destroy_failed id s hart re
 destroy_by_need id s hart reply new BadWord why x = destroy_failed id s hart reply new BadWord why tt x
 
 -- a call of another kind that is refused
-refused_other : (call : Option Call) (Passes : Refusal → Type 0) (checks : List Refusal) (s : State) (hart : ℕ) (reply : Reply) (new : State) (refusal : Refusal) → (PassesOthers call s.table (s.worlds hart) → ⊥) → AreOthers checks → FailsFirst Passes checks refusal
+refused_other : (call : Option Call) (checks : List (Refusal × Type 0)) (s : State) (hart : ℕ) (reply : Reply) (new : State) (refusal : Refusal) → (PassesOthers call s.table (s.worlds hart) → ⊥) → AreOthers checks → FailsFirst checks refusal
     → Refuses (refusal_number refusal) s hart reply new → IsRefusedByNeed call s.table (s.worlds hart) reply
-refused_other call Passes checks s hart reply new refusal none others why x =
-    never call s.table (s.worlds hart) reply none (checked refusal s new hart reply (fails_other Passes checks refusal others why) x)
+refused_other call checks s hart reply new refusal none others why x =
+    never call s.table (s.worlds hart) reply none (checked refusal s new hart reply (fails_other checks refusal others why) x)
 
 called : (call : Option Call) (s : State) (hart : ℕ) (reply : Reply) (new : State) → IsTable s.table → DoesCall call s hart reply new → IsRefusedByNeed call s.table (s.worlds hart) reply
 called None s hart reply new t x =
@@ -306,15 +306,15 @@ called (Some (calls.Destroy id)) s hart reply new t (inl x) =
     (λ pass out. fits_not_more s.table.layout.limit (host_view (with_enclave s.table id None)) (subst (λ t. FitsIn t.layout.limit (host_view t)) x.2.removed x.2.host_fits) out) (well new hart 0 reply x.4)
 called (Some (calls.Destroy id)) s hart reply new t (inr x) = destroy_by_need id s hart reply new x.0 x.1 x.2
 called (Some (calls.Run id)) s hart reply new t (inl x) = never (Some (calls.Run id)) s.table (s.worlds hart) reply (λ none. none) (well new hart 0 reply x.5)
-called (Some (calls.Run id)) s hart reply new t (inr x) = refused_other (Some (calls.Run id)) (PassesOn (MayEnter FirstRun) s.table (s.worlds hart) id) host_checks s hart reply new x.0 (λ none. none) (tt, (tt, (tt, tt))) x.1 x.2
+called (Some (calls.Run id)) s hart reply new t (inr x) = refused_other (Some (calls.Run id)) (host_checks (MayEnter FirstRun) s.table (s.worlds hart) id) s hart reply new x.0 (λ none. none) (tt, (tt, (tt, tt))) x.1 x.2
 called (Some calls.Stop) s hart reply new t (inl x) = never (Some calls.Stop) s.table (s.worlds hart) reply (λ none. none) (well new hart 0 reply x.4)
-called (Some calls.Stop) s hart reply new t (inr x) = refused_other (Some calls.Stop) (PassesLeave (s.worlds hart)) leave_checks s hart reply new x.0 (λ none. none) (tt, tt) x.1 x.2
+called (Some calls.Stop) s hart reply new t (inr x) = refused_other (Some calls.Stop) (leave_checks (s.worlds hart)) s hart reply new x.0 (λ none. none) (tt, tt) x.1 x.2
 called (Some (calls.Resume id)) s hart reply new t (inl x) = never (Some (calls.Resume id)) s.table (s.worlds hart) reply (λ none. none) (well new hart 0 reply x.5)
-called (Some (calls.Resume id)) s hart reply new t (inr x) = refused_other (Some (calls.Resume id)) (PassesOn (MayEnter Resume) s.table (s.worlds hart) id) host_checks s hart reply new x.0 (λ none. none) (tt, (tt, (tt, tt))) x.1 x.2
+called (Some (calls.Resume id)) s hart reply new t (inr x) = refused_other (Some (calls.Resume id)) (host_checks (MayEnter Resume) s.table (s.worlds hart) id) s hart reply new x.0 (λ none. none) (tt, (tt, (tt, tt))) x.1 x.2
 called (Some (calls.Exit value)) s hart reply new t (inl x) = never (Some (calls.Exit value)) s.table (s.worlds hart) reply (λ none. none) (well new hart value reply x.4)
-called (Some (calls.Exit value)) s hart reply new t (inr x) = refused_other (Some (calls.Exit value)) (PassesLeave (s.worlds hart)) leave_checks s hart reply new x.0 (λ none. none) (tt, tt) x.1 x.2
+called (Some (calls.Exit value)) s hart reply new t (inr x) = refused_other (Some (calls.Exit value)) (leave_checks (s.worlds hart)) s hart reply new x.0 (λ none. none) (tt, tt) x.1 x.2
 called (Some (calls.Measure id k)) s hart reply new t (inl x) = never (Some (calls.Measure id k)) s.table (s.worlds hart) reply (λ none. none) (well new hart x.0 reply x.3)
-called (Some (calls.Measure id k)) s hart reply new t (inr x) = refused_other (Some (calls.Measure id k)) (PassesWord s.table id k) word_checks s hart reply new x.0 (λ none. none) (tt, (tt, tt)) x.1 x.2
+called (Some (calls.Measure id k)) s hart reply new t (inr x) = refused_other (Some (calls.Measure id k)) (word_checks s.table id k) s hart reply new x.0 (λ none. none) (tt, (tt, tt)) x.1 x.2
 
 -- a reply that is no answer of a call
 no_call : (reply that : Reply) → status_of that ≡ pos 0 → reply ≡ that → Neither reply

@@ -55,7 +55,7 @@ banks_woken kept old new hart bank entries w was worlds marks loaded others list
     let that : has.0 ≡ loaded.0 = same_Some has.0 loaded.0 (sym has.1 ∙ ap (slice_get new.harts) is ∙ loaded.1) in
     let same : b ≡ bank = sym has.2 ∙ ap bank_of that ∙ loaded.2 in
     let world : world_in (slice_get new.harts i) ≡ Host = worlds i ∙ ap (λ k. world_in (slice_get old.harts k)) is ∙ w.marked hart was in
-    let here : LoadsFewest bank (view_of kept.table Host) = record { list = entries; loaded = list; means = fits.means; least = fits.needs.least } in
+    let here : LoadsFewest bank (view_of kept.table Host) = record { list = entries; loaded = list; fewest = fits.fewest } in
     subst (λ x. LoadsFewest x (view_of kept.table (world_in (slice_get new.harts i)))) (sym same) (subst (λ v. LoadsFewest bank (view_of kept.table v)) (sym world) here))
     (λ e.
     let other : i ≢ hart = λ is. both_ways (i == hart) e (eq-eqb i hart is) in

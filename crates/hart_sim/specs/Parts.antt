@@ -5,7 +5,7 @@ use Rattle.pmp_encoding.specs.declared.perm.Perm.{Perm}
 use Rattle.pmp_encoding.specs.declared.region.Entry.{Entry}
 use Rattle.pmp_encoding.specs.Banks.{HasList}
 use Rattle.pmp_encoding.specs.Limits.{limit_number}
-use Rattle.pmp_match.specs.Meaning.{Means}
+use Rattle.pmp_match.specs.Meaning.{IsFewest}
 use Rattle.enclave_table.specs.Tables.{Kept, IsCurrent}
 use Rattle.worlds.specs.declared.world.World.TheVariants.{Host, Enclave as InEnclave}
 use Rattle.worlds.specs.declared.world.World.{World}
@@ -51,12 +51,11 @@ pub record HoldsTogether (kept : Kept) (h : Hardware) : Type 0 where
   pub idle : (i : ℕ) → kept.table.layout.harts ≤ i → is_host (world_in (slice_get h.harts i)) ≡ true
   pub marked : (i : ℕ) → slice_index_or h.marked i false ≡ true → is_host (world_in (slice_get h.harts i)) ≡ true
 
--- the loaded list means the view, and no list that means it, of any regions in any order, is shorter
+-- the loaded list is one of the fewest that mean the view
 pub record LoadsFewest (bank : Bank) (view : ℕ → Perm) : Type 0 where
   pub list : List Entry
   pub loaded : HasList bank list
-  pub means : Means list view
-  pub least : (others : List Entry) → Means others view → length list ≤ length others
+  pub fewest : IsFewest view list
 
 -- the bank of each hart that is not marked means the view of its world by the fewest entries
 abbrev pub AreBanksRight : Kept → Hardware → Type 0

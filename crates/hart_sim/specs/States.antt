@@ -4,7 +4,7 @@ use Rattle.pmp_encoding.specs.declared.perm.Perm.{Perm}
 use Rattle.enclave_table.specs.Platform.{Layout}
 use Rattle.enclave_table.specs.Enclaves.{EnclaveTable, Live}
 use Rattle.enclave_table.specs.Booting.{opening as opening_table}
-pub use Rattle.enclave_table.specs.Views.{view_in, current_view as view_of}
+pub use Rattle.enclave_table.specs.Views.{current_view as view_of}
 use Rattle.enclave_table.specs.declared.enclave.Enclave.{Enclave}
 use Rattle.enclave_table.specs.declared.enclave.State.TheVariants.{Running, Stopped}
 use Rattle.worlds.specs.declared.world.World.{World}

@@ -9,11 +9,12 @@ use Rattle.pmp_match.specs.declared.cause.Cause.{Cause}
 use Rattle.pmp_match.specs.Causes.{misaligned, access_fault}
 use Rattle.pmp_match.specs.Kinds.{holds}
 use Rattle.enclave_table.specs.Enclaves.{EnclaveTable, Live}
-use Rattle.enclave_table.specs.Refusals.{refusal_number}
+use Rattle.enclave_table.specs.Refusals.{FailsFirst, refusal_number}
 use Rattle.enclave_table.specs.Creating.{Creates, RefusesCreate}
 use Rattle.enclave_table.specs.Destroying.{Destroys, RefusesDestroy}
-use Rattle.enclave_table.specs.Living.{Enters, RefusesEnter, Leaves, RefusesLeave}
-use Rattle.enclave_table.specs.Digests.{AnswersWord, RefusesWord}
+use Rattle.enclave_table.specs.Living.{Enters, Leaves}
+use Rattle.enclave_table.specs.Checks.{MayEnter, host_checks, leave_checks, word_checks}
+use Rattle.enclave_table.specs.Digests.{AnswersWord}
 use Rattle.enclave_table.specs.declared.request.Create.{Create}
 use Rattle.enclave_table.specs.declared.enclave.Enclave.{Enclave}
 use Rattle.enclave_table.specs.declared.life.Entering.{Entering}
@@ -88,27 +89,27 @@ abbrev pub DoesEnter : Entering → ℕ → State → ℕ → Reply → State �
 DoesEnter entering id s hart reply new =
     ((e : Enclave) × (table : EnclaveTable) × Live s.table id e × Enters s.table (s.worlds hart) id entering table
     × SameState new (into_enclave (entering_with entering (with_table s table) id e) hart id) × AnswersCall new hart (pos 0) 0 reply)
-    ⊎ Refused (RefusesEnter s.table (s.worlds hart) id entering) s hart reply new
+    ⊎ Refused (FailsFirst (host_checks (MayEnter entering) s.table (s.worlds hart) id)) s hart reply new
 
 -- stop: the enclave will go on with 0 in a0 and a1, and the host goes on with 1 and 0 there
 abbrev pub DoesStop : State → ℕ → Reply → State → Type 0
 DoesStop s hart reply new =
     ((id : ℕ) × (table : EnclaveTable) × Leaves s.table (s.worlds hart) Stop id table
     × SameState new (back_to_host (answering (with_table s table) hart 0 0) hart 1 0) × AnswersCall new hart (pos 0) 0 reply)
-    ⊎ Refused (RefusesLeave (s.worlds hart)) s hart reply new
+    ⊎ Refused (FailsFirst (leave_checks (s.worlds hart))) s hart reply new
 
 -- exit: the host goes on with 0 and the value
 abbrev pub DoesExit : ℕ → State → ℕ → Reply → State → Type 0
 DoesExit value s hart reply new =
     ((id : ℕ) × (table : EnclaveTable) × Leaves s.table (s.worlds hart) Exit id table
     × SameState new (back_to_host (with_table s table) hart 0 value) × AnswersCall new hart (pos 0) value reply)
-    ⊎ Refused (RefusesLeave (s.worlds hart)) s hart reply new
+    ⊎ Refused (FailsFirst (leave_checks (s.worlds hart))) s hart reply new
 
 -- measure: a word of the digest
 abbrev pub DoesMeasure : ℕ → ℕ → State → ℕ → Reply → State → Type 0
 DoesMeasure id k s hart reply new =
     ((word : ℕ) × AnswersWord s.table id k word × SameState new (answering s hart 0 word) × AnswersCall new hart (pos 0) word reply)
-    ⊎ Refused (RefusesWord s.table id k) s hart reply new
+    ⊎ Refused (FailsFirst (word_checks s.table id k)) s hart reply new
 
 -- the call that the registers name, or an unknown one
 abbrev pub DoesCall : Option Call → State → ℕ → Reply → State → Type 0

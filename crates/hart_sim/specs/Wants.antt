@@ -7,7 +7,7 @@ use Rattle.enclave_table.specs.Requests.{parts_of}
 use Rattle.enclave_table.specs.Enclaves.{EnclaveTable, with_enclave}
 use Rattle.enclave_table.specs.Views.{host_view, enclave_view}
 use Rattle.enclave_table.specs.Refusals.{AllPass, refusal_number}
-use Rattle.enclave_table.specs.Checks.{PassesCreate, create_checks, PassesOn, host_checks, MayDestroy}
+use Rattle.enclave_table.specs.Checks.{create_checks, host_checks, MayDestroy}
 use Rattle.enclave_table.specs.Fewest.{NeedsMore}
 use Rattle.enclave_table.specs.Creating.{OutgrowsByCreate}
 use Rattle.enclave_table.specs.declared.request.Create.{Create}
@@ -37,12 +37,12 @@ IsRefusedExactlyWhere Outgrows reply = (IsAnsweredBy NoEntries reply → Outgrow
 
 abbrev pub CreatesByNeed : Type 0
 CreatesByNeed =
-    (asked : Create) (s : State) (hart : ℕ) (reply : Reply) (new : State) → AllPass (PassesCreate s.table (s.worlds hart) (parts_of asked)) create_checks → DoesCreate asked s hart reply new
+    (asked : Create) (s : State) (hart : ℕ) (reply : Reply) (new : State) → AllPass (create_checks s.table (s.worlds hart) (parts_of asked)) → DoesCreate asked s hart reply new
     → IsRefusedExactlyWhere (OutgrowsByCreate (page_bytes s) s.table asked) reply
 
 abbrev pub DestroysByNeed : Type 0
 DestroysByNeed =
-    (id : ℕ) (s : State) (hart : ℕ) (reply : Reply) (new : State) → AllPass (PassesOn MayDestroy s.table (s.worlds hart) id) host_checks → DoesDestroy id s hart reply new
+    (id : ℕ) (s : State) (hart : ℕ) (reply : Reply) (new : State) → AllPass (host_checks MayDestroy s.table (s.worlds hart) id) → DoesDestroy id s hart reply new
     → IsRefusedExactlyWhere (NeedsMore s.table.layout.limit (host_view (with_enclave s.table id None))) reply
 
 -- the host's view once the private pages of an enclave are closed to it
@@ -57,8 +57,8 @@ call_by s hart _ = None
 -- a creation or a destruction that passes each of its checks, but for entries and memory
 abbrev pub PassesOthers : Option Call → EnclaveTable → World → Type 0
 PassesOthers (Some (calls.Create base text_pages data_pages shared_base shared_count entry_offset)) table world =
-    AllPass (PassesCreate table world (parts_of (record { base = base; text_pages = text_pages; data_pages = data_pages; shared_base = shared_base; shared_count = shared_count; entry_offset = entry_offset }))) create_checks
-PassesOthers (Some (calls.Destroy id)) table world = AllPass (PassesOn MayDestroy table world id) host_checks
+    AllPass (create_checks table world (parts_of (record { base = base; text_pages = text_pages; data_pages = data_pages; shared_base = shared_base; shared_count = shared_count; entry_offset = entry_offset })))
+PassesOthers (Some (calls.Destroy id)) table world = AllPass (host_checks MayDestroy table world id)
 PassesOthers _ table world = ⊥
 
 -- a view after it would need more entries than there are: the host's, or that of the new enclave

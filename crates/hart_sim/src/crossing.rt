@@ -5,7 +5,9 @@ ghost use Rattle.hart_sim.specs.States.{SameState};
 ghost use Rattle.hart_sim.specs.Steps.{DoesEnter, DoesStop, DoesExit, Interrupts};
 ghost use Rattle.hart_sim.specs.declared.reply.Reply.{Reply};
 ghost use Rattle.hart_sim.specs.Changes.{back_to_host};
-ghost use Rattle.enclave_table.specs.Living.{Leaves, RefusesLeave};
+ghost use Rattle.enclave_table.specs.Living.{Leaves};
+ghost use Rattle.enclave_table.specs.Checks.{leave_checks};
+ghost use Rattle.enclave_table.specs.Refusals.{FailsFirst};
 ghost use Rattle.hart_sim.specs.Hardware.{state_on, KeepsBanks};
 ghost use Rattle.hart_sim.specs.Parts.{machine_state, IsWhole, AreBanksRight, StaysLoaded, KeepsLists};
 
@@ -35,7 +37,7 @@ impl Parts {
             Ok(()) => {}
             Err(refusal) => return self.refuse(hart, number_of(refusal)),
         }
-        self.table.rules();
+        self.table.cite_invariant();
         let Some(pc) = self.table.entry_point(id) else {
             unreachable!();
         };
@@ -66,7 +68,8 @@ impl Parts {
             (back_to_host (state_on self.new.table.table self.old.hardware)
             hart first second)) }
         ensures refused { IfErr result (λ refusal.
-            RefusesLeave ((machine_state self.old.table self.old.hardware).worlds hart) refusal) }
+            FailsFirst (leave_checks
+            ((machine_state self.old.table self.old.hardware).worlds hart)) refusal) }
         ensures kept { OnErr result (self.new ≡ self.old) }
         ensures banks { AreBanksRight self.old.table self.old.hardware
             → AreBanksRight self.new.table self.new.hardware }

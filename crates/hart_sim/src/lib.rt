@@ -54,5 +54,5 @@ pub use reply::Reply;
 pub use running::run;
 pub use text_lines::{
     Interpreter, Line, LineReader, NotUnderstood, ReadFault, Refusal, RunFault, Words,
-    interpret_lines, lines_law, number, permission, push_decimal, push_hex, push_text, words_law,
+    interpret_lines, lines_law, number, push_decimal, push_hex, push_text, words_law,
 };

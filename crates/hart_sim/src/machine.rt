@@ -129,7 +129,7 @@ impl Machine {
     {
         match Parts::boot(alloc, platform) {
             Ok(parts) => {
-                parts.table.rules();
+                parts.table.cite_invariant();
                 Ok(Machine { parts })
             }
             Err(fault) => Err(fault),
@@ -168,7 +168,7 @@ impl Machine {
             → After platform events replies self.old
             → After platform (events ++ (hart, event) ∷ []) (replies ++ result ∷ []) self.new }
     {
-        self.parts.table.rules();
+        self.parts.table.cite_invariant();
         self.parts.step(hart, event)
     }
 }

@@ -26,7 +26,7 @@ impl Parts {
             self.new.hardware hart }
         ensures lists { KeepsLists self.old.table self.new.table }
     {
-        self.table.rules();
+        self.table.cite_invariant();
         let world = self.hardware.hart(hart).world();
         match self.table.create(world, &self.hardware.memory, asked) {
             Ok(id) => {
@@ -51,7 +51,7 @@ impl Parts {
             self.new.hardware hart }
         ensures lists { KeepsLists self.old.table self.new.table }
     {
-        self.table.rules();
+        self.table.cite_invariant();
         let world = self.hardware.hart(hart).world();
         match self.table.destroy(world, id) {
             Ok(range) => {

@@ -4,7 +4,7 @@ ghost use Rattle.std.specs.Prelude.{◌≡◌};
 
 use byte_streams::fakes::PieceSource;
 use pmp_encoding::Perm;
-use text_lines::{LineReader, ReadFault, Words, number, permission};
+use text_lines::{LineReader, ReadFault, Words, number};
 
 #[test]
 fn numbers_are_decimal_or_hexadecimal(rt: HostRuntime) {
@@ -57,7 +57,7 @@ fn six_words_are_permissions(rt: HostRuntime) {
         (b"RWX", None),
         (b"", None),
     ] {
-        assert!(rt; permission(word) == perm);
+        assert!(rt; Perm::from_word(word) == perm);
     }
 }
 

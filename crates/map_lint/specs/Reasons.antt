@@ -3,7 +3,8 @@ use Rattle.std.specs.Prelude.{ℕ, ◌+◌, ◌-◌, ◌%◌, ◌^◌, ◌==◌,
 use Rattle.std.specs.List.{list_all, list_any, prefix_len}
 use Rattle.pmp_encoding.specs.declared.perm.Perm.{Perm}
 use Rattle.text_lines.specs.Lines.{without_return}
-use Rattle.text_lines.specs.Numbers.{is_numeral, number_of, permission_of}
+use Rattle.pmp_encoding.specs.Perms.{permission_of}
+use Rattle.text_lines.specs.Numbers.{is_numeral, number_of}
 use Rattle.text_lines.specs.Words.{content_of, is_allowed}
 use Rattle.map_lint.specs.Columns.{begin_from, end_from, word_from}
 use Rattle.map_lint.specs.Pieces.{address_text, column_text, quoted}

@@ -11,8 +11,8 @@ use crate::columns::{Placed, len_before, word_from};
 use crate::perms::push_perm;
 use crate::texts::{push, push_address, push_column, push_quoted};
 use permission_map::Memory;
-use pmp_encoding::SPACE_SIZE;
-use text_lines::{LONGEST, number, permission, without_return};
+use pmp_encoding::{Perm, SPACE_SIZE};
+use text_lines::{LONGEST, number, without_return};
 
 fn is_allowed(byte: u8) -> bool
     ensures { result ≡ is_allowed byte }
@@ -218,7 +218,7 @@ fn push_range(
         let whole = bytes - part + 4096;
         return push_part(text, "SIZE", size, pages_mend(bytes), whole);
     }
-    match permission(perm.word) {
+    match Perm::from_word(perm.word) {
         None => push_perm(text, perm.before, perm.word),
         Some(_) => push_past(text, base.before, size.before, first),
     }

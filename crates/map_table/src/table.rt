@@ -4,7 +4,7 @@ ghost use Rattle.std.specs.Prelude.{◌≡◌, ◌-◌, ◌^◌, ◌<◌, ◌≤
 ghost use Rattle.std.specs.Io.KnownBytes.{Appends};
 ghost use Rattle.byte_streams.specs.Streams.{WriteFails};
 ghost use Rattle.pmp_encoding.specs.declared.region.Entry.{Entry};
-ghost use Rattle.pmp_match.specs.Meaning.{Means};
+ghost use Rattle.pmp_match.specs.Meaning.{IsFewest};
 ghost use Rattle.permission_map.specs.Runs.{view_of_runs};
 ghost use Rattle.printed_lines.specs.Plans.{TakesPart};
 ghost use Rattle.map_table.specs.Tables.{IsTable};
@@ -66,9 +66,7 @@ pub fn print_map<W: Sink>(
     limit: Limit,
     out: &mut W,
 ) -> Result<(), TableFault>
-    requires means { Means entries.now (view_of_runs map.now) }
-    requires least { (others : List Entry) → Means others (view_of_runs map.now)
-        → length entries.now ≤ length others }
+    requires fewest { IsFewest (view_of_runs map.now) entries.now }
     ensures written { OnOk result ((text : List ℕ)
         × IsTable (view_of_runs map.now) entries.now limit text
         × Appends (W.contents out.old) (W.contents out.new) text) }

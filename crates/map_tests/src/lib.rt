@@ -12,6 +12,7 @@ mod certificates;
 mod cuts;
 #[cfg(test)]
 mod encoding;
+mod laws;
 #[cfg(test)]
 mod maps;
 #[cfg(test)]
@@ -22,3 +23,5 @@ mod pages;
 mod planning;
 #[cfg(test)]
 mod trees;
+
+pub use laws::{boot_row, worked_rows};

@@ -5,7 +5,8 @@ use Rattle.pmp_encoding.specs.declared.perm.Perm.{Perm}
 use Rattle.permission_map.specs.declared.runs.Run.{Run}
 use Rattle.permission_map.specs.Overwriting.{AreOverwritten}
 use Rattle.text_lines.specs.Words.{words_of}
-use Rattle.text_lines.specs.Numbers.{number_of, permission_of}
+use Rattle.pmp_encoding.specs.Perms.{permission_of}
+use Rattle.text_lines.specs.Numbers.{number_of}
 use Rattle.text_lines.specs.Lines.{AreLines, without_return}
 
 -- a number of bytes that is a whole number of pages, as pages

@@ -7,7 +7,7 @@ ghost use Rattle.map_text.specs.MapFile.{line_says, pages_in, pages_of, raw_says
 use page_views::{PAGE_SIZE, SPACE_PAGES};
 use permission_map::Run;
 use pmp_encoding::Perm;
-use text_lines::{LONGEST, NotUnderstood, Words, number, permission, without_return};
+use text_lines::{LONGEST, NotUnderstood, Words, number, without_return};
 
 /// Bytes in whole pages, as pages.
 fn pages_of(bytes: u64) -> Option<u64>
@@ -45,7 +45,7 @@ fn setting_of(base: &[u8], size: &[u8], perm: &[u8]) -> Option<Run>
 {
     let first = pages_in(base)?;
     let count = pages_in(size)?;
-    let perm = permission(perm)?;
+    let perm = Perm::from_word(perm)?;
     setting_on(first, count, perm)
 }
 

@@ -8,7 +8,7 @@ use Rattle.pmp_encoding.specs.declared.limit.Limit.{Limit}
 use Rattle.pmp_encoding.specs.declared.region.Entry.{Entry}
 use Rattle.pmp_encoding.specs.Banks.{HasList, IsBankOf}
 use Rattle.pmp_encoding.specs.Limits.{limit_number}
-use Rattle.pmp_match.specs.Meaning.{View}
+use Rattle.pmp_match.specs.Meaning.{View, IsFewest}
 use Rattle.pmp_match.specs.Bounds.{BoundTree}
 use Rattle.permission_map.specs.declared.runs.Run.{Run}
 use Rattle.permission_map.specs.Runs.{view_of_runs}
@@ -45,7 +45,7 @@ use Rattle.program_tasks.specs.declared.task.Task.{Task}
 use Rattle.program_tasks.specs.declared.task.Task.TheVariants as tasks
 use Rattle.program_troubles.specs.declared.trouble.Trouble.{Trouble}
 use Rattle.program_troubles.specs.declared.trouble.Trouble.TheVariants.{NotUnderstood, TooLarge, NotAPlatform, NeedsEntries, CannotRead, CannotWrite, Output, Memory}
-use Rattle.monitor_cli.specs.Tasks.{AreMeasures, IsFewest, IsMapFault, IsPlatformFile, IsWhole, Stops}
+use Rattle.monitor_cli.specs.Tasks.{AreMeasures, IsMapFault, IsPlatformFile, IsWhole, Stops}
 use Rattle.program_troubles.specs.Troubles.{boot_trouble, map_trouble, run_trouble, status_of, trouble_text}
 use Rattle.check_verdicts.specs.Verdicts.{IsVerdict}
 

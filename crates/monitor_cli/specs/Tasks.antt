@@ -15,19 +15,12 @@ use Rattle.text_lines.specs.declared.fault.RunFault.TheVariants as runs
 use Rattle.text_lines.specs.LineLoop.{Meaning, StopsAt, StopsForMemory, StopsReading, StopsTooLong, StopsWriting}
 use Rattle.platform_file.specs.Document.{IsPlatformText}
 use Rattle.printed_lines.specs.Texts.{measure_text}
-use Rattle.pmp_encoding.specs.declared.region.Entry.{Entry}
-use Rattle.pmp_match.specs.Meaning.{View, Means}
 
 -- all the bytes of a source, at most so many
 pub record IsWhole (most : ℕ) (before after : Option (List ℕ)) (bytes : List ℕ) : Type 0 where
   pub consumed : Consumes before after bytes
   pub at_end : IsAtEnd after
   pub few : length bytes ≤ most
-
--- entries that mean a view, and no list of fewer does
-pub record IsFewest (view : View) (entries : List Entry) : Type 0 where
-  pub means : Means entries view
-  pub least : (others : List Entry) → Means others view → length entries ≤ length others
 
 -- why bytes make no map: the first line at fault
 abbrev pub IsMapFault : List ℕ → MapFileFault → Type 0

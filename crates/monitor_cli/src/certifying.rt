@@ -4,7 +4,7 @@ ghost use Rattle.std.specs.Prelude.{◌≡◌, ◌≤◌, ◌<◌, ◌-◌, ◌^
 ghost use Rattle.pmp_encoding.specs.declared.region.Entry.{Entry};
 ghost use Rattle.pmp_encoding.specs.Banks.{HasList, IsBankOf};
 ghost use Rattle.pmp_encoding.specs.Limits.{limit_number};
-ghost use Rattle.pmp_match.specs.Meaning.{Means};
+ghost use Rattle.pmp_match.specs.Meaning.{IsFewest};
 ghost use Rattle.permission_map.specs.Runs.{view_of_runs};
 ghost use Rattle.prefix_tree.specs.Counts.{splits};
 ghost use Rattle.prefix_tree.specs.TreeOf.{tree_of};
@@ -12,7 +12,6 @@ ghost use Rattle.entry_planner.specs.Choice.{AreChosen};
 ghost use Rattle.entry_planner.specs.Order.{AreInOrder};
 ghost use Rattle.plan_certificate.specs.Written.{certificate_for};
 ghost use Rattle.monitor_cli.specs.Commands.{placing, writing, TakesAll, IsBeyond, IsCertified, IsLoaded, IsNotPlaced, IsPlanned, IsUnplanned, IsWithin, NeedsMore};
-ghost use Rattle.monitor_cli.specs.Tasks.{IsFewest};
 
 use byte_streams::DeviceFault;
 use entry_planner::{Plan, plan_map};
@@ -25,10 +24,7 @@ use std::alloc::Global;
 
 /// The plan of a map: the fewest entries that mean it, of the lists of so many the one that the planner chooses.
 pub fn planned(alloc: Global, map: &PermissionMap) -> Result<Plan, Memory>
-    ensures means { IfOk result (λ plan. Means plan.entries (view_of_runs map.now)) }
-    ensures least { IfOk result (λ plan.
-        (others : List Entry) → Means others (view_of_runs map.now)
-        → length plan.entries ≤ length others) }
+    ensures fewest { IfOk result (λ plan. IsFewest (view_of_runs map.now) plan.entries) }
     ensures choice { IfOk result (λ plan.
         AreChosen (tree_of (view_of_runs map.now)) plan.entries) }
     ensures order { IfOk result (λ plan. AreInOrder plan.entries) }

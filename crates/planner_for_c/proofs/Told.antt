@@ -8,7 +8,7 @@ use mir.Syntax.{w64}
 use Rattle.pmp_encoding.specs.declared.region.Entry.{Entry}
 use Rattle.permission_map.specs.declared.runs.Run.{Run}
 use Rattle.permission_map.specs.Runs.{view_of_runs}
-use Rattle.pmp_match.specs.Meaning.{Needs}
+use Rattle.pmp_match.specs.Meaning.{IsFewest, Needs}
 use Rattle.pmp_match.proofs.Meant.{needs_one}
 use Rattle.planner_for_c.specs.declared.settings.Setting.{Setting as SettingOfC}
 use Rattle.planner_for_c.specs.declared.settings.SettingFault.{SettingFault}
@@ -41,7 +41,7 @@ module _ (settings : List SettingOfC) (entries : List Entry) (plan : IsPlanOf se
   pub one_number : (runs : List Run) (n : ℕ) → LeadTo [] settings runs → Needs (view_of_runs runs) n → length entries ≡ n
   one_number runs n led needs =
       let same : plan.runs ≡ runs = one_map [] plan.runs runs settings plan.made led in
-      needs_one (view_of_runs runs) (length entries) n (subst (λ m. Needs (view_of_runs m) (length entries)) same plan.fewest) needs
+      needs_one (view_of_runs runs) (length entries) n (record { entries = entries; fewest = subst (λ m. IsFewest (view_of_runs m) entries) same plan.fewest; count = refl }) needs
 
   pub not_refused : (i : ℕ) (fault : SettingFault) → FaultIn [] settings i fault → ⊥
   not_refused i fault f = no_fault [] plan.runs settings i fault plan.made f

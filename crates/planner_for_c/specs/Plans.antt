@@ -1,7 +1,7 @@
 -- What it is to plan settings, and what C is answered.
 use Rattle.std.specs.Prelude.{◌≡◌, ℕ, ℤ, pos, ◌<◌, ◌≤◌, List, [], length, min}
 use Rattle.pmp_encoding.specs.declared.region.Entry.{Entry}
-use Rattle.pmp_match.specs.Meaning.{Means, Needs}
+use Rattle.pmp_match.specs.Meaning.{IsFewest}
 use Rattle.permission_map.specs.declared.runs.Run.{Run}
 use Rattle.permission_map.specs.Runs.{view_of_runs}
 use Rattle.planner_for_c.specs.declared.settings.Setting.{Setting}
@@ -11,12 +11,11 @@ use Rattle.planner_for_c.specs.Codes.{fault_code, no_memory}
 use Rattle.planner_for_c.specs.Registers.{HoldsList}
 use Rattle.planner_for_c.specs.Settings.{FaultIn, LeadTo}
 
--- the settings make a map, and the entries mean its view and are fewest
+-- the settings make a map, and the entries are the fewest that mean its view
 pub record IsPlanOf (settings : List Setting) (entries : List Entry) : Type 0 where
   pub runs : List Run
   pub made : LeadTo [] settings runs
-  pub means : Means entries (view_of_runs runs)
-  pub fewest : Needs (view_of_runs runs) (length entries)
+  pub fewest : IsFewest (view_of_runs runs) entries
 
 -- the number of fewest entries; or the code of the fault of the first setting that is refused, with its place; or that memory was refused
 pub data IsNumberOf (settings : List Setting) (old_place new_place : ℕ) : ℤ → Type 0 where

@@ -4,8 +4,9 @@ use Rattle.toml.specs.Data.{Data, Items, no_items, item, Members, no_members, me
 use Rattle.toml.specs.Parse.{parse_document}
 use Rattle.pmp_encoding.specs.declared.perm.Perm.{Perm}
 use Rattle.pmp_encoding.specs.Limits.{limit_number}
-use Rattle.text_lines.specs.Numbers.{permission_of}
-use Rattle.enclave_table.specs.Platform.{Layout, IsPlatform}
+use Rattle.pmp_encoding.specs.Perms.{permission_of}
+use Rattle.enclave_table.specs.Platform.{Layout, platform_rules}
+use Rattle.enclave_table.specs.Refusals.{AllPass}
 
 -- no key of a table has another name than these
 abbrev pub is_known : List ℕ → List (List ℕ) → Bool
@@ -87,7 +88,7 @@ known = codes "monitor" ∷ codes "ram" ∷ codes "device" ∷ codes "harts" ∷
 
 -- the platform of these ranges and numbers: no rule on platforms is broken
 pub record Builds (monitor : ℕ × ℕ) (ram : List (ℕ × ℕ)) (devices : List (ℕ × ℕ × Perm)) (harts entries : ℕ) (platform : Layout) : Type 0 where
-  pub rules : IsPlatform monitor ram devices
+  pub rules : AllPass (platform_rules monitor ram devices)
   pub some_hart : 0 < harts
   pub four_harts : harts ≤ 4
   pub entries_are : limit_number platform.limit ≡ entries

@@ -7,7 +7,6 @@ ghost use Rattle.toml.specs.View.{table_view, view};
 ghost use Rattle.platform_file.specs.Document.{has_only, is_known, number, number_at, number_or, perm_at, perm_of};
 
 use pmp_encoding::Perm;
-use text_lines::permission;
 use toml::{Table, Value};
 
 /// Whether one of the names is the key.
@@ -76,7 +75,7 @@ fn perm_of(value: &Value) -> Option<Perm>
     ensures { result ≡ perm_of (view value.now) }
 {
     let word = value.as_str()?;
-    permission(word.as_bytes())
+    Perm::from_word(word.as_bytes())
 }
 
 /// The permission of a device's table.

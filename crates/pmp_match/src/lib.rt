@@ -21,12 +21,10 @@ mod access;
 mod cause;
 mod judging;
 mod laws;
-mod rows;
 mod segments;
 
 pub use access::{Access, Kind, Mode};
 pub use cause::Cause;
 pub use judging::judge;
 pub use laws::{byte_law, decision_law, judgement_law, least_law, needs_law, page_law};
-pub use rows::boot_row;
 pub use segments::Segments;

@@ -3,15 +3,6 @@ use Rattle.std.specs.Prelude.{ℕ, ◌/◌, ◌%◌, ◌^◌, ◌==◌, if◌the
 use Rattle.pmp_encoding.specs.declared.perm.Perm.{Perm}
 use Rattle.pmp_encoding.specs.declared.perm.Perm.TheVariants.{NoAccess, Read, ReadWrite, Execute, ReadExecute, ReadWriteExecute}
 
--- the name of a permission, as the lines of maps have it
-abbrev pub perm_name : Perm → List ℕ
-perm_name NoAccess = codes "none"
-perm_name Read = codes "r"
-perm_name ReadWrite = codes "rw"
-perm_name Execute = codes "x"
-perm_name ReadExecute = codes "rx"
-perm_name ReadWriteExecute = codes "rwx"
-
 -- the letters of a permission, and a hyphen for each that it lacks
 abbrev pub letters_of : Perm → List ℕ
 letters_of NoAccess = codes "---"

@@ -2,25 +2,10 @@
 
 ghost use Rattle.std.specs.Prelude.{◌≡◌, ◌++◌, ◌+◌, ◌<◌, ◌≤◌, length};
 ghost use Rattle.arrayvec.specs.ArrayVec.{array_vec_len};
-ghost use Rattle.printed_lines.specs.Fields.{counted_in, letters_of, perm_name, size_text};
+ghost use Rattle.printed_lines.specs.Fields.{counted_in, letters_of, size_text};
 
 use pmp_encoding::Perm;
 use text_lines::{Line, push_decimal, push_text};
-
-/// The name of a permission, as the lines of maps have it.
-pub fn perm_name(perm: Perm) -> &'static str
-    ensures value { result.now ≡ perm_name perm }
-    ensures length { length result.now ≤ 4 }
-{
-    match perm {
-        Perm::NoAccess => "none",
-        Perm::Read => "r",
-        Perm::ReadWrite => "rw",
-        Perm::Execute => "x",
-        Perm::ReadExecute => "rx",
-        Perm::ReadWriteExecute => "rwx",
-    }
-}
 
 /// The letters of a permission, and a hyphen for each that it lacks.
 pub fn letters(perm: Perm) -> &'static str

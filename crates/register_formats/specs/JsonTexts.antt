@@ -8,7 +8,7 @@ use Rattle.pmp_encoding.specs.Banks.{IsBankOf, word_at}
 use Rattle.pmp_encoding.specs.Encoding.{address_of, cfg_of}
 use Rattle.pmp_encoding.specs.Limits.{limit_number}
 use Rattle.text_lines.specs.Written.{hex}
-use Rattle.printed_lines.specs.Fields.{perm_name}
+use Rattle.pmp_encoding.specs.Perms.{perm_word}
 use Rattle.register_formats.specs.Rows.{rows_text}
 
 -- a byte of a name in a string: a quote and a backslash after a backslash, a control character by its number
@@ -38,7 +38,7 @@ json_registers i e = json_before i ++ codes "    {\"index\": " ++ decimal i ++ c
 
 -- its region in bytes, and what may be done there
 abbrev pub json_region : Entry → List ℕ
-json_region e = codes "\", \"base\": \"0x" ++ hex 16 e.region.base ++ codes "\", \"size\": " ++ decimal (2 ^ e.region.log2) ++ codes ", \"perm\": \"" ++ perm_name e.perm ++ codes "\"}"
+json_region e = codes "\", \"base\": \"0x" ++ hex 16 e.region.base ++ codes "\", \"size\": " ++ decimal (2 ^ e.region.log2) ++ codes ", \"perm\": \"" ++ perm_word e.perm ++ codes "\"}"
 
 -- an entry: both of these
 abbrev pub json_entry : ℕ → Option Entry → List ℕ

@@ -3,7 +3,8 @@ use Rattle.std.specs.Prelude.{ℕ, ◌^◌, ◌++◌, List, Option, Some, None, 
 use Rattle.pmp_encoding.specs.declared.region.Entry.{Entry}
 use Rattle.pmp_encoding.specs.Encoding.{address_of}
 use Rattle.text_lines.specs.Written.{hex}
-use Rattle.printed_lines.specs.Fields.{perm_name, size_text}
+use Rattle.pmp_encoding.specs.Perms.{perm_word}
+use Rattle.printed_lines.specs.Fields.{size_text}
 
 -- where an entry begins
 abbrev pub base_text : Entry → List ℕ
@@ -11,7 +12,7 @@ base_text e = codes "0x" ++ hex 16 e.region.base
 
 -- its size and its permission
 abbrev pub size_and_perm_text : Entry → List ℕ
-size_and_perm_text e = size_text (2 ^ e.region.log2) ++ codes ", " ++ perm_name e.perm
+size_and_perm_text e = size_text (2 ^ e.region.log2) ++ codes ", " ++ perm_word e.perm
 
 -- all three: `0x0000000080000000, 2 MiB, none`
 abbrev pub region_text : Entry → List ℕ

@@ -7,7 +7,6 @@ use crate::names::{entry_at, power_of_two};
 use crate::rows::{Row, Rows};
 use arrayvec::ArrayVec;
 use pmp_encoding::{Bank, Entry, Limit};
-use printed_lines::perm_name;
 use text_lines::{Line, push_decimal, push_hex, push_text};
 
 /// The limit, and what stands before the entries.
@@ -104,7 +103,7 @@ fn region_of(entry: &Entry) -> Line
     push_text(&mut line, b"\", \"size\": ");
     push_decimal(&mut line, power_of_two(entry.region.log2()));
     push_text(&mut line, b", \"perm\": \"");
-    push_text(&mut line, perm_name(entry.perm).as_bytes());
+    push_text(&mut line, entry.perm.word().as_bytes());
     push_text(&mut line, b"\"}");
     line
 }

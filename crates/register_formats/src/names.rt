@@ -5,7 +5,7 @@ ghost use Rattle.arrayvec.specs.ArrayVec.{array_vec_len};
 ghost use Rattle.register_formats.specs.Names.{address_or_zero, base_text, note_text, region_or_off, region_text, size_and_perm_text};
 
 use pmp_encoding::Entry;
-use printed_lines::{perm_name, push_size};
+use printed_lines::push_size;
 use text_lines::{Line, push_decimal, push_hex, push_text};
 
 /// A power of two.
@@ -34,7 +34,7 @@ fn push_size_and_perm(line: &mut Line, entry: &Entry)
 {
     push_size(line, power_of_two(entry.region.log2()));
     push_text(line, b", ");
-    push_text(line, perm_name(entry.perm).as_bytes());
+    push_text(line, entry.perm.word().as_bytes());
 }
 
 /// Appends where an entry begins, its size and its permission.

@@ -4,10 +4,9 @@ ghost use Rattle.std.specs.Prelude.{◌≡◌, ◌+◌, ◌-◌, ◌<◌, ◌≤
 ghost use Rattle.std.specs.Result.{result_ok};
 ghost use Rattle.std.specs.List.{list_all, prefix_len, position_or_len};
 ghost use Rattle.text_lines.specs.Words.{is_blank, is_allowed, is_plain, split_words, words_of};
-ghost use Rattle.text_lines.specs.Numbers.{BeginsFour, BeginsNumeral, digit_of, hex_or_more, value_of, numeral_of, number_of, permission_of};
+ghost use Rattle.text_lines.specs.Numbers.{BeginsFour, BeginsNumeral, digit_of, hex_or_more, value_of, numeral_of, number_of};
 
 use memchr::memchr;
-use pmp_encoding::Perm;
 use thiserror::Error;
 
 /// A line, or a word of it, fits no form.
@@ -237,21 +236,6 @@ pub fn number(word: &[u8]) -> Option<u64>
     match word {
         [b'0', b'x' | b'X', digits @ ..] => numeral(digits, 16),
         _ => numeral(word, 10),
-    }
-}
-
-/// The permission that a word names: `none`, `r`, `rw`, `x`, `rx` or `rwx`.
-pub fn permission(word: &[u8]) -> Option<Perm>
-    ensures { result ≡ permission_of word.now }
-{
-    match word {
-        b"none" => Some(Perm::NoAccess),
-        b"r" => Some(Perm::Read),
-        b"rw" => Some(Perm::ReadWrite),
-        b"x" => Some(Perm::Execute),
-        b"rx" => Some(Perm::ReadExecute),
-        b"rwx" => Some(Perm::ReadWriteExecute),
-        _ => None,
     }
 }
 

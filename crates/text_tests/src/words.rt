@@ -2,7 +2,7 @@
 
 use arrayvec::ArrayVec;
 use pmp_encoding::Perm;
-use printed_lines::{letters, perm_name, push_size};
+use printed_lines::{letters, push_size};
 use text_lines::Line;
 
 #[test]
@@ -32,7 +32,7 @@ fn names_and_letters_of_the_six_permissions(rt: HostRuntime) {
         (Perm::ReadExecute, "rx", "r-x"),
         (Perm::ReadWriteExecute, "rwx", "rwx"),
     ] {
-        assert_eq!(rt; perm_name(perm), name);
+        assert_eq!(rt; perm.word(), name);
         assert_eq!(rt; letters(perm), text);
     }
 }

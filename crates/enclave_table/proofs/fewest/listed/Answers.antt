@@ -1,11 +1,17 @@
-use Rattle.std.proofs.Common.{◌≡◌, ◌∙◌, arith}
+use Rattle.std.proofs.Common.{◌≡◌, ◌∙◌, ◌<◌, length, arith}
+use Rattle.pmp_encoding.specs.Limits.{limit_number}
+use Rattle.enclave_table.proofs.SameViews.{needs_of}
 use Rattle.enclave_table.proofs.fewest.listed.Goals as goal
 
 pub returns-clause-list : goal.returns-clause-list
-returns-clause-list c = λ view means needs.
+returns-clause-list c = λ view fewest.
     let is : c.in-Ok.list ≡ c.args.plan.now.entries = c.in-Ok.ensures ∙ c.entries.ensures in
     record {
-      means = rw is means;
-      needs = rw is needs;
+      fewest = rw is fewest;
       room = rw is (omega (arith, c.if-needed-number.false, c.needed.ensures, c.number.ensures.value));
     }
+
+pub returns-then-needed-number-clause-want : goal.returns-then-needed-number-clause-want
+returns-then-needed-number-clause-want c = λ view fewest.
+    let more : limit_number c.args.limit < length c.args.plan.now.entries = omega (arith, c.if-needed-number.true, c.needed.ensures, c.number.ensures.value) in
+    (length c.args.plan.now.entries, needs_of view c.args.plan.now.entries fewest, more)

@@ -2,7 +2,7 @@ use Rattle.std.proofs.Common.{◌≤◌, ◌+◌, ◌*◌, length, drop, cond}
 use Rattle.pmp_encoding.specs.declared.perm.Perm.TheVariants.{ReadWriteExecute}
 use Rattle.permission_map.specs.Runs.{view_of_runs}
 use Rattle.permission_map.specs.Views.{SameView}
-use Rattle.enclave_table.specs.Ranges.{is_among}
+use Rattle.enclave_table.proofs.ShortNames.{is_among}
 use Rattle.enclave_table.proofs.views.put_memory.Given as goal
 
 abbrev pub invariant-loop-i : goal.invariant-loop-i

@@ -8,9 +8,7 @@ pub returns : goal.returns
 returns c =
     let p = promised (view_of_tree c.args.tree.now) c.args.tree.now _ _ (own_means c.args.tree.now c.root.ensures.fits) c.root.ensures.shape c.in_ok-plan.ensures in
     record {
-      means = p.means;
-      least = p.least;
-      needs = p.needs;
+      fewest = p.fewest;
       pages = p.pages;
       order = p.order;
       choice = p.choice;

@@ -12,9 +12,7 @@ returns c =
     let view = view_of_runs c.args.map.now in
     let p = promised view (tree_of view) _ _ (tree_at-means view 44 0) c.of.ensures.tree c.in_ok-plan.ensures in
     record {
-      means = p.means;
-      least = p.least;
-      needs = p.needs;
+      fewest = p.fewest;
       pages = p.pages;
       order = p.order;
       choice = p.choice;

@@ -2,4 +2,4 @@ use Rattle.std.proofs.Common.{ap, length, sym}
 use Rattle.monitor_cli.proofs.certifying.fewest_in.Goals as goal
 
 pub returns : goal.returns
-returns c = (c.in_ok-plan.plan.entries, record { means = c.in_ok-plan.ensures.means; least = c.in_ok-plan.ensures.least }, ap length (sym c.entries.ensures))
+returns c = (c.in_ok-plan.plan.entries, c.in_ok-plan.ensures.fewest, ap length (sym c.entries.ensures))

@@ -22,7 +22,7 @@ returns-in_err-within-clause-refused g c =
     let b = rw c.entries.ensures at c.in_err-within.ensures.beyond in
     rw (p.1, p.2) (beyond (record {
       entries = c.in_ok-plan.plan.entries;
-      fewest = record { means = c.in_ok-plan.ensures.means; least = c.in_ok-plan.ensures.least };
+      fewest = c.in_ok-plan.ensures.fewest;
       beyond = b.0;
       told = b.1;
     }) refl)
@@ -38,9 +38,9 @@ returns-in_err-put-clause-refused g c =
       named = c.in-Some.is;
       told = b.0;
       entries = c.in_ok-plan.plan.entries;
-      planned = record { fewest = record { means = made.means; least = made.least }; chosen = made.choice; order = made.order; within = rw c.entries.ensures at c.in_ok-within.ensures.within };
+      planned = record { fewest = made.fewest; chosen = made.choice; order = made.order; within = rw c.entries.ensures at c.in_ok-within.ensures.within };
       bytes = certificate_for c.args.limit c.in_ok-plan.plan (tree_of view);
-      certificate = certificate_is view c.args.limit c.in_ok-plan.plan made.branches made.most made.bound made.root made.pages made.means;
+      certificate = certificate_is view c.args.limit c.in_ok-plan.plan made.branches made.most made.bound made.root made.pages made.fewest.means;
       broken = b.1;
     }))
 
@@ -51,7 +51,7 @@ returns-clause-certified g c =
     let put = c.in_ok-put.ensures.put in
     rw c.in-Some.is (
       certificate_for c.args.limit c.in_ok-plan.plan (tree_of view),
-      certificate_is view c.args.limit c.in_ok-plan.plan made.branches made.most made.bound made.root made.pages made.means,
+      certificate_is view c.args.limit c.in_ok-plan.plan made.branches made.most made.bound made.root made.pages made.fewest.means,
       put.0,
       put.1,
     )

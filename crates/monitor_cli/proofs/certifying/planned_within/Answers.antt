@@ -8,7 +8,7 @@ returns-in_err-within-clause-refused c =
     let b = rw c.entries.ensures at c.in_err-within.ensures.beyond in
     rw (p.1, p.2) (inr (record {
       entries = c.in_ok-plan.plan.entries;
-      fewest = record { means = c.in_ok-plan.ensures.means; least = c.in_ok-plan.ensures.least };
+      fewest = c.in_ok-plan.ensures.fewest;
       beyond = b.0;
       told = b.1;
     }))

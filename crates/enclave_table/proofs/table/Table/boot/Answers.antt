@@ -10,7 +10,7 @@ use Rattle.enclave_table.specs.Tables.{IsKept, IsHostTree}
 use Rattle.enclave_table.specs.Fewest.{IsListOf}
 use Rattle.enclave_table.specs.Booting.{opening}
 use Rattle.enclave_table.specs.declared.enclave.Enclave.{Enclave}
-use Rattle.enclave_table.proofs.SameViews.{tree_same, tree_view, means_same, needs_same}
+use Rattle.enclave_table.proofs.SameViews.{tree_same, tree_view, fewest_same, needs_of}
 use Rattle.enclave_table.proofs.Booted.{opening_view, opening_kept}
 use Rattle.enclave_table.proofs.table.Table.boot.Goals as goal
 
@@ -20,7 +20,7 @@ returns-then-needed-number-clause-fault c =
     let own : View = view_of_tree c.in-Ok-build.tree in
     let means : TreeMeans view c.in-Ok-build.tree =
     tree_same (view_of_runs c.in-Ok.map) view c.in-Ok-build.tree (opening_view c.args.platform (view_of_runs c.in-Ok.map) c.in-Ok.ensures.view) c.in-Ok-build.ensures.means in
-    let needs : Needs view (length c.in-Ok-plan.plan.entries) = needs_same own view (length c.in-Ok-plan.plan.entries) (tree_view view c.in-Ok-build.tree means) c.in-Ok-plan.ensures.needs in
+    let needs : Needs view (length c.in-Ok-plan.plan.entries) = needs_of view c.in-Ok-plan.plan.entries (fewest_same own view c.in-Ok-plan.plan.entries (tree_view view c.in-Ok-build.tree means) c.in-Ok-plan.ensures.fewest) in
     let more : limit_number c.args.platform.limit < length c.in-Ok-plan.plan.entries = omega (arith, c.if-needed-number.true, c.number.ensures.value, c.needed.ensures, ap limit_number c.limit.ensures) in
     let is : c.from.result ≡ length c.in-Ok-plan.plan.entries = c.from.ensures ∙ c.needed-then-needed-number.ensures in
     (rw is needs, rw is more)
@@ -36,12 +36,12 @@ invariant_of-result c =
     let is : c.in-Ok-copied.list ≡ entries = c.in-Ok-copied.ensures ∙ c.entries.ensures in
     let room : length entries ≤ limit_number c.args.platform.limit = omega (arith, c.if-needed-number.false, c.number.ensures.value, ap limit_number c.limit.ensures, c.needed.ensures) in
     let planned : IsListOf c.args.platform.limit view entries =
-    record { means = means_same own view entries same c.in-Ok-plan.ensures.means; needs = needs_same own view (length entries) same c.in-Ok-plan.ensures.needs; room = room } in
+    record { fewest = fewest_same own view entries same c.in-Ok-plan.ensures.fewest; room = room } in
     let host : IsListOf c.args.platform.limit view c.in-Ok-copied.list = rw is planned in
     let K : List (Option Enclave) → Type 0 = λ es.
     IsKept (record { table = record { layout = c.args.platform; enclaves = es }; host_list = c.in-Ok-copied.list; lists = c.in-Ok-no_lists.lists.items }) in
     let T : List (Option Enclave) → Type 0 = λ es. IsHostTree (record { layout = c.args.platform; enclaves = es }) c.in-Ok-build.tree in (
-      subst K (sym c.in-Ok-no_enclaves.ensures) (opening_kept c.args.platform c.in-Ok-copied.list c.in-Ok-no_lists.lists.items c.rules.ensures host c.in-Ok-no_lists.ensures),
+      subst K (sym c.in-Ok-no_enclaves.ensures) (opening_kept c.args.platform c.in-Ok-copied.list c.in-Ok-no_lists.lists.items c.cite_invariant.ensures host c.in-Ok-no_lists.ensures),
       subst T (sym c.in-Ok-no_enclaves.ensures) (record { means = means; canonical = c.in-Ok-build.ensures.canonical }),
     )
 
@@ -53,4 +53,4 @@ returns-clause-fits c =
     tree_same (view_of_runs c.in-Ok.map) view c.in-Ok-build.tree (opening_view c.args.platform (view_of_runs c.in-Ok.map) c.in-Ok.ensures.view) c.in-Ok-build.ensures.means in
     let entries : List Entry = c.in-Ok-plan.plan.entries in
     let room : length entries ≤ limit_number c.args.platform.limit = omega (arith, c.if-needed-number.false, c.number.ensures.value, ap limit_number c.limit.ensures, c.needed.ensures) in
-    (length entries, needs_same own view (length entries) (tree_view view c.in-Ok-build.tree means) c.in-Ok-plan.ensures.needs, room)
+    (length entries, needs_of view entries (fewest_same own view entries (tree_view view c.in-Ok-build.tree means) c.in-Ok-plan.ensures.fewest), room)

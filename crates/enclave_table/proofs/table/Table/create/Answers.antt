@@ -31,7 +31,7 @@ returns-in_err-host-clause-refused g c =
     (host_want pages old c.args.world c.args.asked parts c.in_ok-id.id (overwritten (host_view old) range.first range.count NoAccess) c.in_err-host.field-0.0
     c.kept-parts.ensures c.in_ok-id.ensures.passes c.in_ok-id.ensures.next
     (along (host_view old) (host_view (with_enclave old c.in_ok-id.id (Some (fresh pages parts)))) range (private_range parts) NoAccess c.private_pages.ensures.value
-    (host_added old c.in_ok-id.id (fresh pages parts) (free_place old c.in_ok-id.id c.rules.ensures.table free.0 free.1) free.2))
+    (host_added old c.in_ok-id.id (fresh pages parts) (free_place old c.in_ok-id.id c.cite_invariant.ensures.table free.0 free.1) free.2))
     c.in_err-host.ensures.want)
 
 pub returns-in_err-list-clause-refused : goal.returns-in_err-list-clause-refused
@@ -51,11 +51,11 @@ place-requires-clause-kept g c =
     let e : Enclave = record { parts = parts; state = Fresh; digest = c.digest_of-digest.result } in
     let L : Limit → Type 0 = λ l. IsListOf l (enclave_view parts) c.in_ok-list.list in
     rw c.digest_of-digest.ensures.kept
-    (added_kept c.args.self.now c.in_ok-id.id e c.in_ok-host.host.list c.in_ok-list.list (free_place old c.in_ok-id.id c.rules.ensures.table free.0 free.1) c.rules.ensures.kept
+    (added_kept c.args.self.now c.in_ok-id.id e c.in_ok-host.host.list c.in_ok-list.list (free_place old c.in_ok-id.id c.cite_invariant.ensures.table free.0 free.1) c.cite_invariant.ensures.kept
     (sound_from old c.args.world parts c.in_ok-id.ensures.passes) (apart_from old c.args.world parts c.in_ok-id.ensures.passes)
     (list_same old.layout.limit (overwritten (host_view old) range.first range.count NoAccess) (host_view (with_enclave old c.in_ok-id.id (Some e))) c.in_ok-host.host.list
     (along (host_view old) (host_view (with_enclave old c.in_ok-id.id (Some e))) range (private_range parts) NoAccess c.private_pages.ensures.value
-    (host_added old c.in_ok-id.id e (free_place old c.in_ok-id.id c.rules.ensures.table free.0 free.1) free.2))
+    (host_added old c.in_ok-id.id e (free_place old c.in_ok-id.id c.cite_invariant.ensures.table free.0 free.1) free.2))
     c.in_ok-host.ensures.list)
     (subst L c.limit.ensures c.in_ok-list.ensures.list))
 
@@ -70,7 +70,7 @@ place-requires-clause-tree g c =
     (record {
       means = tree_same (overwritten (host_view old) range.first range.count NoAccess) (host_view (with_enclave old c.in_ok-id.id (Some e))) c.in_ok-host.host.tree
           (along (host_view old) (host_view (with_enclave old c.in_ok-id.id (Some e))) range (private_range parts) NoAccess c.private_pages.ensures.value
-          (host_added old c.in_ok-id.id e (free_place old c.in_ok-id.id c.rules.ensures.table free.0 free.1) free.2))
+          (host_added old c.in_ok-id.id e (free_place old c.in_ok-id.id c.cite_invariant.ensures.table free.0 free.1) free.2))
           c.in_ok-host.ensures.means;
       canonical = c.in_ok-host.ensures.canonical;
     })
@@ -88,6 +88,6 @@ returns-clause-done g c =
     creates (g.P.Pages.bytes_of c.args.pages.now) old c.args.world c.args.asked parts c.in_ok-id.id c.place.new.self.table c.kept-parts.ensures c.in_ok-id.ensures.passes c.in_ok-id.ensures.next added
     (fits_same old.layout.limit (overwritten (host_view old) range.first range.count NoAccess) (host_view (with_enclave old c.in_ok-id.id (Some e)))
     (along (host_view old) (host_view (with_enclave old c.in_ok-id.id (Some e))) range (private_range parts) NoAccess c.private_pages.ensures.value
-    (host_added old c.in_ok-id.id e (free_place old c.in_ok-id.id c.rules.ensures.table free.0 free.1) free.2))
+    (host_added old c.in_ok-id.id e (free_place old c.in_ok-id.id c.cite_invariant.ensures.table free.0 free.1) free.2))
     (fits_from old.layout.limit (overwritten (host_view old) range.first range.count NoAccess) c.in_ok-host.host.list c.in_ok-host.ensures.list))
     (fits_from old.layout.limit (enclave_view parts) c.in_ok-list.list (subst L c.limit.ensures c.in_ok-list.ensures.list))

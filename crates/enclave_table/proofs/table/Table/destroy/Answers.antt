@@ -27,7 +27,7 @@ returns-in_err-host-clause-refused c =
     handed_on c.from_residual-in_err-host.result c.in_err-host.field-0.0 (RefusesDestroy old c.args.world c.args.id) c.from_residual-in_err-host.ensures.1
     (destroy_want old c.args.world c.args.id (overwritten (host_view old) range.first range.count ReadWriteExecute) c.in_err-host.field-0.0 c.in_ok-enclave.ensures.passes
     (along (host_view old) (host_view (with_enclave old c.args.id None)) range (private_range e) ReadWriteExecute c.private_pages-range.ensures.value
-    (host_removed old c.args.id e c.rules.ensures.table c.in_ok-enclave.ensures.live))
+    (host_removed old c.args.id e c.cite_invariant.ensures.table c.in_ok-enclave.ensures.live))
     c.in_err-host.ensures.want)
 
 pub place-requires-clause-kept : goal.place-requires-clause-kept
@@ -36,10 +36,10 @@ place-requires-clause-kept c =
     let e : Enclave = c.in_ok-enclave.enclave in
     let range : PageRange = c.private_pages-range.result in
     removed_kept c.args.self.now c.args.id c.in_ok-host.host.list c.empty-list.result
-    (c.in_ok-enclave.ensures.above, live_inside old.enclaves c.args.id e c.in_ok-enclave.ensures.live) c.rules.ensures.kept
+    (c.in_ok-enclave.ensures.above, live_inside old.enclaves c.args.id e c.in_ok-enclave.ensures.live) c.cite_invariant.ensures.kept
     (list_same old.layout.limit (overwritten (host_view old) range.first range.count ReadWriteExecute) (host_view (with_enclave old c.args.id None)) c.in_ok-host.host.list
     (along (host_view old) (host_view (with_enclave old c.args.id None)) range (private_range e) ReadWriteExecute c.private_pages-range.ensures.value
-    (host_removed old c.args.id e c.rules.ensures.table c.in_ok-enclave.ensures.live))
+    (host_removed old c.args.id e c.cite_invariant.ensures.table c.in_ok-enclave.ensures.live))
     c.in_ok-host.ensures.list)
 
 pub place-requires-clause-tree : goal.place-requires-clause-tree
@@ -50,7 +50,7 @@ place-requires-clause-tree c =
     record {
       means = tree_same (overwritten (host_view old) range.first range.count ReadWriteExecute) (host_view (with_enclave old c.args.id None)) c.in_ok-host.host.tree
           (along (host_view old) (host_view (with_enclave old c.args.id None)) range (private_range e) ReadWriteExecute c.private_pages-range.ensures.value
-          (host_removed old c.args.id e c.rules.ensures.table c.in_ok-enclave.ensures.live))
+          (host_removed old c.args.id e c.cite_invariant.ensures.table c.in_ok-enclave.ensures.live))
           c.in_ok-host.ensures.means;
       canonical = c.in_ok-host.ensures.canonical;
     }
@@ -69,6 +69,6 @@ returns-clause-done c =
       host_fits = subst H (sym removed)
           (fits_same old.layout.limit (overwritten (host_view old) range.first range.count ReadWriteExecute) (host_view (with_enclave old c.args.id None))
           (along (host_view old) (host_view (with_enclave old c.args.id None)) range (private_range e) ReadWriteExecute c.private_pages-range.ensures.value
-          (host_removed old c.args.id e c.rules.ensures.table c.in_ok-enclave.ensures.live))
+          (host_removed old c.args.id e c.cite_invariant.ensures.table c.in_ok-enclave.ensures.live))
           (fits_from old.layout.limit (overwritten (host_view old) range.first range.count ReadWriteExecute) c.in_ok-host.host.list c.in_ok-host.ensures.list));
     }

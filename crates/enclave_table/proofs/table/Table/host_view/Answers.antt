@@ -4,7 +4,7 @@ use Rattle.pmp_encoding.specs.declared.perm.Perm.TheVariants.{NoAccess}
 use Rattle.permission_map.specs.Runs.{view_of_runs}
 use Rattle.permission_map.specs.Views.{SameView}
 use Rattle.enclave_table.specs.Platform.{Layout, is_monitor, platform_perm}
-use Rattle.enclave_table.specs.Views.{any_private}
+use Rattle.enclave_table.proofs.ShortNames.{any_private}
 use Rattle.enclave_table.proofs.table.Table.host_view.Goals as goal
 
 or_none : (b : Bool) → (b || false) ≡ b
@@ -21,7 +21,7 @@ loop-id-init c =
       inside = omega arith;
       few = omega (arith, c.in_ok-map.ensures.few);
       view = λ page small.
-          let rest : any_private (drop 64 es) page ≡ false = at_drop_all (λ s. any_private s page) es 64 (omega (arith, c.rules.ensures.table.places)) in
+          let rest : any_private (drop 64 es) page ≡ false = at_drop_all (λ s. any_private s page) es 64 (omega (arith, c.cite_invariant.ensures.table.places)) in
           let same : (is_monitor layout page || any_private (drop 64 es) page) ≡ is_monitor layout page = ap (λ t. is_monitor layout page || t) rest ∙ or_none (is_monitor layout page) in
           here page small ∙ sym (ap (λ t. cond t NoAccess (platform_perm layout page)) same);
     }

@@ -3,7 +3,7 @@ use Rattle.pmp_encoding.specs.declared.perm.Perm.TheVariants.{NoAccess}
 use Rattle.permission_map.specs.Runs.{view_of_runs}
 use Rattle.permission_map.specs.Views.{SameView}
 use Rattle.enclave_table.specs.Platform.{is_monitor, platform_perm}
-use Rattle.enclave_table.specs.Views.{any_private}
+use Rattle.enclave_table.proofs.ShortNames.{any_private}
 use Rattle.enclave_table.proofs.table.Table.host_view.Given as goal
 
 abbrev pub invariant-loop-id : goal.invariant-loop-id

@@ -7,7 +7,7 @@ use Rattle.enclave_table.specs.Views.{host_view}
 use Rattle.permission_map.specs.Views.{SameView, overwritten}
 use Rattle.pmp_encoding.specs.declared.region.Entry.{Entry}
 use Rattle.prefix_tree.specs.Trees.{PermTree, view_of_tree}
-use Rattle.enclave_table.proofs.SameViews.{tree_overwritten, tree_view, means_same, needs_same}
+use Rattle.enclave_table.proofs.SameViews.{tree_overwritten, tree_view, fewest_same}
 use Rattle.enclave_table.specs.Fewest.{IsWant}
 use Rattle.enclave_table.proofs.Refused.{handed_on}
 use Rattle.enclave_table.proofs.table.Table.host_with.Goals as goal
@@ -24,7 +24,7 @@ returns-clause-list c =
     let same : SameView own view =
     tree_view view c.in-Ok.tree
     (tree_overwritten (host_view c.args.self.now.table) c.host_tree.result.now c.in-Ok.tree c.args.pages.first c.args.pages.count c.args.perm c.host_tree.ensures.means c.in-Ok.ensures.means) in
-    rw c.limit.ensures at c.in_ok-list.ensures.list view (means_same own view entries same c.in-Ok-plan.ensures.means) (needs_same own view (length entries) same c.in-Ok-plan.ensures.needs)
+    rw c.limit.ensures at c.in_ok-list.ensures.list view (fewest_same own view entries same c.in-Ok-plan.ensures.fewest)
 
 pub returns-in_err-list-clause-want : goal.returns-in_err-list-clause-want
 returns-in_err-list-clause-want c =
@@ -35,7 +35,7 @@ returns-in_err-list-clause-want c =
     tree_view view c.in-Ok.tree
     (tree_overwritten (host_view c.args.self.now.table) c.host_tree.result.now c.in-Ok.tree c.args.pages.first c.args.pages.count c.args.perm c.host_tree.ensures.means c.in-Ok.ensures.means) in
     handed_on c.from_residual.result c.in_err-list.field-0.0 (IsWant c.args.self.now.table.layout.limit view) c.from_residual.ensures.1
-    (rw c.limit.ensures at c.in_err-list.ensures.want view (needs_same own view (length entries) same c.in-Ok-plan.ensures.needs))
+    (rw c.limit.ensures at c.in_err-list.ensures.want view (fewest_same own view entries same c.in-Ok-plan.ensures.fewest))
 
 pub unreachable-requires : goal.unreachable-requires
 unreachable-requires c =
@@ -46,6 +46,6 @@ unreachable-requires c =
     let many : (first + count ≤ 2 ^ 44) × ((runs : List Run) × AreRunsOf new runs × (4096 < length runs)) =
     c.with_range.ensures.too_many (c.in-Err-TooManyRanges.is ∙ ap Err c.in-Err-TooManyRanges.field-0-is) in
     let few : length many.1.0 ≤ 260 =
-    host_with_few c.args.self.now.table (view_of_tree tree) new first count c.args.perm many.1.0 c.rules.ensures.table
+    host_with_few c.args.self.now.table (view_of_tree tree) new first count c.args.perm many.1.0 c.cite_invariant.ensures.table
     (tree_view (host_view c.args.self.now.table) tree c.host_tree.ensures.means) (λ page small. refl) many.1.1 in
     omega (arith, many.1.2, few)

@@ -55,7 +55,7 @@ unfolding state_of bank_on
 returns-clause-private c = λ right.
     let old = c.args.self.now.parts in
     let new = c.step.new.self in
-    keeps_private (machine_state old.table old.hardware) c.args.hart c.args.event c.step.result (machine_state new.table new.hardware) c.rules.ensures.table (c.step.ensures.step (right_from old.table old.hardware right))
+    keeps_private (machine_state old.table old.hardware) c.args.hart c.args.event c.step.result (machine_state new.table new.hardware) c.cite_invariant.ensures.table (c.step.ensures.step (right_from old.table old.hardware right))
 
 pub returns-clause-allowed : goal.returns-clause-allowed
 unfolding state_of bank_on
@@ -69,7 +69,7 @@ unfolding state_of bank_on
 returns-clause-denied c = λ right.
     let old = c.args.self.now.parts in
     let new = c.step.new.self in
-    denies_others (machine_state old.table old.hardware) c.args.hart c.args.event c.step.result (machine_state new.table new.hardware) c.rules.ensures.table (c.step.ensures.step (right_from old.table old.hardware right))
+    denies_others (machine_state old.table old.hardware) c.args.hart c.args.event c.step.result (machine_state new.table new.hardware) c.cite_invariant.ensures.table (c.step.ensures.step (right_from old.table old.hardware right))
 
 pub returns-clause-destroyed : goal.returns-clause-destroyed
 unfolding state_of bank_on
@@ -83,7 +83,7 @@ unfolding state_of bank_on
 returns-clause-entries c = λ right.
     let old = c.args.self.now.parts in
     let new = c.step.new.self in
-    refuses_by_need (machine_state old.table old.hardware) c.args.hart c.args.event c.step.result (machine_state new.table new.hardware) c.rules.ensures.table (c.step.ensures.step (right_from old.table old.hardware right))
+    refuses_by_need (machine_state old.table old.hardware) c.args.hart c.args.event c.step.result (machine_state new.table new.hardware) c.cite_invariant.ensures.table (c.step.ensures.step (right_from old.table old.hardware right))
 
 pub returns-clause-after : goal.returns-clause-after
 unfolding state_of kept_of bank_on

@@ -11,7 +11,7 @@ returns-clause-step c = λ right.
     let there = hart_there h.harts c.args.hart (omega (arith, h.fit.four, c.requires.hart, c.requires.whole.few)) in
     let has : BankOn h c.args.hart (bank_of there.0) = (there.0, there.1, refl) in
     let loads = right c.args.hart (bank_of there.0) c.requires.hart c.requires.awake has in
-    c.access.ensures.done c.args.self.now.table.table (bank_of there.0) loads.list has loads.loaded loads.means c.requires.event
+    c.access.ensures.done c.args.self.now.table.table (bank_of there.0) loads.list has loads.loaded loads.fewest.means c.requires.event
 
 pub returns-clause-whole : goal.returns-clause-whole
 returns-clause-whole c =

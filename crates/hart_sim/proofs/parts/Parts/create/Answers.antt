@@ -41,7 +41,7 @@ returns-in-Err-clause-stays c = λ table world bank has. c.refuse.ensures.stays 
 pub returns-in-Ok-clause-stays : goal.returns-in-Ok-clause-stays
 returns-in-Ok-clause-stays c = λ table world bank has.
     let old = c.args.self.now in
-    absurd (not_added old.table.table c.create.new.self.table c.in-Ok.id _ c.rules.ensures.table c.in-Ok.ensures.done.next c.in-Ok.ensures.done.added (ap (λ k. k.table) (sym c.reload.ensures.table) ∙ table))
+    absurd (not_added old.table.table c.create.new.self.table c.in-Ok.id _ c.cite_invariant.ensures.table c.in-Ok.ensures.done.next c.in-Ok.ensures.done.added (ap (λ k. k.table) (sym c.reload.ensures.table) ∙ table))
 
 pub returns-in-Err-clause-lists : goal.returns-in-Err-clause-lists
 returns-in-Err-clause-lists c = λ table. c.refuse.ensures.table ∙ c.in-Err.ensures.kept
@@ -49,4 +49,4 @@ returns-in-Err-clause-lists c = λ table. c.refuse.ensures.table ∙ c.in-Err.en
 pub returns-in-Ok-clause-lists : goal.returns-in-Ok-clause-lists
 returns-in-Ok-clause-lists c = λ table.
     let old = c.args.self.now in
-    absurd (not_added old.table.table c.create.new.self.table c.in-Ok.id _ c.rules.ensures.table c.in-Ok.ensures.done.next c.in-Ok.ensures.done.added (ap (λ k. k.table) (sym c.reload.ensures.table) ∙ table))
+    absurd (not_added old.table.table c.create.new.self.table c.in-Ok.id _ c.cite_invariant.ensures.table c.in-Ok.ensures.done.next c.in-Ok.ensures.done.added (ap (λ k. k.table) (sym c.reload.ensures.table) ∙ table))

@@ -17,7 +17,7 @@ pub forget-requires : goal.forget-requires
 forget-requires c =
     let done = c.in-Ok.ensures.done in
     let e = done.passes.1.0 in
-    subst (λ r. r.first + r.count < 2 ^ 64) (sym (done.pages e.0 e.1)) (private_small c.args.self.now.table.table c.args.id e.0 c.rules.ensures.table e.1)
+    subst (λ r. r.first + r.count < 2 ^ 64) (sym (done.pages e.0 e.1)) (private_small c.args.self.now.table.table c.args.id e.0 c.cite_invariant.ensures.table e.1)
 
 pub returns-in-Ok-clause-step : goal.returns-in-Ok-clause-step
 returns-in-Ok-clause-step c =

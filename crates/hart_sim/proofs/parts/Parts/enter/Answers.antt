@@ -12,7 +12,7 @@ pub returns-in-Err-clause-banks : goal.returns-in-Err-clause-banks
 returns-in-Err-clause-banks c = λ right. c.refuse.ensures.banks (subst (λ k. AreBanksRight k c.args.self.now.hardware) (sym c.in-Err.ensures.kept) right)
 
 pub into_enclave-requires-clause-high : goal.into_enclave-requires-clause-high
-into_enclave-requires-clause-high c = let l = c.in-Some-enclave_entries.ensures.list in id_below c.enter.new.self.table c.args.id l.0 c.rules.ensures.table l.1
+into_enclave-requires-clause-high c = let l = c.in-Some-enclave_entries.ensures.list in id_below c.enter.new.self.table c.args.id l.0 c.cite_invariant.ensures.table l.1
 
 pub told-requires-clause-whole : goal.told-requires-clause-whole
 told-requires-clause-whole c =

@@ -5,7 +5,7 @@ use Rattle.permission_map.specs.declared.runs.Run.{Run}
 use Rattle.permission_map.specs.Runs.{view_of_runs}
 use Rattle.monitor_cli.specs.Commands.{HasBytes, HasMap, IsAudited, Reading, audited, no_registers, not_understood}
 use Rattle.monitor_cli.specs.Commands as commands
-use Rattle.monitor_cli.specs.Tasks.{IsFewest}
+use Rattle.pmp_match.specs.Meaning.{IsFewest}
 use Rattle.monitor_cli.proofs.commands.audit.do_audit.Goals as goal
 
 -- an audit is made of the map, the listing and the fewest entries

@@ -17,8 +17,8 @@ returns-in_err-plan g c =
       | inr more ↦ commands.Shows.too_many _ _ c.in_ok-map.ensures.made more refl
     ])
 
-pub print_map-requires-clause-means : goal.print_map-requires-clause-means
-print_map-requires-clause-means g c = rw (sym c.entries.ensures) at c.in_ok-plan.ensures.planned.fewest.means
+pub print_map-requires : goal.print_map-requires
+print_map-requires g c = record { fewest = rw (sym c.entries.ensures) at c.in_ok-plan.ensures.planned.fewest }
 
 pub returns-in-Ok : goal.returns-in-Ok
 returns-in-Ok g c =

@@ -1,0 +1,20 @@
+-- Short names of what definitions say at length.
+use Rattle.std.specs.Prelude.{ℕ, Bool, List, Option, option_map, unwrap_or, false}
+use Rattle.std.specs.List.{list_any}
+use Rattle.pmp_encoding.specs.declared.perm.Perm.{Perm}
+use Rattle.pmp_encoding.specs.declared.perm.Perm.TheVariants.{NoAccess}
+use Rattle.enclave_table.specs.Ranges.{has_page}
+use Rattle.enclave_table.specs.Views.{has_private, enclave_view}
+use Rattle.enclave_table.specs.declared.enclave.Enclave.{Enclave}
+
+-- whether a page is in one of the ranges
+abbrev pub is_among : List (ℕ × ℕ) → ℕ → Bool
+is_among ranges page = list_any (λ range. has_page range page) ranges
+
+-- whether a page is private to one of the enclaves
+abbrev pub any_private : List (Option Enclave) → ℕ → Bool
+any_private slots page = list_any (λ slot. has_private slot page) slots
+
+-- the view of the enclave of a slot
+abbrev pub view_in : Option Enclave → ℕ → Perm
+view_in slot page = unwrap_or (option_map (λ e. enclave_view e.parts page) slot) NoAccess

@@ -1,0 +1,2 @@
+pub mod Booted
+pub mod BootNeeds

@@ -1,0 +1,2 @@
+pub mod BootList
+pub mod WorkedTrees
