@@ -102,7 +102,13 @@ fn judge_command<'a>(alloc: Global) -> Result<Command<'a>, AllocError>
         Argument::File("TRACE", "The trace of accesses"),
         Argument::Entries,
     ];
-    command(alloc, Subcommand::Judge.name(), about, JUDGE_HELP, &arguments)
+    command(
+        alloc,
+        Subcommand::Judge.name(),
+        about,
+        JUDGE_HELP,
+        &arguments,
+    )
 }
 
 fn check_command<'a>(alloc: Global) -> Result<Command<'a>, AllocError>
@@ -113,7 +119,13 @@ fn check_command<'a>(alloc: Global) -> Result<Command<'a>, AllocError>
         Argument::File("MAP", "The map file"),
         Argument::File("CERT", "The certificate"),
     ];
-    command(alloc, Subcommand::Check.name(), about, CHECK_HELP, &arguments)
+    command(
+        alloc,
+        Subcommand::Check.name(),
+        about,
+        CHECK_HELP,
+        &arguments,
+    )
 }
 
 fn show_command<'a>(alloc: Global) -> Result<Command<'a>, AllocError>
@@ -136,7 +148,13 @@ fn audit_command<'a>(alloc: Global) -> Result<Command<'a>, AllocError>
         Argument::File("MAP", "The map file"),
         Argument::File("REGISTERS", "The listing of the registers"),
     ];
-    command(alloc, Subcommand::Audit.name(), about, AUDIT_HELP, &arguments)
+    command(
+        alloc,
+        Subcommand::Audit.name(),
+        about,
+        AUDIT_HELP,
+        &arguments,
+    )
 }
 
 fn lint_command<'a>(alloc: Global) -> Result<Command<'a>, AllocError>
