@@ -14,7 +14,7 @@ use byte_streams::{Sink, write_whole};
 use permission_map::{Memory, PermissionMap};
 use pmp_encoding::{Entry, Limit};
 use std::alloc::{AllocError, Global};
-use stretches::stretches;
+use stretches::stretches_by_entries;
 
 /// Why a table was not written.
 #[derive(Clone, Copy, PartialEq, Eq, Debug)]
@@ -47,7 +47,7 @@ pub(crate) fn table_of(
 ) -> Result<Vec<u8>, Memory>
     ensures { IfOk result (λ text. IsTable (view_of_runs map.now) entries.now limit text.items) }
 {
-    let all = stretches(alloc, map, entries)?;
+    let all = stretches_by_entries(alloc, map, entries)?;
     let mut text = Vec::new(alloc);
     text.extend_from_slice(HEAD)?;
     push_rows(&mut text, entries, all.as_slice())?;

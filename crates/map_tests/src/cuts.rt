@@ -5,7 +5,7 @@ use pmp_encoding::{Entry, Perm, Region, SPACE_SIZE};
 use std::alloc::Global;
 use std::process::Abort;
 use std::test::Fail;
-use stretches::{Stretch, stretches};
+use stretches::{Stretch, stretches_by_entries};
 
 /// The entry of that block.
 fn entry(rt: &impl Abort, base: u64, log2: u32, perm: Perm) -> Entry {
@@ -36,7 +36,7 @@ fn expect_stretches(
     entries: &[Entry],
     wanted: &[Stretch],
 ) {
-    let all = stretches(alloc, map, entries).expect(rt, "memory");
+    let all = stretches_by_entries(alloc, map, entries).expect(rt, "memory");
     assert_eq!(rt; all.as_slice(), wanted);
 }
 

@@ -26,7 +26,7 @@ Meets-from_test x a words h =
     let low : x.base < a.address + a.size = ltb-true _ _ both.0 in
     let high : a.address < x.end = ltb-true _ _ both.1 in
     let some : 0 < a.size = size_positive a.kind a.size a.sized in
-    let long : x.base < x.end = ⊎_elim (λ more. more) (λ none. absurd (omega arith)) words.some in
+    let long : x.base < x.end = ⊎_elim (λ more. more) (λ none. absurd (omega (arith, none.1, high))) words.some in
     (max x.base a.address, (omega arith, omega arith), (omega arith, omega arith))
 
 pub test_from_Meets : (x : Extent) (a : Access) → Meets x a → touches x a ≡ true

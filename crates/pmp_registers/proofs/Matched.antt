@@ -86,7 +86,7 @@ all_defined registers xs are place inside = defined_from registers 0 xs are.each
 -- ---- whole words
 
 pub nowhere_words : IsWords nowhere
-nowhere_words = record { base = refl; end = refl; inside = omega arith; some = inr refl }
+nowhere_words = record { base = refl; end = refl; inside = omega arith; some = inr (refl, refl) }
 
 pub entry_words : (e : Entry) → IsWords (extent_of e)
 entry_words e =

@@ -68,4 +68,4 @@ pub record IsWords (x : Extent) : Type 0 where
   pub base : x.base % 4 ≡ 0
   pub end : x.end % 4 ≡ 0
   pub inside : x.end ≤ 2 ^ 56
-  pub some : (x.base < x.end) ⊎ (x.end ≡ 0)
+  pub some : (x.base < x.end) ⊎ ((x.base ≡ 0) × (x.end ≡ 0))

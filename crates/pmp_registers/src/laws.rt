@@ -1,9 +1,8 @@
 //! What the extents of registers are, and that lists of NA4 and NAPOT entries are an instance.
 
-ghost use Rattle.std.specs.Prelude.{◌≡◌, ◌≢◌, ◌<◌, ◌↔◌, ℕ, All, List, map};
+ghost use Rattle.std.specs.Prelude.{◌≡◌, ◌≢◌, ◌<◌, ◌↔◌, ℕ, All, List};
 ghost use Rattle.pmp_encoding.specs.declared.extent.Extent.{Extent};
 ghost use Rattle.pmp_encoding.specs.declared.region.Entry.{Entry};
-ghost use Rattle.pmp_encoding.specs.Extents.{extent_of};
 ghost use Rattle.pmp_encoding.specs.Lists.{MeansList};
 ghost use Rattle.page_views.specs.Views.{View};
 ghost use Rattle.pmp_match.specs.declared.access.Access.{Access};
@@ -13,6 +12,7 @@ ghost use Rattle.pmp_match.specs.Meaning.{Means};
 ghost use Rattle.pmp_registers.specs.declared.registers.Registers.{Registers};
 ghost use Rattle.pmp_registers.specs.Bytes.{IsGiven};
 ghost use Rattle.pmp_registers.specs.Decision.{ExtentsMean, IsNeverCut, IsWords, Permits};
+ghost use Rattle.pmp_registers.specs.Lists.{matched_by};
 ghost use Rattle.pmp_registers.specs.Matching.{AreExtents};
 ghost use Rattle.pmp_registers.specs.Registers.{cfg_at, pairs_of};
 ghost use Rattle.pmp_registers.specs.Reserved.{IsDefined};
@@ -32,9 +32,9 @@ pub fn extents_law()
 /// registers that mean such a list, by which `decode` reads them.
 pub fn instance_law()
     ensures decision { (entries : List Entry) (a : Access) → a.mode ≢ Machine
-        → Permits (map extent_of entries) a ↔ Allows entries a }
+        → Permits (matched_by entries) a ↔ Allows entries a }
     ensures meaning { (entries : List Entry) (view : View)
-        → ExtentsMean (map extent_of entries) view ↔ Means entries view }
+        → ExtentsMean (matched_by entries) view ↔ Means entries view }
     ensures registers_decision { (registers : Registers) (xs : List Extent) (entries : List Entry)
         → AreExtents registers xs → MeansList (pairs_of registers) entries
         → (a : Access) → a.mode ≢ Machine → Permits xs a ↔ Allows entries a }

@@ -1,6 +1,4 @@
 pub mod Answered
 pub mod Each
-pub mod Judged
-pub mod Listed
-pub mod Uncut
+pub mod Cut
 pub mod Agreed

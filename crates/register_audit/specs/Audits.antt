@@ -1,7 +1,7 @@
 -- An audit of a listing.
 use Rattle.std.specs.Prelude.{◌≡◌, ℕ, List, Bool, Some}
 use Rattle.page_views.specs.Views.{View}
-use Rattle.register_text.specs.declared.registers.Registers.{Registers}
+use Rattle.pmp_registers.specs.declared.registers.Registers.{Registers}
 use Rattle.register_text.specs.Listings.{listed}
 use Rattle.register_audit.specs.declared.verdict.Verdict.{Verdict}
 use Rattle.register_audit.specs.Verdicts.{IsVerdict, is_meant}

@@ -1,21 +1,19 @@
--- Where a list of entries does not mean a view.
-use Rattle.std.specs.Prelude.{◌≡◌, ◌≢◌, ℕ, ◌-◌, ◌/◌, ◌%◌, ◌^◌, ◌<◌, true, refl, All, List, ◌∷◌, ◌++◌, Some, slice_get, take}
-use Rattle.pmp_encoding.specs.declared.perm.Perm.TheVariants.{NoAccess}
-use Rattle.pmp_encoding.specs.declared.region.Entry.{Entry}
+-- Where extents do not mean a view.
+use Rattle.std.specs.Prelude.{◌≡◌, ◌≢◌, ℕ, ◌/◌, ◌%◌, ◌^◌, ◌<◌, ◌≤◌, true, refl, All, List, ◌∷◌, ◌++◌, Some, slice_get, take}
+use Rattle.pmp_encoding.specs.declared.extent.Extent.{Extent}
 use Rattle.pmp_encoding.specs.Perms.{can_read}
 use Rattle.page_views.specs.Views.{View}
 use Rattle.pmp_match.specs.declared.access.Access.{Access}
 use Rattle.pmp_match.specs.declared.access.Mode.TheVariants.{User}
 use Rattle.pmp_match.specs.declared.access.Kind.TheVariants.{Load}
-use Rattle.pmp_match.specs.Bytes.{perm_at}
-use Rattle.pmp_match.specs.Decision.{Allows}
-use Rattle.pmp_match.specs.Meaning.{Means}
+use Rattle.pmp_registers.specs.Bytes.{IsGiven, perm_at}
+use Rattle.pmp_registers.specs.Decision.{ContainsAll, ExtentsMean, Meets, NoneMeets}
 use Rattle.stretches.specs.declared.stretch.Stretch.{Stretch}
 use Rattle.stretches.specs.Stretches.{IsStretch}
 use Rattle.register_audit.specs.declared.comparing.Finding.{Finding}
 use Rattle.register_audit.specs.declared.comparing.Finding.TheVariants as findings
 
--- the list gives the bytes of the stretch the permission of the view
+-- the extents give the bytes of the stretch the permission of the view
 abbrev pub agrees : Stretch → Type 0
 agrees s = s.wanted ≡ s.given
 
@@ -31,43 +29,50 @@ pub record IsFirstOdd (all : List Stretch) (s : Stretch) : Type 0 where
 abbrev pub load_of_eight : ℕ → Access
 load_of_eight at = record { mode = User; kind = Load; size = 8; address = at; sized = refl }
 
--- the view lets these eight bytes be read, and the list does not
-pub record IsCut (view : View) (entries : List Entry) (at : ℕ) : Type 0 where
+-- entry i of a list is the first that has some of the eight bytes from an address on
+pub record IsFirstOf (extents : List Extent) (i at : ℕ) (x : Extent) : Type 0 where
+  pub number : slice_get extents i ≡ Some x
+  pub missed : NoneMeets (take i extents) (load_of_eight at)
+  pub met : Meets x (load_of_eight at)
+
+-- eight aligned bytes that the view lets be read, of which entry i is the first that has some, and does
+-- not have all
+pub record IsCut (view : View) (extents : List Extent) (i at : ℕ) : Type 0 where
   pub aligned : at % 8 ≡ 0
   pub inside : at < 2 ^ 56
   pub may : can_read (view (at / 4096)) ≡ true
-  pub denied : ¬ Allows entries (load_of_eight at)
+  pub extent : Extent
+  pub first : IsFirstOf extents i at extent
+  pub partly : ¬ ContainsAll extent (load_of_eight at)
 
--- the eight bytes that hold an entry of four are kept by the list from being read, and the view lets them
-pub record IsCutBy (view : View) (entries : List Entry) (e : Entry) (at : ℕ) : Type 0 where
-  pub four : e.region.log2 ≡ 2
-  pub low : at ≡ e.region.base - e.region.base % 8
-  pub cut : IsCut view entries at
+-- entry i cuts no eight bytes
+abbrev pub IsUncut : View → List Extent → ℕ → Type 0
+IsUncut view extents i = (at : ℕ) → ¬ IsCut view extents i at
 
--- an entry of four bytes does not keep the eight bytes that hold it from being read
-abbrev pub IsUncut : View → List Entry → Entry → Type 0
-IsUncut view entries e = e.region.log2 ≡ 2 → can_read (view ((e.region.base - e.region.base % 8) / 4096)) ≡ true → Allows entries (load_of_eight (e.region.base - e.region.base % 8))
+-- the lowest eight bytes that entry i cuts
+pub record IsLowestCut (view : View) (extents : List Extent) (i at : ℕ) : Type 0 where
+  pub cut : IsCut view extents i at
+  pub lowest : (other : ℕ) → IsCut view extents i other → at ≤ other
 
--- entry i of a list is the first by which eight bytes are cut
-pub record IsFirstCut (view : View) (entries : List Entry) (i at : ℕ) : Type 0 where
-  pub entry : Entry
-  pub is : slice_get entries i ≡ Some entry
-  pub by : IsCutBy view entries entry at
-  pub before : All (IsUncut view entries) (take i entries)
+-- the lowest eight bytes that the first entry cuts that cuts any
+pub record IsFirstCut (view : View) (extents : List Extent) (i at : ℕ) : Type 0 where
+  pub cut : IsLowestCut view extents i at
+  pub before : (j : ℕ) → j < i → IsUncut view extents j
 
--- the list gives each byte of the space the view's permission, and cuts eight bytes, by entry i first
-pub record CutsAlone (view : View) (entries : List Entry) (i at : ℕ) : Type 0 where
-  pub same : (byte : ℕ) → byte < 2 ^ 56 → perm_at NoAccess entries byte ≡ view (byte / 4096)
-  pub first : IsFirstCut view entries i at
+-- the extents give each byte of the space the view's permission, and cut eight bytes, by entry i first
+pub record CutsAlone (view : View) (extents : List Extent) (i at : ℕ) : Type 0 where
+  pub same : IsGiven extents view
+  pub first : IsFirstCut view extents i at
 
--- a stretch on which the list gives another permission than the view, where it gives each byte below it the view's
-pub record IsFirstDifference (view : View) (entries : List Entry) (s : Stretch) : Type 0 where
-  pub stretch : IsStretch view entries s
+-- a stretch on which the extents give another permission than the view, where they give each byte below
+-- it the view's
+pub record IsFirstDifference (view : View) (extents : List Extent) (s : Stretch) : Type 0 where
+  pub stretch : IsStretch view extents s
   pub differs : s.wanted ≢ s.given
-  pub same_below : (byte : ℕ) → byte < s.first → perm_at NoAccess entries byte ≡ view (byte / 4096)
+  pub same_below : (byte : ℕ) → byte < s.first → perm_at extents byte ≡ view (byte / 4096)
 
 -- what is found is so
-abbrev pub IsFinding : View → List Entry → Finding → Type 0
-IsFinding view entries findings.Means = Means entries view
-IsFinding view entries (findings.Differs s) = IsFirstDifference view entries s
-IsFinding view entries (findings.Cuts entry at) = CutsAlone view entries entry at
+abbrev pub IsFinding : View → List Extent → Finding → Type 0
+IsFinding view extents findings.Means = ExtentsMean extents view
+IsFinding view extents (findings.Differs s) = IsFirstDifference view extents s
+IsFinding view extents (findings.Cuts entry at) = CutsAlone view extents entry at

@@ -5,11 +5,12 @@ ghost use Rattle.std.specs.Io.KnownBytes.{Appends};
 ghost use Rattle.byte_streams.specs.Streams.{WriteFails};
 ghost use Rattle.permission_map.specs.Runs.{view_of_runs};
 ghost use Rattle.printed_lines.specs.Plans.{TakesPart};
-ghost use Rattle.register_text.specs.declared.registers.Registers.{Registers};
+ghost use Rattle.pmp_registers.specs.declared.registers.Registers.{Registers};
+ghost use Rattle.pmp_registers.specs.Decision.{RegistersMean};
 ghost use Rattle.register_text.specs.Listings.{IsFirstUnknown, listed};
 ghost use Rattle.register_audit.specs.declared.auditing.AuditFault as AuditFault;
 ghost use Rattle.register_audit.specs.Audits.{IsAudit};
-ghost use Rattle.register_audit.specs.Verdicts.{MeanView, is_meant};
+ghost use Rattle.register_audit.specs.Verdicts.{is_meant};
 
 use crate::texts::verdict_line;
 use crate::verdict::{Verdict, verdict_of};
@@ -51,10 +52,10 @@ pub fn audit<W: Sink>(
         × Appends (W.contents out.old) (W.contents out.new) text) }
     ensures means { result ≡ Ok true
         → (registers : Registers) × (listed listing.now ≡ Some registers)
-        × MeanView registers (view_of_runs map.now) }
+        × RegistersMean registers (view_of_runs map.now) }
     ensures differs { result ≡ Ok false
         → (registers : Registers) × (listed listing.now ≡ Some registers)
-        × ¬ MeanView registers (view_of_runs map.now) }
+        × ¬ RegistersMean registers (view_of_runs map.now) }
     ensures line { (n : ℕ) → result ≡ Err (AuditFault.Line n)
         → IsFirstUnknown listing.now n × (out.new ≡ out.old) }
     ensures untouched { result ≡ Err AuditFault.Memory → out.new ≡ out.old }

@@ -1,27 +1,28 @@
-//! A list of entries against a map.
+//! Extents against a map.
 
-ghost use Rattle.std.specs.Prelude.{◌≡◌, ◌≢◌, ◌≤◌, All, IfOk, MatchOption, false, length, true};
+ghost use Rattle.std.specs.Prelude.{◌≡◌, ◌≢◌, All, IfOk, MatchOption, false, true};
 ghost use Rattle.permission_map.specs.Runs.{view_of_runs};
+ghost use Rattle.pmp_registers.specs.Decision.{IsWords};
 ghost use Rattle.register_audit.specs.Findings.{IsFinding, IsFirstOdd, agrees};
 
 use crate::cutting::first_cut;
 use permission_map::{Memory, PermissionMap};
-use pmp_encoding::{Bank, Entry, Limit};
+use pmp_registers::Extent;
 use std::alloc::Global;
 use stretches::{Stretch, stretches};
 
-/// Whether a list of entries means a map, and where it does not.
+/// Whether extents mean a map, and where they do not.
 #[derive(Clone, Copy, PartialEq, Eq, Debug)]
 pub enum Finding {
-    /// It means the map.
+    /// They mean the map.
     Means,
-    /// The first stretch on which it gives another permission than the map.
+    /// The first stretch on which they give another permission than the map.
     Differs(Stretch),
-    /// It gives each byte the map's permission, but cuts an access that the map lets through.
+    /// They give each byte the map's permission, but cut an access that the map lets through.
     Cuts {
-        /// The number of the first entry by which they are cut; it has four of the bytes.
+        /// The number of the first entry by which one is cut.
         entry: usize,
-        /// The lowest of the eight bytes.
+        /// The lowest byte of the lowest eight that it cuts.
         at: u64,
     },
 }
@@ -33,7 +34,7 @@ fn is_odd(stretch: &Stretch) -> bool
     stretch.wanted != stretch.given
 }
 
-/// The first stretch on which the entries give another permission than the map.
+/// The first stretch on which the extents give another permission than the map.
 fn first_odd(all: &[Stretch]) -> Option<Stretch>
     ensures { MatchOption result (All agrees all.now) (IsFirstOdd all.now) }
 {
@@ -45,17 +46,16 @@ fn first_odd(all: &[Stretch]) -> Option<Stretch>
     None
 }
 
-/// Whether a list of at most 64 entries means the map, or where it does not. The only error is out of memory.
-pub fn compared(alloc: Global, map: &PermissionMap, entries: &[Entry]) -> Result<Finding, Memory>
-    requires { length entries.now ≤ 64 }
-    ensures { IfOk result (IsFinding (view_of_runs map.now) entries.now) }
+/// Whether extents mean the map, or where they do not. The only error is out of memory.
+pub fn compared(alloc: Global, map: &PermissionMap, extents: &[Extent]) -> Result<Finding, Memory>
+    requires { All IsWords extents.now }
+    ensures { IfOk result (IsFinding (view_of_runs map.now) extents.now) }
 {
-    let all = stretches(alloc, map, entries)?;
+    let all = stretches(alloc, map, extents)?;
     if let Some(stretch) = first_odd(all.as_slice()) {
         return Ok(Finding::Differs(stretch));
     }
-    let bank = Bank::of(entries, Limit::SixtyFour);
-    if let Some(cut) = first_cut(map, &bank, entries) {
+    if let Some(cut) = first_cut(map, extents) {
         return Ok(Finding::Cuts {
             entry: cut.entry,
             at: cut.at,

@@ -1,16 +1,16 @@
-//! Accesses that entries below eight bytes cut.
+//! Accesses of eight bytes that an entry cuts.
 
-ghost use Rattle.std.specs.Prelude.{◌≡◌, ◌<◌, All, List, MatchOption};
-ghost use Rattle.pmp_encoding.specs.declared.region.Entry.{Entry};
-ghost use Rattle.pmp_encoding.specs.Banks.{HasList};
-ghost use Rattle.pmp_encoding.specs.Perms.{can_read};
+ghost use Rattle.std.specs.Prelude.{◌≡◌, ℕ, ◌+◌, ◌^◌, ◌<◌, ◌≤◌, ◌⊎◌, ◌↔◌, All, IfNone, IfSome, IsTrue, MatchOption, Some, length, slice_get};
 ghost use Rattle.permission_map.specs.Runs.{view_of_runs};
-ghost use Rattle.register_audit.specs.Findings.{IsCutBy, IsFirstCut, IsUncut, load_of_eight};
+ghost use Rattle.pmp_encoding.specs.declared.extent.Extent.{Extent};
+ghost use Rattle.pmp_encoding.specs.Perms.{can_read};
+ghost use Rattle.pmp_registers.specs.Decision.{IsWords, Meets};
+ghost use Rattle.register_audit.specs.Findings.{IsCut, IsFirstCut, IsFirstOf, IsLowestCut, IsUncut, load_of_eight};
 
 use page_views::PAGE_SIZE;
 use permission_map::PermissionMap;
-use pmp_encoding::{Bank, Entry, Perm};
-use pmp_match::{Access, Kind, Mode, judge};
+use pmp_encoding::Perm;
+use pmp_registers::Extent;
 
 /// Eight bytes that an entry cuts.
 #[derive(Clone, Copy, PartialEq, Eq, Debug)]
@@ -25,46 +25,90 @@ fn can_read(perm: Perm) -> bool
     !matches!(perm, Perm::NoAccess | Perm::Execute)
 }
 
-fn load_of_eight(at: u64) -> Access
-    ensures { result ≡ load_of_eight at }
+/// Whether the extent has some of the eight bytes.
+fn has_some(extent: &Extent, at: u64) -> bool
+    requires words { IsWords extent.now }
+    requires at { at < 2 ^ 56 }
+    ensures { IsTrue result ↔ Meets extent.now (load_of_eight at) }
 {
-    Access {
-        mode: Mode::User,
-        kind: Kind::Load,
-        size: 8,
-        address: at,
-    }
+    extent.base < at + 8 && at < extent.end
 }
 
-/// The eight bytes that hold an entry of four, where the map lets them be read and the bank does not.
-fn cut_by(map: &PermissionMap, bank: &Bank, entry: &Entry) -> Option<u64>
-    ensures { (entries : List Entry) → HasList bank.now entries
-        → MatchOption result (IsUncut (view_of_runs map.now) entries entry.now)
-        (IsCutBy (view_of_runs map.now) entries entry.now) }
+/// Whether none of the extents has one of the eight bytes.
+fn all_miss(extents: &[Extent], at: u64) -> bool
+    requires words { All IsWords extents.now }
+    requires at { at < 2 ^ 56 }
+    ensures { IsTrue result ↔ All (λ x. ¬ Meets x (load_of_eight at)) extents.now }
 {
-    if entry.region.log2 > 2 {
+    for extent in extents {
+        if has_some(extent, at) {
+            return false;
+        }
+    }
+    true
+}
+
+/// Whether entry i is the first that has some of the eight bytes.
+fn is_first(extents: &[Extent], i: usize, at: u64) -> bool
+    requires words { All IsWords extents.now }
+    requires i { i < length extents.now }
+    requires at { at < 2 ^ 56 }
+    ensures { (x : Extent) → slice_get extents.now i ≡ Some x
+        → IsTrue result ↔ IsFirstOf extents.now i at x }
+{
+    all_miss(&extents[..i], at) && has_some(&extents[i], at)
+}
+
+/// The eight aligned bytes with an end of entry i in their middle, where it cuts them.
+fn cut_at(map: &PermissionMap, extents: &[Extent], i: usize, end: u64) -> Option<u64>
+    requires words { All IsWords extents.now }
+    requires i { i < length extents.now }
+    requires end { (x : Extent) → slice_get extents.now i ≡ Some x
+        → (end ≡ x.base) ⊎ (end ≡ x.end) }
+    requires inside { end ≤ 2 ^ 56 }
+    ensures some { IfSome result (λ at. (at + 4 ≡ end)
+        × IsCut (view_of_runs map.now) extents.now i at) }
+    ensures none { IfNone result ((at : ℕ) → at + 4 ≡ end
+        → ¬ IsCut (view_of_runs map.now) extents.now i at) }
+{
+    if end % 8 == 0 {
         return None;
     }
-    let at = entry.region.base - entry.region.base % 8;
+    let at = end - 4;
     if !can_read(map.get(at / PAGE_SIZE)) {
         return None;
     }
-    let load = load_of_eight(at);
-    match judge(bank, &load) {
-        Ok(()) => None,
-        Err(_) => Some(at),
+    if is_first(extents, i, at) {
+        Some(at)
+    } else {
+        None
     }
 }
 
-/// The first entry by which the bank cuts an access that the map lets through.
-pub(crate) fn first_cut(map: &PermissionMap, bank: &Bank, entries: &[Entry]) -> Option<Cut>
-    requires { HasList bank.now entries.now }
-    ensures { MatchOption result (All (IsUncut (view_of_runs map.now) entries.now) entries.now)
-        (λ cut.
-        IsFirstCut (view_of_runs map.now) entries.now cut.entry cut.at) }
+/// The lowest eight bytes that entry i cuts.
+fn cut_by(map: &PermissionMap, extents: &[Extent], i: usize) -> Option<u64>
+    requires words { All IsWords extents.now }
+    requires i { i < length extents.now }
+    ensures { MatchOption result (IsUncut (view_of_runs map.now) extents.now i)
+        (IsLowestCut (view_of_runs map.now) extents.now i) }
 {
-    for (i, entry) in entries.iter().enumerate() {
-        if let Some(at) = cut_by(map, bank, entry) {
+    if let Some(low) = cut_at(map, extents, i, extents[i].base) {
+        return Some(low);
+    }
+    let Some(high) = cut_at(map, extents, i, extents[i].end) else {
+        return None;
+    };
+    Some(high)
+}
+
+/// The first entry by which the extents cut an access that the map lets through, and the lowest of those.
+pub(crate) fn first_cut(map: &PermissionMap, extents: &[Extent]) -> Option<Cut>
+    requires { All IsWords extents.now }
+    ensures { MatchOption result ((i : ℕ) → IsUncut (view_of_runs map.now) extents.now i)
+        (λ cut. IsFirstCut (view_of_runs map.now) extents.now cut.entry cut.at) }
+{
+    for i in 0..extents.len() {
+        if let Some(at) = cut_by(map, extents, i) {
             return Some(Cut { entry: i, at });
         }
     }

@@ -1,8 +1,9 @@
 //! Do these registers mean this map?
 //!
-//! For the layer above: [`audit`] reads a listing of registers, and writes one line: that they mean the map and with how
-//! many entries, or the first stretch that differs, or the first pair that no entry has. [`compared`] asks the same of a
-//! list of entries, [`verdict_of`] of registers.
+//! For the layer above: [`audit`] reads a listing of registers, and writes one line: that they mean the
+//! map and with how many entries, or the first stretch that differs, or the first access that an entry
+//! cuts, or the first entry that has a reserved value. [`compared`] asks the same of a list of extents,
+//! [`verdict_of`] of registers.
 //!
 //! ```rust
 //! let means = audit(alloc, &map, 3, listing, &mut out)?;
@@ -13,11 +14,9 @@
 mod auditing;
 mod comparing;
 mod cutting;
-mod decoded;
 mod texts;
 mod verdict;
 
 pub use auditing::{AuditFault, audit};
 pub use comparing::{Finding, compared};
-pub use decoded::{Decoded, PairFault, entries_of};
 pub use verdict::{Verdict, verdict_of};

@@ -1,32 +1,26 @@
 //! The line of a verdict.
 
 ghost use Rattle.std.specs.Prelude.{◌≡◌, ℕ, ◌+◌, ◌^◌, ◌++◌, ◌<◌, ◌≤◌, length};
-ghost use Rattle.register_text.specs.declared.registers.Registers.{Registers};
+ghost use Rattle.pmp_registers.specs.declared.registers.Registers.{Registers};
 ghost use Rattle.register_audit.specs.declared.verdict.Verdict as Verdict;
 ghost use Rattle.arrayvec.specs.ArrayVec.{array_vec_len};
-ghost use Rattle.register_audit.specs.Texts.{differs_text, enough, entries_named, fault_name, sayer, verdict_text};
+ghost use Rattle.register_audit.specs.Texts.{differs_text, enough, entries_named, reserved_name, sayer, verdict_text};
 ghost use Rattle.register_audit.specs.Verdicts.{IsWritable};
 
-use crate::decoded::PairFault;
 use crate::verdict::Verdict;
 use arrayvec::ArrayVec;
-use pmp_encoding::EncodingFault;
+use pmp_registers::{Registers, Reserved, ReservedAt};
 use printed_lines::letters;
-use register_text::Registers;
 use stretches::Stretch;
 use text_lines::{Line, push_decimal, push_hex, push_text};
 
-fn fault_name(fault: EncodingFault) -> &'static str
-    ensures value { result.now ≡ fault_name fault }
+fn reserved_name(value: Reserved) -> &'static str
+    ensures value { result.now ≡ reserved_name value }
     ensures length { length result.now ≤ 32 }
 {
-    match fault {
-        EncodingFault::ReservedPerm => "W without R",
-        EncodingFault::Tor => "TOR",
-        EncodingFault::Locked => "locked",
-        EncodingFault::ReservedBits => "reserved bits",
-        EncodingFault::AddressBits => "address bits above 53",
-        EncodingFault::NoSuchCsr => "no such register",
+    match value {
+        Reserved::Permission => "W without R",
+        Reserved::Bits => "reserved bits",
     }
 }
 
@@ -88,47 +82,47 @@ fn means_line(fewest: u64, count: usize) -> Line
     line
 }
 
-fn stretch_line(stretch: &Stretch, place: Option<usize>) -> Line
+fn stretch_line(stretch: &Stretch) -> Line
     requires { 0 < stretch.now.end }
     ensures { (fewest : ℕ) (registers : Registers)
-        → result.items ≡ verdict_text fewest registers (Verdict.Differs stretch.now place) }
+        → result.items ≡ verdict_text fewest registers (Verdict.Differs stretch.now) }
 {
     let mut line = differs_line(stretch.first, stretch.end - 1);
     push_text(&mut line, b"map ");
     push_text(&mut line, letters(stretch.wanted).as_bytes());
     push_text(&mut line, b", ");
-    push_sayer(&mut line, place);
+    push_sayer(&mut line, stretch.entry);
     line.push(b' ');
     push_text(&mut line, letters(stretch.given).as_bytes());
     line.push(b'\n');
     line
 }
 
-fn cut_line(place: Option<usize>, at: u64) -> Line
+fn cut_line(entry: usize, at: u64) -> Line
     requires { at + 7 < 2 ^ 64 }
     ensures { (fewest : ℕ) (registers : Registers)
-        → result.items ≡ verdict_text fewest registers (Verdict.Cuts place at) }
+        → result.items ≡ verdict_text fewest registers (Verdict.Cuts entry at) }
 {
     let mut line = differs_line(at, at + 7);
-    push_sayer(&mut line, place);
+    push_sayer(&mut line, Some(entry));
     push_text(&mut line, b" cuts an access of 8 bytes\n");
     line
 }
 
-fn fault_line(registers: &Registers, fault: &PairFault) -> Line
-    requires { fault.now.place < 64 }
+fn reserved_line(registers: &Registers, found: &ReservedAt) -> Line
+    requires { found.now.place < 64 }
     ensures { (fewest : ℕ) → result.items
-        ≡ verdict_text fewest registers.now (Verdict.NoEntry fault.now) }
+        ≡ verdict_text fewest registers.now (Verdict.NoMeaning found.now) }
 {
     let mut line = ArrayVec::new();
     push_text(&mut line, b"pair ");
-    push_decimal(&mut line, fault.place as u64);
+    push_decimal(&mut line, found.place as u64);
     push_text(&mut line, b" 0x");
-    push_hex(&mut line, u64::from(registers.cfgs[fault.place]), 2);
+    push_hex(&mut line, u64::from(registers.cfgs[found.place]), 2);
     push_text(&mut line, b" 0x");
-    push_hex(&mut line, registers.addresses[fault.place], 16);
+    push_hex(&mut line, registers.addresses[found.place], 16);
     push_text(&mut line, b": ");
-    push_text(&mut line, fault_name(fault.fault).as_bytes());
+    push_text(&mut line, reserved_name(found.value).as_bytes());
     line.push(b'\n');
     line
 }
@@ -140,8 +134,8 @@ pub(crate) fn verdict_line(fewest: u64, registers: &Registers, verdict: &Verdict
 {
     match verdict {
         Verdict::Means { count } => means_line(fewest, *count),
-        Verdict::Differs { stretch, place } => stretch_line(stretch, *place),
-        Verdict::Cuts { place, at } => cut_line(*place, *at),
-        Verdict::NoEntry(fault) => fault_line(registers, fault),
+        Verdict::Differs(stretch) => stretch_line(stretch),
+        Verdict::Cuts { entry, at } => cut_line(*entry, *at),
+        Verdict::NoMeaning(found) => reserved_line(registers, found),
     }
 }

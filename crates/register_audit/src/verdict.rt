@@ -1,14 +1,13 @@
-//! What registers say of a map.
+//! Registers against a map.
 
-ghost use Rattle.std.specs.Prelude.{◌≡◌, IfOk, Option, slice_get};
-ghost use Rattle.std.specs.Option.{option_and_then};
+ghost use Rattle.std.specs.Prelude.{◌≡◌, ℕ, ◌≤◌, IfOk};
 ghost use Rattle.permission_map.specs.Runs.{view_of_runs};
+ghost use Rattle.register_audit.specs.Registers.{count_on, one_on};
 ghost use Rattle.register_audit.specs.Verdicts.{IsVerdict};
 
 use crate::comparing::{Finding, compared};
-use crate::decoded::{PairFault, entries_of};
 use permission_map::{Memory, PermissionMap};
-use register_text::Registers;
+use pmp_registers::{Registers, ReservedAt, extents_of};
 use std::alloc::Global;
 use stretches::Stretch;
 
@@ -17,33 +16,39 @@ use stretches::Stretch;
 pub enum Verdict {
     /// They mean it, with so many entries.
     Means {
-        /// How many of the pairs are not OFF.
+        /// How many of them are not OFF.
         count: usize,
     },
     /// The first stretch on which they give another permission than the map.
-    Differs {
-        /// It, by the list of the entries without those that are OFF.
-        stretch: Stretch,
-        /// The number of the deciding entry among the registers.
-        place: Option<usize>,
-    },
+    Differs(Stretch),
     /// They give each byte the map's permission, but cut an access that the map lets through.
     Cuts {
-        /// The number among the registers of the first entry by which they are cut; it has four of the bytes.
-        place: Option<usize>,
-        /// The lowest of the bytes.
+        /// The number of the first entry by which one is cut.
+        entry: usize,
+        /// The lowest byte of the lowest eight that it cuts.
         at: u64,
     },
-    /// The first pair that no entry has.
-    NoEntry(PairFault),
+    /// The first entry that has a reserved value, by which they mean nothing.
+    NoMeaning(ReservedAt),
 }
 
-/// The number among the registers of an entry of the list.
-fn place_of(places: &[usize], entry: Option<usize>) -> Option<usize>
-    ensures { result ≡ option_and_then (slice_get places.now) entry }
+/// 0 for an entry that is OFF, and 1 for another.
+fn one_on(cfg: u8) -> usize
+    ensures value { result ≡ one_on cfg }
+    ensures most { result ≤ 1 }
 {
-    let i = entry?;
-    places.get(i).copied()
+    if cfg / 8 % 4 == 0 { 0 } else { 1 }
+}
+
+/// How many entries are not OFF.
+fn count_on(registers: &Registers) -> usize
+    ensures { result ≡ count_on registers.now.cfgs }
+{
+    let mut count = 0;
+    for cfg in &registers.cfgs {
+        count += one_on(*cfg);
+    }
+    count
 }
 
 /// What the registers say of a map. The only error is out of memory.
@@ -54,22 +59,15 @@ pub fn verdict_of(
 ) -> Result<Verdict, Memory>
     ensures { IfOk result (IsVerdict (view_of_runs map.now) registers.now) }
 {
-    let list = match entries_of(registers) {
-        Ok(list) => list,
-        Err(fault) => return Ok(Verdict::NoEntry(fault)),
+    let extents = match extents_of(registers) {
+        Ok(extents) => extents,
+        Err(found) => return Ok(Verdict::NoMeaning(found)),
     };
-    let places = list.places.as_slice();
-    match compared(alloc, map, list.entries.as_slice())? {
+    match compared(alloc, map, extents.as_slice())? {
         Finding::Means => Ok(Verdict::Means {
-            count: list.entries.len(),
+            count: count_on(registers),
         }),
-        Finding::Differs(stretch) => Ok(Verdict::Differs {
-            stretch,
-            place: place_of(places, stretch.entry),
-        }),
-        Finding::Cuts { entry, at } => Ok(Verdict::Cuts {
-            place: place_of(places, Some(entry)),
-            at,
-        }),
+        Finding::Differs(stretch) => Ok(Verdict::Differs(stretch)),
+        Finding::Cuts { entry, at } => Ok(Verdict::Cuts { entry, at }),
     }
 }

@@ -6,8 +6,8 @@ use Rattle.std.proofs.lemmas.Grind.{common_steps}
 use Rattle.std.proofs.lemmas.Option.{same_Some}
 use Rattle.std.specs.Option.{option_and_then}
 use Rattle.text_lines.specs.Lines.{IsShortLine, without_return}
-use Rattle.register_text.specs.declared.registers.Registers.{Registers}
-use Rattle.register_text.specs.declared.register_lines.Setting.{Setting}
+use Rattle.pmp_registers.specs.declared.registers.Registers.{Registers}
+use Rattle.register_text.specs.declared.setting.Setting.{Setting}
 use Rattle.register_text.specs.Lines.{line_sets, raw_sets}
 use Rattle.register_text.specs.Listings.{set_by, set_by_lines}
 

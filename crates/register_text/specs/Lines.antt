@@ -4,8 +4,8 @@ use Rattle.std.specs.Option.{option_and_then}
 use Rattle.text_lines.specs.Words.{words_of}
 use Rattle.text_lines.specs.Numbers.{numeral_of, number_of}
 use Rattle.text_lines.specs.Lines.{without_return}
-use Rattle.register_text.specs.declared.register_lines.Setting.{Setting}
-use Rattle.register_text.specs.declared.register_lines.Setting.TheVariants as settings
+use Rattle.register_text.specs.declared.setting.Setting.{Setting}
+use Rattle.register_text.specs.declared.setting.Setting.TheVariants as settings
 
 -- the places of a setting are those of 64 entries
 abbrev pub IsInside : Setting → Type 0

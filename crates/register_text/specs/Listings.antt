@@ -1,9 +1,9 @@
 -- The registers that a listing leaves.
 use Rattle.std.specs.Prelude.{◌≡◌, ℕ, zero, suc, ◌+◌, ◌/◌, ◌%◌, List, [], ◌∷◌, ◌++◌, length, replicate, slice_set, Option, Some, None}
 use Rattle.std.specs.Option.{option_and_then}
-use Rattle.register_text.specs.declared.registers.Registers.{Registers}
-use Rattle.register_text.specs.declared.register_lines.Setting.{Setting}
-use Rattle.register_text.specs.declared.register_lines.Setting.TheVariants as settings
+use Rattle.pmp_registers.specs.declared.registers.Registers.{Registers}
+use Rattle.register_text.specs.declared.setting.Setting.{Setting}
+use Rattle.register_text.specs.declared.setting.Setting.TheVariants as settings
 use Rattle.text_lines.specs.Lines.{raw_lines}
 use Rattle.register_text.specs.Lines.{raw_sets}
 

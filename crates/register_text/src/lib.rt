@@ -12,8 +12,9 @@
 
 mod listing;
 mod register_lines;
-mod registers;
+mod setting;
 
 pub use listing::registers_of;
-pub use register_lines::{Setting, line_sets};
-pub use registers::Registers;
+pub use pmp_registers::Registers;
+pub use register_lines::line_sets;
+pub use setting::Setting;

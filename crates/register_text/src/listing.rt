@@ -4,8 +4,9 @@ ghost use Rattle.std.specs.Prelude.{◌≡◌, ◌-◌, ◌^◌, ◌<◌, IfErr,
 ghost use Rattle.register_text.specs.Listings.{IsFirstUnknown, listed};
 
 use crate::register_lines::line_sets;
-use crate::registers::{Registers, off};
+use crate::setting::off;
 use map_text::next_line;
+use pmp_registers::Registers;
 use text_lines::LineReader;
 
 /// The registers that the lines of a listing leave, or the number of the first line that is not understood.
@@ -21,7 +22,7 @@ pub fn registers_of(bytes: &[u8]) -> Result<Registers, u64>
         let Ok(setting) = line_sets(lines.line()) else {
             return Err(lines.number());
         };
-        registers = registers.with(setting);
+        registers = setting.of(&registers);
     }
     Ok(registers)
 }

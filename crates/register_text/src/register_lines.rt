@@ -5,37 +5,8 @@ ghost use Rattle.std.specs.Result.{result_ok};
 ghost use Rattle.text_lines.specs.Words.{split_words};
 ghost use Rattle.register_text.specs.Lines.{IsInside, address_setting, behind, has_leading_zero, index_of, line_sets, named_setting, pair_setting, set_by_words, word_setting};
 
+use crate::setting::Setting;
 use text_lines::{NotUnderstood, Words, number, numeral};
-
-/// What a line sets. Places are below 64.
-#[derive(Clone, Copy, Debug, PartialEq, Eq)]
-pub enum Setting {
-    /// A line without words, or a count of entries.
-    Nothing,
-    /// The pair of an entry.
-    Pair {
-        /// The number of the entry.
-        place: usize,
-        /// Its configuration byte.
-        cfg: u8,
-        /// Its address register.
-        address: u64,
-    },
-    /// An address register.
-    Address {
-        /// The number of the entry.
-        place: usize,
-        /// What it holds.
-        value: u64,
-    },
-    /// A configuration word: the bytes of eight entries.
-    Word {
-        /// The number of the first entry.
-        place: usize,
-        /// What it holds, the lowest byte first.
-        value: u64,
-    },
-}
 
 fn is_text(word: &[u8], text: &[u8]) -> bool
     ensures { result ≡ bytes_eq word.now text.now }

@@ -1,4 +1,4 @@
--- The entries of a list one after another, as far as what they say of the bytes from one on stays the same.
+-- The extents of a list one after another, as far as what they say of the bytes from one on stays the same.
 use Rattle.std.proofs.Common.{◌≡◌, ◌≢◌, ◌∙◌, ℕ, ◌+◌, ◌^◌, ◌<◌, ◌≤◌, min, List, [], ◌∷◌, length, drop, get_or, Bool, true, false, Option, None, Some, ⊎_elim, nat_le, nat_lt, ◌&&◌, ap, sym, refl, arith, if◌then◌else◌}
 use Rattle.std.proofs.lemmas.Bool.{cases_lt}
 use Rattle.std.proofs.lemmas.Bool.Decides.{nat_tests}
@@ -6,11 +6,12 @@ use Rattle.std.proofs.lemmas.List.{drop_all, drop_more}
 use Rattle.std.proofs.lemmas.Option.{same_Some}
 use Rattle.pmp_encoding.specs.declared.perm.Perm.{Perm}
 use Rattle.pmp_encoding.specs.declared.perm.Perm.TheVariants.{NoAccess}
-use Rattle.pmp_encoding.specs.declared.region.Entry.{Entry}
-use Rattle.pmp_match.specs.Bytes.{holds_byte, perm_at}
+use Rattle.pmp_encoding.specs.declared.extent.Extent.{Extent}
+use Rattle.pmp_registers.specs.Bytes.{has_byte, perm_at}
+use Rattle.pmp_registers.specs.Decision.{IsWords}
 use Rattle.stretches.specs.Stretches.{decider, decider_from}
 
--- ---- a byte and a region
+-- ---- a byte and an extent
 
 between : (first end byte : ℕ) → first ≤ byte → byte < end → (nat_le first byte && nat_lt byte end) ≡ true
 between first end byte low high = grind (arith, nat_tests)
@@ -21,139 +22,140 @@ below first end byte low = grind (arith, nat_tests)
 behind : (first end byte : ℕ) → end ≤ byte → (nat_le first byte && nat_lt byte end) ≡ false
 behind first end byte high = grind (arith, nat_tests)
 
--- ---- a byte and the first entry of a list
+-- ---- a byte and the first extent of a list
 
-taken : (n : ℕ) (e : Entry) (entries : List Entry) (byte : ℕ) → holds_byte e.region byte ≡ true → decider_from n (e ∷ entries) byte ≡ Some n
-taken n e entries byte h = ap (λ t. if t then Some n else decider_from (n + 1) entries byte) h
+taken : (n : ℕ) (e : Extent) (extents : List Extent) (byte : ℕ) → has_byte e byte ≡ true → decider_from n (e ∷ extents) byte ≡ Some n
+taken n e extents byte h = ap (λ t. if t then Some n else decider_from (n + 1) extents byte) h
 
-left : (n : ℕ) (e : Entry) (entries : List Entry) (byte : ℕ) → holds_byte e.region byte ≡ false → decider_from n (e ∷ entries) byte ≡ decider_from (n + 1) entries byte
-left n e entries byte h = ap (λ t. if t then Some n else decider_from (n + 1) entries byte) h
+left : (n : ℕ) (e : Extent) (extents : List Extent) (byte : ℕ) → has_byte e byte ≡ false → decider_from n (e ∷ extents) byte ≡ decider_from (n + 1) extents byte
+left n e extents byte h = ap (λ t. if t then Some n else decider_from (n + 1) extents byte) h
 
-given : (e : Entry) (entries : List Entry) (byte : ℕ) → holds_byte e.region byte ≡ true → perm_at NoAccess (e ∷ entries) byte ≡ e.perm
-given e entries byte h = ap (λ t. if t then e.perm else perm_at NoAccess entries byte) h
+given : (e : Extent) (extents : List Extent) (byte : ℕ) → has_byte e byte ≡ true → perm_at (e ∷ extents) byte ≡ e.perm
+given e extents byte h = ap (λ t. if t then e.perm else perm_at extents byte) h
 
-passed_on : (e : Entry) (entries : List Entry) (byte : ℕ) → holds_byte e.region byte ≡ false → perm_at NoAccess (e ∷ entries) byte ≡ perm_at NoAccess entries byte
-passed_on e entries byte h = ap (λ t. if t then e.perm else perm_at NoAccess entries byte) h
+passed_on : (e : Extent) (extents : List Extent) (byte : ℕ) → has_byte e byte ≡ false → perm_at (e ∷ extents) byte ≡ perm_at extents byte
+passed_on e extents byte h = ap (λ t. if t then e.perm else perm_at extents byte) h
 
 least_step : (n k : ℕ) (t : Bool) (rest : Option ℕ) → (rest ≡ Some k → n + 1 ≤ k) → (if t then Some n else rest) ≡ Some k → n ≤ k
 least_step n k true rest h e = omega (arith, same_Some n k e)
 least_step n k false rest h e = omega (arith, h e)
 
--- the number of a deciding entry is not below that of the first of the list
-least : (n : ℕ) (entries : List Entry) (byte k : ℕ) → decider_from n entries byte ≡ Some k → n ≤ k
+-- the number of a deciding extent is not below that of the first of the list
+least : (n : ℕ) (extents : List Extent) (byte k : ℕ) → decider_from n extents byte ≡ Some k → n ≤ k
 least n [] byte k e = absurd cc
-least n (d ∷ entries) byte k e = least_step n k (holds_byte d.region byte) (decider_from (n + 1) entries byte) (λ s. least (n + 1) entries byte k s) e
+least n (d ∷ extents) byte k e = least_step n k (has_byte d byte) (decider_from (n + 1) extents byte) (λ s. least (n + 1) extents byte k s) e
 
--- ---- the entries before one
+-- ---- the extents before one
 
--- the entries before number i have no byte from `at` to before `end`, and one of them decides the byte `end`
-pub record Passed (entries : List Entry) (i at end : ℕ) : Type 0 where
-  pub decided : (byte : ℕ) → at ≤ byte → byte < end → decider entries byte ≡ decider_from i (drop i entries) byte
-  pub given : (byte : ℕ) → at ≤ byte → byte < end → perm_at NoAccess entries byte ≡ perm_at NoAccess (drop i entries) byte
-  pub turned : end < 2 ^ 56 → (k : ℕ) × (k < i) × (decider entries end ≡ Some k)
+-- the extents before number i have no byte from `at` to before `end`, and one of them decides the byte `end`
+pub record Passed (extents : List Extent) (i at end : ℕ) : Type 0 where
+  pub decided : (byte : ℕ) → at ≤ byte → byte < end → decider extents byte ≡ decider_from i (drop i extents) byte
+  pub given : (byte : ℕ) → at ≤ byte → byte < end → perm_at extents byte ≡ perm_at (drop i extents) byte
+  pub turned : end < 2 ^ 56 → (k : ℕ) × (k < i) × (decider extents end ≡ Some k)
 
-pub passed_none : (entries : List Entry) (at : ℕ) → Passed entries 0 at (2 ^ 56)
-passed_none entries at = record { decided = λ byte low high. refl; given = λ byte low high. refl; turned = λ small. absurd (omega arith) }
+pub passed_none : (extents : List Extent) (at : ℕ) → Passed extents 0 at (2 ^ 56)
+passed_none extents at = record { decided = λ byte low high. refl; given = λ byte low high. refl; turned = λ small. absurd (omega arith) }
 
--- one more entry, none of whose bytes is among these
+-- one more extent, none of whose bytes is among these
 more :
-    (entries : List Entry) (i at end to : ℕ) (e : Entry) → drop i entries ≡ e ∷ drop (i + 1) entries → to ≤ end
-    → ((byte : ℕ) → at ≤ byte → byte < to → holds_byte e.region byte ≡ false)
-    → (to < 2 ^ 56 → (k : ℕ) × (k < i + 1) × (decider entries to ≡ Some k))
-    → Passed entries i at end → Passed entries (i + 1) at to
-more entries i at end to e split shorter lacks turned passed = record {
+    (extents : List Extent) (i at end to : ℕ) (e : Extent) → drop i extents ≡ e ∷ drop (i + 1) extents → to ≤ end
+    → ((byte : ℕ) → at ≤ byte → byte < to → has_byte e byte ≡ false)
+    → (to < 2 ^ 56 → (k : ℕ) × (k < i + 1) × (decider extents to ≡ Some k))
+    → Passed extents i at end → Passed extents (i + 1) at to
+more extents i at end to e split shorter lacks turned passed = record {
   decided =
       λ byte low high.
-      passed.decided byte low (omega arith) ∙ ap (λ es. decider_from i es byte) split ∙ left i e (drop (i + 1) entries) byte (lacks byte low high);
+      passed.decided byte low (omega arith) ∙ ap (λ es. decider_from i es byte) split ∙ left i e (drop (i + 1) extents) byte (lacks byte low high);
   given =
       λ byte low high.
-      passed.given byte low (omega arith) ∙ ap (λ es. perm_at NoAccess es byte) split ∙ passed_on e (drop (i + 1) entries) byte (lacks byte low high);
+      passed.given byte low (omega arith) ∙ ap (λ es. perm_at es byte) split ∙ passed_on e (drop (i + 1) extents) byte (lacks byte low high);
   turned = turned;
 }
 
--- an entry that begins after `at`
+-- an extent that begins after a byte has one
+pub long : (x : Extent) (at : ℕ) → IsWords x → at < x.base → x.base < x.end
+long x at words later = ⊎_elim (λ more. more) (λ none. absurd (omega (arith, none.0, later))) words.some
+
+-- an extent that begins after `at`
 pub passed_later :
-    (entries : List Entry) (i at end to last : ℕ) (e : Entry) → drop i entries ≡ e ∷ drop (i + 1) entries → last ≡ e.region.base + 2 ^ e.region.log2 → e.region.base < last → at < e.region.base → to ≡ min end e.region.base
-    → Passed entries i at end → Passed entries (i + 1) at to
-passed_later entries i at end to last e split is some later shorter passed =
-    more entries i at end to e split (omega arith)
-    (λ byte low high. below e.region.base (e.region.base + 2 ^ e.region.log2) byte (omega arith))
+    (extents : List Extent) (i at end to last : ℕ) (e : Extent) → drop i extents ≡ e ∷ drop (i + 1) extents → last ≡ e.end → e.base < last → at < e.base → to ≡ min end e.base
+    → Passed extents i at end → Passed extents (i + 1) at to
+passed_later extents i at end to last e split is some later shorter passed =
+    more extents i at end to e split (omega arith)
+    (λ byte low high. below e.base e.end byte (omega arith))
     (λ small.
     ⊎_elim
     (λ begins.
-    let same : to ≡ e.region.base = omega arith in (
+    let same : to ≡ e.base = omega arith in (
       i,
       omega arith,
-      ap (decider entries) same
-          ∙ passed.decided e.region.base (omega arith) begins
-          ∙ ap (λ es. decider_from i es e.region.base) split
-          ∙ taken i e (drop (i + 1) entries) e.region.base (between e.region.base (e.region.base + 2 ^ e.region.log2) e.region.base (omega arith) (rw (sym is) some)),
+      ap (decider extents) same
+          ∙ passed.decided e.base (omega arith) begins
+          ∙ ap (λ es. decider_from i es e.base) split
+          ∙ taken i e (drop (i + 1) extents) e.base (between e.base e.end e.base (omega arith) (rw (sym is) some)),
     ))
     (λ over.
     let same : to ≡ end = omega arith in
     let before = passed.turned (omega arith) in
-    (before.0, omega (arith, before.1), ap (decider entries) same ∙ before.2))
-    (cases_lt e.region.base end))
+    (before.0, omega (arith, before.1), ap (decider extents) same ∙ before.2))
+    (cases_lt e.base end))
     passed
 
--- an entry that has ended
+-- an extent that has ended
 pub passed_ended :
-    (entries : List Entry) (i at end last : ℕ) (e : Entry) → drop i entries ≡ e ∷ drop (i + 1) entries → last ≡ e.region.base + 2 ^ e.region.log2 → last ≤ at
-    → Passed entries i at end → Passed entries (i + 1) at end
-passed_ended entries i at end last e split is ended passed =
-    more entries i at end end e split (omega arith)
-    (λ byte low high. behind e.region.base (e.region.base + 2 ^ e.region.log2) byte (rw (sym is) (omega (arith, ended, low))))
+    (extents : List Extent) (i at end last : ℕ) (e : Extent) → drop i extents ≡ e ∷ drop (i + 1) extents → last ≡ e.end → last ≤ at
+    → Passed extents i at end → Passed extents (i + 1) at end
+passed_ended extents i at end last e split is ended passed =
+    more extents i at end end e split (omega arith)
+    (λ byte low high. behind e.base e.end byte (rw (sym is) (omega (arith, ended, low))))
     (λ small. let before = passed.turned small in (before.0, omega (arith, before.1), before.2))
     passed
 
--- what the entries say from `at` to before `to`
-pub record Says (entries : List Entry) (at to : ℕ) (entry : Option ℕ) (perm : Perm) : Type 0 where
-  pub decided : (byte : ℕ) → at ≤ byte → byte < to → decider entries byte ≡ entry
-  pub given : (byte : ℕ) → at ≤ byte → byte < to → perm_at NoAccess entries byte ≡ perm
-  pub changes : to < 2 ^ 56 → decider entries to ≢ entry
+-- what the extents say from `at` to before `to`
+pub record Says (extents : List Extent) (at to : ℕ) (entry : Option ℕ) (perm : Perm) : Type 0 where
+  pub decided : (byte : ℕ) → at ≤ byte → byte < to → decider extents byte ≡ entry
+  pub given : (byte : ℕ) → at ≤ byte → byte < to → perm_at extents byte ≡ perm
+  pub changes : to < 2 ^ 56 → decider extents to ≢ entry
 
--- an entry that has the byte `at`
+-- an extent that has the byte `at`
 pub says_first :
-    (entries : List Entry) (i at end to last : ℕ) (e : Entry) → drop i entries ≡ e ∷ drop (i + 1) entries → last ≡ e.region.base + 2 ^ e.region.log2 → e.region.base ≤ at → at < last → to ≡ min end last
-    → Passed entries i at end → Says entries at to (Some i) e.perm
-says_first entries i at end to last e split is low_end high_end shorter passed =
-    let has : (byte : ℕ) → at ≤ byte → byte < to → holds_byte e.region byte ≡ true =
-    λ byte low high. between e.region.base (e.region.base + 2 ^ e.region.log2) byte (omega arith) (rw (sym is) (omega arith)) in
+    (extents : List Extent) (i at end to last : ℕ) (e : Extent) → drop i extents ≡ e ∷ drop (i + 1) extents → last ≡ e.end → e.base ≤ at → at < last → to ≡ min end last
+    → Passed extents i at end → Says extents at to (Some i) e.perm
+says_first extents i at end to last e split is low_end high_end shorter passed =
+    let has : (byte : ℕ) → at ≤ byte → byte < to → has_byte e byte ≡ true =
+    λ byte low high. between e.base e.end byte (omega arith) (rw (sym is) (omega arith)) in
     record {
       decided =
           λ byte low high.
-          passed.decided byte low (omega arith) ∙ ap (λ es. decider_from i es byte) split ∙ taken i e (drop (i + 1) entries) byte (has byte low high);
+          passed.decided byte low (omega arith) ∙ ap (λ es. decider_from i es byte) split ∙ taken i e (drop (i + 1) extents) byte (has byte low high);
       given =
           λ byte low high.
-          passed.given byte low (omega arith) ∙ ap (λ es. perm_at NoAccess es byte) split ∙ given e (drop (i + 1) entries) byte (has byte low high);
+          passed.given byte low (omega arith) ∙ ap (λ es. perm_at es byte) split ∙ given e (drop (i + 1) extents) byte (has byte low high);
       changes =
           λ small same.
           ⊎_elim
           (λ ends.
           let there : to ≡ last = omega arith in
-          let rest : decider_from (i + 1) (drop (i + 1) entries) last ≡ Some i =
-          sym (left i e (drop (i + 1) entries) last (behind e.region.base (e.region.base + 2 ^ e.region.log2) last (omega (arith, is))))
+          let rest : decider_from (i + 1) (drop (i + 1) extents) last ≡ Some i =
+          sym (left i e (drop (i + 1) extents) last (behind e.base e.end last (omega (arith, is))))
           ∙ sym (ap (λ es. decider_from i es last) split)
           ∙ sym (passed.decided last (omega arith) ends)
-          ∙ sym (ap (decider entries) there)
+          ∙ sym (ap (decider extents) there)
           ∙ same in
-          absurd (omega (arith, least (i + 1) (drop (i + 1) entries) last i rest)))
+          absurd (omega (arith, least (i + 1) (drop (i + 1) extents) last i rest)))
           (λ over.
           let there : to ≡ end = omega arith in
           let before = passed.turned (omega arith) in
-          absurd (omega (arith, before.1, same_Some _ _ (sym before.2 ∙ sym (ap (decider entries) there) ∙ same))))
+          absurd (omega (arith, before.1, same_Some _ _ (sym before.2 ∙ sym (ap (decider extents) there) ∙ same))))
           (cases_lt last end);
     }
 
--- where no entry is left
-pub says_none : (entries : List Entry) (i at end : ℕ) → length entries ≤ i → Passed entries i at end → Says entries at end None NoAccess
-says_none entries i at end all passed =
-    let none : drop i entries ≡ [] = drop_all i entries all in
+-- where no extent is left
+pub says_none : (extents : List Extent) (i at end : ℕ) → length extents ≤ i → Passed extents i at end → Says extents at end None NoAccess
+says_none extents i at end all passed =
+    let none : drop i extents ≡ [] = drop_all i extents all in
     record {
       decided = λ byte low high. passed.decided byte low high ∙ ap (λ es. decider_from i es byte) none;
-      given = λ byte low high. passed.given byte low high ∙ ap (λ es. perm_at NoAccess es byte) none;
+      given = λ byte low high. passed.given byte low high ∙ ap (λ es. perm_at es byte) none;
       changes = λ small same. let before = passed.turned small in absurd (let e = sym before.2 ∙ same in cc);
     }
-
-pub entry_at : (entries : List Entry) (i : ℕ) (entry : Entry) → i < length entries → entry ≡ get_or entries i entry → drop i entries ≡ entry ∷ drop (i + 1) entries
-entry_at entries i entry h is = drop_more entries i entry h ∙ ap (λ x. x ∷ drop (i + 1) entries) (sym is)

@@ -1,12 +1,12 @@
 -- Stretches one after another.
 use Rattle.std.proofs.Common.{◌≡◌, ◌∙◌, ℕ, List, [], ◌∷◌, ◌++◌, sym, refl}
-use Rattle.pmp_encoding.specs.declared.region.Entry.{Entry}
+use Rattle.pmp_encoding.specs.declared.extent.Extent.{Extent}
 use Rattle.page_views.specs.Views.{View}
 use Rattle.stretches.specs.declared.stretch.Stretch.{Stretch}
 use Rattle.stretches.specs.Stretches.{AreStretches, IsStretch}
 
 pub one_more :
-    (view : View) (entries : List Entry) (from to : ℕ) (ss : List Stretch) (s : Stretch) → AreStretches view entries from ss to → s.first ≡ to → IsStretch view entries s
-    → AreStretches view entries from (ss ++ s ∷ []) s.end
-one_more view entries from to [] s are begins is = (begins ∙ sym are, is, refl)
-one_more view entries from to (x ∷ ss) s are begins is = (are.0, are.1, one_more view entries x.end to ss s are.2 begins is)
+    (view : View) (extents : List Extent) (from to : ℕ) (ss : List Stretch) (s : Stretch) → AreStretches view extents from ss to → s.first ≡ to → IsStretch view extents s
+    → AreStretches view extents from (ss ++ s ∷ []) s.end
+one_more view extents from to [] s are begins is = (begins ∙ sym are, is, refl)
+one_more view extents from to (x ∷ ss) s are begins is = (are.0, are.1, one_more view extents x.end to ss s are.2 begins is)

@@ -1,10 +1,11 @@
-//! The space of bytes as a map and a list of entries cut it: stretches of one permission and one deciding entry.
+//! The space of bytes as a map and a list of extents cut it: stretches of one permission and one deciding entry.
 //!
-//! A [`Stretch`] is a maximal piece of the space on which the map has one permission and one entry, or none, is the first
-//! that has each byte. [`stretches`] answers all of them in order; they leave no byte out and have none twice.
+//! A [`Stretch`] is a maximal piece of the space on which the map has one permission and one entry, or
+//! none, is the first that has each byte. [`stretches`] answers all of them in order; they leave no byte
+//! out and have none twice. [`stretches_by_entries`] does so for a list of NA4 and NAPOT entries.
 //!
 //! ```rust
-//! for stretch in &stretches(alloc, &map, plan.entries())? {
+//! for stretch in &stretches_by_entries(alloc, &map, plan.entries())? {
 //!     // stretch.wanted is the map's permission, stretch.given that of the entry stretch.entry
 //! }
 //! ```
@@ -14,4 +15,4 @@ mod covering;
 mod standing;
 mod stretch;
 
-pub use stretch::{Stretch, stretches};
+pub use stretch::{Stretch, stretches, stretches_by_entries};

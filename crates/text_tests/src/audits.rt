@@ -66,7 +66,7 @@ fn a_board_whose_registers_mean_its_map_or_not(rt: HostRuntime) -> Result<(), Fa
         (
             "pmpcfg0 0x9900\npmpaddr1 0x40001ff\n",
             false,
-            "pair 1 0x99 0x00000000040001ff: locked\n",
+            "differs 0x0000000010000000 0x0000000010000fff: map rw-, entry 1 r--\n",
         ),
         (
             "pmpcfg0 0x0900000a\n",
@@ -76,7 +76,7 @@ fn a_board_whose_registers_mean_its_map_or_not(rt: HostRuntime) -> Result<(), Fa
         (
             "pmpcfg0 0x09000000\n",
             false,
-            "pair 3 0x09 0x0000000000000000: TOR\n",
+            "differs 0x0000000010000000 0x0000000010000fff: map rw-, no entry ---\n",
         ),
         (
             "pmpcfg14 0x2000000000000000\n",
@@ -86,10 +86,90 @@ fn a_board_whose_registers_mean_its_map_or_not(rt: HostRuntime) -> Result<(), Fa
         (
             "pmpaddr5 0x40000000000000\n",
             false,
-            "pair 5 0x00 0x0040000000000000: address bits above 53\n",
+            "differs 0x0000000010000000 0x0000000010000fff: map rw-, no entry ---\n",
         ),
     ] {
         expect_audit(&rt, alloc, &map, 3, listing, means, line);
+    }
+    Ok(())
+}
+
+#[test]
+fn ranges_and_locked_entries(rt: HostRuntime) -> Result<(), Fail> {
+    let alloc = rt.alloc();
+    let ranges = [
+        (0x80200, 0x7e00, Perm::ReadWriteExecute),
+        (0x10000, 1, Perm::ReadWrite),
+    ];
+    let map = map_of(&rt, alloc, ranges.as_slice());
+    for (listing, means, line) in [
+        (
+            "pmpaddr0 0x4000000\npmpaddr1 0x4000400\npmpaddr2 0x20080000\npmpaddr3 0x22000000\npmpcfg0 0x0f000b00\n",
+            true,
+            "means the map: 2 entries where 3 are enough\n",
+        ),
+        (
+            "pmpaddr0 0x4000000\npmpaddr1 0x4000400\npmpaddr2 0x20080000\npmpaddr3 0x22000000\npmpcfg0 0x8f008b80\n",
+            true,
+            "means the map: 2 entries where 3 are enough\n",
+        ),
+        (
+            "pmpaddr0 0x4000000\npmpaddr1 0x4000400\npmpaddr2 0x20000000\npmpaddr3 0x22000000\npmpcfg0 0x0f000b00\n",
+            false,
+            "differs 0x0000000080000000 0x00000000801fffff: map ---, entry 3 rwx\n",
+        ),
+        (
+            "pmpaddr0 0x4000000\npmpaddr1 0x4000400\npmpaddr2 0x22000000\npmpaddr3 0x20080000\npmpcfg0 0x0f000b00\n",
+            false,
+            "differs 0x0000000080200000 0x0000000087ffffff: map rwx, no entry ---\n",
+        ),
+        (
+            "pmpaddr0 0x4000000\npmpaddr1 0x4000400\npmpcfg0 0x0a0b00\n",
+            false,
+            "pair 2 0x0a 0x0000000000000000: W without R\n",
+        ),
+    ] {
+        expect_audit(&rt, alloc, &map, 3, listing, means, line);
+    }
+    let low = map_of(&rt, alloc, [(0, 1, Perm::Read)].as_slice());
+    let one = "means the map: 1 entry where 1 is enough\n";
+    expect_audit(
+        &rt,
+        alloc,
+        &low,
+        1,
+        "pmpaddr0 0x400\npmpcfg0 9\n",
+        true,
+        one,
+    );
+    let all = map_of(&rt, alloc, [(0, 1 << 44, Perm::Read)].as_slice());
+    let listing = "pmpaddr0 0xffffffffffffffff\npmpcfg0 0x19\n";
+    expect_audit(&rt, alloc, &all, 1, listing, true, one);
+    Ok(())
+}
+
+#[test]
+fn ranges_that_cut_an_access(rt: HostRuntime) -> Result<(), Fail> {
+    let alloc = rt.alloc();
+    let read = map_of(&rt, alloc, [(1, 1, Perm::Read)].as_slice());
+    for (listing, means, line) in [
+        (
+            "pmpaddr0 0x400\npmpaddr1 0x403\npmpaddr2 0x800\npmpcfg0 0x090900\n",
+            false,
+            "differs 0x0000000000001008 0x000000000000100f: entry 1 cuts an access of 8 bytes\n",
+        ),
+        (
+            "pmpaddr0 0x400\npmpaddr1 0x402\npmpaddr2 0x800\npmpcfg0 0x090900\n",
+            true,
+            "means the map: 2 entries where 1 is enough\n",
+        ),
+        (
+            "pmpaddr0 0x401\npmpaddr1 0x403\npmpaddr2 0x400\npmpaddr3 0x800\npmpcfg0 0x09000900\n",
+            false,
+            "differs 0x0000000000001000 0x0000000000001007: entry 1 cuts an access of 8 bytes\n",
+        ),
+    ] {
+        expect_audit(&rt, alloc, &read, 1, listing, means, line);
     }
     Ok(())
 }

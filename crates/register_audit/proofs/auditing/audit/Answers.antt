@@ -1,7 +1,7 @@
-use Rattle.std.proofs.Common.{◌≡◌, ◌∙◌, false, refl, sym}
+use Rattle.std.proofs.Common.{◌≡◌, ◌∙◌, false, true, refl, sym}
 use Rattle.permission_map.specs.Runs.{view_of_runs}
 use Rattle.register_audit.specs.Verdicts.{is_meant}
-use Rattle.register_audit.proofs.Answered.{verdict_no}
+use Rattle.register_audit.proofs.Answered.{verdict_no, verdict_yes}
 use Rattle.register_audit.proofs.auditing.audit.Goals as goal
 
 pub returns-in_default-write_whole-clause-part : goal.returns-in_default-write_whole-clause-part
@@ -25,4 +25,12 @@ returns-clause-differs g c = λ e.
       c.in-Ok.registers,
       c.in-Ok.ensures.registers,
       verdict_no (view_of_runs c.args.map.now) c.in-Ok.registers c.in-Ok-verdict_of.verdict c.in-Ok-verdict_of.ensures (sym answer ∙ c.is_meant.ensures),
+    )
+
+pub returns-clause-means : goal.returns-clause-means
+returns-clause-means g c = λ e.
+    let answer : c.is_meant.result ≡ true = cc in (
+      c.in-Ok.registers,
+      c.in-Ok.ensures.registers,
+      verdict_yes (view_of_runs c.args.map.now) c.in-Ok.registers c.in-Ok-verdict_of.verdict c.in-Ok-verdict_of.ensures (sym answer ∙ c.is_meant.ensures),
     )

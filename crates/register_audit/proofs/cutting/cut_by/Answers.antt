@@ -1,28 +1,13 @@
-use Rattle.std.proofs.Common.{◌∙◌, ◌-◌, ◌%◌, ◌^◌, ◌<◌, ap, sym, arith, pow_pos}
-use Rattle.pmp_encoding.specs.Perms.{can_read}
+-- Eight bytes that an entry cuts have one of its ends in their middle; its lower end comes first.
 use Rattle.permission_map.specs.Runs.{view_of_runs}
-use Rattle.register_audit.specs.Findings.{IsCut, load_of_eight}
-use Rattle.register_audit.proofs.Judged.{ok_allows, err_denies}
+use Rattle.register_audit.proofs.Cut.{lowest_base, lowest_end, uncut_by}
 use Rattle.register_audit.proofs.cutting.cut_by.Goals as goal
 
-pub returns-in-Ok : goal.returns-in-Ok
-returns-in-Ok c = λ entries has four may.
-    let at = c.args.entry.now.region.base - c.args.entry.now.region.base % 8 in
-    ok_allows entries (load_of_eight at) (rw (c.in-Ok.is, c.load_of_eight-load.ensures) at (c.judge.ensures.by_no_other entries has))
+pub returns-in-Some : goal.returns-in-Some
+returns-in-Some c = lowest_base (view_of_runs c.args.map.now) c.args.extents.now c.args.i c.in-Some.low c.requires.words c.requires.i c.in-Some.ensures.some.0 c.in-Some.ensures.some.1
 
-pub returns-in-Err : goal.returns-in-Err
-returns-in-Err c = λ entries has.
-    let region = c.args.entry.now.region in
-    let at = region.base - region.base % 8 in
-    let inside : at < 2 ^ 56 = omega (arith, region.block.inside, pow_pos region.log2) in
-    let cut : IsCut (view_of_runs c.args.map.now) entries at = record {
-      aligned = omega arith;
-      inside = inside;
-      may = ap can_read (sym c.get.ensures) ∙ sym c.can_read.ensures ∙ c.if-not-can_read.false;
-      denied = err_denies entries (load_of_eight at) c.in-Err.field-0 (omega arith) inside (rw (c.in-Err.is, c.load_of_eight-load.ensures) at (c.judge.ensures.by_no_other entries has));
-    } in
-    record {
-      four = omega (arith, region.block.long, c.if-entry-gt2.false);
-      low = λ i. at;
-      cut = cut;
-    }
+pub returns-in_default-cut_at : goal.returns-in_default-cut_at
+returns-in_default-cut_at c = uncut_by (view_of_runs c.args.map.now) c.args.extents.now c.args.i c.requires.words c.requires.i c.in_default.ensures.none c.in_default-cut_at.ensures.none
+
+pub returns : goal.returns
+returns c = lowest_end (view_of_runs c.args.map.now) c.args.extents.now c.args.i c.in-Some-cut_at.high c.requires.words c.requires.i c.in-Some-cut_at.ensures.some.0 c.in_default.ensures.none c.in-Some-cut_at.ensures.some.1

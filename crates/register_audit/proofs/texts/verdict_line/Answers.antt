@@ -9,5 +9,5 @@ returns-in-Differs c = rw c.in-Differs.is (c.stretch_line.ensures c.args.fewest 
 pub returns-in-Cuts : goal.returns-in-Cuts
 returns-in-Cuts c = rw c.in-Cuts.is (c.cut_line.ensures c.args.fewest c.args.registers.now)
 
-pub returns-in-NoEntry : goal.returns-in-NoEntry
-returns-in-NoEntry c = rw c.in-NoEntry.is (c.fault_line.ensures c.args.fewest)
+pub returns-in-NoMeaning : goal.returns-in-NoMeaning
+returns-in-NoMeaning c = rw c.in-NoMeaning.is (c.reserved_line.ensures c.args.fewest)

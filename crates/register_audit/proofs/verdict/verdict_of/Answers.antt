@@ -1,14 +1,13 @@
-use Rattle.std.proofs.Common.{sym, subst, List}
-use Rattle.pmp_encoding.specs.declared.region.Entry.{Entry}
-use Rattle.permission_map.specs.Runs.{view_of_runs}
-use Rattle.pmp_match.specs.Meaning.{Means}
+-- The extents of the registers are of whole words; what is found of them is so of the registers.
+use Rattle.std.proofs.Common.{sym}
+use Rattle.pmp_registers.proofs.Matched.{all_words}
 use Rattle.register_audit.proofs.verdict.verdict_of.Goals as goal
+
+pub compared-requires : goal.compared-requires
+compared-requires c = rw c.as_slice.ensures (all_words c.args.registers.now c.in-Ok.extents c.in-Ok.ensures.extents)
 
 pub returns-in-Means : goal.returns-in-Means
 returns-in-Means c = (
-  c.in-Ok.list.entries.items,
-  c.in-Ok.list.places.items,
-  record { list = c.in-Ok.ensures.list; at = c.in-Ok.ensures.places },
-  subst (λ (es : List Entry). Means es (view_of_runs c.args.map.now)) c.as_slice.ensures.value (rw c.in-Means.is at c.in_ok-compared.ensures),
-  sym c.len.ensures.value,
+  record { extents = c.in-Ok.extents; are_extents = c.in-Ok.ensures.extents; means = rw (c.as_slice.ensures, c.in-Means.is) at c.in_ok-compared.ensures },
+  sym c.count_on.ensures,
 )

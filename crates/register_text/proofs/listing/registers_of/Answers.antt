@@ -15,7 +15,7 @@ loop-lines-preserved c =
         f.0 ++ first.0 ∷ [],
         f.1 ∙ ap (λ x. f.0 ++ x) first.1.lines ∙ sym (append_assoc f.0 (first.0 ∷ []) (raw_lines (left_of c.next_line.new.lines c.next_line.new.rest.now))),
         length-append f.0 (first.0 ∷ []) ∙ ap (λ n. n + 1) f.2 ∙ sym first.1.number,
-        rw c.with-registers.ensures (set_by_more _ c.loop-lines.registers f.0 first.0 c.in-Ok.setting f.3 sets),
+        rw c.of-registers.ensures (set_by_more _ c.loop-lines.registers f.0 first.0 c.in-Ok.setting f.3 sets),
       );
       came = c.in_ok-next_line.ensures.came ∙ c.loop-lines.invariant.came;
       limit = c.in_ok-next_line.ensures.limit ∙ c.loop-lines.invariant.limit;

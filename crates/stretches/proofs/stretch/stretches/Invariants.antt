@@ -6,7 +6,7 @@ use Rattle.stretches.proofs.stretch.stretches.Given as goal
 abbrev pub invariant-loop-at : goal.invariant-loop-at
 invariant-loop-at l = record {
   inside : l.at ≤ 2 ^ 56;
-  are : AreStretches (view_of_runs l.map) l.entries 0 l.all.items l.at;
+  are : AreStretches (view_of_runs l.map) l.extents 0 l.all.items l.at;
 }
 
 abbrev pub decreases-loop-at : goal.decreases-loop-at

@@ -1,16 +1,39 @@
-//! The registers that a listing leaves.
+//! What a line of a listing sets, and the registers after it.
 
 ghost use Rattle.std.specs.Prelude.{◌≡◌, ◌≤◌, ◌+◌};
 ghost use Rattle.register_text.specs.Lines.{IsInside};
 ghost use Rattle.register_text.specs.Listings.{are_off, set_by, set_bytes};
 
-use crate::register_lines::Setting;
+use pmp_registers::Registers;
 
-/// The configuration bytes and the address registers of the entries 0 to 63, whatever stands in them.
-#[derive(Clone, Copy, PartialEq, Eq, Debug)]
-pub struct Registers {
-    pub cfgs: [u8; 64],
-    pub addresses: [u64; 64],
+/// What a line sets. Places are below 64.
+#[derive(Clone, Copy, Debug, PartialEq, Eq)]
+pub enum Setting {
+    /// A line without words, or a count of entries.
+    Nothing,
+    /// The pair of an entry.
+    Pair {
+        /// The number of the entry.
+        place: usize,
+        /// Its configuration byte.
+        cfg: u8,
+        /// Its address register.
+        address: u64,
+    },
+    /// An address register.
+    Address {
+        /// The number of the entry.
+        place: usize,
+        /// What it holds.
+        value: u64,
+    },
+    /// A configuration word: the bytes of eight entries.
+    Word {
+        /// The number of the first entry.
+        place: usize,
+        /// What it holds, the lowest byte first.
+        value: u64,
+    },
 }
 
 /// Registers that are all zero.
@@ -37,14 +60,14 @@ fn with_word(cfgs: [u8; 64], place: usize, value: u64) -> [u8; 64]
     bytes
 }
 
-impl Registers {
-    /// The registers after a setting.
-    pub(crate) fn with(&self, setting: Setting) -> Registers
-        requires { IsInside setting }
-        ensures { result ≡ set_by self.now setting }
+impl Setting {
+    /// The registers after the setting.
+    pub(crate) fn of(self, registers: &Registers) -> Registers
+        requires { IsInside self }
+        ensures { result ≡ set_by registers.now self }
     {
-        let mut registers = *self;
-        match setting {
+        let mut registers = *registers;
+        match self {
             Setting::Nothing => {}
             Setting::Pair {
                 place,

@@ -1,6 +1,6 @@
 use Rattle.std.proofs.Common.{◌≡◌, ◌∙◌, ◌+◌, ◌-◌, suc, ap, sym, arith}
 use Rattle.register_text.specs.Listings.{set_bytes}
-use Rattle.register_text.proofs.registers.with_word.Goals as goal
+use Rattle.register_text.proofs.setting.with_word.Goals as goal
 
 pub loop-i-preserved : goal.loop-i-preserved
 loop-i-preserved c =
