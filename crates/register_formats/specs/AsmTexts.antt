@@ -10,9 +10,11 @@ use Rattle.register_formats.specs.Names.{address_or_zero, note_text}
 use Rattle.register_formats.specs.Heads.{head_text}
 use Rattle.register_formats.specs.Rows.{rows_text}
 
--- what stands before the instructions
+-- what stands before them: an instruction that changes nothing, and that RV32 lacks
 abbrev pub asm_begin : List ℕ
-asm_begin = codes "/* Only t0 is changed. */\n"
+asm_begin =
+    codes "/* Only t0 is changed. */\n"
+    ++ codes "    addiw   zero, zero, 0 /* an assembler for RV32 refuses this */\n"
 
 -- the instructions that write an address register, with its entry
 abbrev pub asm_address_row : List Entry → ℕ → List ℕ

@@ -11,10 +11,14 @@ use Rattle.register_formats.specs.Names.{address_or_zero, note_text}
 use Rattle.register_formats.specs.Heads.{head_text}
 use Rattle.register_formats.specs.Rows.{rows_text}
 
+-- a compiler for RV32 refuses the text; one for another processor does not
+abbrev pub c_guard : List ℕ
+c_guard = codes "#if defined(__riscv) && __riscv_xlen != 64\n#error \"these are the registers of RV64\"\n#endif\n\n"
+
 -- the beginning of the array of address registers
 abbrev pub c_addresses_begin : Limit → List ℕ
-c_addresses_begin Sixteen = codes "#include <stdint.h>\n\nstatic const uint64_t pmpaddr[16] = {\n"
-c_addresses_begin SixtyFour = codes "#include <stdint.h>\n\nstatic const uint64_t pmpaddr[64] = {\n"
+c_addresses_begin Sixteen = c_guard ++ codes "#include <stdint.h>\n\nstatic const uint64_t pmpaddr[16] = {\n"
+c_addresses_begin SixtyFour = c_guard ++ codes "#include <stdint.h>\n\nstatic const uint64_t pmpaddr[64] = {\n"
 
 -- an address register: `    0x00000000040001ff, /* 0: 0x0000000010000000, 4 KiB, rw */`
 abbrev pub c_address_row : List Entry → ℕ → List ℕ

@@ -6,9 +6,10 @@ abbrev pub head_text : List ℕ
 head_text =
     codes "/*\n * PMP registers, planned by pmpmon. With them a hart lets supervisor and user mode\n"
     ++ codes " * do exactly what the map says, where all of this holds:\n"
+    ++ codes " *  - the hart is RV64: its configuration words have 64 bits;\n"
     ++ codes " *  - machine mode writes them, on each hart;\n"
     ++ codes " *  - no entry is locked (L = 0), and mseccfg is 0 where the hart has it;\n"
     ++ codes " *  - the hart protects whole pages of 4096 bytes: its grain is no larger;\n"
     ++ codes " *  - the address registers are written first, then the configuration words, 0 to\n"
-    ++ codes " *    each word behind these too, and then comes sfence.vma.\n"
+    ++ codes " *    each word after these too, and then comes sfence.vma.\n"
     ++ codes " */\n"

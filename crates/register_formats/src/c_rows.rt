@@ -9,13 +9,31 @@ use arrayvec::ArrayVec;
 use pmp_encoding::{Bank, Entry, Limit};
 use text_lines::{push_decimal, push_hex, push_text};
 
-/// The beginning of the array of address registers.
+/// The beginning of the array of address registers, after a guard that a compiler for RV32 refuses.
 pub(crate) fn addresses_begin(limit: Limit) -> &'static [u8]
     ensures { result.now ≡ c_addresses_begin limit }
 {
     match limit {
-        Limit::Sixteen => b"#include <stdint.h>\n\nstatic const uint64_t pmpaddr[16] = {\n",
-        Limit::SixtyFour => b"#include <stdint.h>\n\nstatic const uint64_t pmpaddr[64] = {\n",
+        Limit::Sixteen => {
+            b"#if defined(__riscv) && __riscv_xlen != 64
+#error \"these are the registers of RV64\"
+#endif
+
+#include <stdint.h>
+
+static const uint64_t pmpaddr[16] = {
+"
+        }
+        Limit::SixtyFour => {
+            b"#if defined(__riscv) && __riscv_xlen != 64
+#error \"these are the registers of RV64\"
+#endif
+
+#include <stdint.h>
+
+static const uint64_t pmpaddr[64] = {
+"
+        }
     }
 }
 

@@ -20,11 +20,12 @@ fn head() -> &'static [u8]
     b"/*
  * PMP registers, planned by pmpmon. With them a hart lets supervisor and user mode
  * do exactly what the map says, where all of this holds:
+ *  - the hart is RV64: its configuration words have 64 bits;
  *  - machine mode writes them, on each hart;
  *  - no entry is locked (L = 0), and mseccfg is 0 where the hart has it;
  *  - the hart protects whole pages of 4096 bytes: its grain is no larger;
  *  - the address registers are written first, then the configuration words, 0 to
- *    each word behind these too, and then comes sfence.vma.
+ *    each word after these too, and then comes sfence.vma.
  */
 "
 }
@@ -69,7 +70,7 @@ pub fn print_asm<W: Sink>(entries: &[Entry], limit: Limit, out: &mut W) -> Resul
     let words = asm_rows::Words { bank: &bank };
     write_whole(out, head())?;
     print_section(
-        b"/* Only t0 is changed. */\n",
+        b"/* Only t0 is changed. */\n    addiw   zero, zero, 0 /* an assembler for RV32 refuses this */\n",
         &addresses,
         entries.len(),
         out,

@@ -9,11 +9,12 @@ use std::process::Abort;
 const HEAD: &[u8] = b"/*
  * PMP registers, planned by pmpmon. With them a hart lets supervisor and user mode
  * do exactly what the map says, where all of this holds:
+ *  - the hart is RV64: its configuration words have 64 bits;
  *  - machine mode writes them, on each hart;
  *  - no entry is locked (L = 0), and mseccfg is 0 where the hart has it;
  *  - the hart protects whole pages of 4096 bytes: its grain is no larger;
  *  - the address registers are written first, then the configuration words, 0 to
- *    each word behind these too, and then comes sfence.vma.
+ *    each word after these too, and then comes sfence.vma.
  */
 ";
 
@@ -49,7 +50,11 @@ fn behind_head(sink: &PieceSink) -> &[u8] {
 fn c_of_a_board(rt: HostRuntime) {
     let mut sink = PieceSink::new(7, None);
     assert!(rt; print_c(board(&rt).as_slice(), Limit::Sixteen, &mut sink).is_ok());
-    let text = b"#include <stdint.h>
+    let text = b"#if defined(__riscv) && __riscv_xlen != 64
+#error \"these are the registers of RV64\"
+#endif
+
+#include <stdint.h>
 
 static const uint64_t pmpaddr[16] = {
     0x00000000040001ff, /* 0: 0x0000000010000000, 4 KiB, rw */
@@ -83,6 +88,7 @@ fn assembly_of_a_board(rt: HostRuntime) {
     let mut sink = PieceSink::new(4096, None);
     assert!(rt; print_asm(board(&rt).as_slice(), Limit::Sixteen, &mut sink).is_ok());
     let text = b"/* Only t0 is changed. */
+    addiw   zero, zero, 0 /* an assembler for RV32 refuses this */
     li      t0, 0x00000000040001ff /* 0: 0x0000000010000000, 4 KiB, rw */
     csrw    pmpaddr0, t0
     li      t0, 0x000000002003ffff /* 1: 0x0000000080000000, 2 MiB, none */
@@ -143,6 +149,7 @@ fn no_entries_are_a_list_too(rt: HostRuntime) {
     let mut sink = PieceSink::new(4096, None);
     assert!(rt; print_asm(&[], Limit::Sixteen, &mut sink).is_ok());
     let text = b"/* Only t0 is changed. */
+    addiw   zero, zero, 0 /* an assembler for RV32 refuses this */
     li      t0, 0x0000000000000000
     csrw    pmpcfg0, t0
     li      t0, 0x0000000000000000
@@ -169,6 +176,7 @@ fn sizes_are_told_in_their_largest_unit(rt: HostRuntime) {
     let mut sink = PieceSink::new(4096, None);
     assert!(rt; print_asm(entries.as_slice(), Limit::SixtyFour, &mut sink).is_ok());
     let front = b"/* Only t0 is changed. */
+    addiw   zero, zero, 0 /* an assembler for RV32 refuses this */
     li      t0, 0x0000000000000800 /* 0: 0x0000000000002000, 4 B, r */
     csrw    pmpaddr0, t0
     li      t0, 0x000000000000083f /* 1: 0x0000000000002000, 512 B, rx */
