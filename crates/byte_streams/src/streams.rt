@@ -4,7 +4,8 @@
 
 ghost use Rattle.std.specs.Prelude.{◌≡◌, ℕ, ◌<◌, ◌≤◌, List, Option, Some, Ok, IfOk, IfErr, min, length, take};
 ghost use Rattle.std.specs.Io.KnownBytes.{ReadConsumes, WriteAppends, Appends};
-ghost use Rattle.byte_streams.specs.Streams.{CountsFailure, CountsStall, WriteFails, inner_of, failures_of, stalls_of};
+ghost use Rattle.byte_streams.specs.Streams.{CountsFailure, CountsStall, inner_of, failures_of, stalls_of};
+ghost use Rattle.byte_streams.specs.Writings.{writing, Prints};
 
 use std::io::{Read, Write};
 use thiserror::Error;
@@ -146,16 +147,7 @@ impl<T: Write> Sink for Counted<T> {
 
 /// Writes all of the bytes. A write that takes none of some bytes is a fault too.
 pub fn write_whole<W: Sink>(sink: &mut W, bytes: &[u8]) -> Result<(), DeviceFault>
-    ensures whole { IfOk result (λ _. Appends (W.contents sink.old)
-        (W.contents sink.new) bytes.now) }
-    ensures well { IfOk result (λ _. W.failures sink.new ≡ W.failures sink.old) }
-    ensures unstalled { IfOk result (λ _. W.stalls sink.new ≡ W.stalls sink.old) }
-    ensures part { IfErr result (λ _.
-        (n : ℕ) × (n < length bytes.now)
-        × Appends (W.contents sink.old) (W.contents sink.new) (take n bytes.now)) }
-    ensures failed { IfErr result (λ _.
-        WriteFails (W.failures sink.old)
-        (W.failures sink.new) (W.stalls sink.old) (W.stalls sink.new)) }
+    ensures { Prints bytes.now (writing W.contents W.failures W.stalls sink.old sink.new) result }
 {
     let mut done = 0;
     while done < bytes.len() {

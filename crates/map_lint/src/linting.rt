@@ -1,8 +1,7 @@
 //! The lint of a map file.
 
-ghost use Rattle.std.specs.Prelude.{◌≡◌, ◌-◌, ◌^◌, ◌<◌, Bool, Err, IfOk, Ok, ℕ, List, OnOk, length, take, true, false};
-ghost use Rattle.std.specs.Io.KnownBytes.{Appends};
-ghost use Rattle.byte_streams.specs.Streams.{WriteFails};
+ghost use Rattle.std.specs.Prelude.{◌≡◌, ◌-◌, ◌^◌, ◌<◌, Bool, Err, IfOk, Ok, ℕ, List, length, true, false};
+ghost use Rattle.byte_streams.specs.Writings.{writing, Breaks, TakesAll};
 ghost use Rattle.permission_map.specs.declared.runs.Run.{Run};
 ghost use Rattle.map_text.specs.MapFile.{Makes};
 ghost use Rattle.map_lint.specs.declared.linting.LintFault as LintFault;
@@ -50,19 +49,14 @@ pub fn lint<W: Sink>(
     requires short { length bytes.now < 2 ^ 64 - 1 }
     ensures map { result ≡ Ok true → (map : List Run) × Makes bytes.now map }
     ensures fault { result ≡ Ok false → IsAtFault bytes.now }
-    ensures written { IfOk result (λ is_map.
-        (text : List ℕ) × IsLintText name.now bytes.now is_map text
-        × Appends (W.contents out.old) (W.contents out.new) text) }
-    ensures well { OnOk result (W.failures out.new ≡ W.failures out.old) }
-    ensures unstalled { OnOk result (W.stalls out.new ≡ W.stalls out.old) }
+    ensures written { IfOk result (λ is_map. (text : List ℕ)
+        × IsLintText name.now bytes.now is_map text
+        × TakesAll text (writing W.contents W.failures W.stalls out.old out.new)) }
     ensures untouched { result ≡ Err LintFault.Memory → out.new ≡ out.old }
-    ensures part { result ≡ Err LintFault.Device
-        → (is_map : Bool) × IsVerdictOfLines bytes.now is_map × (text : List ℕ)
-        × IsLintText name.now bytes.now is_map text × (n : ℕ) × (n < length text)
-        × Appends (W.contents out.old) (W.contents out.new) (take n text) }
-    ensures failed { result ≡ Err LintFault.Device
-        → WriteFails (W.failures out.old)
-        (W.failures out.new) (W.stalls out.old) (W.stalls out.new) }
+    ensures broken { result ≡ Err LintFault.Device → (is_map : Bool)
+        × IsVerdictOfLines bytes.now is_map × (text : List ℕ)
+        × IsLintText name.now bytes.now is_map text
+        × Breaks text (writing W.contents W.failures W.stalls out.old out.new) }
 {
     let Ok(answer) = is_map(alloc, bytes) else {
         return Err(LintFault::Memory);

@@ -1,12 +1,10 @@
 //! The whole table.
 
 ghost use Rattle.std.specs.Prelude.{◌≡◌, ◌-◌, ◌^◌, ◌<◌, ◌≤◌, ℕ, Err, IfOk, List, OnOk, length};
-ghost use Rattle.std.specs.Io.KnownBytes.{Appends};
-ghost use Rattle.byte_streams.specs.Streams.{WriteFails};
+ghost use Rattle.byte_streams.specs.Writings.{writing, Breaks, TakesAll};
 ghost use Rattle.pmp_encoding.specs.declared.region.Entry.{Entry};
 ghost use Rattle.pmp_match.specs.Meaning.{IsFewest};
 ghost use Rattle.permission_map.specs.Runs.{view_of_runs};
-ghost use Rattle.printed_lines.specs.Plans.{TakesPart};
 ghost use Rattle.map_table.specs.Tables.{IsTable};
 
 use crate::rows::{count_line, push_rest, push_rows};
@@ -69,16 +67,11 @@ pub fn print_map<W: Sink>(
     requires fewest { IsFewest (view_of_runs map.now) entries.now }
     ensures written { OnOk result ((text : List ℕ)
         × IsTable (view_of_runs map.now) entries.now limit text
-        × Appends (W.contents out.old) (W.contents out.new) text) }
-    ensures well { OnOk result (W.failures out.new ≡ W.failures out.old) }
-    ensures unstalled { OnOk result (W.stalls out.new ≡ W.stalls out.old) }
+        × TakesAll text (writing W.contents W.failures W.stalls out.old out.new)) }
     ensures untouched { result ≡ Err TableFault.Memory → out.new ≡ out.old }
-    ensures part { result ≡ Err TableFault.Device
-        → (text : List ℕ) × IsTable (view_of_runs map.now) entries.now limit text
-        × TakesPart text (W.contents out.old) (W.contents out.new) }
-    ensures failed { result ≡ Err TableFault.Device
-        → WriteFails (W.failures out.old)
-        (W.failures out.new) (W.stalls out.old) (W.stalls out.new) }
+    ensures broken { result ≡ Err TableFault.Device → (text : List ℕ)
+        × IsTable (view_of_runs map.now) entries.now limit text
+        × Breaks text (writing W.contents W.failures W.stalls out.old out.new) }
 {
     let text = table_of(alloc, map, entries, limit)?;
     let Ok(()) = write_whole(out, text.as_slice()) else {

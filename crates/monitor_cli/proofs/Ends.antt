@@ -1,12 +1,11 @@
--- How runs over lines, texts that are written and plans end.
+-- How runs over lines, troubles that are printed and plans end.
 use Rattle.std.proofs.Common.{ℕ, ◌≡◌, ◌≤◌, ◌⊎◌, inl, inr, Bool, true, false, List, Option, Some, None, Result, Ok, Err, IfOk, IfErr, arith, refl}
 use Rattle.std.specs.Borrow.{Bor}
 use Rattle.std.specs.Io.KnownBytes.{Appends}
-use Rattle.byte_streams.specs.Streams.{WriteFails}
+use Rattle.byte_streams.specs.Writings.{IsUnwritten, Prints, Writing}
 use Rattle.text_lines.specs.declared.fault.RunFault.{RunFault}
 use Rattle.text_lines.specs.declared.fault.RunFault.TheVariants as runs
 use Rattle.text_lines.specs.LineLoop.{Meaning, StopsAt, StopsForMemory, StopsReading, StopsTooLong, StopsWriting}
-use Rattle.printed_lines.specs.Plans.{TakesPart}
 use Rattle.program_troubles.specs.declared.trouble.Trouble.{Trouble}
 use Rattle.hart_sim.specs.declared.machine.Machine.{Machine}
 use Rattle.hart_sim.specs.Machines.{kept_of}
@@ -15,7 +14,7 @@ use Rattle.pmp_encoding.specs.Limits.{limit_number}
 use Rattle.pmp_match.specs.Meaning.{View}
 use Rattle.program_tasks.specs.declared.task.Format.TheVariants as formats
 use Rattle.program_troubles.specs.declared.trouble.Trouble.TheVariants.{Memory}
-use Rattle.monitor_cli.specs.Commands.{Writing, Placing, Breaks, IsMeasured, IsUnplanned, IsUnwritten, IsWithin, NeedsMore, TakesAll, Tells, beyond, most_entries, starved, told, cut}
+use Rattle.monitor_cli.specs.Commands.{Placing, IsMeasured, IsUnplanned, IsWithin, NeedsMore, Tells, beyond, most_entries, starved, told, cut}
 use Rattle.monitor_cli.specs.Tasks.{AreMeasures, Stops}
 use Rattle.program_troubles.specs.Troubles.{trouble_text}
 
@@ -33,12 +32,9 @@ stops does refuses starves old new before after held holds runs.Read line long r
 stops does refuses starves old new before after held holds runs.Write line long read write memory = write refl
 stops does refuses starves old new before after held holds runs.Memory line long read write memory = memory refl
 
-pub tells :
-    {E X Y : Type 0} (err : Writing E) (trouble : Trouble) (printed : Result X Y) → IfOk printed (λ _. Appends err.before err.after (trouble_text trouble))
-    → IfErr printed (λ _. TakesPart (trouble_text trouble) err.before err.after) → IfErr printed (λ _. WriteFails err.failures err.failed err.stalls err.stalled)
-    → Tells err (Err trouble)
-tells err trouble (Ok x) written part fails = told trouble written
-tells err trouble (Err y) written part fails = cut trouble (record { part = part; fails = fails })
+pub tells : {E X Y : Type 0} (err : Writing E) (trouble : Trouble) (printed : Result X Y) → Prints (trouble_text trouble) err printed → Tells err (Err trouble)
+tells err trouble (Ok x) whole = told trouble whole.whole
+tells err trouble (Err y) broken = cut trouble broken
 
 -- measurements that were not asked for, and those that were
 pub unmeasured : (measure : Bool) (machine : Machine) (held : Option (List ℕ)) → measure ≡ false → IsMeasured measure machine held held
@@ -50,20 +46,6 @@ pub measured :
     → IsMeasured measure machine before after
 measured true machine before after e written = written
 measured false machine before after e written = cc
-
--- a text that was written whole
-pub taken :
-    {W X Y : Type 0} (sink : Writing W) (result : Result X Y) (P : List ℕ → Type 0) → IfOk result (λ _. (text : List ℕ) × P text × Appends sink.before sink.after text)
-    → IfOk result (λ _. sink.failed ≡ sink.failures) → IfOk result (λ _. sink.stalled ≡ sink.stalls) → IfOk result (λ _. (text : List ℕ) × P text × TakesAll text sink)
-taken sink (Ok x) P written unfailed unstalled = (written.0, written.1, record { whole = written.2; well = (unfailed, unstalled) })
-taken sink (Err y) P written unfailed unstalled = tt
-
--- a text that broke off
-pub broken :
-    {W X Y : Type 0} (sink : Writing W) (result : Result X Y) (P : List ℕ → Type 0) → IfErr result (λ _. (text : List ℕ) × P text × TakesPart text sink.before sink.after)
-    → IfErr result (λ _. WriteFails sink.failures sink.failed sink.stalls sink.stalled) → IfErr result (λ _. (text : List ℕ) × P text × Breaks text sink)
-broken sink (Ok x) P part fails = tt
-broken sink (Err y) P part fails = (part.0, part.1, record { part = part.2; fails = fails })
 
 -- no plan, where there is none within the bound
 pub unplanned :

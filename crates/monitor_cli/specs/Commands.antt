@@ -3,6 +3,7 @@ use Rattle.std.specs.Prelude.{◌≡◌, ℕ, ◌+◌, ◌^◌, ◌<◌, ◌≤�
 use Rattle.std.specs.Borrow.{Bor}
 use Rattle.std.specs.Io.KnownBytes.{Appends, Consumes}
 use Rattle.byte_streams.specs.Streams.{WriteFails, one_failure_more}
+use Rattle.byte_streams.specs.Writings.{Breaks, IsUnwritten, IsWell, TakesAll, TakesPart, Writing, writing}
 use Rattle.pmp_encoding.specs.declared.bank.Bank.{Bank}
 use Rattle.pmp_encoding.specs.declared.limit.Limit.{Limit}
 use Rattle.pmp_encoding.specs.declared.region.Entry.{Entry}
@@ -32,7 +33,7 @@ use Rattle.hart_sim.specs.After.{IsBooted}
 use Rattle.hart_sim.specs.Machines.{kept_of}
 use Rattle.hart_sim.specs.Reports.{DoesLine, RefusesLine, StarvesLine}
 use Rattle.trace_judge.specs.Judging.{is_no_access, judged_by}
-use Rattle.printed_lines.specs.Plans.{IsPlanText, TakesPart}
+use Rattle.printed_lines.specs.Plans.{IsPlanText}
 use Rattle.map_table.specs.Tables.{IsTable}
 use Rattle.register_formats.specs.AsmTexts.{IsAsmText}
 use Rattle.register_formats.specs.CTexts.{IsCText}
@@ -68,29 +69,6 @@ reading remaining failures old new = record {
   failed = failures new;
 }
 
--- a sink over a call: itself, the bytes that it has taken, how often it has failed, and how often it took none of some bytes
-pub record Writing (W : Type 0) : Type 0 where
-  pub old : W
-  pub new : W
-  pub before : Option (List ℕ)
-  pub after : Option (List ℕ)
-  pub failures : ℕ
-  pub failed : ℕ
-  pub stalls : ℕ
-  pub stalled : ℕ
-
-abbrev pub writing : {W : Type 0} → (W → Option (List ℕ)) → (W → ℕ) → (W → ℕ) → W → W → Writing W
-writing contents failures stalls old new = record {
-  old = old;
-  new = new;
-  before = contents old;
-  after = contents new;
-  failures = failures old;
-  failed = failures new;
-  stalls = stalls old;
-  stalled = stalls new;
-}
-
 -- a sink whose bytes come to stand in a place, over a call, and the bytes that stand there after it, where they are known
 pub record Placing (C : Type 0) : Type 0 where
   pub sink : Writing C
@@ -102,24 +80,6 @@ placing contents failures stalls stands old new = record { sink = writing conten
 -- nothing was read from it
 abbrev pub IsUnread : {R : Type 0} → Reading R → Type 0
 IsUnread source = source.new ≡ source.old
-
--- nothing was written to it
-abbrev pub IsUnwritten : {W : Type 0} → Writing W → Type 0
-IsUnwritten sink = sink.new ≡ sink.old
-
--- no write to it failed or took none of some bytes
-abbrev pub IsWell : {W : Type 0} → Writing W → Type 0
-IsWell sink = (sink.failed ≡ sink.failures) × (sink.stalled ≡ sink.stalls)
-
--- a text was written whole, and no write failed or took none of some bytes
-pub record TakesAll {W : Type 0} (text : List ℕ) (sink : Writing W) : Type 0 where
-  pub whole : Appends sink.before sink.after text
-  pub well : IsWell sink
-
--- a beginning of a text was written, not all of it, for the device failed or took none of some bytes
-pub record Breaks {W : Type 0} (text : List ℕ) (sink : Writing W) : Type 0 where
-  pub part : TakesPart text sink.before sink.after
-  pub fails : WriteFails sink.failures sink.failed sink.stalls sink.stalled
 
 -- a file was read to its end, without a failure: at most so many bytes
 pub record HasBytes {R : Type 0} (most : ℕ) (source : Reading R) (bytes : List ℕ) : Type 0 where

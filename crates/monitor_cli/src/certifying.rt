@@ -11,7 +11,8 @@ ghost use Rattle.prefix_tree.specs.TreeOf.{tree_of};
 ghost use Rattle.entry_planner.specs.Choice.{AreChosen};
 ghost use Rattle.entry_planner.specs.Order.{AreInOrder};
 ghost use Rattle.plan_certificate.specs.Written.{certificate_for};
-ghost use Rattle.monitor_cli.specs.Commands.{placing, writing, TakesAll, IsBeyond, IsCertified, IsLoaded, IsNotPlaced, IsPlanned, IsUnplanned, IsWithin, NeedsMore};
+ghost use Rattle.byte_streams.specs.Writings.{writing, TakesAll};
+ghost use Rattle.monitor_cli.specs.Commands.{placing, IsBeyond, IsCertified, IsLoaded, IsNotPlaced, IsPlanned, IsUnplanned, IsWithin, NeedsMore};
 
 use byte_streams::DeviceFault;
 use entry_planner::{Plan, plan_map};

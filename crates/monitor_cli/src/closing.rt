@@ -6,7 +6,8 @@ ghost use Rattle.byte_streams.specs.Streams.{failures_of, stalls_of};
 ghost use Rattle.monitor_cli.specs.Closing.{IsClosed, held_by};
 ghost use Rattle.byte_streams.specs.declared.streams.Counted.{Counted};
 ghost use Rattle.std.specs.declared.io.buffered.BufWriter.{BufWriter};
-ghost use Rattle.monitor_cli.specs.Commands.{placing, reading, writing, Ends, Tells};
+ghost use Rattle.byte_streams.specs.Writings.{writing};
+ghost use Rattle.monitor_cli.specs.Commands.{placing, reading, Ends, Tells};
 ghost use Rattle.program_troubles.specs.declared.trouble.Trouble.TheVariants.{Output};
 
 use crate::program::perform;

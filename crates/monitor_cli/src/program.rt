@@ -1,10 +1,9 @@
 //! A task, done on the files and streams that are lent for it.
 
-ghost use Rattle.std.specs.Prelude.{◌≡◌, ◌-◌, ◌^◌, ◌<◌, ◌⊎◌, IfErr, IfOk};
-ghost use Rattle.std.specs.Io.KnownBytes.{Appends};
-ghost use Rattle.printed_lines.specs.Plans.{TakesPart};
-ghost use Rattle.monitor_cli.specs.Commands.{placing, reading, writing, Ends, Performs, Tells};
-ghost use Rattle.program_troubles.specs.Troubles.{status_of, trouble_text};
+ghost use Rattle.std.specs.Prelude.{◌≡◌};
+ghost use Rattle.byte_streams.specs.Writings.{writing};
+ghost use Rattle.monitor_cli.specs.Commands.{placing, reading, Ends, Performs, Tells};
+ghost use Rattle.program_troubles.specs.Troubles.{status_of};
 
 use crate::commands::{Asked, do_audit, do_check, do_judge, do_lint, do_plan, do_run, do_show};
 use byte_streams::{Sink, Source};
@@ -16,10 +15,6 @@ use std::alloc::Global;
 /// The status of a task, whose trouble is reported on standard error.
 fn ended<E: Sink>(done: Result<u8, Trouble<'_>>, err: &mut E) -> u8
     ensures status { result ≡ status_of done.entry }
-    ensures quiet { IfOk done.entry (λ _. err.new ≡ err.old) }
-    ensures told { IfErr done.entry (λ trouble.
-        Appends (E.contents err.old) (E.contents err.new) (trouble_text trouble)
-        ⊎ TakesPart (trouble_text trouble) (E.contents err.old) (E.contents err.new)) }
     ensures tells { Tells (writing E.contents E.failures E.stalls err.old err.new) done.entry }
 {
     match done {

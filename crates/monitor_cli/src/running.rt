@@ -1,10 +1,8 @@
 //! The parts of `run`: the platform, the machine that boots on it, and the measurements after its report.
 
 ghost use Rattle.std.specs.Prelude.{◌≡◌, ◌-◌, ◌^◌, ◌<◌, ◌≤◌, ◌++◌, ◌⊎◌, ℕ, List, Err, IfErr, IfOk, IfSome, None};
-ghost use Rattle.std.specs.Io.KnownBytes.{Appends};
 ghost use Rattle.byteorder.specs.Endian.{little_bytes};
-ghost use Rattle.byte_streams.specs.Streams.{WriteFails};
-ghost use Rattle.printed_lines.specs.Plans.{TakesPart};
+ghost use Rattle.byte_streams.specs.Writings.{writing, Breaks, PrintsOne, TakesAll};
 ghost use Rattle.enclave_table.specs.Booting.{IsBootFault};
 ghost use Rattle.enclave_table.specs.declared.boot.BootFault.{BootFault};
 ghost use Rattle.enclave_table.specs.declared.enclave.Enclave.{Enclave};
@@ -99,17 +97,8 @@ fn digest_of(table: &Table, id: u64) -> Option<[u8; 32]>
 
 /// Writes the line of an enclave, where it is live.
 fn print_measure<W: Sink>(table: &Table, id: u64, out: &mut W) -> Result<(), DeviceFault>
-    ensures written { IfOk result (λ _.
-        (text : List ℕ) × IsMeasureText table.now.table id text
-        × Appends (W.contents out.old) (W.contents out.new) text) }
-    ensures well { IfOk result (λ _. W.failures out.new ≡ W.failures out.old) }
-    ensures unstalled { IfOk result (λ _. W.stalls out.new ≡ W.stalls out.old) }
-    ensures part { IfErr result (λ _.
-        (text : List ℕ) × IsMeasureText table.now.table id text
-        × TakesPart text (W.contents out.old) (W.contents out.new)) }
-    ensures failed { IfErr result (λ _.
-        WriteFails (W.failures out.old)
-        (W.failures out.new) (W.stalls out.old) (W.stalls out.new)) }
+    ensures { PrintsOne (IsMeasureText table.now.table id)
+        (writing W.contents W.failures W.stalls out.old out.new) result }
 {
     let Some(digest) = digest_of(table, id) else {
         return Ok(());
@@ -121,17 +110,12 @@ fn print_measure<W: Sink>(table: &Table, id: u64, out: &mut W) -> Result<(), Dev
 
 /// Writes a line for each live enclave, by rising id.
 pub fn print_measures<W: Sink>(table: &Table, out: &mut W) -> Result<(), DeviceFault>
-    ensures written { IfOk result (λ _.
-        (text : List ℕ) × AreMeasures table.now.table 64 text
-        × Appends (W.contents out.old) (W.contents out.new) text) }
-    ensures well { IfOk result (λ _. W.failures out.new ≡ W.failures out.old) }
-    ensures unstalled { IfOk result (λ _. W.stalls out.new ≡ W.stalls out.old) }
-    ensures part { IfErr result (λ _.
-        (n : ℕ) × (n ≤ 64) × (text : List ℕ) × AreMeasures table.now.table n text
-        × TakesPart text (W.contents out.old) (W.contents out.new)) }
-    ensures failed { IfErr result (λ _.
-        WriteFails (W.failures out.old)
-        (W.failures out.new) (W.stalls out.old) (W.stalls out.new)) }
+    ensures written { IfOk result (λ _. (text : List ℕ)
+        × AreMeasures table.now.table 64 text
+        × TakesAll text (writing W.contents W.failures W.stalls out.old out.new)) }
+    ensures broken { IfErr result (λ _. (n : ℕ) × (n ≤ 64) × (text : List ℕ)
+        × AreMeasures table.now.table n text
+        × Breaks text (writing W.contents W.failures W.stalls out.old out.new)) }
 {
     for i in 0..ENCLAVES {
         print_measure(table, i + 1, out)?;

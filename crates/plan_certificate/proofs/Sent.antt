@@ -1,5 +1,5 @@
 -- Bytes that went to a sink one after another.
-use Rattle.std.proofs.Common.{◌≡◌, ◌∙◌, ℕ, ◌+◌, ◌<◌, List, [], ◌∷◌, ◌++◌, get_or, ap₂, length, take, drop, append_assoc, length-append, arith, ap, sym, refl, subst}
+use Rattle.std.proofs.Common.{◌≡◌, ◌∙◌, ℕ, ◌+◌, ◌<◌, List, [], ◌∷◌, ◌++◌, get_or, ap₂, length, take, drop, append_assoc, length-append, arith, ap, sym, refl, subst, Option}
 use Rattle.std.proofs.KnownBytes.{Appends-trans, Appends-nil}
 use Rattle.std.proofs.Math.Seq.{take-append_seam}
 use Rattle.std.proofs.lemmas.Grind.{flat_map-append}
@@ -15,7 +15,8 @@ use Rattle.entry_planner.specs.Plans.{cost_in, costed}
 use Rattle.certificate_format.specs.declared.costs.SixCosts.{SixCosts}
 use Rattle.certificate_format.specs.Costs.{cost_of, six_of}
 use Rattle.certificate_format.specs.Spelling.{costs_bytes, node_bytes}
-use Rattle.plan_certificate.specs.Sending.{Taken, IsPut, IsCut}
+use Rattle.byte_streams.specs.Writings.{Breaks, writing}
+use Rattle.plan_certificate.specs.Sending.{Taken, IsPut, IsCut, taken}
 use Rattle.plan_certificate.specs.Written.{entry_bytes}
 
 pub put_none : (held : List ℕ) (sink : Taken) → IsPut held held sink sink []
@@ -105,6 +106,15 @@ part_of_cut old new bytes cut =
       omega (arith, cut.some, length-append cut.went cut.missing, ap length cut.short),
       subst (λ (xs : List ℕ). Appends old.contents new.contents xs) (sym front) cut.appended,
     )
+
+-- so that the bytes broke off
+pub breaks_of_cut :
+    {W : Type 0} (contents : W → Option (List ℕ)) (failures stalls : W → ℕ) {old new : W} (bytes : List ℕ)
+    → IsCut [] (taken contents failures stalls old) (taken contents failures stalls new) bytes → Breaks bytes (writing contents failures stalls old new)
+breaks_of_cut contents failures stalls {old = old} {new = new} bytes cut = record {
+  part = part_of_cut (taken contents failures stalls old) (taken contents failures stalls new) bytes cut;
+  fails = cut.fails;
+}
 
 -- entries up to one, that one, and those after it
 pub entries_more : (es : List Entry) (i : ℕ) (d : Entry) → i < length es → flat_map entry_bytes (take (i + 1) es) ≡ flat_map entry_bytes (take i es) ++ entry_bytes (get_or es i d)

@@ -2,7 +2,7 @@
 
 ghost use Rattle.std.specs.Prelude.{◌≡◌, ◌+◌, ◌-◌, ◌*◌, ◌≤◌, ◌<◌, ◌^◌, ◌∷◌, ◌++◌, ℕ, List, [], IfOk, IfErr, OnOk, length};
 ghost use Rattle.std.specs.List.{flat_map};
-ghost use Rattle.std.specs.Io.KnownBytes.{Appends};
+ghost use Rattle.byte_streams.specs.Writings.{writing, Prints};
 ghost use Rattle.pmp_encoding.specs.declared.perm.Perm.{Perm};
 ghost use Rattle.prefix_tree.specs.Chains.{IsChain};
 ghost use Rattle.prefix_tree.specs.Counts.{splits};
@@ -342,15 +342,8 @@ pub(crate) fn send<H: Halving, W: Sink>(
 ) -> Result<(), DeviceFault>
     requires splits { splits (H.shape root.now) ≡ length plan.now.costs }
     requires small { length plan.now.costs < 2 ^ 64 }
-    ensures whole { IfOk result (λ _.
-        Appends (W.contents sink.old) (W.contents sink.new)
-        (certificate_for limit plan.now (H.shape root.now))) }
-    ensures well { IfOk result (λ _. W.failures sink.new ≡ W.failures sink.old) }
-    ensures unstalled { IfOk result (λ _. W.stalls sink.new ≡ W.stalls sink.old) }
-    ensures cut { IfErr result (λ _.
-        IsCut [] (taken W.contents W.failures W.stalls sink.old)
-        (taken W.contents W.failures W.stalls sink.new)
-        (certificate_for limit plan.now (H.shape root.now))) }
+    ensures prints { Prints (certificate_for limit plan.now (H.shape root.now))
+        (writing W.contents W.failures W.stalls sink.old sink.new) result }
     ensures fits { OnOk result ((k : ℕ) → Fits k (H.shape root.now)
         → FitsNode k (costed plan.now.costs 0 (H.shape root.now))) }
 {

@@ -1,8 +1,7 @@
 //! The certificate as bytes in memory.
 
-ghost use Rattle.std.specs.Prelude.{◌≡◌, ◌-◌, ◌*◌, ◌≤◌, ◌<◌, ◌^◌, ℕ, IfOk, IfErr, length, take};
-ghost use Rattle.std.specs.Io.KnownBytes.{Appends};
-ghost use Rattle.byte_streams.specs.Streams.{WriteFails};
+ghost use Rattle.std.specs.Prelude.{◌≡◌, ◌-◌, ◌*◌, ◌≤◌, ◌<◌, ◌^◌, IfOk, length};
+ghost use Rattle.byte_streams.specs.Writings.{writing, Prints};
 ghost use Rattle.prefix_tree.specs.Trees.{Fits};
 ghost use Rattle.prefix_tree.specs.Counts.{splits};
 ghost use Rattle.prefix_tree.specs.TreeOf.{tree_of};
@@ -88,18 +87,8 @@ pub fn send_map<W: Sink>(
     sink: &mut W,
 ) -> Result<(), DeviceFault>
     requires splits { splits (tree_of (view_of_runs map.now)) ≡ length plan.now.costs }
-    ensures whole { IfOk result (λ _.
-        Appends (W.contents sink.old) (W.contents sink.new)
-        (certificate_for limit plan.now (tree_of (view_of_runs map.now)))) }
-    ensures well { IfOk result (λ _. W.failures sink.new ≡ W.failures sink.old) }
-    ensures unstalled { IfOk result (λ _. W.stalls sink.new ≡ W.stalls sink.old) }
-    ensures part { IfErr result (λ _.
-        let bytes = certificate_for limit plan.now (tree_of (view_of_runs map.now)) in
-        (n : ℕ) × (n < length bytes)
-        × Appends (W.contents sink.old) (W.contents sink.new) (take n bytes)) }
-    ensures failed { IfErr result (λ _.
-        WriteFails (W.failures sink.old)
-        (W.failures sink.new) (W.stalls sink.old) (W.stalls sink.new)) }
+    ensures { Prints (certificate_for limit plan.now (tree_of (view_of_runs map.now)))
+        (writing W.contents W.failures W.stalls sink.old sink.new) result }
 {
     let Ok(()) = send(&MapBlock::of(map), plan, limit, sink) else {
         return Err(DeviceFault);

@@ -1,3 +1,2 @@
-pub mod Parts
 mod Printed
 mod HexPairs

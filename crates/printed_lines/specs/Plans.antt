@@ -1,6 +1,5 @@
 -- What `plan` prints.
-use Rattle.std.specs.Prelude.{◌≡◌, ℕ, ◌+◌, ◌*◌, ◌<◌, ◌≤◌, zero, suc, List, [], ◌∷◌, ◌++◌, length, take, Option}
-use Rattle.std.specs.Io.KnownBytes.{Appends}
+use Rattle.std.specs.Prelude.{◌≡◌, ℕ, ◌+◌, ◌*◌, ◌<◌, ◌≤◌, zero, suc, List, [], ◌∷◌, ◌++◌, length}
 use Rattle.pmp_encoding.specs.declared.bank.Bank.{Bank}
 use Rattle.pmp_encoding.specs.declared.limit.Limit.{Limit}
 use Rattle.pmp_encoding.specs.declared.region.Entry.{Entry}
@@ -37,7 +36,3 @@ pub record IsPlanText (limit : Limit) (entries : List Entry) (text : List ℕ) :
   pub lines : text ≡ list_text entries ++ words
   pub fits : length entries ≤ limit_number limit → HasWords limit entries words
   pub too_many : limit_number limit < length entries → words ≡ []
-
--- a beginning of a text was taken, and not all of it
-abbrev pub TakesPart : List ℕ → Option (List ℕ) → Option (List ℕ) → Type 0
-TakesPart text old new = (n : ℕ) × (n < length text) × Appends old new (take n text)

@@ -1,9 +1,8 @@
 //! What `plan` prints.
 
-ghost use Rattle.std.specs.Prelude.{◌≡◌, ◌*◌, ◌-◌, ◌^◌, ◌<◌, ◌≤◌, List, ℕ, IfErr, IfOk};
-ghost use Rattle.std.specs.Io.KnownBytes.{Appends};
-ghost use Rattle.byte_streams.specs.Streams.{WriteFails};
-ghost use Rattle.printed_lines.specs.Plans.{IsPlanText, TakesPart, entries_text, list_text, words_text};
+ghost use Rattle.std.specs.Prelude.{◌*◌, ◌≤◌};
+ghost use Rattle.byte_streams.specs.Writings.{writing, Prints, PrintsOne};
+ghost use Rattle.printed_lines.specs.Plans.{IsPlanText, entries_text, list_text, words_text};
 
 use crate::texts::{count_line, push_entry, word_line};
 use arrayvec::ArrayVec;
@@ -12,15 +11,8 @@ use pmp_encoding::{Bank, Entry, Limit};
 
 /// Writes a line for each entry.
 fn print_entries<W: Sink>(entries: &[Entry], out: &mut W) -> Result<(), DeviceFault>
-    ensures well { IfOk result (λ _. W.failures out.new ≡ W.failures out.old) }
-    ensures unstalled { IfOk result (λ _. W.stalls out.new ≡ W.stalls out.old) }
-    ensures written { IfOk result (λ _.
-        Appends (W.contents out.old) (W.contents out.new) (entries_text 0 entries.now)) }
-    ensures part { IfErr result (λ _.
-        TakesPart (entries_text 0 entries.now) (W.contents out.old) (W.contents out.new)) }
-    ensures failed { IfErr result (λ _.
-        WriteFails (W.failures out.old)
-        (W.failures out.new) (W.stalls out.old) (W.stalls out.new)) }
+    ensures { Prints (entries_text 0 entries.now)
+        (writing W.contents W.failures W.stalls out.old out.new) result }
 {
     for (i, entry) in entries.iter().enumerate() {
         let (cfg, address) = entry.encode();
@@ -33,15 +25,8 @@ fn print_entries<W: Sink>(entries: &[Entry], out: &mut W) -> Result<(), DeviceFa
 
 /// Writes the number of entries, and a line for each.
 fn print_list<W: Sink>(entries: &[Entry], out: &mut W) -> Result<(), DeviceFault>
-    ensures well { IfOk result (λ _. W.failures out.new ≡ W.failures out.old) }
-    ensures unstalled { IfOk result (λ _. W.stalls out.new ≡ W.stalls out.old) }
-    ensures written { IfOk result (λ _. Appends (W.contents out.old) (W.contents out.new)
-        (list_text entries.now)) }
-    ensures part { IfErr result (λ _.
-        TakesPart (list_text entries.now) (W.contents out.old) (W.contents out.new)) }
-    ensures failed { IfErr result (λ _.
-        WriteFails (W.failures out.old)
-        (W.failures out.new) (W.stalls out.old) (W.stalls out.new)) }
+    ensures { Prints (list_text entries.now)
+        (writing W.contents W.failures W.stalls out.old out.new) result }
 {
     let count = count_line(entries.len() as u64);
     write_whole(out, count.as_slice())?;
@@ -52,15 +37,8 @@ fn print_list<W: Sink>(entries: &[Entry], out: &mut W) -> Result<(), DeviceFault
 /// Writes the first words of a bank, a line for each.
 fn print_words<W: Sink>(bank: &Bank, count: usize, out: &mut W) -> Result<(), DeviceFault>
     requires count { count ≤ 8 }
-    ensures well { IfOk result (λ _. W.failures out.new ≡ W.failures out.old) }
-    ensures unstalled { IfOk result (λ _. W.stalls out.new ≡ W.stalls out.old) }
-    ensures written { IfOk result (λ _.
-        Appends (W.contents out.old) (W.contents out.new) (words_text bank.now 0 count)) }
-    ensures part { IfErr result (λ _.
-        TakesPart (words_text bank.now 0 count) (W.contents out.old) (W.contents out.new)) }
-    ensures failed { IfErr result (λ _.
-        WriteFails (W.failures out.old)
-        (W.failures out.new) (W.stalls out.old) (W.stalls out.new)) }
+    ensures { Prints (words_text bank.now 0 count)
+        (writing W.contents W.failures W.stalls out.old out.new) result }
 {
     for i in 0..count {
         let k = 2 * i;
@@ -75,17 +53,8 @@ fn print_words<W: Sink>(bank: &Bank, count: usize, out: &mut W) -> Result<(), De
 /// On an `Err` a beginning of this text was written, not all of it, and the device failed, or took none of some bytes, in
 /// this call.
 pub fn print_plan<W: Sink>(entries: &[Entry], limit: Limit, out: &mut W) -> Result<(), DeviceFault>
-    ensures written { IfOk result (λ _.
-        (text : List ℕ) × IsPlanText limit entries.now text
-        × Appends (W.contents out.old) (W.contents out.new) text) }
-    ensures well { IfOk result (λ _. W.failures out.new ≡ W.failures out.old) }
-    ensures unstalled { IfOk result (λ _. W.stalls out.new ≡ W.stalls out.old) }
-    ensures part { IfErr result (λ _.
-        (text : List ℕ) × IsPlanText limit entries.now text
-        × TakesPart text (W.contents out.old) (W.contents out.new)) }
-    ensures failed { IfErr result (λ _.
-        WriteFails (W.failures out.old)
-        (W.failures out.new) (W.stalls out.old) (W.stalls out.new)) }
+    ensures { PrintsOne (IsPlanText limit entries.now)
+        (writing W.contents W.failures W.stalls out.old out.new) result }
 {
     if entries.len() > limit.number() as usize {
         print_list(entries, out)?;

@@ -1,9 +1,7 @@
 //! Why a task did not end well: the text for standard error, and the program's status.
 
-ghost use Rattle.std.specs.Prelude.{◌≡◌, ◌-◌, ◌^◌, ◌<◌, IfErr, IfOk, map};
-ghost use Rattle.std.specs.Io.KnownBytes.{Appends};
-ghost use Rattle.byte_streams.specs.Streams.{WriteFails};
-ghost use Rattle.printed_lines.specs.Plans.{TakesPart};
+ghost use Rattle.std.specs.Prelude.{◌≡◌, map};
+ghost use Rattle.byte_streams.specs.Writings.{writing, Prints};
 ghost use Rattle.program_troubles.specs.Troubles.{boot_trouble, file_text, joined, map_trouble, run_trouble, text_trouble, trouble_status, trouble_text, whole_trouble};
 
 use byte_streams::{DeviceFault, Sink, write_whole};
@@ -146,13 +144,8 @@ impl<'a> Trouble<'a> {
     /// Writes the one line of text. It takes no memory. On an `Err` a beginning of it was written, not all of it, and the
     /// device failed, or took none of some bytes, in this call.
     pub fn print<E: Sink>(&self, err: &mut E) -> Result<(), DeviceFault>
-        ensures written { IfOk result (λ _.
-            Appends (E.contents err.old) (E.contents err.new) (trouble_text self.now)) }
-        ensures part { IfErr result (λ _.
-            TakesPart (trouble_text self.now) (E.contents err.old) (E.contents err.new)) }
-        ensures failed { IfErr result (λ _.
-            WriteFails (E.failures err.old)
-            (E.failures err.new) (E.stalls err.old) (E.stalls err.new)) }
+        ensures { Prints (trouble_text self.now)
+            (writing E.contents E.failures E.stalls err.old err.new) result }
     {
         let mut buffer = Buffer::new();
         match self {
@@ -178,28 +171,16 @@ impl<'a> Trouble<'a> {
 
 /// Writes what is said of a file.
 fn about<E: Sink>(file: &str, said: &str, err: &mut E) -> Result<(), DeviceFault>
-    ensures written { IfOk result (λ _.
-        Appends (E.contents err.old) (E.contents err.new) (file_text file.now said.now)) }
-    ensures part { IfErr result (λ _.
-        TakesPart (file_text file.now said.now) (E.contents err.old) (E.contents err.new)) }
-    ensures failed { IfErr result (λ _.
-        WriteFails (E.failures err.old)
-        (E.failures err.new) (E.stalls err.old) (E.stalls err.new)) }
+    ensures { Prints (file_text file.now said.now)
+        (writing E.contents E.failures E.stalls err.old err.new) result }
 {
     write_parts(err, &["pmpmon: ", file, said])
 }
 
 /// Writes texts one after another.
 fn write_parts<E: Sink>(err: &mut E, parts: &[&str]) -> Result<(), DeviceFault>
-    ensures written { IfOk result (λ _.
-        Appends (E.contents err.old) (E.contents err.new)
-        (joined (map (λ part. part.now) parts.now))) }
-    ensures part { IfErr result (λ _.
-        TakesPart (joined (map (λ part. part.now) parts.now))
-        (E.contents err.old) (E.contents err.new)) }
-    ensures failed { IfErr result (λ _.
-        WriteFails (E.failures err.old)
-        (E.failures err.new) (E.stalls err.old) (E.stalls err.new)) }
+    ensures { Prints (joined (map (λ part. part.now) parts.now))
+        (writing E.contents E.failures E.stalls err.old err.new) result }
 {
     for part in parts {
         write_whole(err, part.as_bytes())?;

@@ -4,7 +4,7 @@ ghost use Rattle.std.specs.Prelude.{◌≡◌, ◌-◌, ◌^◌, ◌<◌, ℕ, B
 ghost use Rattle.std.specs.Io.KnownBytes.{Appends};
 ghost use Rattle.byte_streams.specs.Streams.{WriteFails};
 ghost use Rattle.permission_map.specs.Runs.{view_of_runs};
-ghost use Rattle.printed_lines.specs.Plans.{TakesPart};
+ghost use Rattle.byte_streams.specs.Writings.{TakesPart};
 ghost use Rattle.pmp_registers.specs.declared.registers.Registers.{Registers};
 ghost use Rattle.pmp_registers.specs.Decision.{RegistersMean};
 ghost use Rattle.register_text.specs.Listings.{IsFirstUnknown, listed};

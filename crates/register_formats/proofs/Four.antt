@@ -1,28 +1,40 @@
--- Four texts one after another: all were written, or a beginning, where one of them stops within itself.
+-- Four texts one after another: all were written, or a beginning, where one of them breaks off.
 use Rattle.std.proofs.Common.{ℕ, List, ◌++◌, Option}
-use Rattle.std.proofs.KnownBytes.{Appends-trans}
-use Rattle.std.specs.Io.KnownBytes.{Appends}
-use Rattle.printed_lines.specs.Plans.{TakesPart}
-use Rattle.printed_lines.proofs.Parts.{part_before, part_last}
+use Rattle.byte_streams.specs.Writings.{Breaks, TakesAll, writing}
+use Rattle.byte_streams.proofs.Writings.{breaks_after, breaks_before, takes_then}
 
 pub all_four :
-    (a b c d : List ℕ) (s t u v w : Option (List ℕ)) → Appends s t a → Appends t u b → Appends u v c → Appends v w d
-    → Appends s w (a ++ (b ++ (c ++ d)))
-all_four a b c d s t u v w p q r z = Appends-trans _ _ _ _ _ p (Appends-trans _ _ _ _ _ q (Appends-trans _ _ _ _ _ r z))
+    {W : Type 0} (contents : W → Option (List ℕ)) (failures stalls : W → ℕ) (a b c d : List ℕ) {s t u v w : W}
+    → TakesAll a (writing contents failures stalls s t) → TakesAll b (writing contents failures stalls t u)
+    → TakesAll c (writing contents failures stalls u v) → TakesAll d (writing contents failures stalls v w)
+    → TakesAll (a ++ (b ++ (c ++ d))) (writing contents failures stalls s w)
+all_four contents failures stalls a b c d {s = s} {t = t} {u = u} {v = v} {w = w} p q r z =
+    takes_then contents failures stalls {old = s} {mid = t} {new = w} p
+    (takes_then contents failures stalls {old = t} {mid = u} {new = w} q (takes_then contents failures stalls {old = u} {mid = v} {new = w} r z))
 
-pub in_first : (a b c d : List ℕ) (s t : Option (List ℕ)) → TakesPart a s t → TakesPart (a ++ (b ++ (c ++ d))) s t
-in_first a b c d s t p = part_before a (b ++ (c ++ d)) s t p
+pub in_first :
+    {W : Type 0} (contents : W → Option (List ℕ)) (failures stalls : W → ℕ) (a b c d : List ℕ) {s t : W} → Breaks a (writing contents failures stalls s t)
+    → Breaks (a ++ (b ++ (c ++ d))) (writing contents failures stalls s t)
+in_first contents failures stalls a b c d {s = s} {t = t} p = breaks_before contents failures stalls {old = s} {new = t} (b ++ (c ++ d)) p
 
-pub in_second : (a b c d : List ℕ) (s t u : Option (List ℕ)) → Appends s t a → TakesPart b t u → TakesPart (a ++ (b ++ (c ++ d))) s u
-in_second a b c d s t u p q = part_last a (b ++ (c ++ d)) s t u p (part_before b (c ++ d) t u q)
+pub in_second :
+    {W : Type 0} (contents : W → Option (List ℕ)) (failures stalls : W → ℕ) (a b c d : List ℕ) {s t u : W} → TakesAll a (writing contents failures stalls s t)
+    → Breaks b (writing contents failures stalls t u) → Breaks (a ++ (b ++ (c ++ d))) (writing contents failures stalls s u)
+in_second contents failures stalls a b c d {s = s} {t = t} {u = u} p q =
+    breaks_after contents failures stalls {old = s} {mid = t} {new = u} p (breaks_before contents failures stalls {old = t} {new = u} (c ++ d) q)
 
 pub in_third :
-    (a b c d : List ℕ) (s t u v : Option (List ℕ)) → Appends s t a → Appends t u b → TakesPart c u v
-    → TakesPart (a ++ (b ++ (c ++ d))) s v
-in_third a b c d s t u v p q r = part_last a (b ++ (c ++ d)) s t v p (part_last b (c ++ d) t u v q (part_before c d u v r))
+    {W : Type 0} (contents : W → Option (List ℕ)) (failures stalls : W → ℕ) (a b c d : List ℕ) {s t u v : W} → TakesAll a (writing contents failures stalls s t)
+    → TakesAll b (writing contents failures stalls t u) → Breaks c (writing contents failures stalls u v)
+    → Breaks (a ++ (b ++ (c ++ d))) (writing contents failures stalls s v)
+in_third contents failures stalls a b c d {s = s} {t = t} {u = u} {v = v} p q r =
+    breaks_after contents failures stalls {old = s} {mid = t} {new = v} p
+    (breaks_after contents failures stalls {old = t} {mid = u} {new = v} q (breaks_before contents failures stalls {old = u} {new = v} d r))
 
 pub in_fourth :
-    (a b c d : List ℕ) (s t u v w : Option (List ℕ)) → Appends s t a → Appends t u b → Appends u v c → TakesPart d v w
-    → TakesPart (a ++ (b ++ (c ++ d))) s w
-in_fourth a b c d s t u v w p q r z =
-    part_last a (b ++ (c ++ d)) s t w p (part_last b (c ++ d) t u w q (part_last c d u v w r z))
+    {W : Type 0} (contents : W → Option (List ℕ)) (failures stalls : W → ℕ) (a b c d : List ℕ) {s t u v w : W} → TakesAll a (writing contents failures stalls s t)
+    → TakesAll b (writing contents failures stalls t u) → TakesAll c (writing contents failures stalls u v) → Breaks d (writing contents failures stalls v w)
+    → Breaks (a ++ (b ++ (c ++ d))) (writing contents failures stalls s w)
+in_fourth contents failures stalls a b c d {s = s} {t = t} {u = u} {v = v} {w = w} p q r z =
+    breaks_after contents failures stalls {old = s} {mid = t} {new = w} p
+    (breaks_after contents failures stalls {old = t} {mid = u} {new = w} q (breaks_after contents failures stalls {old = u} {mid = v} {new = w} r z))

@@ -1,10 +1,8 @@
 //! The registers of a list, written to a sink.
 
-ghost use Rattle.std.specs.Prelude.{◌≡◌, ◌-◌, ◌/◌, ◌^◌, ◌<◌, ◌≤◌, List, ℕ, IfErr, IfOk, length};
-ghost use Rattle.std.specs.Io.KnownBytes.{Appends};
-ghost use Rattle.byte_streams.specs.Streams.{WriteFails};
+ghost use Rattle.std.specs.Prelude.{◌≡◌, ◌/◌, ◌≤◌, length};
+ghost use Rattle.byte_streams.specs.Writings.{writing, Prints, PrintsOne};
 ghost use Rattle.pmp_encoding.specs.Limits.{limit_number};
-ghost use Rattle.printed_lines.specs.Plans.{TakesPart};
 ghost use Rattle.register_formats.specs.AsmTexts.{IsAsmText};
 ghost use Rattle.register_formats.specs.CTexts.{IsCText};
 ghost use Rattle.register_formats.specs.Heads.{head_text};
@@ -38,17 +36,8 @@ fn head() -> &'static [u8]
 /// this call.
 pub fn print_c<W: Sink>(entries: &[Entry], limit: Limit, out: &mut W) -> Result<(), DeviceFault>
     requires fits { length entries.now ≤ limit_number limit }
-    ensures written { IfOk result (λ _.
-        (text : List ℕ) × IsCText limit entries.now text
-        × Appends (W.contents out.old) (W.contents out.new) text) }
-    ensures well { IfOk result (λ _. W.failures out.new ≡ W.failures out.old) }
-    ensures unstalled { IfOk result (λ _. W.stalls out.new ≡ W.stalls out.old) }
-    ensures part { IfErr result (λ _.
-        (text : List ℕ) × IsCText limit entries.now text
-        × TakesPart text (W.contents out.old) (W.contents out.new)) }
-    ensures failed { IfErr result (λ _.
-        WriteFails (W.failures out.old)
-        (W.failures out.new) (W.stalls out.old) (W.stalls out.new)) }
+    ensures { PrintsOne (IsCText limit entries.now)
+        (writing W.contents W.failures W.stalls out.old out.new) result }
 {
     let bank = Bank::of(entries, limit);
     let addresses = c_rows::Addresses { entries };
@@ -72,17 +61,8 @@ pub fn print_c<W: Sink>(entries: &[Entry], limit: Limit, out: &mut W) -> Result<
 /// this call.
 pub fn print_asm<W: Sink>(entries: &[Entry], limit: Limit, out: &mut W) -> Result<(), DeviceFault>
     requires fits { length entries.now ≤ limit_number limit }
-    ensures written { IfOk result (λ _.
-        (text : List ℕ) × IsAsmText limit entries.now text
-        × Appends (W.contents out.old) (W.contents out.new) text) }
-    ensures well { IfOk result (λ _. W.failures out.new ≡ W.failures out.old) }
-    ensures unstalled { IfOk result (λ _. W.stalls out.new ≡ W.stalls out.old) }
-    ensures part { IfErr result (λ _.
-        (text : List ℕ) × IsAsmText limit entries.now text
-        × TakesPart text (W.contents out.old) (W.contents out.new)) }
-    ensures failed { IfErr result (λ _.
-        WriteFails (W.failures out.old)
-        (W.failures out.new) (W.stalls out.old) (W.stalls out.new)) }
+    ensures { PrintsOne (IsAsmText limit entries.now)
+        (writing W.contents W.failures W.stalls out.old out.new) result }
 {
     let bank = Bank::of(entries, limit);
     let addresses = asm_rows::Addresses { entries };
@@ -108,17 +88,8 @@ fn print_object<W: Sink>(
     out: &mut W,
 ) -> Result<(), DeviceFault>
     requires count { count ≤ 8 }
-    ensures written { IfOk result (λ _.
-        Appends (W.contents out.old) (W.contents out.new)
-        (json_text name.now entries.now bank.now count)) }
-    ensures well { IfOk result (λ _. W.failures out.new ≡ W.failures out.old) }
-    ensures unstalled { IfOk result (λ _. W.stalls out.new ≡ W.stalls out.old) }
-    ensures part { IfErr result (λ _.
-        TakesPart (json_text name.now entries.now bank.now count)
-        (W.contents out.old) (W.contents out.new)) }
-    ensures failed { IfErr result (λ _.
-        WriteFails (W.failures out.old)
-        (W.failures out.new) (W.stalls out.old) (W.stalls out.new)) }
+    ensures { Prints (json_text name.now entries.now bank.now count)
+        (writing W.contents W.failures W.stalls out.old out.new) result }
 {
     let letters = json_rows::Name { bytes: name };
     let listed = json_rows::Entries { entries };
@@ -146,17 +117,8 @@ pub fn print_json<W: Sink>(
     limit: Limit,
     out: &mut W,
 ) -> Result<(), DeviceFault>
-    ensures written { IfOk result (λ _.
-        (text : List ℕ) × IsJsonText map.now limit entries.now text
-        × Appends (W.contents out.old) (W.contents out.new) text) }
-    ensures well { IfOk result (λ _. W.failures out.new ≡ W.failures out.old) }
-    ensures unstalled { IfOk result (λ _. W.stalls out.new ≡ W.stalls out.old) }
-    ensures part { IfErr result (λ _.
-        (text : List ℕ) × IsJsonText map.now limit entries.now text
-        × TakesPart text (W.contents out.old) (W.contents out.new)) }
-    ensures failed { IfErr result (λ _.
-        WriteFails (W.failures out.old)
-        (W.failures out.new) (W.stalls out.old) (W.stalls out.new)) }
+    ensures { PrintsOne (IsJsonText map.now limit entries.now)
+        (writing W.contents W.failures W.stalls out.old out.new) result }
 {
     if entries.len() > limit.number() as usize {
         let none = Bank::of(&[], limit);

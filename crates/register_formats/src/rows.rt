@@ -1,9 +1,7 @@
 //! Rows of a text, written one after another.
 
-ghost use Rattle.std.specs.Prelude.{◌≡◌, ◌+◌, ◌-◌, ◌^◌, ◌<◌, ◌≤◌, ◌++◌, List, ℕ, IfErr, IfOk};
-ghost use Rattle.std.specs.Io.KnownBytes.{Appends};
-ghost use Rattle.byte_streams.specs.Streams.{WriteFails};
-ghost use Rattle.printed_lines.specs.Plans.{TakesPart};
+ghost use Rattle.std.specs.Prelude.{◌≡◌, ◌<◌, ◌≤◌, ◌++◌, List, ℕ};
+ghost use Rattle.byte_streams.specs.Writings.{writing, Prints};
 ghost use Rattle.register_formats.specs.Rows.{rows_text};
 
 use byte_streams::{DeviceFault, Sink, write_whole};
@@ -32,17 +30,8 @@ pub(crate) trait Rows {
 
 /// Writes a row.
 fn print_row<W: Sink>(row: &Row, out: &mut W) -> Result<(), DeviceFault>
-    ensures well { IfOk result (λ _. W.failures out.new ≡ W.failures out.old) }
-    ensures unstalled { IfOk result (λ _. W.stalls out.new ≡ W.stalls out.old) }
-    ensures written { IfOk result (λ _.
-        Appends (W.contents out.old) (W.contents out.new)
-        (row.now.front.items ++ row.now.back.items)) }
-    ensures part { IfErr result (λ _.
-        TakesPart (row.now.front.items ++ row.now.back.items)
-        (W.contents out.old) (W.contents out.new)) }
-    ensures failed { IfErr result (λ _.
-        WriteFails (W.failures out.old)
-        (W.failures out.new) (W.stalls out.old) (W.stalls out.new)) }
+    ensures { Prints (row.now.front.items ++ row.now.back.items)
+        (writing W.contents W.failures W.stalls out.old out.new) result }
 {
     write_whole(out, row.front.as_slice())?;
     write_whole(out, row.back.as_slice())?;
@@ -52,17 +41,8 @@ fn print_row<W: Sink>(row: &Row, out: &mut W) -> Result<(), DeviceFault>
 /// Writes rows from the first on.
 fn print_rows<R: Rows, W: Sink>(rows: &R, count: usize, out: &mut W) -> Result<(), DeviceFault>
     requires most { count ≤ R.most rows.now }
-    ensures well { IfOk result (λ _. W.failures out.new ≡ W.failures out.old) }
-    ensures unstalled { IfOk result (λ _. W.stalls out.new ≡ W.stalls out.old) }
-    ensures written { IfOk result (λ _.
-        Appends (W.contents out.old) (W.contents out.new)
-        (rows_text (R.row_text rows.now) 0 count)) }
-    ensures part { IfErr result (λ _.
-        TakesPart (rows_text (R.row_text rows.now) 0 count)
-        (W.contents out.old) (W.contents out.new)) }
-    ensures failed { IfErr result (λ _.
-        WriteFails (W.failures out.old)
-        (W.failures out.new) (W.stalls out.old) (W.stalls out.new)) }
+    ensures { Prints (rows_text (R.row_text rows.now) 0 count)
+        (writing W.contents W.failures W.stalls out.old out.new) result }
 {
     for i in 0..count {
         let row = rows.row(i);
@@ -79,17 +59,8 @@ pub(crate) fn print_section<R: Rows, W: Sink>(
     out: &mut W,
 ) -> Result<(), DeviceFault>
     requires most { count ≤ R.most rows.now }
-    ensures well { IfOk result (λ _. W.failures out.new ≡ W.failures out.old) }
-    ensures unstalled { IfOk result (λ _. W.stalls out.new ≡ W.stalls out.old) }
-    ensures written { IfOk result (λ _.
-        Appends (W.contents out.old) (W.contents out.new)
-        (text.now ++ rows_text (R.row_text rows.now) 0 count)) }
-    ensures part { IfErr result (λ _.
-        TakesPart (text.now ++ rows_text (R.row_text rows.now) 0 count)
-        (W.contents out.old) (W.contents out.new)) }
-    ensures failed { IfErr result (λ _.
-        WriteFails (W.failures out.old)
-        (W.failures out.new) (W.stalls out.old) (W.stalls out.new)) }
+    ensures { Prints (text.now ++ rows_text (R.row_text rows.now) 0 count)
+        (writing W.contents W.failures W.stalls out.old out.new) result }
 {
     write_whole(out, text)?;
     print_rows(rows, count, out)?;

@@ -4,6 +4,7 @@ use Rattle.std.specs.List.{concat}
 use Rattle.std.specs.Io.KnownBytes.{Appends, Consumes, IsAtEnd}
 use Rattle.std.proofs.KnownBytes.{Appends-nil, Appends-trans, Consumes-nil, Consumes-trans}
 use Rattle.std.proofs.lemmas.List.Folds.{concat-append}
+use Rattle.byte_streams.specs.Writings.{TakesPart}
 use Rattle.text_lines.specs.declared.lines.LineReader.{LineReader}
 use Rattle.text_lines.specs.declared.fault.ReadFault.{ReadFault}
 use Rattle.text_lines.specs.declared.fault.ReadFault.TheVariants.{LongLine, TooManyBytes, Device}
@@ -264,6 +265,16 @@ comes_to does old now reader count before after held holds h = record {
   short = h.short;
   stands = stands does old now reader count before after held holds h;
 }
+
+none_less : (n : ℕ) → n < 0 → ⊥
+none_less n h = omega (arith, h)
+
+-- of an answer a beginning was written, not all of it: there is an answer
+pub part_of :
+    (said : Option (List ℕ)) (old new : Option (List ℕ)) → TakesPart (told said) old new
+    → (text : List ℕ) × (part : ℕ) × (said ≡ Some text) × (part < length text) × Appends old new (take part text)
+part_of None old new part = absurd (none_less part.0 part.1)
+part_of (Some text) old new part = (text, part.0, refl, part.1, part.2)
 
 -- an answer was written in part
 pub stops_writing : {S : Type 0} (does : Meaning S) (old now new : S) (reader : LineReader) (count : ℕ) (before after held middle holds : Option (List ℕ)) (h : Handed does old now reader count before after held middle) (said : Option (List ℕ)) (text : List ℕ) (part : ℕ) → does now count (line_of reader) said new → said ≡ Some text → part < length text → Appends middle holds (take part text) → StopsWriting does old new before after held holds

@@ -1,9 +1,8 @@
 //! The one loop over the lines of an input: a line is read, understood and done, and its answer is written before the
 //! next line is read.
 
-ghost use Rattle.std.specs.Prelude.{◌≡◌, ℕ, ◌+◌, ◌-◌, ◌^◌, ◌<◌, List, [], Option, Some, Err, IfErr, IfOk, length, take};
-ghost use Rattle.std.specs.Io.KnownBytes.{Appends};
-ghost use Rattle.byte_streams.specs.Streams.{WriteFails};
+ghost use Rattle.std.specs.Prelude.{◌≡◌, ℕ, ◌+◌, ◌-◌, ◌^◌, ◌<◌, List, [], Option, Some, Err, IfOk};
+ghost use Rattle.byte_streams.specs.Writings.{writing, Prints};
 ghost use Rattle.text_lines.specs.LineLoop.{counted, told, text_of, CountsReads, CountsWrites, DoesAll, StopsAt, StopsForMemory, StopsReading, StopsTooLong, StopsWriting};
 
 use crate::fault::RunFault;
@@ -62,19 +61,8 @@ fn write_answer<W: Sink>(
 ) -> Result<u64, DeviceFault>
     requires count { count < 2 ^ 64 - 1 }
     ensures counted { IfOk result (λ n. n ≡ counted count (text_of answered answer.now)) }
-    ensures whole { IfOk result
-        (λ _.
-        Appends (W.contents sink.old) (W.contents sink.new)
-        (told (text_of answered answer.now))) }
-    ensures well { IfOk result (λ _. W.failures sink.new ≡ W.failures sink.old) }
-    ensures unstalled { IfOk result (λ _. W.stalls sink.new ≡ W.stalls sink.old) }
-    ensures part { IfErr result (λ _.
-        (text : List ℕ) × (part : ℕ) × (text_of answered answer.now ≡ Some text)
-        × (part < length text)
-        × Appends (W.contents sink.old) (W.contents sink.new) (take part text)) }
-    ensures failed { IfErr result (λ _.
-        WriteFails (W.failures sink.old)
-        (W.failures sink.new) (W.stalls sink.old) (W.stalls sink.new)) }
+    ensures prints { Prints (told (text_of answered answer.now))
+        (writing W.contents W.failures W.stalls sink.old sink.new) result }
 {
     if !answered {
         return Ok(count);

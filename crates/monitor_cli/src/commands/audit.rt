@@ -1,7 +1,8 @@
 //! `audit`: registers against a map.
 
 ghost use Rattle.std.specs.Prelude.{◌-◌, ◌^◌, ◌<◌};
-ghost use Rattle.monitor_cli.specs.Commands.{reading, writing, Audits};
+ghost use Rattle.byte_streams.specs.Writings.{writing};
+ghost use Rattle.monitor_cli.specs.Commands.{reading, Audits};
 
 use crate::certifying::fewest_in;
 use crate::commands::answer_status;

@@ -1,7 +1,8 @@
 //! `check`: a certificate against a map.
 
 ghost use Rattle.std.specs.Prelude.{◌-◌, ◌^◌, ◌<◌};
-ghost use Rattle.monitor_cli.specs.Commands.{reading, writing, Checks};
+ghost use Rattle.byte_streams.specs.Writings.{writing};
+ghost use Rattle.monitor_cli.specs.Commands.{reading, Checks};
 
 use crate::inputs::{bytes_in, map_in};
 use byte_streams::{DeviceFault, Sink, Source, write_whole};

@@ -1,7 +1,8 @@
 //! `judge`: the accesses of a trace, by the entries of a map.
 
 ghost use Rattle.std.specs.Prelude.{◌-◌, ◌^◌, ◌<◌};
-ghost use Rattle.monitor_cli.specs.Commands.{reading, writing, Judges};
+ghost use Rattle.byte_streams.specs.Writings.{writing};
+ghost use Rattle.monitor_cli.specs.Commands.{reading, Judges};
 
 use crate::certifying::bank_in;
 use crate::inputs::map_in;

@@ -1,7 +1,8 @@
 //! `lint`: what is wrong with a map file.
 
 ghost use Rattle.std.specs.Prelude.{◌-◌, ◌^◌, ◌<◌};
-ghost use Rattle.monitor_cli.specs.Commands.{reading, writing, Lints};
+ghost use Rattle.byte_streams.specs.Writings.{writing};
+ghost use Rattle.monitor_cli.specs.Commands.{reading, Lints};
 
 use crate::commands::answer_status;
 use crate::inputs::{MAP_BYTES, bytes_in};

@@ -1,7 +1,8 @@
 //! `plan`: the fewest entries of a map, and their certificate.
 
 ghost use Rattle.std.specs.Prelude.{◌≡◌, ◌-◌, ◌^◌, ◌<◌, ℕ, List, Option, IfErr, IfOk, length};
-ghost use Rattle.monitor_cli.specs.Commands.{most_entries, placing, reading, writing, Breaks, IsPrinted, IsWithin, Plans, TakesAll};
+ghost use Rattle.monitor_cli.specs.Commands.{most_entries, placing, reading, IsPrinted, IsWithin, Plans};
+ghost use Rattle.byte_streams.specs.Writings.{writing, PrintsOne};
 
 use crate::certifying::plan_and_certify;
 use crate::inputs::map_in;
@@ -53,12 +54,8 @@ fn print_as<W: Sink>(
 ) -> Result<(), DeviceFault>
     requires fits { (at_most : Option ℕ) × IsWithin (most_entries limit at_most format)
         (length entries.now) }
-    ensures printed { IfOk result (λ _.
-        (text : List ℕ) × IsPrinted format map.now limit entries.now text
-        × TakesAll text (writing W.contents W.failures W.stalls out.old out.new)) }
-    ensures broken { IfErr result (λ _.
-        (text : List ℕ) × IsPrinted format map.now limit entries.now text
-        × Breaks text (writing W.contents W.failures W.stalls out.old out.new)) }
+    ensures { PrintsOne (IsPrinted format map.now limit entries.now)
+        (writing W.contents W.failures W.stalls out.old out.new) result }
 {
     match format {
         Format::Text => print_plan(entries, limit, out),

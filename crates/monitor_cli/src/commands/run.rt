@@ -2,7 +2,8 @@
 
 ghost use Rattle.std.specs.Prelude.{◌-◌, ◌^◌, ◌<◌};
 ghost use Rattle.hart_sim.specs.Machines.{KeepsBanksRight};
-ghost use Rattle.monitor_cli.specs.Commands.{reading, writing, Runs, RunsOn};
+ghost use Rattle.byte_streams.specs.Writings.{writing};
+ghost use Rattle.monitor_cli.specs.Commands.{reading, Runs, RunsOn};
 
 use crate::inputs::read_platform;
 use crate::running::{booted, print_measures};

@@ -1,7 +1,8 @@
 //! `show`: a map as a table.
 
 ghost use Rattle.std.specs.Prelude.{◌-◌, ◌^◌, ◌<◌};
-ghost use Rattle.monitor_cli.specs.Commands.{reading, writing, Shows};
+ghost use Rattle.byte_streams.specs.Writings.{writing};
+ghost use Rattle.monitor_cli.specs.Commands.{reading, Shows};
 
 use crate::certifying::planned_within;
 use crate::inputs::map_in;

@@ -11,4 +11,4 @@ returns-then-is_whole g c = elim c.then-is_whole.branch [
 ]
 
 pub returns : goal.returns
-returns g c = rw c.status.ensures (refused (omega (arith, c.if-status-ge2.false)) (tells _ _ c.print.result c.print.ensures.written c.print.ensures.part c.print.ensures.failed))
+returns g c = rw c.status.ensures (refused (omega (arith, c.if-status-ge2.false)) (tells _ _ c.print.result c.print.ensures))

@@ -1,15 +1,17 @@
-use Rattle.std.proofs.Common.{ℕ, ◌<◌, length, take, subst}
-use Rattle.std.specs.Io.KnownBytes.{Appends}
+use Rattle.std.proofs.Common.{subst}
+use Rattle.byte_streams.specs.Writings.{Breaks, TakesAll, writing}
 use Rattle.prefix_tree.specs.Trees.{PermTree}
-use Rattle.plan_certificate.specs.Sending.{taken}
 use Rattle.plan_certificate.specs.Written.{certificate_for}
-use Rattle.plan_certificate.proofs.Sent.{part_of_cut}
 use Rattle.plan_certificate.proofs.writing.send_map.Goals as goal
 
-pub returns-in_default-clause-part : goal.returns-in_default-clause-part
-returns-in_default-clause-part g c =
-    let now = taken g.W.Sink.contents g.W.Sink.failures g.W.Sink.stalls in
+pub returns-in_default : goal.returns-in_default
+returns-in_default g c =
     let bytes = certificate_for c.args.limit c.args.plan.now in
-    subst
-    (λ (t : PermTree). (n : ℕ) × (n < length (bytes t)) × Appends (g.W.Sink.contents c.args.sink.now) (g.W.Sink.contents c.send.new.sink) (take n (bytes t)))
-    c.of.ensures.tree (part_of_cut (now c.args.sink.now) (now c.send.new.sink) (bytes c.of.result) c.in_default.ensures.cut)
+    subst (λ (t : PermTree). Breaks (bytes t) (writing g.W.Sink.contents g.W.Sink.failures g.W.Sink.stalls c.args.sink.now c.send.new.sink))
+    c.of.ensures.tree c.in_default.ensures.prints
+
+pub returns : goal.returns
+returns g c =
+    let bytes = certificate_for c.args.limit c.args.plan.now in
+    subst (λ (t : PermTree). TakesAll (bytes t) (writing g.W.Sink.contents g.W.Sink.failures g.W.Sink.stalls c.args.sink.now c.send.new.sink))
+    c.of.ensures.tree c.in-Ok.ensures.prints

@@ -1,7 +1,6 @@
 use Rattle.std.proofs.Common.{ℕ, ◌≡◌, ◌<◌, ◌≤◌, arith, refl, subst}
 use Rattle.std.proofs.lemmas.Result.{err_from_is_err_and}
-use Rattle.std.specs.Io.KnownBytes.{Appends}
-use Rattle.printed_lines.specs.Plans.{TakesPart}
+use Rattle.byte_streams.specs.Writings.{Breaks, TakesAll, writing}
 use Rattle.register_formats.specs.JsonTexts.{json_text}
 use Rattle.register_formats.proofs.printing.print_json.Goals as goal
 
@@ -11,8 +10,8 @@ full n m k h e l = omega arith
 room : (n m k : ℕ) → n ≤ m → m ≡ k → k < n → ⊥
 room n m k h e l = omega arith
 
-pub returns-then-entries-number-clause-written : goal.returns-then-entries-number-clause-written
-returns-then-entries-number-clause-written g c = (
+pub returns-then-entries-number : goal.returns-then-entries-number
+returns-then-entries-number g c = (
   json_text c.args.map.now c.args.entries.now c.of-none.result 0,
   record {
     bank = c.of-none.result;
@@ -22,11 +21,11 @@ returns-then-entries-number-clause-written g c = (
     too_many = λ h. refl;
     lines = refl;
   },
-  subst (λ name. Appends (g.W.Sink.contents c.args.out.now) (g.W.Sink.contents c.print_object.new.out) (json_text name c.args.entries.now c.of-none.result 0)) c.as_bytes.ensures.value c.in_ok-print_object.ensures.written,
+  subst (λ name. TakesAll (json_text name c.args.entries.now c.of-none.result 0) (writing g.W.Sink.contents g.W.Sink.failures g.W.Sink.stalls c.args.out.now c.print_object.new.out)) c.as_bytes.ensures.value c.in_ok-print_object.ensures,
 )
 
-pub returns-in_err-print_object-clause-part : goal.returns-in_err-print_object-clause-part
-returns-in_err-print_object-clause-part g c =
+pub returns-in_err-print_object : goal.returns-in_err-print_object
+returns-in_err-print_object g c =
     rw (err_from_is_err_and c.from_residual.result c.from_residual.ensures.1).1 (
       json_text c.args.map.now c.args.entries.now c.of-none.result 0,
       record {
@@ -37,11 +36,11 @@ returns-in_err-print_object-clause-part g c =
         too_many = λ h. refl;
         lines = refl;
       },
-      subst (λ name. TakesPart (json_text name c.args.entries.now c.of-none.result 0) (g.W.Sink.contents c.args.out.now) (g.W.Sink.contents c.print_object.new.out)) c.as_bytes.ensures.value c.in_err-print_object.ensures.part,
+      subst (λ name. Breaks (json_text name c.args.entries.now c.of-none.result 0) (writing g.W.Sink.contents g.W.Sink.failures g.W.Sink.stalls c.args.out.now c.print_object.new.out)) c.as_bytes.ensures.value c.in_err-print_object.ensures,
     )
 
-pub returns-clause-written : goal.returns-clause-written
-returns-clause-written g c = (
+pub returns : goal.returns
+returns g c = (
   json_text c.args.map.now c.args.entries.now c.of-bank.result c.words.result,
   record {
     bank = c.of-bank.result;
@@ -51,11 +50,11 @@ returns-clause-written g c = (
     too_many = λ h. absurd (room _ _ _ c.if-entries-number.false c.number.ensures.value h);
     lines = refl;
   },
-  subst (λ name. Appends (g.W.Sink.contents c.args.out.now) (g.W.Sink.contents c.print_object-2.new.out) (json_text name c.args.entries.now c.of-bank.result c.words.result)) c.as_bytes-2.ensures.value c.in_ok-print_object-2.ensures.written,
+  subst (λ name. TakesAll (json_text name c.args.entries.now c.of-bank.result c.words.result) (writing g.W.Sink.contents g.W.Sink.failures g.W.Sink.stalls c.args.out.now c.print_object-2.new.out)) c.as_bytes-2.ensures.value c.in_ok-print_object-2.ensures,
 )
 
-pub returns-in_err-print_object-2-clause-part : goal.returns-in_err-print_object-2-clause-part
-returns-in_err-print_object-2-clause-part g c =
+pub returns-in_err-print_object-2 : goal.returns-in_err-print_object-2
+returns-in_err-print_object-2 g c =
     rw (err_from_is_err_and c.from_residual-in_err-print_object-2.result c.from_residual-in_err-print_object-2.ensures.1).1 (
       json_text c.args.map.now c.args.entries.now c.of-bank.result c.words.result,
       record {
@@ -66,5 +65,5 @@ returns-in_err-print_object-2-clause-part g c =
         too_many = λ h. absurd (room _ _ _ c.if-entries-number.false c.number.ensures.value h);
         lines = refl;
       },
-      subst (λ name. TakesPart (json_text name c.args.entries.now c.of-bank.result c.words.result) (g.W.Sink.contents c.args.out.now) (g.W.Sink.contents c.print_object-2.new.out)) c.as_bytes-2.ensures.value c.in_err-print_object-2.ensures.part,
+      subst (λ name. Breaks (json_text name c.args.entries.now c.of-bank.result c.words.result) (writing g.W.Sink.contents g.W.Sink.failures g.W.Sink.stalls c.args.out.now c.print_object-2.new.out)) c.as_bytes-2.ensures.value c.in_err-print_object-2.ensures,
     )

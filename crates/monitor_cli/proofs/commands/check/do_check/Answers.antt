@@ -17,11 +17,11 @@ returns-in_err-bytes g c =
 pub returns-in-Ok : goal.returns-in-Ok
 returns-in-Ok g c =
     let verdict = rw c.as_slice.ensures.value at c.verdict-line.ensures.verdict in
-    let whole = rw c.as_slice-2.ensures.value at c.in-Ok.ensures.whole in
-    checked _ _ _ _ c.in_ok-map.ensures.made c.in_ok-bytes.ensures.whole verdict (record { whole = whole; well = (c.in-Ok.ensures.well, c.in-Ok.ensures.unstalled) })
+    let taken = rw c.as_slice-2.ensures.value at c.in-Ok.ensures in
+    checked _ _ _ _ c.in_ok-map.ensures.made c.in_ok-bytes.ensures.whole verdict taken
 
 pub returns : goal.returns
 returns g c =
     let verdict = rw c.as_slice.ensures.value at c.verdict-line.ensures.verdict in
-    let part = rw c.as_slice-2.ensures.value at c.in-Err.ensures.part in
-    commands.Checks.no_output _ _ _ _ c.in_ok-map.ensures.made c.in_ok-bytes.ensures.whole verdict (record { part = part; fails = c.in-Err.ensures.failed })
+    let broken = rw c.as_slice-2.ensures.value at c.in-Err.ensures in
+    commands.Checks.no_output _ _ _ _ c.in_ok-map.ensures.made c.in_ok-bytes.ensures.whole verdict broken

@@ -20,7 +20,7 @@ pub returns-in-Ok : goal.returns-in-Ok
 returns-in-Ok g c =
     let is = verdict _ c.in-Ok.is_map (λ e. c.in-Ok.ensures.map (ap (λ t. Ok t) e)) (λ e. c.in-Ok.ensures.fault (ap (λ t. Ok t) e)) in
     let w = rw c.as_slice.ensures.value at c.in-Ok.ensures.written in
-    rw c.answer_status.ensures (linted _ w.0 _ c.in_ok-bytes.ensures.whole (rw c.as_slice.ensures.value at is) w.1 (record { whole = w.2; well = (c.in-Ok.ensures.well, c.in-Ok.ensures.unstalled) }))
+    rw c.answer_status.ensures (linted _ w.0 _ c.in_ok-bytes.ensures.whole (rw c.as_slice.ensures.value at is) w.1 w.2)
 
 pub returns-in-Err-Memory : goal.returns-in-Err-Memory
 returns-in-Err-Memory g c = commands.Lints.no_memory _ c.in_ok-bytes.ensures.whole (c.in-Err-Memory.ensures.untouched (ap (λ f. Err f) c.in-Err-Memory.field-0-is))
@@ -28,5 +28,5 @@ returns-in-Err-Memory g c = commands.Lints.no_memory _ c.in_ok-bytes.ensures.who
 pub returns : goal.returns
 returns g c =
     let device = ap (λ f. Err f) c.in-Err-Device.field-0-is in
-    let w = rw c.as_slice.ensures.value at c.in-Err-Device.ensures.part device in
-    commands.Lints.no_output _ w.2 w.0 c.in_ok-bytes.ensures.whole w.1 w.3 (record { part = (w.4, w.5, w.6); fails = c.in-Err-Device.ensures.failed device })
+    let w = rw c.as_slice.ensures.value at c.in-Err-Device.ensures.broken device in
+    commands.Lints.no_output _ w.2 w.0 c.in_ok-bytes.ensures.whole w.1 w.3 w.4

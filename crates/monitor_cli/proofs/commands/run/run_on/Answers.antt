@@ -22,15 +22,14 @@ returns-then-not-measure g c =
 
 pub returns-in-Ok-print_measures : goal.returns-in-Ok-print_measures
 returns-in-Ok-print_measures g c =
-    let written = rw c.table.ensures.kept at c.in-Ok-print_measures.ensures.written in
+    let w = rw c.table.ensures.kept at c.in-Ok-print_measures.ensures.written in
     let before = c.in-Ok.ensures.writes in
-    let measures = c.in-Ok-print_measures.ensures in
     λ file first platform has is. ran platform c.args.machine.now c.run.new.machine _ has is (c.in-Ok.ensures.all c.requires.kept)
-    (measured c.args.measure c.run.new.machine _ _ c.if-not-measure.false written) c.in-Ok.ensures.reads (measures.well ∙ before.0, measures.unstalled ∙ before.1)
+    (measured c.args.measure c.run.new.machine _ _ c.if-not-measure.false (w.0, w.1, w.2.whole)) c.in-Ok.ensures.reads (w.2.well.0 ∙ before.0, w.2.well.1 ∙ before.1)
 
 pub returns-in-Err-print_measures : goal.returns-in-Err-print_measures
 returns-in-Err-print_measures g c =
-    let w = rw c.table.ensures.kept at c.in-Err-print_measures.ensures.part in
+    let w = rw c.table.ensures.kept at c.in-Err-print_measures.ensures.broken in
     let writes = c.in-Ok.ensures.writes in
     λ file first platform has is. not_measured platform c.args.machine.now c.run.new.machine _ w.0 w.2 c.if-not-measure.false has is
-    (c.in-Ok.ensures.all c.requires.kept) w.1 w.3 w.4 c.in-Ok.ensures.reads (rw (writes.0, writes.1) at c.in-Err-print_measures.ensures.failed)
+    (c.in-Ok.ensures.all c.requires.kept) w.1 w.3 w.4.part c.in-Ok.ensures.reads (rw (writes.0, writes.1) at w.4.fails)

@@ -23,7 +23,7 @@ print_map-requires g c = record { fewest = rw (sym c.entries.ensures) at c.in_ok
 pub returns-in-Ok : goal.returns-in-Ok
 returns-in-Ok g c =
     let w = rw c.entries.ensures at c.in-Ok.ensures.written in
-    shown _ _ w.0 c.in_ok-map.ensures.made c.in_ok-plan.ensures.planned w.1 (record { whole = w.2; well = (c.in-Ok.ensures.well, c.in-Ok.ensures.unstalled) })
+    shown _ _ w.0 c.in_ok-map.ensures.made c.in_ok-plan.ensures.planned w.1 w.2
 
 pub returns-in-Err-Memory : goal.returns-in-Err-Memory
 returns-in-Err-Memory g c = commands.Shows.no_memory _ c.in_ok-map.ensures.made (c.in-Err-Memory.ensures.untouched (ap (λ f. Err f) c.in-Err-Memory.field-0-is))
@@ -31,5 +31,5 @@ returns-in-Err-Memory g c = commands.Shows.no_memory _ c.in_ok-map.ensures.made 
 pub returns : goal.returns
 returns g c =
     let device = ap (λ f. Err f) c.in-Err-Device.field-0-is in
-    let w = rw c.entries.ensures at c.in-Err-Device.ensures.part device in
-    commands.Shows.no_output _ _ w.0 c.in_ok-map.ensures.made c.in_ok-plan.ensures.planned w.1 (record { part = w.2; fails = c.in-Err-Device.ensures.failed device })
+    let w = rw c.entries.ensures at c.in-Err-Device.ensures.broken device in
+    commands.Shows.no_output _ _ w.0 c.in_ok-map.ensures.made c.in_ok-plan.ensures.planned w.1 w.2
