@@ -9,7 +9,8 @@ use Rattle.clap.specs.declared.parser.matches.SubCommand.{SubCommand}
 use Rattle.program_tasks.specs.declared.fault.Fault.{Fault}
 use Rattle.program_tasks.specs.declared.task.Task.{Task}
 use Rattle.program_tasks.specs.Faults.{IsFaultOf}
-use Rattle.program_tasks.specs.Tasks.{word_of, HasValues, NamesNone}
+use Rattle.program_tasks.specs.Subcommands.{word_of}
+use Rattle.program_tasks.specs.Tasks.{HasValues, NamesNone}
 use Rattle.command_line.specs.CommandLine.{AreNone, IsFaultIn, IsTask}
 
 joined : {Z : Type 0} (sub : Option (Box SubCommand Z)) (name : Text) (rows : List Row) → Some name ≡ option_map (λ b. (out-SubCommand (box_value b)).name.now) sub → Some rows ≡ option_map (λ p. p.1) (subcommand_rows sub) → subcommand_rows sub ≡ Some (name, rows)

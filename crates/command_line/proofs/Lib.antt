@@ -1,3 +1,4 @@
 mod Building
 mod Entered
+pub mod Named
 mod Program

@@ -1,11 +1,13 @@
 -- How the program tells its command line to `clap`, step by step.
-use Rattle.std.specs.Prelude.{List, [], ◌∷◌, true, false}
-use Rattle.clap.specs.Words.{App, Rule, with_rule, with_subcommand}
+use Rattle.std.specs.Prelude.{◌≡◌, List, [], ◌∷◌, true, false}
+use Rattle.clap.specs.Words.{App, Rule, app_of, with_rule, with_subcommand}
+use Rattle.clap.specs.declared.builder.command.Command.{Command}
+use Rattle.clap.specs.declared.builder.command.Command.TheViews.{out-Command}
 use Rattle.command_line.specs.CommandLine.{audit_app, at_most_rule, check_app, entries_rule, file_rule, format_rule, judge_app, lint_app, measure_rule, plan_app, run_app, show_app}
 use Rattle.command_line.specs.declared.arguments.Argument.{Argument}
 use Rattle.command_line.specs.declared.arguments.Argument.TheVariants.{AtMost, Entries, File, Format, MaybeFile, Measure}
-use Rattle.command_line.specs.declared.subcommands.Subcommand.{Subcommand}
-use Rattle.command_line.specs.declared.subcommands.Subcommand.TheVariants.{Audit, Check, Judge, Lint, Plan, Run, Show}
+use Rattle.program_tasks.specs.declared.subcommand.Subcommand.{Subcommand}
+use Rattle.program_tasks.specs.declared.subcommand.Subcommand.TheVariants.{Audit, Check, Judge, Lint, Plan, Run, Show}
 
 -- the rule of an argument
 abbrev pub rule_by : Argument → Rule
@@ -35,3 +37,8 @@ app_by Lint = lint_app
 unfoldable pub with_subcommands : App → List Subcommand → App
 with_subcommands app [] = app
 with_subcommands app (subcommand ∷ rest) = with_subcommands (with_subcommand app (app_by subcommand).top) rest
+
+-- a command is described so, and none of its arguments holds in the subcommands below it too
+pub record IsCommandOf (description : App) (command : Command) : Type 0 where
+  pub app : app_of command ≡ description
+  pub local : (out-Command command).has_globals ≡ false

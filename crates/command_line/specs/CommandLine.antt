@@ -9,7 +9,8 @@ use Rattle.program_tasks.specs.declared.fault.Fault.{Fault}
 use Rattle.program_tasks.specs.declared.fault.Fault.TheVariants.{Missing}
 use Rattle.program_tasks.specs.declared.task.Task.{Task}
 use Rattle.program_tasks.specs.Faults.{IsFaultOf}
-use Rattle.program_tasks.specs.Tasks.{word_of, HasValues, IsSound}
+use Rattle.program_tasks.specs.Subcommands.{word_of}
+use Rattle.program_tasks.specs.Tasks.{HasValues, IsSound}
 use Rattle.command_line.specs.Faults.{fault_kind}
 
 -- a file that is named by its place among the words

@@ -6,8 +6,10 @@ use Rattle.std.specs.List.{slice_index_or}
 use Rattle.program_tasks.specs.declared.task.Task.TheVariants.{Run, Plan, Judge, Check, Show, Audit, Lint}
 use Rattle.program_tasks.specs.declared.fault.Fault.{Fault}
 use Rattle.program_tasks.specs.declared.fault.Fault.TheVariants.{InputTwice}
-use Rattle.program_tasks.specs.Faults.{Breaks, IsFirst, audit_demands, has}
-use Rattle.program_tasks.specs.Tasks.{Text, NamesNone, input_word}
+use Rattle.program_tasks.specs.Faults.{Breaks, IsFirst, demands_of, has}
+use Rattle.program_tasks.specs.declared.subcommand.Subcommand.TheVariants as subcommands
+use Rattle.program_tasks.specs.Subcommands.{Text}
+use Rattle.program_tasks.specs.Tasks.{NamesNone, input_word}
 
 same : (x y : Text) → Some x ≡ Some y → x ≡ y
 same x y e = cc
@@ -24,12 +26,12 @@ handed_on (Err f) fault P h p = subst P (sym h) p
 given : (value : Text → Option Text) (name word : Text) → value name ≡ Some word → value name ≡ None → ⊥
 given value name word e none = cc
 
-pub no_registers : (value : Text → Option Text) (map : Text) (fault : Fault) → value (codes "MAP") ≡ Some map → Breaks value (has (codes "REGISTERS")) fault → IsFirst value audit_demands fault
+pub no_registers : (value : Text → Option Text) (map : Text) (fault : Fault) → value (codes "MAP") ≡ Some map → Breaks value (has (codes "REGISTERS")) fault → IsFirst value (demands_of subcommands.Audit) fault
 no_registers value map fault m broken = inr (given value (codes "MAP") map m, inl broken)
 
 pub read_twice :
     (value : Text → Option Text) (map registers : Text) (fault : Fault) → value (codes "MAP") ≡ Some map → value (codes "REGISTERS") ≡ Some registers → map ≡ input_word
-    → registers ≡ input_word → fault ≡ InputTwice → IsFirst value audit_demands fault
+    → registers ≡ input_word → fault ≡ InputTwice → IsFirst value (demands_of subcommands.Audit) fault
 read_twice value map registers fault m r mi ri e =
     inr (given value (codes "MAP") map m, inr (given value (codes "REGISTERS") registers r, inl ((m ∙ ap (λ t. Some t) mi, r ∙ ap (λ t. Some t) ri), e)))
 

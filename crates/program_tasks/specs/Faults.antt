@@ -4,8 +4,10 @@ use Rattle.pmp_encoding.specs.declared.limit.Limit.{Limit}
 use Rattle.program_tasks.specs.declared.fault.Fault.{Fault}
 use Rattle.program_tasks.specs.declared.fault.Fault.TheVariants as faults
 use Rattle.program_tasks.specs.declared.task.Format.{Format}
-use Rattle.program_tasks.specs.declared.task.Task.{Task}
-use Rattle.program_tasks.specs.Tasks.{Text, Counts, format_word, input_word, limit_word, word_of}
+use Rattle.program_tasks.specs.declared.subcommand.Subcommand.{Subcommand}
+use Rattle.program_tasks.specs.declared.subcommand.Subcommand.TheVariants as subcommands
+use Rattle.program_tasks.specs.Subcommands.{Text, subcommand_word}
+use Rattle.program_tasks.specs.Tasks.{Counts, NamesNone, format_word, input_word, limit_word}
 
 -- what is said of a value that an option does not take
 abbrev pub value_text : List ℕ → List ℕ → List ℕ
@@ -59,35 +61,23 @@ IsFirst value [] fault = ⊥
 IsFirst value (demand ∷ demands) fault = Breaks value demand fault ⊎ (¬ Lacks value demand × IsFirst value demands fault)
 
 -- what each subcommand asks, in the order in which it is looked at
-abbrev pub run_demands : List Demand
-run_demands = has (codes "PLATFORM") ∷ has (codes "TRACE") ∷ []
+abbrev pub demands_of : Subcommand → List Demand
+demands_of subcommands.Run = has (codes "PLATFORM") ∷ has (codes "TRACE") ∷ []
+demands_of subcommands.Plan =
+    has (codes "MAP") ∷ keeps_map ∷ has (codes "entries") ∷ names_limit ∷ counts ∷ has (codes "format") ∷ names_format ∷ []
+demands_of subcommands.Judge = has (codes "MAP") ∷ has (codes "TRACE") ∷ has (codes "entries") ∷ names_limit ∷ reads_once (codes "TRACE") ∷ []
+demands_of subcommands.Check = has (codes "MAP") ∷ has (codes "CERT") ∷ []
+demands_of subcommands.Show = has (codes "MAP") ∷ has (codes "entries") ∷ names_limit ∷ counts ∷ []
+demands_of subcommands.Audit = has (codes "MAP") ∷ has (codes "REGISTERS") ∷ reads_once (codes "REGISTERS") ∷ []
+demands_of subcommands.Lint = has (codes "MAP") ∷ []
 
-abbrev pub plan_demands : List Demand
-plan_demands = has (codes "MAP") ∷ keeps_map ∷ has (codes "entries") ∷ names_limit ∷ counts ∷ has (codes "format") ∷ names_format ∷ []
-
-abbrev pub judge_demands : List Demand
-judge_demands = has (codes "MAP") ∷ has (codes "TRACE") ∷ has (codes "entries") ∷ names_limit ∷ reads_once (codes "TRACE") ∷ []
-
-abbrev pub check_demands : List Demand
-check_demands = has (codes "MAP") ∷ has (codes "CERT") ∷ []
-
-abbrev pub show_demands : List Demand
-show_demands = has (codes "MAP") ∷ has (codes "entries") ∷ names_limit ∷ counts ∷ []
-
-abbrev pub audit_demands : List Demand
-audit_demands = has (codes "MAP") ∷ has (codes "REGISTERS") ∷ reads_once (codes "REGISTERS") ∷ []
-
-abbrev pub lint_demands : List Demand
-lint_demands = has (codes "MAP") ∷ []
+-- no sound task is that subcommand with these values, and the fault is that of the first demand that they lack
+pub record RefusesTask (subcommand : Subcommand) (value flag : Text → Option Text) (fault : Fault) : Type 0 where
+  pub none : NamesNone (subcommand_word subcommand) value flag
+  pub first : IsFirst value (demands_of subcommand) fault
 
 -- the fault of a subcommand's values: the first demand that they lack tells it, and a word that is no subcommand is a
 -- required argument that is missing
 pub data IsFaultOf (name : Text) (value : Text → Option Text) (fault : Fault) : Type 0 where
-  run : name ≡ codes "run" → IsFirst value run_demands fault → IsFaultOf name value fault
-  plan : name ≡ codes "plan" → IsFirst value plan_demands fault → IsFaultOf name value fault
-  judge : name ≡ codes "judge" → IsFirst value judge_demands fault → IsFaultOf name value fault
-  check : name ≡ codes "check" → IsFirst value check_demands fault → IsFaultOf name value fault
-  show : name ≡ codes "show" → IsFirst value show_demands fault → IsFaultOf name value fault
-  audit : name ≡ codes "audit" → IsFirst value audit_demands fault → IsFaultOf name value fault
-  lint : name ≡ codes "lint" → IsFirst value lint_demands fault → IsFaultOf name value fault
-  unknown : ((task : Task) → word_of task ≢ name) → fault ≡ faults.Missing → IsFaultOf name value fault
+  first : (subcommand : Subcommand) → name ≡ subcommand_word subcommand → IsFirst value (demands_of subcommand) fault → IsFaultOf name value fault
+  unknown : ((subcommand : Subcommand) → name ≢ subcommand_word subcommand) → fault ≡ faults.Missing → IsFaultOf name value fault

@@ -1,2 +1,3 @@
 pub mod Faults
+pub mod Subcommands
 pub mod Tasks

@@ -5,12 +5,10 @@ use Rattle.pmp_encoding.specs.declared.limit.Limit.TheVariants.{Sixteen, SixtyFo
 use Rattle.text_lines.specs.Numbers.{number_of}
 use Rattle.program_tasks.specs.declared.task.Format.{Format}
 use Rattle.program_tasks.specs.declared.task.Format.TheVariants as formats
+use Rattle.program_tasks.specs.declared.subcommand.Subcommand.{Subcommand}
 use Rattle.program_tasks.specs.declared.task.Task.{Task}
 use Rattle.program_tasks.specs.declared.task.Task.TheVariants.{Run, Plan, Judge, Check, Show, Audit, Lint}
-
--- bytes of UTF-8
-abbrev pub Text : Type 0
-Text = List ℕ
+use Rattle.program_tasks.specs.Subcommands.{Text, subcommand_of, word_of}
 
 -- the word that names a limit
 abbrev pub limit_word : Limit → Text
@@ -28,16 +26,6 @@ format_word formats.Json = codes "json"
 abbrev pub Counts : Option Text → Option ℕ → Type 0
 Counts None count = count ≡ None
 Counts (Some word) count = (n : ℕ) × (number_of word ≡ Some n) × (count ≡ Some n)
-
--- the subcommand of a task
-abbrev pub word_of : Task → Text
-word_of (Run platform trace measure) = codes "run"
-word_of (Plan map cert limit at_most format) = codes "plan"
-word_of (Judge map trace limit) = codes "judge"
-word_of (Check map cert) = codes "check"
-word_of (Show map limit at_most) = codes "show"
-word_of (Audit map registers) = codes "audit"
-word_of (Lint map) = codes "lint"
 
 -- the task has these values: of its arguments and of its flags, by their names
 abbrev pub HasValues : (Text → Option Text) → (Text → Option Text) → Task → Type 0
@@ -82,3 +70,9 @@ IsSound task = Unit {0}
 -- no sound task is that subcommand with these values
 abbrev pub NamesNone : Text → (Text → Option Text) → (Text → Option Text) → Type 0
 NamesNone name value flag = (task : Task) → word_of task ≡ name → HasValues value flag task → ¬ IsSound task
+
+-- a sound task is that subcommand with these values
+pub record IsTaskOf (subcommand : Subcommand) (value flag : Text → Option Text) (task : Task) : Type 0 where
+  pub named : subcommand_of task ≡ subcommand
+  pub values : HasValues value flag task
+  pub sound : IsSound task

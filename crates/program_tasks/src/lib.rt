@@ -11,10 +11,12 @@
 
 mod fault;
 mod given;
+mod subcommand;
 mod task;
 mod tasks;
 
 pub use fault::Fault;
 pub use given::Values;
+pub use subcommand::{SUBCOMMANDS, Subcommand};
 pub use task::{Format, Task};
 pub use tasks::task_of;

@@ -3,12 +3,14 @@
 ghost use Rattle.std.specs.Prelude.{◌≡◌, ◌≢◌, ◌↔◌, [], ◌∷◌, IfErr, IfOk, IfSome, Option, None, Some, codes, true, option_map};
 ghost use Rattle.pmp_encoding.specs.declared.limit.Limit.{Limit};
 ghost use Rattle.program_tasks.specs.declared.task.Format.{Format};
-ghost use Rattle.program_tasks.specs.Faults.{Breaks, IsFaultOf, IsFirst, audit_demands, check_demands, judge_demands, lint_demands, plan_demands, run_demands, show_demands};
+ghost use Rattle.program_tasks.specs.Faults.{Breaks, IsFaultOf, IsFirst, RefusesTask};
 ghost use Rattle.program_tasks.specs.Faults.Demand.{counts, has, names_limit, names_format};
-ghost use Rattle.program_tasks.specs.Tasks.{limit_word, format_word, input_word, word_of, Counts, HasValues, IsSound, NamesNone};
+ghost use Rattle.program_tasks.specs.Subcommands.{word_of};
+ghost use Rattle.program_tasks.specs.Tasks.{limit_word, format_word, input_word, Counts, HasValues, IsSound, IsTaskOf, NamesNone};
 
 use crate::fault::Fault;
 use crate::given::Values;
+use crate::subcommand::Subcommand;
 use crate::task::{Format, Task};
 use pmp_encoding::Limit;
 use text_lines::number;
@@ -117,12 +119,10 @@ fn is_input(word: &str) -> bool
 }
 
 fn run_in<'a, V: Values<'a>>(given: &V) -> Result<Task<'a>, Fault<'a>>
-    ensures word { IfOk result (λ task. word_of task ≡ codes "run") }
-    ensures values { IfOk result (HasValues (V.value given.now) (V.flag given.now)) }
-    ensures sound { IfOk result IsSound }
-    ensures refused { IfErr result (λ _. NamesNone (codes "run") (V.value given.now)
+    ensures task { IfOk result (IsTaskOf Subcommand.Run (V.value given.now)
         (V.flag given.now)) }
-    ensures fault { IfErr result (IsFirst (V.value given.now) run_demands) }
+    ensures refused { IfErr result (RefusesTask Subcommand.Run (V.value given.now)
+        (V.flag given.now)) }
 {
     let platform = value_in(given, "PLATFORM")?;
     let trace = value_in(given, "TRACE")?;
@@ -154,12 +154,10 @@ fn cert_in<'a, V: Values<'a>>(given: &V, map: &'a str) -> Result<Option<&'a str>
 }
 
 fn plan_in<'a, V: Values<'a>>(given: &V) -> Result<Task<'a>, Fault<'a>>
-    ensures word { IfOk result (λ task. word_of task ≡ codes "plan") }
-    ensures values { IfOk result (HasValues (V.value given.now) (V.flag given.now)) }
-    ensures sound { IfOk result IsSound }
-    ensures refused { IfErr result (λ _. NamesNone (codes "plan") (V.value given.now)
+    ensures task { IfOk result (IsTaskOf Subcommand.Plan (V.value given.now)
         (V.flag given.now)) }
-    ensures fault { IfErr result (IsFirst (V.value given.now) plan_demands) }
+    ensures refused { IfErr result (RefusesTask Subcommand.Plan (V.value given.now)
+        (V.flag given.now)) }
 {
     let map = value_in(given, "MAP")?;
     let cert = cert_in(given, map)?;
@@ -189,12 +187,10 @@ fn once<'a>(map: &str, other: &str) -> Result<(), Fault<'a>>
 }
 
 fn judge_in<'a, V: Values<'a>>(given: &V) -> Result<Task<'a>, Fault<'a>>
-    ensures word { IfOk result (λ task. word_of task ≡ codes "judge") }
-    ensures values { IfOk result (HasValues (V.value given.now) (V.flag given.now)) }
-    ensures sound { IfOk result IsSound }
-    ensures refused { IfErr result (λ _. NamesNone (codes "judge") (V.value given.now)
+    ensures task { IfOk result (IsTaskOf Subcommand.Judge (V.value given.now)
         (V.flag given.now)) }
-    ensures fault { IfErr result (IsFirst (V.value given.now) judge_demands) }
+    ensures refused { IfErr result (RefusesTask Subcommand.Judge (V.value given.now)
+        (V.flag given.now)) }
 {
     let map = value_in(given, "MAP")?;
     let trace = value_in(given, "TRACE")?;
@@ -204,12 +200,10 @@ fn judge_in<'a, V: Values<'a>>(given: &V) -> Result<Task<'a>, Fault<'a>>
 }
 
 fn check_in<'a, V: Values<'a>>(given: &V) -> Result<Task<'a>, Fault<'a>>
-    ensures word { IfOk result (λ task. word_of task ≡ codes "check") }
-    ensures values { IfOk result (HasValues (V.value given.now) (V.flag given.now)) }
-    ensures sound { IfOk result IsSound }
-    ensures refused { IfErr result (λ _. NamesNone (codes "check") (V.value given.now)
+    ensures task { IfOk result (IsTaskOf Subcommand.Check (V.value given.now)
         (V.flag given.now)) }
-    ensures fault { IfErr result (IsFirst (V.value given.now) check_demands) }
+    ensures refused { IfErr result (RefusesTask Subcommand.Check (V.value given.now)
+        (V.flag given.now)) }
 {
     let map = value_in(given, "MAP")?;
     let cert = value_in(given, "CERT")?;
@@ -217,12 +211,10 @@ fn check_in<'a, V: Values<'a>>(given: &V) -> Result<Task<'a>, Fault<'a>>
 }
 
 fn show_in<'a, V: Values<'a>>(given: &V) -> Result<Task<'a>, Fault<'a>>
-    ensures word { IfOk result (λ task. word_of task ≡ codes "show") }
-    ensures values { IfOk result (HasValues (V.value given.now) (V.flag given.now)) }
-    ensures sound { IfOk result IsSound }
-    ensures refused { IfErr result (λ _. NamesNone (codes "show") (V.value given.now)
+    ensures task { IfOk result (IsTaskOf Subcommand.Show (V.value given.now)
         (V.flag given.now)) }
-    ensures fault { IfErr result (IsFirst (V.value given.now) show_demands) }
+    ensures refused { IfErr result (RefusesTask Subcommand.Show (V.value given.now)
+        (V.flag given.now)) }
 {
     let map = value_in(given, "MAP")?;
     let limit = limit_in(given)?;
@@ -235,12 +227,10 @@ fn show_in<'a, V: Values<'a>>(given: &V) -> Result<Task<'a>, Fault<'a>>
 }
 
 fn audit_in<'a, V: Values<'a>>(given: &V) -> Result<Task<'a>, Fault<'a>>
-    ensures word { IfOk result (λ task. word_of task ≡ codes "audit") }
-    ensures values { IfOk result (HasValues (V.value given.now) (V.flag given.now)) }
-    ensures sound { IfOk result IsSound }
-    ensures refused { IfErr result (λ _. NamesNone (codes "audit") (V.value given.now)
+    ensures task { IfOk result (IsTaskOf Subcommand.Audit (V.value given.now)
         (V.flag given.now)) }
-    ensures fault { IfErr result (IsFirst (V.value given.now) audit_demands) }
+    ensures refused { IfErr result (RefusesTask Subcommand.Audit (V.value given.now)
+        (V.flag given.now)) }
 {
     let map = value_in(given, "MAP")?;
     let registers = value_in(given, "REGISTERS")?;
@@ -249,15 +239,30 @@ fn audit_in<'a, V: Values<'a>>(given: &V) -> Result<Task<'a>, Fault<'a>>
 }
 
 fn lint_in<'a, V: Values<'a>>(given: &V) -> Result<Task<'a>, Fault<'a>>
-    ensures word { IfOk result (λ task. word_of task ≡ codes "lint") }
-    ensures values { IfOk result (HasValues (V.value given.now) (V.flag given.now)) }
-    ensures sound { IfOk result IsSound }
-    ensures refused { IfErr result (λ _. NamesNone (codes "lint") (V.value given.now)
+    ensures task { IfOk result (IsTaskOf Subcommand.Lint (V.value given.now)
         (V.flag given.now)) }
-    ensures fault { IfErr result (IsFirst (V.value given.now) lint_demands) }
+    ensures refused { IfErr result (RefusesTask Subcommand.Lint (V.value given.now)
+        (V.flag given.now)) }
 {
     let map = value_in(given, "MAP")?;
     Ok(Task::Lint { map })
+}
+
+/// The task of a subcommand with its values.
+fn task_in<'a, V: Values<'a>>(subcommand: Subcommand, given: &V) -> Result<Task<'a>, Fault<'a>>
+    ensures task { IfOk result (IsTaskOf subcommand (V.value given.now) (V.flag given.now)) }
+    ensures refused { IfErr result (RefusesTask subcommand (V.value given.now)
+        (V.flag given.now)) }
+{
+    match subcommand {
+        Subcommand::Run => run_in(given),
+        Subcommand::Plan => plan_in(given),
+        Subcommand::Judge => judge_in(given),
+        Subcommand::Check => check_in(given),
+        Subcommand::Show => show_in(given),
+        Subcommand::Audit => audit_in(given),
+        Subcommand::Lint => lint_in(given),
+    }
 }
 
 /// The task of a subcommand with its values, and a fault only where no sound task is that subcommand with these values.
@@ -269,26 +274,8 @@ pub fn task_of<'a, V: Values<'a>>(name: &str, given: &V) -> Result<Task<'a>, Fau
         (V.flag given.now)) }
     ensures fault { IfErr result (IsFaultOf name.now (V.value given.now)) }
 {
-    if name == "run" {
-        return run_in(given);
-    }
-    if name == "plan" {
-        return plan_in(given);
-    }
-    if name == "judge" {
-        return judge_in(given);
-    }
-    if name == "check" {
-        return check_in(given);
-    }
-    if name == "show" {
-        return show_in(given);
-    }
-    if name == "audit" {
-        return audit_in(given);
-    }
-    if name == "lint" {
-        return lint_in(given);
-    }
-    Err(Fault::Missing)
+    let Some(subcommand) = Subcommand::of(name) else {
+        return Err(Fault::Missing);
+    };
+    task_in(subcommand, given)
 }

@@ -10,6 +10,9 @@ loop-argument-preserved c = record {
   app = with_next_argument _ _ _ _ _ _ _ c.loop-argument-test.true (c.in_ok-command.ensures.shape c.arg.ensures.local) c.arg.ensures.rule c.loop-argument.invariant.app;
 }
 
-pub returns-clause-app : goal.returns-clause-app
+pub returns : goal.returns
 unfolding with_arguments
-returns-clause-app c = ap (with_arguments (app_of c.loop-argument.command)) (sym (none_left _ _ c.loop-argument-test.false)) ∙ c.loop-argument.invariant.app
+returns c = record {
+  app = ap (with_arguments (app_of c.loop-argument.command)) (sym (none_left _ _ c.loop-argument-test.false)) ∙ c.loop-argument.invariant.app;
+  local = c.loop-argument.invariant.local;
+}

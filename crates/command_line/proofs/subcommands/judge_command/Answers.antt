@@ -1,6 +1,6 @@
 use Rattle.command_line.specs.Building.{with_arguments}
 use Rattle.command_line.proofs.subcommands.judge_command.Goals as goal
 
-pub returns-clause-app : goal.returns-clause-app
+pub returns : goal.returns
 unfolding with_arguments
-returns-clause-app c = c.command.ensures.app
+returns c = rw c.name.ensures at c.command.ensures

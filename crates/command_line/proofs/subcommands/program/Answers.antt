@@ -1,7 +1,7 @@
 use Rattle.std.proofs.Common.{◌∙◌, ◌||◌, ap, ap₂, sym, [], ◌∷◌}
 use Rattle.clap.specs.Words.{app_of}
 use Rattle.command_line.specs.Building.{with_subcommands}
-use Rattle.command_line.specs.declared.subcommands.Subcommand.TheVariants.{Audit, Check, Judge, Lint, Plan, Run, Show}
+use Rattle.program_tasks.specs.declared.subcommand.Subcommand.TheVariants.{Audit, Check, Judge, Lint, Plan, Run, Show}
 use Rattle.command_line.proofs.Building.{none_left, with_next_subcommand}
 use Rattle.command_line.proofs.subcommands.program.Goals as goal
 
@@ -14,12 +14,14 @@ loop-subcommand-init c = record {
 
 pub loop-subcommand-preserved : goal.loop-subcommand-preserved
 loop-subcommand-preserved c = record {
-  local = c.in_ok-program.ensures.globals ∙ ap₂ ◌||◌ c.loop-subcommand.invariant.local c.in_ok-command.ensures.local;
-  app = with_next_subcommand _ _ _ _ _ _ _ c.loop-subcommand-test.true (c.in_ok-program.ensures.shape c.in_ok-command.ensures.local) c.in_ok-command.ensures.app
+  local = c.in_ok-program.ensures.globals ∙ ap₂ ◌||◌ c.loop-subcommand.invariant.local c.in_ok-subcommand_command.ensures.local;
+  app = with_next_subcommand _ _ _ _ _ _ _ c.loop-subcommand-test.true (c.in_ok-program.ensures.shape c.in_ok-subcommand_command.ensures.local) c.in_ok-subcommand_command.ensures.app
       c.loop-subcommand.invariant.app;
 }
 
-pub returns-clause-app : goal.returns-clause-app
+pub returns : goal.returns
 unfolding with_subcommands
-returns-clause-app c =
-    ap (with_subcommands (app_of c.loop-subcommand.program)) (sym (none_left _ _ c.loop-subcommand-test.false)) ∙ c.loop-subcommand.invariant.app
+returns c = record {
+  app = ap (with_subcommands (app_of c.loop-subcommand.program)) (sym (none_left _ _ c.loop-subcommand-test.false)) ∙ c.loop-subcommand.invariant.app;
+  local = c.loop-subcommand.invariant.local;
+}

@@ -1,0 +1,34 @@
+-- The program's subcommands: the word that names each, and which of them a task is.
+use Rattle.std.specs.Prelude.{ℕ, List, codes}
+use Rattle.program_tasks.specs.declared.subcommand.Subcommand.{Subcommand}
+use Rattle.program_tasks.specs.declared.subcommand.Subcommand.TheVariants as subcommands
+use Rattle.program_tasks.specs.declared.task.Task.{Task}
+use Rattle.program_tasks.specs.declared.task.Task.TheVariants.{Run, Plan, Judge, Check, Show, Audit, Lint}
+
+-- bytes of UTF-8
+abbrev pub Text : Type 0
+Text = List ℕ
+
+-- the word that names a subcommand
+abbrev pub subcommand_word : Subcommand → Text
+subcommand_word subcommands.Run = codes "run"
+subcommand_word subcommands.Plan = codes "plan"
+subcommand_word subcommands.Judge = codes "judge"
+subcommand_word subcommands.Check = codes "check"
+subcommand_word subcommands.Show = codes "show"
+subcommand_word subcommands.Audit = codes "audit"
+subcommand_word subcommands.Lint = codes "lint"
+
+-- the subcommand that a task is
+abbrev pub subcommand_of : Task → Subcommand
+subcommand_of (Run platform trace measure) = subcommands.Run
+subcommand_of (Plan map cert limit at_most format) = subcommands.Plan
+subcommand_of (Judge map trace limit) = subcommands.Judge
+subcommand_of (Check map cert) = subcommands.Check
+subcommand_of (Show map limit at_most) = subcommands.Show
+subcommand_of (Audit map registers) = subcommands.Audit
+subcommand_of (Lint map) = subcommands.Lint
+
+-- its word
+abbrev pub word_of : Task → Text
+word_of task = subcommand_word (subcommand_of task)

@@ -1,0 +1,82 @@
+//! The program's subcommands.
+
+ghost use Rattle.std.specs.Prelude.{◌≡◌, ◌≢◌, IfSome, None};
+ghost use Rattle.program_tasks.specs.declared.subcommand.Subcommand.{Subcommand};
+ghost use Rattle.program_tasks.specs.Subcommands.{subcommand_word};
+
+/// A subcommand of the program.
+#[derive(Clone, Copy, Debug, PartialEq, Eq)]
+pub enum Subcommand {
+    /// `run`.
+    Run,
+    /// `plan`.
+    Plan,
+    /// `judge`.
+    Judge,
+    /// `check`.
+    Check,
+    /// `show`.
+    Show,
+    /// `audit`.
+    Audit,
+    /// `lint`.
+    Lint,
+}
+
+/// All of them, as the program's help lists them.
+pub const SUBCOMMANDS: [Subcommand; 7] = [
+    Subcommand::Run,
+    Subcommand::Plan,
+    Subcommand::Judge,
+    Subcommand::Check,
+    Subcommand::Show,
+    Subcommand::Audit,
+    Subcommand::Lint,
+];
+
+impl Subcommand {
+    /// The word that names it.
+    pub fn name(self) -> &'static str
+        ensures { result.now ≡ subcommand_word self }
+    {
+        match self {
+            Subcommand::Run => "run",
+            Subcommand::Plan => "plan",
+            Subcommand::Judge => "judge",
+            Subcommand::Check => "check",
+            Subcommand::Show => "show",
+            Subcommand::Audit => "audit",
+            Subcommand::Lint => "lint",
+        }
+    }
+
+    /// The one that a word names.
+    pub fn of(word: &str) -> Option<Subcommand>
+        ensures some { IfSome result (λ subcommand. word.now ≡ subcommand_word subcommand) }
+        ensures none { result ≡ None → (subcommand : Subcommand)
+            → word.now ≢ subcommand_word subcommand }
+    {
+        if word == "run" {
+            return Some(Subcommand::Run);
+        }
+        if word == "plan" {
+            return Some(Subcommand::Plan);
+        }
+        if word == "judge" {
+            return Some(Subcommand::Judge);
+        }
+        if word == "check" {
+            return Some(Subcommand::Check);
+        }
+        if word == "show" {
+            return Some(Subcommand::Show);
+        }
+        if word == "audit" {
+            return Some(Subcommand::Audit);
+        }
+        if word == "lint" {
+            return Some(Subcommand::Lint);
+        }
+        None
+    }
+}
