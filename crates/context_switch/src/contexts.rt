@@ -14,14 +14,16 @@ pub struct Contexts {
 impl Contexts {
     ghost use Rattle.std.specs.Prelude.{◌≡◌, ◌≢◌, ◌≤◌, ℕ, Some};
     ghost use Rattle.worlds.specs.declared.world.World.{World};
-    ghost use Rattle.sbi_decode.specs.Registers.{zeros};
+    ghost use Rattle.sbi_decode.specs.Registers.{RegisterFile, zeros};
     ghost use Rattle.worlds.specs.Runners.{Runner, runner_of, IsWorld};
     ghost use Rattle.context_switch.specs.Contexts.{saved_of};
 
     /// Every set zero.
     pub fn new() -> Contexts
-        ensures { (hart : ℕ) (world : World) → hart ≤ 3 → IsWorld world
+        ensures saved { (hart : ℕ) (world : World) → hart ≤ 3 → IsWorld world
             → saved_of result (runner_of hart world) ≡ Some zeros }
+        ensures zero { (who : Runner) (file : RegisterFile) → saved_of result who ≡ Some file
+            → file ≡ zeros }
     {
         let zeros = Registers::new();
         Contexts {

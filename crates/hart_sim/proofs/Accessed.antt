@@ -17,11 +17,11 @@ use Rattle.hart_sim.specs.declared.memory.Memory.{Memory}
 use Rattle.hart_sim.specs.declared.reply.Reply.{Reply}
 use Rattle.hart_sim.specs.declared.reply.Reply.TheVariants as replies
 use Rattle.std.proofs.Common.{Bool}
-use Rattle.hart_sim.specs.Acting.{SameMemory, Stores, ReachesMemory}
-use Rattle.hart_sim.specs.States.{SameState}
+use Rattle.hart_sim.specs.Effects.{SameMemory, Stores, ReachesMemory}
 use Rattle.hart_sim.specs.Changes.{storing}
 use Rattle.hart_sim.specs.Steps.{verdict, TakesEffect, Accesses}
-use Rattle.hart_sim.specs.Hardware.{shown}
+use Rattle.hart_sim.proofs.Equal.{equal}
+use Rattle.hart_sim.proofs.Shown.{shown}
 use Rattle.hart_sim.proofs.Verdicts.{verdict_is}
 
 -- an access has one judgement
@@ -49,11 +49,13 @@ that_cause es a given cause j = (
 )
 
 -- memory as it was shows the same state
-pub shows_same : (table : EnclaveTable) (harts : List Hart) (contexts : Contexts) (marked : List Bool) (old new : Memory) → SameMemory new old → SameState (shown table harts contexts new marked) (shown table harts contexts old marked)
-shows_same table harts contexts marked old new m = record { table = refl; worlds = λ h low. refl; registers = λ who has. refl; bytes = m.bytes; written = m.written; marked = λ h low. refl }
+pub shows_same : (table : EnclaveTable) (harts : List Hart) (contexts : Contexts) (marked : List Bool) (old new : Memory) → SameMemory new old → shown table harts contexts new marked ≡ shown table harts contexts old marked
+shows_same table harts contexts marked old new m =
+    equal (record { table = refl; worlds = λ h. refl; registers = λ who. refl; bytes = m.bytes; written = m.written; marked = λ h. refl })
 
-pub shows_store : (table : EnclaveTable) (harts : List Hart) (contexts : Contexts) (marked : List Bool) (old new : Memory) (address size value : ℕ) → Stores old address size value new → SameState (shown table harts contexts new marked) (storing (shown table harts contexts old marked) address size value)
-shows_store table harts contexts marked old new address size value m = record { table = refl; worlds = λ h low. refl; registers = λ who has. refl; bytes = m.bytes; written = m.written; marked = λ h low. refl }
+pub shows_store : (table : EnclaveTable) (harts : List Hart) (contexts : Contexts) (marked : List Bool) (old new : Memory) (address size value : ℕ) → Stores old address size value new → shown table harts contexts new marked ≡ storing (shown table harts contexts old marked) address size value
+shows_store table harts contexts marked old new address size value m =
+    equal (record { table = refl; worlds = λ h. refl; registers = λ who. refl; bytes = m.bytes; written = m.written; marked = λ h. refl })
 
 reaches : (kind : Kind) (table : EnclaveTable) (harts : List Hart) (contexts : Contexts) (marked : List Bool) (old new : Memory) (a : Access) (value : ℕ) (reply : Reply) → ReachesMemory kind old a value reply new → TakesEffect kind (shown table harts contexts old marked) a value reply (shown table harts contexts new marked)
 reaches Fetch table harts contexts marked old new a value reply x = (x.0, shows_same table harts contexts marked old new x.1)
@@ -70,6 +72,5 @@ accesses_ok view es table harts contexts marked old new a value reply means mode
 pub accesses_err : (view : ℕ → Perm) (es : List Entry) (table : EnclaveTable) (harts : List Hart) (contexts : Contexts) (marked : List Bool) (old : Memory) (a : Access) (value : ℕ) (cause : Cause) → Means es view → a.mode ≢ Machine → Judges es a (Err cause) → Accesses (verdict view a) (shown table harts contexts old marked) a value (replies.Fault cause) (shown table harts contexts old marked)
 accesses_err view es table harts contexts marked old a value cause means mode j =
     let s = shown table harts contexts old marked in
-    let same : SameState s s = shows_same table harts contexts marked old old (record { bytes = λ a. refl; written = λ p. refl }) in
-    let there : Accesses (Err cause) s a value (replies.Fault cause) s = (refl, same) in
+    let there : Accesses (Err cause) s a value (replies.Fault cause) s = (refl, refl) in
     subst (λ v. Accesses v s a value (replies.Fault cause) s) (sym (verdict_is view es a (Err cause) means mode j)) there

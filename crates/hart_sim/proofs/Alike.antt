@@ -16,7 +16,7 @@ use Rattle.hart_trace.specs.declared.event.Event.TheVariants as events
 use Rattle.hart_sim.specs.declared.reply.Reply.{Reply}
 use Rattle.hart_sim.specs.declared.reply.Reply.TheVariants as replies
 use Rattle.hart_sim.specs.Memory.{bytes_at, number_of, in_range}
-use Rattle.hart_sim.specs.States.{State, SameState, HasRegisters, view_of, current_view, who_runs, running_registers}
+use Rattle.hart_sim.specs.States.{State, view_of, current_view, who_runs, running_registers}
 use Rattle.enclave_table.proofs.ShortNames.{view_in}
 use Rattle.hart_sim.specs.Changes.{is_same, with_x, with_running, storing, without_mark}
 use Rattle.hart_sim.specs.Steps.{Step, verdict, Accesses, TakesEffect}
@@ -24,19 +24,12 @@ use Rattle.hart_sim.specs.Privacy.{RunsOn, LooksSame, ChangesOwn, IsOwn, IsPriva
 use Rattle.hart_sim.proofs.Bytes.{bytes_moved}
 use Rattle.hart_sim.proofs.Verdicts.{IsAllowed, allowed_by, some_held, page_of_byte}
 
--- a state is itself
-pub itself : (s : State) → SameState s s
-itself s = record { table = refl; worlds = λ h low. refl; registers = λ who has. refl; bytes = λ a. refl; written = λ p. refl; marked = λ h low. refl }
-
 -- the view of an enclave that runs
 pub view_is : (s : State) (hart id : ℕ) (e : Enclave) → RunsOn s hart id e → current_view s hart ≡ enclave_view e.parts
 view_is s hart id e r = ap (λ w page. view_of s.table w page) r.world ∙ ap (λ o page. view_in o page) r.live
 
 runner_is : (s : State) (hart id : ℕ) (e : Enclave) → RunsOn s hart id e → who_runs s hart ≡ EnclaveOf id
 runner_is s hart id e r = ap (runner_of hart) r.world
-
-has : (s : State) (hart id : ℕ) (e : Enclave) → RunsOn s hart id e → HasRegisters s.table (EnclaveOf id)
-has s hart id e r = (e, r.live, inl r.running)
 
 -- where the mark is not there, taking it away changes nothing
 pub unmarked : (s : State) (hart h : ℕ) → s.marked hart ≡ false → (if h == hart then false else s.marked h) ≡ s.marked h
@@ -53,33 +46,33 @@ same_not (EnclaveOf a) (HostOf b) n = refl
 same_not (EnclaveOf a) (EnclaveOf b) n = ne_eqb a b (λ e. n (ap EnclaveOf e))
 
 -- nothing changed but a mark that was not there
-stays : (s new : State) (hart id : ℕ) (e : Enclave) → RunsOn s hart id e → SameState new (without_mark s hart) → ChangesOwn id e s new
-stays s new hart id e r is = record {
-  table = is.table;
-  worlds = is.worlds;
-  registers = λ who known other. is.registers who known;
-  bytes = λ a none. is.bytes a;
-  written = λ p none. is.written p;
-  marked = λ h low. is.marked h low ∙ unmarked s hart h r.unmarked;
-}
+stays : (s new : State) (hart id : ℕ) (e : Enclave) → RunsOn s hart id e → new ≡ without_mark s hart → ChangesOwn id e s new
+stays s new hart id e r is = subst (ChangesOwn id e s) (sym is) (record {
+  table = refl;
+  worlds = refl;
+  registers = λ who other. refl;
+  bytes = λ a none. refl;
+  written = λ p none. refl;
+  marked = λ i h. unmarked s hart h r.unmarked i;
+})
 
 -- the enclave still runs where nothing but its own changed
 pub still_runs : (s new : State) (hart id : ℕ) (e : Enclave) → RunsOn s hart id e → ChangesOwn id e s new → RunsOn new hart id e
 still_runs s new hart id e r ch = record {
   known = subst (λ t. hart < t.layout.harts) (sym ch.table) r.known;
-  world = ch.worlds hart r.known ∙ r.world;
+  world = ap (λ f. f hart) ch.worlds ∙ r.world;
   live = subst (λ t. Live t id e) (sym ch.table) r.live;
   running = r.running;
-  unmarked = ch.marked hart r.known ∙ r.unmarked;
+  unmarked = ap (λ f. f hart) ch.marked ∙ r.unmarked;
 }
 
 -- both states as they were
-same_still : (s other new now : State) (hart there id : ℕ) (e f : Enclave) → RunsOn s hart id e → RunsOn other there id f → LooksSame id e f s other → SameState new (without_mark s hart) → SameState now (without_mark other there) → LooksSame id e f new now
+same_still : (s other new now : State) (hart there id : ℕ) (e f : Enclave) → RunsOn s hart id e → RunsOn other there id f → LooksSame id e f s other → new ≡ without_mark s hart → now ≡ without_mark other there → LooksSame id e f new now
 same_still s other new now hart there id e f r q l is is' = record {
   parts = l.parts;
-  registers = is.registers (EnclaveOf id) (has s hart id e r) ∙ l.registers ∙ sym (is'.registers (EnclaveOf id) (has other there id f q));
-  bytes = λ a some. is.bytes a ∙ l.bytes a some ∙ sym (is'.bytes a);
-  written = λ p some. is.written p ∙ l.written p some ∙ sym (is'.written p);
+  registers = ap (λ x. x.registers (EnclaveOf id)) is ∙ l.registers ∙ sym (ap (λ x. x.registers (EnclaveOf id)) is');
+  bytes = λ a some. ap (λ x. x.bytes a) is ∙ l.bytes a some ∙ sym (ap (λ x. x.bytes a) is');
+  written = λ p some. ap (λ x. x.written p) is ∙ l.written p some ∙ sym (ap (λ x. x.written p) is');
 }
 
 -- an address of an access that is allowed is in a page of the view
@@ -99,23 +92,23 @@ loaded_same s other id e f a l ok =
     bytes_moved s.bytes other.bytes a.address a.address a.size (λ k low. l.bytes (a.address + k) (reached e a (a.address + k) ok (omega arith) (omega arith)))
 
 -- the same store in both
-stored_same : (s other new now : State) (hart there id : ℕ) (e f : Enclave) (a : Access) (value : ℕ) → RunsOn s hart id e → RunsOn other there id f → LooksSame id e f s other → SameState new (storing (without_mark s hart) a.address a.size value) → SameState now (storing (without_mark other there) a.address a.size value) → LooksSame id e f new now
+stored_same : (s other new now : State) (hart there id : ℕ) (e f : Enclave) (a : Access) (value : ℕ) → RunsOn s hart id e → RunsOn other there id f → LooksSame id e f s other → new ≡ storing (without_mark s hart) a.address a.size value → now ≡ storing (without_mark other there) a.address a.size value → LooksSame id e f new now
 stored_same s other new now hart there id e f a value r q l is is' = record {
   parts = l.parts;
-  registers = is.registers (EnclaveOf id) (has s hart id e r) ∙ l.registers ∙ sym (is'.registers (EnclaveOf id) (has other there id f q));
-  bytes = λ b some. is.bytes b ∙ ap (λ x. if in_range a.address a.size b then byte_of value (b - a.address) else x) (l.bytes b some) ∙ sym (is'.bytes b);
-  written = λ p some. is.written p ∙ ap (λ x. if p == a.address / 4096 then true else x) (l.written p some) ∙ sym (is'.written p);
+  registers = ap (λ x. x.registers (EnclaveOf id)) is ∙ l.registers ∙ sym (ap (λ x. x.registers (EnclaveOf id)) is');
+  bytes = λ b some. ap (λ x. x.bytes b) is ∙ ap (λ x. if in_range a.address a.size b then byte_of value (b - a.address) else x) (l.bytes b some) ∙ sym (ap (λ x. x.bytes b) is');
+  written = λ p some. ap (λ x. x.written p) is ∙ ap (λ x. if p == a.address / 4096 then true else x) (l.written p some) ∙ sym (ap (λ x. x.written p) is');
 }
 
-stores_own : (s new : State) (hart id : ℕ) (e : Enclave) (a : Access) (value : ℕ) → RunsOn s hart id e → IsAllowed (enclave_view e.parts) a → SameState new (storing (without_mark s hart) a.address a.size value) → ChangesOwn id e s new
-stores_own s new hart id e a value r ok is = record {
-  table = is.table;
-  worlds = is.worlds;
-  registers = λ who known other. is.registers who known;
-  bytes = λ b none. is.bytes b ∙ ap (λ t. if t then byte_of value (b - a.address) else s.bytes b) (untouched e a b ok none);
-  written = λ p none. is.written p ∙ ap (λ t. if t then true else s.written p) (ne_eqb p (a.address / 4096) (λ same. some_held (enclave_view e.parts (a.address / 4096)) a.kind ok.held (ap (enclave_view e.parts) (sym same) ∙ none)));
-  marked = λ h low. is.marked h low ∙ unmarked s hart h r.unmarked;
-}
+stores_own : (s new : State) (hart id : ℕ) (e : Enclave) (a : Access) (value : ℕ) → RunsOn s hart id e → IsAllowed (enclave_view e.parts) a → new ≡ storing (without_mark s hart) a.address a.size value → ChangesOwn id e s new
+stores_own s new hart id e a value r ok is = subst (ChangesOwn id e s) (sym is) (record {
+  table = refl;
+  worlds = refl;
+  registers = λ who other. refl;
+  bytes = λ b none. ap (λ t. if t then byte_of value (b - a.address) else s.bytes b) (untouched e a b ok none);
+  written = λ p none. ap (λ t. if t then true else s.written p) (ne_eqb p (a.address / 4096) (λ same. some_held (enclave_view e.parts (a.address / 4096)) a.kind ok.held (ap (enclave_view e.parts) (sym same) ∙ none)));
+  marked = λ i h. unmarked s hart h r.unmarked i;
+})
 
 -- what may happen in the other state too
 abbrev Follows : State → State → State → ℕ → ℕ → ℕ → Enclave → Enclave → Event → Reply → Type 0
@@ -126,7 +119,7 @@ follow_access : (s other new : State) (hart there id : ℕ) (e f : Enclave) (a :
     → (now : State) × Accesses said (without_mark other there) a value reply now × LooksSame id e f new now × ChangesOwn id e s new × ChangesOwn id f other now
 follow_access s other new hart there id e f a value reply (Err cause) r q l v x =
     let now = without_mark other there in
-    (now, (x.0, itself now), same_still s other new now hart there id e f r q l x.1 (itself now), stays s new hart id e r x.1, stays other now there id f q (itself now))
+    (now, (x.0, refl), same_still s other new now hart there id e f r q l x.1 (refl), stays s new hart id e r x.1, stays other now there id f q (refl))
 follow_access s other new hart there id e f a value reply (Ok done) r q l v x = by_kind a.kind x
   where
     ok : IsAllowed (enclave_view e.parts) a
@@ -141,51 +134,51 @@ follow_access s other new hart there id e f a value reply (Ok done) r q l v x = 
     by_kind : (kind : Kind) → TakesEffect kind (without_mark s hart) a value reply new → (now : State) × TakesEffect kind (without_mark other there) a value reply now × LooksSame id e f new now × ChangesOwn id e s new × ChangesOwn id f other now
     by_kind Fetch x =
         let now = without_mark other there in
-        (now, (x.0, itself now), same_still s other new now hart there id e f r q l x.1 (itself now), stays s new hart id e r x.1, stays other now there id f q (itself now))
+        (now, (x.0, refl), same_still s other new now hart there id e f r q l x.1 (refl), stays s new hart id e r x.1, stays other now there id f q (refl))
     by_kind Load x =
         let now = without_mark other there in (
           now,
-          (x.0 ∙ ap (λ xs. replies.Loaded (number_of xs)) (loaded_same s other id e f a l ok), itself now),
-          same_still s other new now hart there id e f r q l x.1 (itself now),
+          (x.0 ∙ ap (λ xs. replies.Loaded (number_of xs)) (loaded_same s other id e f a l ok), refl),
+          same_still s other new now hart there id e f r q l x.1 (refl),
           stays s new hart id e r x.1,
-          stays other now there id f q (itself now),
+          stays other now there id f q (refl),
         )
     by_kind Store (inl x) =
         let now = storing (without_mark other there) a.address a.size value in (
           now,
-          inl (x.0, itself now),
-          stored_same s other new now hart there id e f a value r q l x.1 (itself now),
+          inl (x.0, refl),
+          stored_same s other new now hart there id e f a value r q l x.1 (refl),
           stores_own s new hart id e a value r ok x.1,
-          stores_own other now there id f a value q ok' (itself now),
+          stores_own other now there id f a value q ok' (refl),
         )
     by_kind Store (inr x) =
         let now = without_mark other there in
         let seen = l.written (a.address / 4096) (some_held (enclave_view e.parts (a.address / 4096)) a.kind ok.held) in (
           now,
-          inr (x.0, sym seen ∙ x.1, itself now),
-          same_still s other new now hart there id e f r q l x.2 (itself now),
+          inr (x.0, sym seen ∙ x.1, refl),
+          same_still s other new now hart there id e f r q l x.2 (refl),
           stays s new hart id e r x.2,
-          stays other now there id f q (itself now),
+          stays other now there id f q (refl),
         )
 
 -- a register set
-set_is : (s new : State) (hart id n value : ℕ) (e : Enclave) → RunsOn s hart id e → SameState new (with_running (without_mark s hart) hart (with_x (running_registers s hart) n value)) → new.registers (EnclaveOf id) ≡ with_x (s.registers (EnclaveOf id)) n value
+set_is : (s new : State) (hart id n value : ℕ) (e : Enclave) → RunsOn s hart id e → new ≡ with_running (without_mark s hart) hart (with_x (running_registers s hart) n value) → new.registers (EnclaveOf id) ≡ with_x (s.registers (EnclaveOf id)) n value
 set_is s new hart id n value e r is =
     let who = runner_is s hart id e r in
-    let at : new.registers (EnclaveOf id) ≡ (if is_same (EnclaveOf id) (who_runs s hart) then with_x (s.registers (who_runs s hart)) n value else s.registers (EnclaveOf id)) = is.registers (EnclaveOf id) (has s hart id e r) in
+    let at : new.registers (EnclaveOf id) ≡ (if is_same (EnclaveOf id) (who_runs s hart) then with_x (s.registers (who_runs s hart)) n value else s.registers (EnclaveOf id)) = ap (λ x. x.registers (EnclaveOf id)) is in
     let there : (if is_same (EnclaveOf id) (who_runs s hart) then with_x (s.registers (who_runs s hart)) n value else s.registers (EnclaveOf id)) ≡ (if id == id then with_x (s.registers (EnclaveOf id)) n value else s.registers (EnclaveOf id)) =
     ap (λ w. if is_same (EnclaveOf id) w then with_x (s.registers w) n value else s.registers (EnclaveOf id)) who in
     at ∙ there ∙ ap (λ b. if b then with_x (s.registers (EnclaveOf id)) n value else s.registers (EnclaveOf id)) (eq-eqb id id refl)
 
-sets_own : (s new : State) (hart id n value : ℕ) (e : Enclave) → RunsOn s hart id e → SameState new (with_running (without_mark s hart) hart (with_x (running_registers s hart) n value)) → ChangesOwn id e s new
-sets_own s new hart id n value e r is = record {
-  table = is.table;
-  worlds = is.worlds;
-  registers = λ who known other. is.registers who known ∙ ap (λ b. if b then with_x (running_registers s hart) n value else s.registers who) (same_not who (who_runs s hart) (λ same. other (same ∙ runner_is s hart id e r)));
-  bytes = λ b none. is.bytes b;
-  written = λ p none. is.written p;
-  marked = λ h low. is.marked h low ∙ unmarked s hart h r.unmarked;
-}
+sets_own : (s new : State) (hart id n value : ℕ) (e : Enclave) → RunsOn s hart id e → new ≡ with_running (without_mark s hart) hart (with_x (running_registers s hart) n value) → ChangesOwn id e s new
+sets_own s new hart id n value e r is = subst (ChangesOwn id e s) (sym is) (record {
+  table = refl;
+  worlds = refl;
+  registers = λ who other. ap (λ b. if b then with_x (running_registers s hart) n value else s.registers who) (same_not who (who_runs s hart) (λ same. other (same ∙ runner_is s hart id e r)));
+  bytes = λ b none. refl;
+  written = λ p none. refl;
+  marked = λ i h. unmarked s hart h r.unmarked i;
+})
 
 -- one event
 follow : (s other new : State) (hart there id : ℕ) (e f : Enclave) (event : Event) (reply : Reply) → RunsOn s hart id e → RunsOn other there id f → LooksSame id e f s other → IsOwn event → Step s hart event reply new → Follows s other new hart there id e f event reply
@@ -198,15 +191,15 @@ follow s other new hart there id e f (events.Access a value) reply r q l own x =
 follow s other new hart there id e f (events.Reg n value) reply r q l own x =
     let now = with_running (without_mark other there) there (with_x (running_registers other there) n value) in (
       now,
-      (x.0, itself now),
+      (x.0, refl),
       record {
         parts = l.parts;
-        registers = set_is s new hart id n value e r x.1 ∙ ap (λ file. with_x file n value) l.registers ∙ sym (set_is other now there id n value f q (itself now));
-        bytes = λ b some. x.1.bytes b ∙ l.bytes b some;
-        written = λ p some. x.1.written p ∙ l.written p some;
+        registers = set_is s new hart id n value e r x.1 ∙ ap (λ file. with_x file n value) l.registers ∙ sym (set_is other now there id n value f q (refl));
+        bytes = λ b some. ap (λ y. y.bytes b) x.1 ∙ l.bytes b some;
+        written = λ p some. ap (λ y. y.written p) x.1 ∙ l.written p some;
       },
       sets_own s new hart id n value e r x.1,
-      sets_own other now there id n value f q (itself now),
+      sets_own other now there id n value f q (refl),
     )
 follow s other new hart there id e f (events.Ecall words) reply r q l own x = absurd own
 follow s other new hart there id e f events.Irq reply r q l own x = absurd own
@@ -215,15 +208,15 @@ follow s other new hart there id e f events.Irq reply r q l own x = absurd own
 changes_on : (s mid new : State) (id : ℕ) (e : Enclave) → ChangesOwn id e s mid → ChangesOwn id e mid new → ChangesOwn id e s new
 changes_on s mid new id e a b = record {
   table = b.table ∙ a.table;
-  worlds = λ h low. b.worlds h (subst (λ t. h < t.layout.harts) (sym a.table) low) ∙ a.worlds h low;
-  registers = λ who known other. b.registers who (subst (λ t. HasRegisters t who) (sym a.table) known) other ∙ a.registers who known other;
+  worlds = b.worlds ∙ a.worlds;
+  registers = λ who other. b.registers who other ∙ a.registers who other;
   bytes = λ x none. b.bytes x none ∙ a.bytes x none;
   written = λ p none. b.written p none ∙ a.written p none;
-  marked = λ h low. b.marked h (subst (λ t. h < t.layout.harts) (sym a.table) low) ∙ a.marked h low;
+  marked = b.marked ∙ a.marked;
 }
 
 nothing : (s new : State) (id : ℕ) (e : Enclave) → new ≡ s → ChangesOwn id e s new
-nothing s new id e is = subst (λ x. ChangesOwn id e s x) (sym is) (record { table = refl; worlds = λ h low. refl; registers = λ who known other. refl; bytes = λ x none. refl; written = λ p none. refl; marked = λ h low. refl })
+nothing s new id e is = subst (λ x. ChangesOwn id e s x) (sym is) (record { table = refl; worlds = refl; registers = λ who other. refl; bytes = λ x none. refl; written = λ p none. refl; marked = refl })
 
 pub private_run : IsPrivate
 private_run s other new hart there id e f [] [] r q l own x = (other, refl, subst (λ y. LooksSame id e f y other) (sym x) l, nothing s new id e x, nothing other other id f refl)

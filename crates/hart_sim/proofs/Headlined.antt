@@ -10,7 +10,6 @@ use Rattle.hart_sim.specs.States.{State, opening}
 use Rattle.hart_sim.specs.Steps.{Run, still, step}
 use Rattle.hart_sim.specs.After.{After, booted, happened, Happens}
 use Rattle.hart_sim.specs.Headline.{Moment, HeadlineHolds}
-use Rattle.hart_sim.proofs.Alike.{itself}
 use Rattle.hart_sim.proofs.Banks.{some_bank}
 use Rattle.hart_sim.proofs.Layouts.{layout_stays}
 use Rattle.hart_sim.proofs.Promises.{promised}
@@ -23,7 +22,7 @@ rules_of platform _ _ m (booted b) = b.rules
 rules_of platform _ _ m (happened {events} {replies} {old} a hart event reply x) = rules_of platform events replies old a
 
 pub run_of : (platform : Layout) (events : List (ℕ × Event)) (replies : List Reply) (m : Machine) → After platform events replies m → Run (opening platform) events replies (state_of m)
-run_of platform _ _ m (booted b) = still b.state
+run_of platform _ _ m (booted b) = subst (Run (opening platform) [] []) (sym b.state) still
 run_of platform _ _ m (happened {events} {replies} {old} a hart event reply x) = step (run_of platform events replies old a) hart event reply x.known x.possible x.happened
 
 pub banks_of : (platform : Layout) (events : List (ℕ × Event)) (replies : List Reply) (m : Machine) → After platform events replies m → KeepsBanksRight m
@@ -31,7 +30,7 @@ banks_of platform _ _ m (booted b) = b.banks
 banks_of platform _ _ m (happened a hart event reply x) = x.kept
 
 layout_of : (platform : Layout) (s : State) (events : List (ℕ × Event)) (replies : List Reply) → Run (opening platform) events replies s → s.table.layout ≡ platform
-layout_of platform s _ _ (still is) = ap (λ t. t.layout) is.table
+layout_of platform _ _ _ still = refl
 layout_of platform s _ _ (step {events} {replies} {mid} run hart event reply low possible x) = layout_stays mid hart event reply s x ∙ layout_of platform mid events replies run
 
 table_of : (platform : Layout) (events : List (ℕ × Event)) (replies : List Reply) (m : Machine) → After platform events replies m → IsTable (state_of m).table
@@ -74,7 +73,7 @@ last platform events before replies old new hart there event that reply after a 
       until = subst (λ es. After platform es replies old) front a;
       happened = is;
       promises = promised (state_of old) hart event reply (state_of new) (table_of platform events replies old a) is.happened;
-      since = subst (λ es. Run (state_of new) es [] (state_of new)) (sym none) (still (itself (state_of new)));
+      since = subst (λ es. Run (state_of new) es [] (state_of new)) (sym none) still;
     }
 
 -- one before the last

@@ -5,6 +5,7 @@ mod Reported
 mod Alike
 mod Loaded
 mod Accessed
+mod Equal
 mod Shown
 mod Stayed
 mod Written
@@ -12,14 +13,12 @@ mod Marks
 mod Layouts
 mod Awake
 mod PrivateBytes
-mod Composed
 mod Woken
+mod Framed
 mod Moved
-mod Meeting
 mod Wanted
 mod Promised
 mod WorldsKept
-mod Respects
 mod Opened
 mod Banks
 mod SoundTables

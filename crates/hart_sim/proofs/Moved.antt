@@ -34,7 +34,7 @@ use Rattle.worlds.specs.declared.world.World.TheVariants.{Host, Enclave as InEnc
 use Rattle.enclave_table.proofs.Places.{live_above, live_inside, set_same, set_other}
 use Rattle.enclave_table.proofs.SameViews.{fewest_same}
 use Rattle.enclave_table.proofs.Turned.{same_host_view}
-use Rattle.context_switch.specs.Harts.{bank_of, number_of}
+use Rattle.context_switch.specs.Harts.{number_of}
 use Rattle.hart_sim.specs.declared.hardware.Hardware.{Hardware}
 use Rattle.hart_trace.specs.declared.event.Event.{Event}
 use Rattle.hart_trace.specs.declared.event.Event.TheVariants as events
@@ -42,9 +42,10 @@ use Rattle.pmp_match.specs.declared.access.Access.{Access}
 use Rattle.hart_sim.specs.States.{current_view, view_of}
 use Rattle.enclave_table.proofs.ShortNames.{view_in}
 use Rattle.hart_sim.specs.Changes.{is_host}
-use Rattle.hart_sim.specs.Hardware.{world_in, BankOn, KeepsBanks}
-use Rattle.hart_sim.specs.Parts.{machine_state, IsWhole, LoadsFewest, AreBanksRight}
-use Rattle.hart_sim.proofs.Loaded.{hart_there}
+use Rattle.hart_sim.specs.Banks.{LoadsFewest, AreBanksRight, KeepsOtherBanks}
+use Rattle.hart_sim.specs.Hardware.{state_on, world_in, bank_in}
+use Rattle.hart_sim.specs.Parts.{IsWhole}
+use Rattle.hart_sim.proofs.Banks.{one_bank}
 use Rattle.hart_sim.proofs.Shown.{both}
 
 -- the view of an enclave that is live
@@ -78,30 +79,23 @@ loads_same bank view other same l = record {
 pub fewest_of : (bank : Bank) (limit : Limit) (view : ℕ → Perm) (entries : List Entry) → HasList bank entries → IsListOf limit view entries → LoadsFewest bank view
 fewest_of bank limit view entries loaded is = record { list = entries; loaded = loaded; fewest = is.fewest }
 
--- the same hart's bank
-pub one_bank : (h : Hardware) (i : ℕ) (a b : Bank) → BankOn h i a → BankOn h i b → a ≡ b
-one_bank h i a b x y = sym x.2 ∙ ap bank_of (same_Some x.0 y.0 (sym x.1 ∙ y.1)) ∙ y.2
-
 -- the banks are right where that of one hart is, and each other one that is not marked has the same view as before
-pub banks_after : (kept now : Kept) (old new : Hardware) (hart : ℕ) → kept.table.layout.harts ≤ 4 → now.table.layout.harts ≡ kept.table.layout.harts
-    → (bank : Bank) × BankOn new hart bank × LoadsFewest bank (current_view (machine_state now new) hart)
-    → KeepsBanks old new hart
-    → ((i : ℕ) → i ≢ hart → i < kept.table.layout.harts → slice_index_or new.marked i false ≡ false → (slice_index_or old.marked i false ≡ false) × SameView (current_view (machine_state kept old) i) (current_view (machine_state now new) i))
-    → AreBanksRight kept old → AreBanksRight now new
-banks_after kept now old new hart few harts here others stay right = λ i b low off has. both (i == hart)
+pub banks_after : (kept now : Kept) (old new : Hardware) (hart : ℕ) → now.table.layout.harts ≡ kept.table.layout.harts
+    → (bank : Bank) × (bank_in new hart ≡ Some bank) × LoadsFewest bank (current_view (state_on now.table new) hart)
+    → KeepsOtherBanks (bank_in old) (bank_in new) hart
+    → ((i : ℕ) → i ≢ hart → i < kept.table.layout.harts → slice_index_or new.marked i false ≡ false → (slice_index_or old.marked i false ≡ false) × SameView (current_view (state_on kept.table old) i) (current_view (state_on now.table new) i))
+    → AreBanksRight (state_on kept.table old) (bank_in old) → AreBanksRight (state_on now.table new) (bank_in new)
+banks_after kept now old new hart harts here others stay right = λ i b low off has. both (i == hart)
     (λ e.
     let is : i ≡ hart = eqb-true i hart e in
-    let at : BankOn new hart b = subst (λ k. BankOn new k b) is has in
+    let at : bank_in new hart ≡ Some b = ap (bank_in new) (sym is) ∙ has in
     let same : b ≡ here.0 = one_bank new hart b here.0 at here.1 in
-    subst (λ k. LoadsFewest b (current_view (machine_state now new) k)) (sym is) (subst (λ x. LoadsFewest x (current_view (machine_state now new) hart)) (sym same) here.2))
+    subst (λ k. LoadsFewest b (current_view (state_on now.table new) k)) (sym is) (subst (λ x. LoadsFewest x (current_view (state_on now.table new) hart)) (sym same) here.2))
     (λ e.
     let other : i ≢ hart = λ is. both_ways (i == hart) e (eq-eqb i hart is) in
     let under : i < kept.table.layout.harts = subst (λ n. i < n) harts low in
-    let there = hart_there old.harts i (omega (arith, old.fit.four, few, under)) in
     let was = stay i other under off in
-    let loads = right i (bank_of there.0) under was.0 (there.0, there.1, refl) in
-    let same : b ≡ bank_of there.0 = one_bank new i b (bank_of there.0) has (others i (bank_of there.0) other (there.0, there.1, refl)) in
-    subst (λ x. LoadsFewest x (current_view (machine_state now new) i)) (sym same) (loads_same (bank_of there.0) (current_view (machine_state kept old) i) (current_view (machine_state now new) i) was.1 loads))
+    loads_same b (current_view (state_on kept.table old) i) (current_view (state_on now.table new) i) was.1 (right i b under was.0 (sym (others i other) ∙ has)))
 
 -- what is true of the machine after a hart went to another world
 pub whole_gone : (kept now : Kept) (old new : Hardware) (hart : ℕ) (to : World) → IsWhole kept old → hart < kept.table.layout.harts → now.table.layout ≡ kept.table.layout → new.limit ≡ old.limit
@@ -175,11 +169,12 @@ whole_turned kept now old new hart id to t w =
     t.awake
 
 pub banks_turned : (kept now : Kept) (old new : Hardware) (hart id : ℕ) (to : World) → Turning kept now old new hart id to → IsWhole kept old
-    → (bank : Bank) × BankOn new hart bank × LoadsFewest bank (view_of now.table to) → KeepsBanks old new hart → AreBanksRight kept old → AreBanksRight now new
+    → (bank : Bank) × (bank_in new hart ≡ Some bank) × LoadsFewest bank (view_of now.table to) → KeepsOtherBanks (bank_in old) (bank_in new) hart
+    → AreBanksRight (state_on kept.table old) (bank_in old) → AreBanksRight (state_on now.table new) (bank_in new)
 banks_turned kept now old new hart id to t w here others right =
     let live = t.turned.1 in
     let is = t.turned.2 in
-    banks_after kept now old new hart w.few (ap (λ x. x.layout.harts) is) (here.0, here.1, subst (λ x. LoadsFewest here.0 (view_of now.table x)) (sym (went_there old new hart to t.worlds)) here.2) others
+    banks_after kept now old new hart (ap (λ x. x.layout.harts) is) (here.0, here.1, subst (λ x. LoadsFewest here.0 (view_of now.table x)) (sym (went_there old new hart to t.worlds)) here.2) others
     (λ i other low off. (
       ap (λ ms. slice_index_or ms i false) (sym t.marks) ∙ off,
       subst (λ x. SameView (view_of kept.table (world_in (slice_get old.harts i))) (view_of x (world_in (slice_get new.harts i)))) (sym is)

@@ -1,5 +1,5 @@
 -- The machine at boot, and what is true of it as truth values.
-use Rattle.std.proofs.Common.{◌≡◌, ◌∙◌, ℕ, zero, suc, ◌-◌, ◌<◌, ◌≤◌, true, false, replicate, Option, Some, None, slice_get, slice_index_or, refl, ap, sym, arith}
+use Rattle.std.proofs.Common.{◌≡◌, ◌∙◌, ℕ, zero, suc, ◌-◌, true, false, replicate, Option, Some, None, slice_get, slice_index_or, refl, ap, sym}
 use Rattle.enclave_table.specs.Platform.{Layout}
 use Rattle.enclave_table.specs.Enclaves.{EnclaveTable, Live, enclave_at}
 use Rattle.enclave_table.specs.Tables.{Kept, IsCurrent}
@@ -9,10 +9,8 @@ use Rattle.enclave_table.specs.declared.enclave.State.TheVariants.{Fresh, Runnin
 use Rattle.worlds.specs.declared.world.World.{World}
 use Rattle.worlds.specs.declared.world.World.TheVariants.{Host, Enclave as InEnclave}
 use Rattle.enclave_table.proofs.Places.{live_place}
-use Rattle.sbi_decode.specs.Registers.{RegisterFile, zeros}
-use Rattle.worlds.specs.Runners.{Runner, HostOf, EnclaveOf}
 use Rattle.hart_sim.specs.declared.hardware.Hardware.{Hardware}
-use Rattle.hart_sim.specs.States.{HasRegisters, opening}
+use Rattle.hart_sim.specs.States.{opening}
 use Rattle.hart_sim.specs.Changes.{is_host}
 use Rattle.hart_sim.specs.Hardware.{world_in}
 use Rattle.hart_sim.specs.Parts.{IsWhole, HoldsTogether, is_run, is_running, is_current}
@@ -30,10 +28,6 @@ pub none_live : (layout : Layout) (id : ℕ) (e : Enclave) → Live (opening lay
 none_live layout id e live =
     let at : slice_index_or (replicate 64 absent) (id - 1) None ≡ Some e = live_place (replicate 64 absent) id e live in
     let z : absent ≡ Some e = sym (none_at 64 (id - 1)) ∙ at in cc
-
-pub opening_registers : (layout : Layout) (registers : Runner → RegisterFile) → layout.harts ≤ 4 → ((i : ℕ) → i < 4 → registers (HostOf i) ≡ zeros) → (who : Runner) → HasRegisters (opening layout).table who → registers who ≡ zeros
-opening_registers layout registers few hosts (HostOf i) low = hosts i (omega (arith, few, low))
-opening_registers layout registers few hosts (EnclaveOf id) has = absurd (none_live layout id has.0 has.1)
 
 host_is : (w : World) → is_host w ≡ true → w ≡ Host
 host_is Host e = refl

@@ -103,19 +103,19 @@ test true when unless = when refl
 test false when unless = unless refl
 
 stored_there : (old new : State) (hart id byte value : ℕ) (a : Access) (e : Enclave) → IsTable old.table → Live old.table id e → is_private e.parts (byte / 4096) ≡ true → verdict (current_view old hart) a ≡ Ok tt → (kind : Kind) → a.kind ≡ kind → (reply : Reply) → TakesEffect kind (without_mark old hart) a value reply new → Kept old new hart byte (events.Access a value) reply id
-stored_there old new hart id byte value a e right live p v Fetch k reply x = inl (x.1.bytes byte)
-stored_there old new hart id byte value a e right live p v Load k reply x = inl (x.1.bytes byte)
-stored_there old new hart id byte value a e right live p v Store k reply (inr x) = inl (x.2.bytes byte)
+stored_there old new hart id byte value a e right live p v Fetch k reply x = inl (ap (λ y. y.bytes byte) x.1)
+stored_there old new hart id byte value a e right live p v Load k reply x = inl (ap (λ y. y.bytes byte) x.1)
+stored_there old new hart id byte value a e right live p v Store k reply (inr x) = inl (ap (λ y. y.bytes byte) x.2)
 stored_there old new hart id byte value a e right live p v Store k reply (inl x) = test (in_range a.address a.size byte)
     (λ yes.
     let w = within a.address a.size byte yes in
     let ok = allowed_by (current_view old hart) a v in
     let held : holds (current_view old hart (byte / 4096)) a.kind ≡ true = ap (λ q. holds (current_view old hart q) a.kind) (page_of_byte a byte ok.aligned w.0 w.1) ∙ ok.held in
     inr (k, x.0, only_itself old.table (old.worlds hart) id (byte / 4096) e a.kind right live p held, v, w.0, w.1))
-    (λ no. inl (x.1.bytes byte ∙ ap (λ b. if b then byte_of value (byte - a.address) else old.bytes byte) no))
+    (λ no. inl (ap (λ y. y.bytes byte) x.1 ∙ ap (λ b. if b then byte_of value (byte - a.address) else old.bytes byte) no))
 
 accessed : (old new : State) (hart id byte value : ℕ) (a : Access) (e : Enclave) (reply : Reply) (said : Result (Unit {0}) Cause) → IsTable old.table → Live old.table id e → is_private e.parts (byte / 4096) ≡ true → verdict (current_view old hart) a ≡ said → Accesses said (without_mark old hart) a value reply new → Kept old new hart byte (events.Access a value) reply id
-accessed old new hart id byte value a e reply (Err cause) right live p v x = inl (x.1.bytes byte)
+accessed old new hart id byte value a e reply (Err cause) right live p v x = inl (ap (λ y. y.bytes byte) x.1)
 accessed old new hart id byte value a e reply (Ok done) right live p v x = stored_there old new hart id byte value a e right live p v a.kind refl reply x
 
 none_there : (slots : List (Option Enclave)) (place : ℕ) → slice_index_or (slice_set slots place None) place None ≡ None
@@ -129,9 +129,9 @@ gone table id e f live there =
     let h : None ≡ Some f = sym (none_there table.enclaves (id - 1)) ∙ at in cc
 
 called : (call : Option Call) (s new : State) (hart id byte : ℕ) (e f : Enclave) (reply : Reply) → IsTable s.table → Live s.table id e → Live new.table id f → is_private e.parts (byte / 4096) ≡ true → DoesCall call s hart reply new → new.bytes byte ≡ s.bytes byte
-called None s new hart id byte e f reply right live now p x = x.0.bytes byte
-called (Some (calls.Create base text_pages data_pages shared_base shared_count entry_offset)) s new hart id byte e f reply right live now p (inl x) = x.3.bytes byte
-called (Some (calls.Create base text_pages data_pages shared_base shared_count entry_offset)) s new hart id byte e f reply right live now p (inr x) = x.2.0.bytes byte
+called None s new hart id byte e f reply right live now p x = ap (λ y. y.bytes byte) x.0
+called (Some (calls.Create base text_pages data_pages shared_base shared_count entry_offset)) s new hart id byte e f reply right live now p (inl x) = ap (λ y. y.bytes byte) x.3
+called (Some (calls.Create base text_pages data_pages shared_base shared_count entry_offset)) s new hart id byte e f reply right live now p (inr x) = ap (λ y. y.bytes byte) x.2.0
 called (Some (calls.Destroy k)) s new hart id byte e f reply right live now p (inl x) =
     let g = x.2.passes.1.0 in
     let range = x.2.pages g.0 g.1 in
@@ -139,29 +139,29 @@ called (Some (calls.Destroy k)) s new hart id byte e f reply right live now p (i
     let private : is_private g.0.parts (byte / 4096) ≡ true = ap (λ r. in_range r.first r.count (byte / 4096)) (sym range) ∙ yes in
     let same : k ≡ id = right.alone k id g.0 e (byte / 4096) g.1 live (or_first (is_private g.0.parts (byte / 4096)) (is_shared g.0.parts (byte / 4096)) private) (or_first (is_private e.parts (byte / 4096)) (is_shared e.parts (byte / 4096)) p) in
     let there : enclave_at (slice_set s.table.enclaves (id - 1) None) id ≡ Some f =
-    ap (λ n. enclave_at (slice_set s.table.enclaves (n - 1) None) id) (sym same) ∙ ap (λ t. enclave_at t.enclaves id) (sym (x.3.table ∙ x.2.removed)) ∙ now in
+    ap (λ n. enclave_at (slice_set s.table.enclaves (n - 1) None) id) (sym same) ∙ ap (λ t. enclave_at t.enclaves id) (sym (ap (λ y. y.table) x.3 ∙ x.2.removed)) ∙ now in
     gone s.table id e f live there) in
-    x.3.bytes byte ∙ ap (λ b. if b then 0 else s.bytes byte) outside
-called (Some (calls.Destroy k)) s new hart id byte e f reply right live now p (inr x) = x.2.0.bytes byte
-called (Some (calls.Run k)) s new hart id byte e f reply right live now p (inl x) = x.4.bytes byte
-called (Some (calls.Run k)) s new hart id byte e f reply right live now p (inr x) = x.2.0.bytes byte
-called (Some calls.Stop) s new hart id byte e f reply right live now p (inl x) = x.3.bytes byte
-called (Some calls.Stop) s new hart id byte e f reply right live now p (inr x) = x.2.0.bytes byte
-called (Some (calls.Resume k)) s new hart id byte e f reply right live now p (inl x) = x.4.bytes byte
-called (Some (calls.Resume k)) s new hart id byte e f reply right live now p (inr x) = x.2.0.bytes byte
-called (Some (calls.Exit value)) s new hart id byte e f reply right live now p (inl x) = x.3.bytes byte
-called (Some (calls.Exit value)) s new hart id byte e f reply right live now p (inr x) = x.2.0.bytes byte
-called (Some (calls.Measure k n)) s new hart id byte e f reply right live now p (inl x) = x.2.bytes byte
-called (Some (calls.Measure k n)) s new hart id byte e f reply right live now p (inr x) = x.2.0.bytes byte
+    ap (λ y. y.bytes byte) x.3 ∙ ap (λ b. if b then 0 else s.bytes byte) outside
+called (Some (calls.Destroy k)) s new hart id byte e f reply right live now p (inr x) = ap (λ y. y.bytes byte) x.2.0
+called (Some (calls.Run k)) s new hart id byte e f reply right live now p (inl x) = ap (λ y. y.bytes byte) x.4
+called (Some (calls.Run k)) s new hart id byte e f reply right live now p (inr x) = ap (λ y. y.bytes byte) x.2.0
+called (Some calls.Stop) s new hart id byte e f reply right live now p (inl x) = ap (λ y. y.bytes byte) x.3
+called (Some calls.Stop) s new hart id byte e f reply right live now p (inr x) = ap (λ y. y.bytes byte) x.2.0
+called (Some (calls.Resume k)) s new hart id byte e f reply right live now p (inl x) = ap (λ y. y.bytes byte) x.4
+called (Some (calls.Resume k)) s new hart id byte e f reply right live now p (inr x) = ap (λ y. y.bytes byte) x.2.0
+called (Some (calls.Exit value)) s new hart id byte e f reply right live now p (inl x) = ap (λ y. y.bytes byte) x.3
+called (Some (calls.Exit value)) s new hart id byte e f reply right live now p (inr x) = ap (λ y. y.bytes byte) x.2.0
+called (Some (calls.Measure k n)) s new hart id byte e f reply right live now p (inl x) = ap (λ y. y.bytes byte) x.2
+called (Some (calls.Measure k n)) s new hart id byte e f reply right live now p (inr x) = ap (λ y. y.bytes byte) x.2.0
 
 interrupted : (world : World) (s : State) (hart byte : ℕ) (reply : Reply) (new : State) → Interrupts world s hart reply new → new.bytes byte ≡ s.bytes byte
-interrupted Host s hart byte reply new x = x.0.bytes byte
-interrupted (InEnclave id) s hart byte reply new x = x.2.bytes byte
+interrupted Host s hart byte reply new x = ap (λ y. y.bytes byte) x.0
+interrupted (InEnclave id) s hart byte reply new x = ap (λ y. y.bytes byte) x.2
 
 -- a step leaves each byte of a private page, but for the enclave's own stores
 pub keeps_private : (old : State) (hart : ℕ) (event : Event) (reply : Reply) (new : State) → IsTable old.table → Step old hart event reply new → KeepsPrivate old hart event reply new
 keeps_private old hart (events.Access a value) reply new right x = λ id byte e f live now p q. accessed old new hart id byte value a e reply (verdict (current_view old hart) a) right live p refl x
-keeps_private old hart (events.Reg n value) reply new right x = λ id byte e f live now p q. inl (x.1.bytes byte)
+keeps_private old hart (events.Reg n value) reply new right x = λ id byte e f live now p q. inl (ap (λ y. y.bytes byte) x.1)
 keeps_private old hart (events.Ecall words) reply new right x = λ id byte e f live now p q.
     inl (called (call_of (running_registers (calling (without_mark old hart) hart words.items) hart)) (calling (without_mark old hart) hart words.items) new hart id byte e f reply right live now p x)
 keeps_private old hart events.Irq reply new right x = λ id byte e f live now p q. inl (interrupted (old.worlds hart) (without_mark old hart) hart byte reply new x)

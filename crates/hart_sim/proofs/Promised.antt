@@ -89,10 +89,10 @@ abbrev Zeroed : State → State → Enclave → ℕ → Type 0
 Zeroed old new e byte = new.bytes byte ≡ (if is_private e.parts (byte / 4096) then 0 else old.bytes byte)
 
 called : (call : Option Call) (s new : State) (hart id byte : ℕ) (e : Enclave) (reply : Reply) → Live s.table id e → Gone new.table id → DoesCall call s hart reply new → Zeroed s new e byte
-called None s new hart id byte e reply live gone x = absurd (not_lost s.table new.table id e x.0.table live gone)
+called None s new hart id byte e reply live gone x = absurd (not_lost s.table new.table id e (ap (λ y. y.table) x.0) live gone)
 called (Some (calls.Create base text_pages data_pages shared_base shared_count entry_offset)) s new hart id byte e reply live gone (inl x) =
-    absurd (still_there s.table x.0 id _ e x.2.next.free.0 live (ap (λ t. enclave_at t.enclaves id) (sym (x.3.table ∙ x.2.added)) ∙ gone))
-called (Some (calls.Create base text_pages data_pages shared_base shared_count entry_offset)) s new hart id byte e reply live gone (inr x) = absurd (not_lost s.table new.table id e x.2.0.table live gone)
+    absurd (still_there s.table x.0 id _ e x.2.next.free.0 live (ap (λ t. enclave_at t.enclaves id) (sym (ap (λ y. y.table) x.3 ∙ x.2.added)) ∙ gone))
+called (Some (calls.Create base text_pages data_pages shared_base shared_count entry_offset)) s new hart id byte e reply live gone (inr x) = absurd (not_lost s.table new.table id e (ap (λ y. y.table) x.2.0) live gone)
 called (Some (calls.Destroy k)) s new hart id byte e reply live gone (inl x) =
     let g = x.2.passes.1.0 in
     let range = x.2.pages g.0 g.1 in
@@ -100,46 +100,46 @@ called (Some (calls.Destroy k)) s new hart id byte e reply live gone (inl x) =
     (λ yes.
     let is : id ≡ k = eqb-true id k yes in
     let same : g.0 ≡ e = same_Some g.0 e (sym g.1 ∙ subst (λ n. enclave_at s.table.enclaves n ≡ Some e) is live) in
-    x.3.bytes byte ∙ ap (λ r. if in_range r.first r.count (byte / 4096) then 0 else s.bytes byte) range ∙ ap (λ f. if is_private f.parts (byte / 4096) then 0 else s.bytes byte) same)
+    ap (λ y. y.bytes byte) x.3 ∙ ap (λ r. if in_range r.first r.count (byte / 4096) then 0 else s.bytes byte) range ∙ ap (λ f. if is_private f.parts (byte / 4096) then 0 else s.bytes byte) same)
     (λ no.
     let other : id ≢ k = λ is. both_ways (id == k) no (eq-eqb id k is) in
-    let z : Some e ≡ None = sym live ∙ sym (set_other s.table.enclaves k id None (live_above s.table.enclaves k g.0 g.1) other) ∙ ap (λ t. enclave_at t.enclaves id) (sym (x.3.table ∙ x.2.removed)) ∙ gone in absurd cc)
-called (Some (calls.Destroy k)) s new hart id byte e reply live gone (inr x) = absurd (not_lost s.table new.table id e x.2.0.table live gone)
+    let z : Some e ≡ None = sym live ∙ sym (set_other s.table.enclaves k id None (live_above s.table.enclaves k g.0 g.1) other) ∙ ap (λ t. enclave_at t.enclaves id) (sym (ap (λ y. y.table) x.3 ∙ x.2.removed)) ∙ gone in absurd cc)
+called (Some (calls.Destroy k)) s new hart id byte e reply live gone (inr x) = absurd (not_lost s.table new.table id e (ap (λ y. y.table) x.2.0) live gone)
 called (Some (calls.Run k)) s new hart id byte e reply live gone (inl x) =
-    absurd (still_there s.table k id _ e (live_above s.table.enclaves k x.3.turned.0 x.3.turned.1) live (ap (λ t. enclave_at t.enclaves id) (sym (x.4.table ∙ x.3.turned.2)) ∙ gone))
-called (Some (calls.Run k)) s new hart id byte e reply live gone (inr x) = absurd (not_lost s.table new.table id e x.2.0.table live gone)
+    absurd (still_there s.table k id _ e (live_above s.table.enclaves k x.3.turned.0 x.3.turned.1) live (ap (λ t. enclave_at t.enclaves id) (sym (ap (λ y. y.table) x.4 ∙ x.3.turned.2)) ∙ gone))
+called (Some (calls.Run k)) s new hart id byte e reply live gone (inr x) = absurd (not_lost s.table new.table id e (ap (λ y. y.table) x.2.0) live gone)
 called (Some calls.Stop) s new hart id byte e reply live gone (inl x) =
-    absurd (still_there s.table x.0 id _ e (live_above s.table.enclaves x.0 x.2.turned.0 x.2.turned.1) live (ap (λ t. enclave_at t.enclaves id) (sym (x.3.table ∙ x.2.turned.2)) ∙ gone))
-called (Some calls.Stop) s new hart id byte e reply live gone (inr x) = absurd (not_lost s.table new.table id e x.2.0.table live gone)
+    absurd (still_there s.table x.0 id _ e (live_above s.table.enclaves x.0 x.2.turned.0 x.2.turned.1) live (ap (λ t. enclave_at t.enclaves id) (sym (ap (λ y. y.table) x.3 ∙ x.2.turned.2)) ∙ gone))
+called (Some calls.Stop) s new hart id byte e reply live gone (inr x) = absurd (not_lost s.table new.table id e (ap (λ y. y.table) x.2.0) live gone)
 called (Some (calls.Resume k)) s new hart id byte e reply live gone (inl x) =
-    absurd (still_there s.table k id _ e (live_above s.table.enclaves k x.3.turned.0 x.3.turned.1) live (ap (λ t. enclave_at t.enclaves id) (sym (x.4.table ∙ x.3.turned.2)) ∙ gone))
-called (Some (calls.Resume k)) s new hart id byte e reply live gone (inr x) = absurd (not_lost s.table new.table id e x.2.0.table live gone)
+    absurd (still_there s.table k id _ e (live_above s.table.enclaves k x.3.turned.0 x.3.turned.1) live (ap (λ t. enclave_at t.enclaves id) (sym (ap (λ y. y.table) x.4 ∙ x.3.turned.2)) ∙ gone))
+called (Some (calls.Resume k)) s new hart id byte e reply live gone (inr x) = absurd (not_lost s.table new.table id e (ap (λ y. y.table) x.2.0) live gone)
 called (Some (calls.Exit value)) s new hart id byte e reply live gone (inl x) =
-    absurd (still_there s.table x.0 id _ e (live_above s.table.enclaves x.0 x.2.turned.0 x.2.turned.1) live (ap (λ t. enclave_at t.enclaves id) (sym (x.3.table ∙ x.2.turned.2)) ∙ gone))
-called (Some (calls.Exit value)) s new hart id byte e reply live gone (inr x) = absurd (not_lost s.table new.table id e x.2.0.table live gone)
-called (Some (calls.Measure k n)) s new hart id byte e reply live gone (inl x) = absurd (not_lost s.table new.table id e x.2.table live gone)
-called (Some (calls.Measure k n)) s new hart id byte e reply live gone (inr x) = absurd (not_lost s.table new.table id e x.2.0.table live gone)
+    absurd (still_there s.table x.0 id _ e (live_above s.table.enclaves x.0 x.2.turned.0 x.2.turned.1) live (ap (λ t. enclave_at t.enclaves id) (sym (ap (λ y. y.table) x.3 ∙ x.2.turned.2)) ∙ gone))
+called (Some (calls.Exit value)) s new hart id byte e reply live gone (inr x) = absurd (not_lost s.table new.table id e (ap (λ y. y.table) x.2.0) live gone)
+called (Some (calls.Measure k n)) s new hart id byte e reply live gone (inl x) = absurd (not_lost s.table new.table id e (ap (λ y. y.table) x.2) live gone)
+called (Some (calls.Measure k n)) s new hart id byte e reply live gone (inr x) = absurd (not_lost s.table new.table id e (ap (λ y. y.table) x.2.0) live gone)
 
 interrupted : (world : World) (s new : State) (hart id byte : ℕ) (e : Enclave) (reply : Reply) → Live s.table id e → Gone new.table id → Interrupts world s hart reply new → Zeroed s new e byte
-interrupted Host s new hart id byte e reply live gone x = absurd (not_lost s.table new.table id e x.0.table live gone)
+interrupted Host s new hart id byte e reply live gone x = absurd (not_lost s.table new.table id e (ap (λ y. y.table) x.0) live gone)
 interrupted (InEnclave k) s new hart id byte e reply live gone x =
-    absurd (still_there s.table k id _ e (live_above s.table.enclaves k x.1.turned.0 x.1.turned.1) live (ap (λ t. enclave_at t.enclaves id) (sym (x.2.table ∙ x.1.turned.2)) ∙ gone))
+    absurd (still_there s.table k id _ e (live_above s.table.enclaves k x.1.turned.0 x.1.turned.1) live (ap (λ t. enclave_at t.enclaves id) (sym (ap (λ y. y.table) x.2 ∙ x.1.turned.2)) ∙ gone))
 
 effect_table : (kind : Kind) (s : State) (a : Access) (value : ℕ) (reply : Reply) (new : State) → TakesEffect kind s a value reply new → new.table ≡ s.table
-effect_table Fetch s a value reply new x = x.1.table
-effect_table Load s a value reply new x = x.1.table
-effect_table Store s a value reply new (inl x) = x.1.table
-effect_table Store s a value reply new (inr x) = x.2.table
+effect_table Fetch s a value reply new x = ap (λ y. y.table) x.1
+effect_table Load s a value reply new x = ap (λ y. y.table) x.1
+effect_table Store s a value reply new (inl x) = ap (λ y. y.table) x.1
+effect_table Store s a value reply new (inr x) = ap (λ y. y.table) x.2
 
 access_table : (said : Result (Unit {0}) Cause) (s : State) (a : Access) (value : ℕ) (reply : Reply) (new : State) → Accesses said s a value reply new → new.table ≡ s.table
-access_table (Err cause) s a value reply new x = x.1.table
+access_table (Err cause) s a value reply new x = ap (λ y. y.table) x.1
 access_table (Ok done) s a value reply new x = effect_table a.kind s a value reply new x
 
 -- the enclave that is no more was destroyed: its private bytes are zero, and all others as they were
 pub zeroes_destroyed : (old : State) (hart : ℕ) (event : Event) (reply : Reply) (new : State) → Step old hart event reply new → ZeroesDestroyed old new
 zeroes_destroyed old hart (events.Access a value) reply new x = λ id e live gone byte.
     absurd (not_lost old.table new.table id e (access_table (verdict (current_view old hart) a) (without_mark old hart) a value reply new x) live gone)
-zeroes_destroyed old hart (events.Reg n value) reply new x = λ id e live gone byte. absurd (not_lost old.table new.table id e x.1.table live gone)
+zeroes_destroyed old hart (events.Reg n value) reply new x = λ id e live gone byte. absurd (not_lost old.table new.table id e (ap (λ y. y.table) x.1) live gone)
 zeroes_destroyed old hart (events.Ecall words) reply new x = λ id e live gone byte.
     called (call_of (running_registers (calling (without_mark old hart) hart words.items) hart)) (calling (without_mark old hart) hart words.items) new hart id byte e reply live gone x
 zeroes_destroyed old hart events.Irq reply new x = λ id e live gone byte. interrupted (old.worlds hart) (without_mark old hart) new hart id byte e reply live gone x

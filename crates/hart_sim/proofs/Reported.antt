@@ -9,13 +9,12 @@ use Rattle.text_lines.specs.LineLoop as loop
 use Rattle.hart_sim.specs.declared.machine.Machine.{Machine}
 use Rattle.hart_sim.specs.declared.reply.Reply.{Reply}
 use Rattle.hart_sim.specs.declared.reply.Reply.TheVariants.{NoMemory}
-use Rattle.hart_sim.specs.Machines.{state_of, HasBank}
+use Rattle.hart_sim.specs.Machines.{state_of, bank_on}
 use Rattle.hart_sim.specs.Steps.{Run, still, step}
 use Rattle.hart_sim.specs.Texts.{reply_text, lines_from, report_text}
 use Rattle.enclave_table.specs.Platform.{Layout}
 use Rattle.hart_sim.specs.After.{After, happened, Happens}
 use Rattle.hart_sim.specs.Reports.{harts_of, DoesLine, none, blank, one, AreAnswered, AreElsewhere, LastOwn, Report, IsReported}
-use Rattle.hart_sim.proofs.Alike.{itself}
 use Rattle.hart_sim.proofs.Layouts.{layout_stays}
 use Rattle.hart_sim.proofs.Awake.{awake_then}
 use Rattle.hart_sim.proofs.Shown.{both}
@@ -63,7 +62,7 @@ last_further old mid new hart events replies there event reply other x l = recor
   since = step l.since there event reply x.known x.possible x.happened;
   elsewhere = elsewhere-snoc hart l.after there event l.elsewhere other;
   meant = l.meant;
-  stays = λ bank has. x.others hart bank other (l.stays bank has);
+  stays = x.others hart other ∙ l.stays;
 }
 
 -- one event more, on that hart
@@ -80,10 +79,10 @@ last_here old mid new hart events replies event reply run x = record {
   events_part = refl;
   replies_part = refl;
   until = step run hart event reply x.known x.possible x.happened;
-  since = still (itself (state_of new));
+  since = still;
   elsewhere = tt;
-  meant = λ bank has. x.kept hart bank (subst (λ l. hart < l.harts) (sym (layout_stays (state_of mid) hart event reply (state_of new) x.happened)) x.known) (awake_then (state_of mid) hart event reply (state_of new) x.known x.happened) has;
-  stays = λ bank has. has;
+  meant = λ bank has. x.kept hart bank (subst (λ l. hart < l.harts) (sym (layout_stays (state_of mid) hart event reply (state_of new) x.happened)) x.known) (awake_then (state_of mid) hart event reply (state_of new) x.happened) has;
+  stays = refl;
 }
 
 -- the last event of each hart, with one event more
@@ -116,7 +115,7 @@ pub record Way (old : Machine) (lines answers : List (List ℕ)) (new : Machine)
 
 pub way : (old new : Machine) (lines answers : List (List ℕ)) → Does DoesLine old lines answers new → Way old lines answers new
 way old new _ _ loop.none = record {
-  report = record { events = []; replies = []; spelled = none; run = still (itself (state_of old)); told = refl; each = tt; idle = λ hart bank other has. has; last = λ hart. inl tt; after = λ platform before answered a. subst (λ rs. After platform (before ++ []) rs old) (sym (append-nil answered)) (subst (λ es. After platform es answered old) (sym (append-nil before)) a) };
+  report = record { events = []; replies = []; spelled = none; run = still; told = refl; each = tt; idle = λ hart other. refl; last = λ hart. inl tt; after = λ platform before answered a. subst (λ rs. After platform (before ++ []) rs old) (sym (append-nil answered)) (subst (λ es. After platform es answered old) (sym (append-nil before)) a) };
   counted = refl;
   harts = refl;
 }
@@ -131,7 +130,7 @@ way old new _ _ (loop.silent {lines} {answers} {mid} done line short _ x) =
         run = subst (λ m. Run (state_of old) w.report.events w.report.replies (state_of m)) (sym x.1) w.report.run;
         told = w.report.told;
         each = w.report.each;
-        idle = λ hart bank other has. subst (λ m. HasBank m hart bank) (sym x.1) (w.report.idle hart bank other has);
+        idle = λ hart other. subst (λ m. bank_on m hart ≡ bank_on old hart) (sym x.1) (w.report.idle hart other);
         last = λ hart. subst (λ m. AreElsewhere hart w.report.events ⊎ LastOwn old hart w.report.events w.report.replies m) (sym x.1) (w.report.last hart);
         after = λ platform before answered a. subst (After platform (before ++ w.report.events) (answered ++ w.report.replies)) (sym x.1) (w.report.after platform before answered a);
       };
@@ -150,7 +149,7 @@ way old new _ _ (loop.answer {lines} {answers} {mid} done line short _ text x) =
         run = step w.report.run x.0 x.1 x.2 x.4.known x.4.possible x.4.happened;
         told = concat-snoc answers text ∙ ap (λ xs. xs ++ text) w.report.told ∙ ap (λ xs. report_text w.report.replies ++ xs) (x.6 ∙ ap (λ k. reply_text k x.2) order) ∙ sym (lines_from-snoc 1 w.report.replies x.2);
         each = answered-snoc w.report.replies x.2 w.report.each x.5;
-        idle = λ hart bank other has. let p = elsewhere_parts hart w.report.events x.0 x.1 other in x.4.others hart bank p.1 (w.report.idle hart bank p.0 has);
+        idle = λ hart other. let p = elsewhere_parts hart w.report.events x.0 x.1 other in x.4.others hart p.1 ∙ w.report.idle hart p.0;
         last = λ hart. last_then old mid new w.report.events w.report.replies x.0 x.1 x.2 w.report.run x.4 hart (w.report.last hart);
         after = λ platform before answered a. one_more platform before w.report.events answered w.report.replies mid new x.0 x.1 x.2 (w.report.after platform before answered a) x.4;
       };

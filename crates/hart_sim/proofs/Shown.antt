@@ -1,8 +1,6 @@
 -- The state that harts show, after one of them changed.
-use Rattle.std.proofs.Common.{◌≡◌, ◌≢◌, ◌∙◌, inl, inr, ℕ, List, Bool, true, false, ◌==◌, if◌then◌else◌, Some, None, slice_get, slice_set, refl, ap, sym, subst}
+use Rattle.std.proofs.Common.{◌≡◌, ◌≢◌, ◌∙◌, inl, inr, ℕ, List, Bool, true, false, ◌==◌, if◌then◌else◌, Some, None, option_map, slice_get, slice_set, slice_index_or, refl, ap, sym, subst}
 use Rattle.std.proofs.lemmas.Bool.{eq-eqb, eqb-true, both_ways}
-use Rattle.std.proofs.lemmas.Option.{same_Some}
-use Rattle.pmp_encoding.specs.declared.bank.Bank.{Bank}
 use Rattle.pmp_encoding.specs.declared.limit.Limit.{Limit}
 use Rattle.enclave_table.specs.Enclaves.{EnclaveTable}
 use Rattle.worlds.specs.declared.world.World.{World}
@@ -14,11 +12,24 @@ use Rattle.context_switch.specs.Harts.{number_of, world_of, registers_of, bank_o
 use Rattle.worlds.specs.Runners.{Runner, runner_of}
 use Rattle.context_switch.specs.Switching.{Switches}
 use Rattle.hart_sim.specs.declared.memory.Memory.{Memory}
-use Rattle.hart_sim.specs.States.{State, SameState, running_registers}
+use Rattle.hart_sim.specs.States.{State, running_registers}
 use Rattle.hart_sim.specs.Changes.{is_same, in_world, with_running, with_registers}
 use Rattle.hart_sim.specs.Harts.{runner_on, AreHarts}
-use Rattle.hart_sim.specs.Hardware.{loaded_in, file_or, world_in, shown}
+use Rattle.hart_sim.specs.Hardware.{loaded_in, file_or, world_in}
+use Rattle.hart_sim.specs.Memory.{byte_at, is_written}
+use Rattle.hart_sim.proofs.Equal.{equal}
 use Rattle.hart_sim.proofs.Loaded.{fits_set, same_is, is_itself, same_ways, loaded_other, loaded_here, loaded_at, loaded_none, get_here, get_other, set_at}
+
+-- the state that harts, saved registers, memory and marks show
+abbrev pub shown : EnclaveTable → List Hart → Contexts → Memory → List Bool → State
+shown table harts contexts memory marked = record {
+  table = table;
+  worlds = λ hart. world_in (slice_get harts hart);
+  registers = λ who. file_or (loaded_in harts who) (saved_of contexts who);
+  bytes = byte_at memory;
+  written = is_written memory;
+  marked = λ hart. slice_index_or marked hart false;
+}
 
 -- a test that is true or false
 pub both : {P : Type 0} (b : Bool) → (b ≡ true → P) → (b ≡ false → P) → P
@@ -55,29 +66,29 @@ registers_then harts contexts marked limit n hart new who fit found runner =
     ap (λ o. file_or o (saved_of contexts who)) (loaded_other harts n hart new who found old_not new_not) ∙ sym (ap (λ w. answer (is_same who w)) here ∙ ap answer e))
 
 -- the same runner with other registers
-pub shows_registers : (table : EnclaveTable) (harts : List Hart) (contexts : Contexts) (memory : Memory) (marked : List Bool) (limit : Limit) (n : ℕ) (hart new : Hart) → AreHarts harts marked limit → slice_get harts n ≡ Some hart → number_of new ≡ number_of hart → world_of new ≡ world_of hart → SameState (shown table (slice_set harts n new) contexts memory marked) (with_running (shown table harts contexts memory marked) n (registers_of new))
+pub shows_registers : (table : EnclaveTable) (harts : List Hart) (contexts : Contexts) (memory : Memory) (marked : List Bool) (limit : Limit) (n : ℕ) (hart new : Hart) → AreHarts harts marked limit → slice_get harts n ≡ Some hart → number_of new ≡ number_of hart → world_of new ≡ world_of hart → shown table (slice_set harts n new) contexts memory marked ≡ with_running (shown table harts contexts memory marked) n (registers_of new)
 shows_registers table harts contexts memory marked limit n hart new fit found number world =
     let runner : runner_on new ≡ runner_on hart = ap (λ k. runner_of k (world_of new)) number ∙ ap (runner_of (number_of hart)) world in
-    record {
+    equal (record {
       table = refl;
-      worlds = λ h low. worlds_are harts n h hart new found ∙ both (h == n)
+      worlds = λ h. worlds_are harts n h hart new found ∙ both (h == n)
           (λ e. let is : h ≡ n = eqb-true h n e in ap (λ b. if b then world_of new else world_in (slice_get harts h)) e ∙ world ∙ sym (ap (λ k. world_in (slice_get harts k)) is ∙ ap world_in found))
           (λ e. ap (λ b. if b then world_of new else world_in (slice_get harts h)) e);
-      registers = λ who has. registers_then harts contexts marked limit n hart new who fit found runner;
+      registers = λ who. registers_then harts contexts marked limit n hart new who fit found runner;
       bytes = λ a. refl;
       written = λ p. refl;
-      marked = λ h low. refl;
-    }
+      marked = λ h. refl;
+    })
 
 -- the same runner with the same registers, another bank perhaps
-pub shows_still : (table : EnclaveTable) (harts : List Hart) (contexts : Contexts) (memory : Memory) (marked : List Bool) (limit : Limit) (n : ℕ) (hart new : Hart) → AreHarts harts marked limit → slice_get harts n ≡ Some hart → number_of new ≡ number_of hart → world_of new ≡ world_of hart → registers_of new ≡ registers_of hart → SameState (shown table (slice_set harts n new) contexts memory marked) (shown table harts contexts memory marked)
+pub shows_still : (table : EnclaveTable) (harts : List Hart) (contexts : Contexts) (memory : Memory) (marked : List Bool) (limit : Limit) (n : ℕ) (hart new : Hart) → AreHarts harts marked limit → slice_get harts n ≡ Some hart → number_of new ≡ number_of hart → world_of new ≡ world_of hart → registers_of new ≡ registers_of hart → shown table (slice_set harts n new) contexts memory marked ≡ shown table harts contexts memory marked
 shows_still table harts contexts memory marked limit n hart new fit found number world registers =
     let runner : runner_on new ≡ runner_on hart = ap (λ k. runner_of k (world_of new)) number ∙ ap (runner_of (number_of hart)) world in
     let is = shows_registers table harts contexts memory marked limit n hart new fit found number world in
-    record {
+    equal (record {
       table = refl;
-      worlds = is.worlds;
-      registers = λ who has. is.registers who has ∙ both (is_same who (runner_of n (world_in (slice_get harts n))))
+      worlds = λ h. ap (λ s. s.worlds h) is;
+      registers = λ who. ap (λ s. s.registers who) is ∙ both (is_same who (runner_of n (world_in (slice_get harts n))))
           (λ e.
           let same : who ≡ runner_on hart = same_is who _ e ∙ who_is harts marked limit n hart fit found in
           let at = loaded_at harts n hart found (only_here harts marked limit n hart hart fit found refl) in
@@ -85,19 +96,19 @@ shows_still table harts contexts memory marked limit n hart new fit found number
           (λ e. ap (λ b. if b then registers_of new else file_or (loaded_in harts who) (saved_of contexts who)) e);
       bytes = λ a. refl;
       written = λ p. refl;
-      marked = λ h low. refl;
-    }
+      marked = λ h. refl;
+    })
 
 -- from one world to another, which runs on no hart
-pub shows_switch : (table : EnclaveTable) (harts : List Hart) (before after : Contexts) (memory : Memory) (marked : List Bool) (limit : Limit) (n : ℕ) (hart new : Hart) (to : World) → AreHarts harts marked limit → slice_get harts n ≡ Some hart → Switches hart new before after to → ((j : ℕ) (other : Hart) → slice_get harts j ≡ Some other → runner_on other ≢ runner_of n to) → SameState (shown table (slice_set harts n new) after memory marked) (in_world (shown table harts before memory marked) n to)
+pub shows_switch : (table : EnclaveTable) (harts : List Hart) (before after : Contexts) (memory : Memory) (marked : List Bool) (limit : Limit) (n : ℕ) (hart new : Hart) (to : World) → AreHarts harts marked limit → slice_get harts n ≡ Some hart → Switches hart new before after to → ((j : ℕ) (other : Hart) → slice_get harts j ≡ Some other → runner_on other ≢ runner_of n to) → shown table (slice_set harts n new) after memory marked ≡ in_world (shown table harts before memory marked) n to
 shows_switch table harts before after memory marked limit n hart new to fit found sw free =
     let number : number_of hart ≡ n = fit.numbered n hart found in
     let runner : runner_on new ≡ runner_of n to = ap (λ k. runner_of k (world_of new)) (sw.number ∙ number) ∙ ap (runner_of n) sw.world in
     let file = λ (hs : List Hart) (c : Contexts) (w : Runner). file_or (loaded_in hs w) (saved_of c w) in
-    record {
+    equal (record {
       table = refl;
-      worlds = λ h low. worlds_are harts n h hart new found ∙ ap (λ w. if h == n then w else world_in (slice_get harts h)) sw.world;
-      registers = λ who has. both (is_same who (runner_on new))
+      worlds = λ h. worlds_are harts n h hart new found ∙ ap (λ w. if h == n then w else world_in (slice_get harts h)) sw.world;
+      registers = λ who. both (is_same who (runner_on new))
           (λ e.
           let is : who ≡ runner_on new = same_is who (runner_on new) e in
           let at : loaded_in (slice_set harts n new) (runner_on new) ≡ Some (registers_of new) = loaded_here harts n hart new found (λ j other there same. absurd (free j other there (same ∙ runner))) in
@@ -127,15 +138,15 @@ shows_switch table harts before after memory marked limit n hart new to fit foun
           ap (λ o. file_or o (saved_of after who)) (loaded_other harts n hart new who found old_not new_not) ∙ ap (file_or (loaded_in harts who)) (sw.others who other)));
       bytes = λ a. refl;
       written = λ p. refl;
-      marked = λ h low. refl;
-    }
+      marked = λ h. refl;
+    })
 
 -- the saved registers of one that runs on no hart
-pub shows_saved : (table : EnclaveTable) (harts : List Hart) (before after : Contexts) (memory : Memory) (marked : List Bool) (who : Runner) (file : RegisterFile) → saved_of after who ≡ Some file → ((other : Runner) → other ≢ who → saved_of after other ≡ saved_of before other) → ((j : ℕ) (other : Hart) → slice_get harts j ≡ Some other → runner_on other ≢ who) → SameState (shown table harts after memory marked) (with_registers (shown table harts before memory marked) who file)
-shows_saved table harts before after memory marked who file value others free = record {
+pub shows_saved : (table : EnclaveTable) (harts : List Hart) (before after : Contexts) (memory : Memory) (marked : List Bool) (who : Runner) (file : RegisterFile) → saved_of after who ≡ Some file → ((other : Runner) → other ≢ who → saved_of after other ≡ saved_of before other) → ((j : ℕ) (other : Hart) → slice_get harts j ≡ Some other → runner_on other ≢ who) → shown table harts after memory marked ≡ with_registers (shown table harts before memory marked) who file
+shows_saved table harts before after memory marked who file value others free = equal (record {
   table = refl;
-  worlds = λ h low. refl;
-  registers = λ w has. both (is_same w who)
+  worlds = λ h. refl;
+  registers = λ w. both (is_same w who)
       (λ e.
       let is : w ≡ who = same_is w who e in
       let none : loaded_in harts who ≡ None = loaded_none harts who (λ j other there. both (is_same (runner_on other) who) (λ y. absurd (free j other there (same_is (runner_on other) who y))) (λ y. y)) in
@@ -145,31 +156,30 @@ shows_saved table harts before after memory marked who file value others free = 
       ap (file_or (loaded_in harts w)) (others w other) ∙ sym (ap (λ b. if b then file else file_or (loaded_in harts w) (saved_of before w)) e));
   bytes = λ a. refl;
   written = λ p. refl;
-  marked = λ h low. refl;
-}
+  marked = λ h. refl;
+})
 
 -- the same parts under other names
-pub shown_as : (table : EnclaveTable) (harts others : List Hart) (contexts there : Contexts) (memory kept : Memory) (marked marks : List Bool) (that : State) → others ≡ harts → there ≡ contexts → kept ≡ memory → marks ≡ marked → SameState (shown table harts contexts memory marked) that → SameState (shown table others there kept marks) that
+pub shown_as : (table : EnclaveTable) (harts others : List Hart) (contexts there : Contexts) (memory kept : Memory) (marked marks : List Bool) (that : State) → others ≡ harts → there ≡ contexts → kept ≡ memory → marks ≡ marked → shown table harts contexts memory marked ≡ that → shown table others there kept marks ≡ that
 shown_as table harts others contexts there memory kept marked marks that e f g h is =
-    let a = subst (λ x. SameState (shown table x contexts memory marked) that) (sym e) is in
-    let b = subst (λ x. SameState (shown table others x memory marked) that) (sym f) a in
-    let c = subst (λ x. SameState (shown table others there x marked) that) (sym g) b in
-    subst (λ x. SameState (shown table others there kept x) that) (sym h) c
+    let a = subst (λ x. shown table x contexts memory marked ≡ that) (sym e) is in
+    let b = subst (λ x. shown table others x memory marked ≡ that) (sym f) a in
+    let c = subst (λ x. shown table others there x marked ≡ that) (sym g) b in
+    subst (λ x. shown table others there kept x ≡ that) (sym h) c
 
 pub same_runner : (hart new : Hart) → number_of new ≡ number_of hart → world_of new ≡ world_of hart → runner_on new ≡ runner_on hart
 same_runner hart new number world = ap (λ k. runner_of k (world_of new)) number ∙ ap (runner_of (number_of hart)) world
 
 -- the banks, where one hart has another
-pub banks_other : (harts : List Hart) (n : ℕ) (new : Hart) (i : ℕ) (bank : Bank) → i ≢ n → (x : Hart) × (slice_get harts i ≡ Some x) × (bank_of x ≡ bank) → (x : Hart) × (slice_get (slice_set harts n new) i ≡ Some x) × (bank_of x ≡ bank)
-banks_other harts n new i bank other has = (has.0, get_other harts n i new other ∙ has.1, has.2)
+pub banks_other : (harts : List Hart) (n : ℕ) (new : Hart) (i : ℕ) → i ≢ n → option_map bank_of (slice_get (slice_set harts n new) i) ≡ option_map bank_of (slice_get harts i)
+banks_other harts n new i other = ap (option_map bank_of) (get_other harts n i new other)
 
-pub banks_kept : (harts : List Hart) (n : ℕ) (hart new : Hart) (i : ℕ) (bank : Bank) → slice_get harts n ≡ Some hart → bank_of new ≡ bank_of hart → (x : Hart) × (slice_get harts i ≡ Some x) × (bank_of x ≡ bank) → (x : Hart) × (slice_get (slice_set harts n new) i ≡ Some x) × (bank_of x ≡ bank)
-banks_kept harts n hart new i bank found same has = both (i == n)
+pub banks_kept : (harts : List Hart) (n : ℕ) (hart new : Hart) (i : ℕ) → slice_get harts n ≡ Some hart → bank_of new ≡ bank_of hart → option_map bank_of (slice_get (slice_set harts n new) i) ≡ option_map bank_of (slice_get harts i)
+banks_kept harts n hart new i found same = both (i == n)
     (λ e.
     let is : i ≡ n = eqb-true i n e in
-    let that : has.0 ≡ hart = same_Some has.0 hart (sym has.1 ∙ ap (slice_get harts) is ∙ found) in
-    (new, ap (slice_get (slice_set harts n new)) is ∙ get_here harts n hart new found, same ∙ ap bank_of (sym that) ∙ has.2))
-    (λ e. banks_other harts n new i bank (λ is. both_ways (i == n) e (eq-eqb i n is)) has)
+    ap (λ k. option_map bank_of (slice_get (slice_set harts n new) k)) is ∙ ap (option_map bank_of) (get_here harts n hart new found) ∙ ap Some same ∙ sym (ap (λ k. option_map bank_of (slice_get harts k)) is ∙ ap (option_map bank_of) found))
+    (λ e. banks_other harts n new i (λ is. both_ways (i == n) e (eq-eqb i n is)))
 
 -- the registers of the world on a hart
 pub running_is : (table : EnclaveTable) (harts : List Hart) (contexts : Contexts) (memory : Memory) (marked : List Bool) (limit : Limit) (n : ℕ) (hart : Hart) → AreHarts harts marked limit → slice_get harts n ≡ Some hart → running_registers (shown table harts contexts memory marked) n ≡ registers_of hart
@@ -178,8 +188,8 @@ running_is table harts contexts memory marked limit n hart fit found =
     ∙ ap (λ o. file_or o (saved_of contexts (runner_on hart))) (loaded_at harts n hart found (only_here harts marked limit n hart hart fit found refl))
 
 -- registers put in place of those
-pub running_put : (s new : State) (n : ℕ) (put old : RegisterFile) (change : RegisterFile → RegisterFile) → SameState new (with_running s n put) → put ≡ change old → running_registers s n ≡ old → SameState new (with_running s n (change (running_registers s n)))
-running_put s new n put old change is e f = subst (λ x. SameState new (with_running s n x)) (e ∙ ap change (sym f)) is
+pub running_put : (s new : State) (n : ℕ) (put old : RegisterFile) (change : RegisterFile → RegisterFile) → new ≡ with_running s n put → put ≡ change old → running_registers s n ≡ old → new ≡ with_running s n (change (running_registers s n))
+running_put s new n put old change is e f = subst (λ x. new ≡ with_running s n x) (e ∙ ap change (sym f)) is
 
 -- the worlds stay where a hart keeps its own
 pub worlds_stay : (harts : List Hart) (n : ℕ) (hart new : Hart) (i : ℕ) → slice_get harts n ≡ Some hart → world_of new ≡ world_of hart → world_in (slice_get (slice_set harts n new) i) ≡ world_in (slice_get harts i)
@@ -194,7 +204,7 @@ fits_registers harts marked limit n hart file fit found =
 
 -- the registers on a hart changed in their place
 pub shows_change : (table : EnclaveTable) (harts : List Hart) (contexts : Contexts) (memory : Memory) (marked : List Bool) (limit : Limit) (n : ℕ) (hart : Hart) (file : RegisterFile) (change : RegisterFile → RegisterFile) → AreHarts harts marked limit → slice_get harts n ≡ Some hart → file ≡ change (registers_of hart)
-    → SameState (shown table (slice_set harts n (with_file hart file)) contexts memory marked) (with_running (shown table harts contexts memory marked) n (change (running_registers (shown table harts contexts memory marked) n)))
+    → shown table (slice_set harts n (with_file hart file)) contexts memory marked ≡ with_running (shown table harts contexts memory marked) n (change (running_registers (shown table harts contexts memory marked) n))
 shows_change table harts contexts memory marked limit n hart file change fit found is =
     running_put (shown table harts contexts memory marked) (shown table (slice_set harts n (with_file hart file)) contexts memory marked) n file (registers_of hart) change
     (shows_registers table harts contexts memory marked limit n hart (with_file hart file) fit found refl refl) is (running_is table harts contexts memory marked limit n hart fit found)

@@ -1,5 +1,5 @@
 -- A step leaves the table sound.
-use Rattle.std.proofs.Common.{◌≡◌, inl, inr, ℕ, List, Option, Some, None, Result, Ok, Err, refl, sym, subst}
+use Rattle.std.proofs.Common.{◌≡◌, inl, inr, ℕ, List, Option, Some, None, Result, Ok, Err, refl, sym, subst, ap}
 use Rattle.pmp_match.specs.declared.access.Access.{Access}
 use Rattle.pmp_match.specs.declared.access.Kind.{Kind}
 use Rattle.pmp_match.specs.declared.access.Kind.TheVariants.{Fetch, Load, Store}
@@ -52,39 +52,39 @@ turned : (old : EnclaveTable) (id : ℕ) (stage : Stage) (new : EnclaveTable) �
 turned old id stage new x t = same (with_enclave old id (Some (record x.0 { state = stage }))) new x.2 (turned_table old id x.0 stage x.1 t)
 
 reached : (kind : Kind) (s : State) (a : Access) (value : ℕ) (reply : Reply) (new : State) → TakesEffect kind s a value reply new → new.table ≡ s.table
-reached Fetch s a value reply new x = x.1.table
-reached Load s a value reply new x = x.1.table
-reached Store s a value reply new (inl x) = x.1.table
-reached Store s a value reply new (inr x) = x.2.table
+reached Fetch s a value reply new x = ap (λ y. y.table) x.1
+reached Load s a value reply new x = ap (λ y. y.table) x.1
+reached Store s a value reply new (inl x) = ap (λ y. y.table) x.1
+reached Store s a value reply new (inr x) = ap (λ y. y.table) x.2
 
 accessed : (said : Result (Unit {0}) Cause) (s : State) (a : Access) (value : ℕ) (reply : Reply) (new : State) → Accesses said s a value reply new → new.table ≡ s.table
-accessed (Err cause) s a value reply new x = x.1.table
+accessed (Err cause) s a value reply new x = ap (λ y. y.table) x.1
 accessed (Ok done) s a value reply new x = reached a.kind s a value reply new x
 
 called : (call : Option Call) (s : State) (hart : ℕ) (reply : Reply) (new : State) → DoesCall call s hart reply new → IsTable s.table → IsTable new.table
-called None s hart reply new x t = same s.table new.table x.0.table t
-called (Some (calls.Create base text_pages data_pages shared_base shared_count entry_offset)) s hart reply new (inl x) t = same x.1 new.table x.3.table (created _ s.table (s.worlds hart) _ x.0 x.1 x.2 t)
-called (Some (calls.Create base text_pages data_pages shared_base shared_count entry_offset)) s hart reply new (inr x) t = same s.table new.table x.2.0.table t
-called (Some (calls.Destroy id)) s hart reply new (inl x) t = same x.1 new.table x.3.table (destroyed s.table (s.worlds hart) id x.0 x.1 x.2 t)
-called (Some (calls.Destroy id)) s hart reply new (inr x) t = same s.table new.table x.2.0.table t
-called (Some (calls.Run id)) s hart reply new (inl x) t = same x.1 new.table x.4.table (turned s.table id _ x.1 x.3.turned t)
-called (Some (calls.Run id)) s hart reply new (inr x) t = same s.table new.table x.2.0.table t
-called (Some calls.Stop) s hart reply new (inl x) t = same x.1 new.table x.3.table (turned s.table x.0 _ x.1 x.2.turned t)
-called (Some calls.Stop) s hart reply new (inr x) t = same s.table new.table x.2.0.table t
-called (Some (calls.Resume id)) s hart reply new (inl x) t = same x.1 new.table x.4.table (turned s.table id _ x.1 x.3.turned t)
-called (Some (calls.Resume id)) s hart reply new (inr x) t = same s.table new.table x.2.0.table t
-called (Some (calls.Exit value)) s hart reply new (inl x) t = same x.1 new.table x.3.table (turned s.table x.0 _ x.1 x.2.turned t)
-called (Some (calls.Exit value)) s hart reply new (inr x) t = same s.table new.table x.2.0.table t
-called (Some (calls.Measure id k)) s hart reply new (inl x) t = same s.table new.table x.2.table t
-called (Some (calls.Measure id k)) s hart reply new (inr x) t = same s.table new.table x.2.0.table t
+called None s hart reply new x t = same s.table new.table (ap (λ y. y.table) x.0) t
+called (Some (calls.Create base text_pages data_pages shared_base shared_count entry_offset)) s hart reply new (inl x) t = same x.1 new.table (ap (λ y. y.table) x.3) (created _ s.table (s.worlds hart) _ x.0 x.1 x.2 t)
+called (Some (calls.Create base text_pages data_pages shared_base shared_count entry_offset)) s hart reply new (inr x) t = same s.table new.table (ap (λ y. y.table) x.2.0) t
+called (Some (calls.Destroy id)) s hart reply new (inl x) t = same x.1 new.table (ap (λ y. y.table) x.3) (destroyed s.table (s.worlds hart) id x.0 x.1 x.2 t)
+called (Some (calls.Destroy id)) s hart reply new (inr x) t = same s.table new.table (ap (λ y. y.table) x.2.0) t
+called (Some (calls.Run id)) s hart reply new (inl x) t = same x.1 new.table (ap (λ y. y.table) x.4) (turned s.table id _ x.1 x.3.turned t)
+called (Some (calls.Run id)) s hart reply new (inr x) t = same s.table new.table (ap (λ y. y.table) x.2.0) t
+called (Some calls.Stop) s hart reply new (inl x) t = same x.1 new.table (ap (λ y. y.table) x.3) (turned s.table x.0 _ x.1 x.2.turned t)
+called (Some calls.Stop) s hart reply new (inr x) t = same s.table new.table (ap (λ y. y.table) x.2.0) t
+called (Some (calls.Resume id)) s hart reply new (inl x) t = same x.1 new.table (ap (λ y. y.table) x.4) (turned s.table id _ x.1 x.3.turned t)
+called (Some (calls.Resume id)) s hart reply new (inr x) t = same s.table new.table (ap (λ y. y.table) x.2.0) t
+called (Some (calls.Exit value)) s hart reply new (inl x) t = same x.1 new.table (ap (λ y. y.table) x.3) (turned s.table x.0 _ x.1 x.2.turned t)
+called (Some (calls.Exit value)) s hart reply new (inr x) t = same s.table new.table (ap (λ y. y.table) x.2.0) t
+called (Some (calls.Measure id k)) s hart reply new (inl x) t = same s.table new.table (ap (λ y. y.table) x.2) t
+called (Some (calls.Measure id k)) s hart reply new (inr x) t = same s.table new.table (ap (λ y. y.table) x.2.0) t
 
 interrupted : (world : World) (s : State) (hart : ℕ) (reply : Reply) (new : State) → Interrupts world s hart reply new → IsTable s.table → IsTable new.table
-interrupted Host s hart reply new x t = same s.table new.table x.0.table t
-interrupted (InEnclave id) s hart reply new x t = same x.0 new.table x.2.table (turned s.table id _ x.0 x.1.turned t)
+interrupted Host s hart reply new x t = same s.table new.table (ap (λ y. y.table) x.0) t
+interrupted (InEnclave id) s hart reply new x t = same x.0 new.table (ap (λ y. y.table) x.2) (turned s.table id _ x.0 x.1.turned t)
 
 pub table_step : (old : State) (hart : ℕ) (event : Event) (reply : Reply) (new : State) → Step old hart event reply new → IsTable old.table → IsTable new.table
 table_step old hart (events.Access a value) reply new x t = same old.table new.table (accessed (verdict (current_view old hart) a) (without_mark old hart) a value reply new x) t
-table_step old hart (events.Reg n value) reply new x t = same old.table new.table x.1.table t
+table_step old hart (events.Reg n value) reply new x t = same old.table new.table (ap (λ y. y.table) x.1) t
 table_step old hart (events.Ecall words) reply new x t =
     called (call_of (running_registers (calling (without_mark old hart) hart words.items) hart)) (calling (without_mark old hart) hart words.items) hart reply new x t
 table_step old hart events.Irq reply new x t = interrupted (old.worlds hart) (without_mark old hart) hart reply new x t
@@ -100,5 +100,5 @@ opening_sound layout rules = record {
 
 -- the table after a run
 pub run_sound : (old new : State) (events : List (ℕ × Event)) (replies : List Reply) → IsTable old.table → Run old events replies new → IsTable new.table
-run_sound old new _ _ t (still is) = same old.table new.table is.table t
+run_sound old _ _ _ t still = t
 run_sound old new _ _ t (step {events} {replies} {mid} run hart event reply low possible x) = table_step mid hart event reply new x (run_sound old mid events replies t run)

@@ -3,7 +3,6 @@ use Rattle.std.proofs.Common.{◌≡◌, ◌∙◌, ℕ, Some, None, ap, sym, ar
 use Rattle.enclave_table.specs.Enclaves.{EnclaveTable, Live, IsNextId, enclave_at, with_enclave}
 use Rattle.enclave_table.specs.Tables.{IsTable, Kept}
 use Rattle.enclave_table.specs.declared.enclave.Enclave.{Enclave}
-use Rattle.hart_sim.specs.Parts.{KeepsLists}
 use Rattle.enclave_table.proofs.Places.{live_above, live_inside, set_same}
 
 pub not_added : (table now : EnclaveTable) (id : ℕ) (e : Enclave) → IsTable table → IsNextId table id → now ≡ with_enclave table id (Some e) → now ≡ table → ⊥
@@ -16,9 +15,5 @@ not_removed table now id e live removed same =
     let z : Some e ≡ None = sym live ∙ ap (λ t. enclave_at t.enclaves id) (sym same ∙ removed) ∙ gone in cc
 
 -- nothing but the table changed
-pub lists_turned : (kept now : Kept) → now ≡ record kept { table = now.table } → KeepsLists kept now
+pub lists_turned : (kept now : Kept) → now ≡ record kept { table = now.table } → now.table ≡ kept.table → now ≡ kept
 lists_turned kept now is table = is ∙ ap (λ t. record kept { table = t }) table
-
--- nothing, and then something
-pub lists_after : (kept mid now : Kept) → mid ≡ kept → KeepsLists mid now → KeepsLists kept now
-lists_after kept mid now same keeps table = keeps (table ∙ sym (ap (λ k. k.table) same)) ∙ same

@@ -1,5 +1,5 @@
 -- A marked hart that loads the host's entries.
-use Rattle.std.proofs.Common.{◌≡◌, ◌≢◌, ◌∙◌, ℕ, zero, suc, ◌≤◌, List, [], ◌∷◌, Bool, true, false, ◌==◌, if◌then◌else◌, slice_get, slice_set, slice_index_or, refl, ap, sym, subst, arith}
+use Rattle.std.proofs.Common.{◌≡◌, ◌≢◌, ◌∙◌, ℕ, zero, suc, List, [], ◌∷◌, Bool, true, false, ◌==◌, if◌then◌else◌, slice_get, slice_set, slice_index_or, refl, ap, sym, subst, Some}
 use Rattle.std.proofs.lemmas.Bool.{eq-eqb, eqb-true, both_ways}
 use Rattle.std.proofs.lemmas.Option.{same_Some}
 use Rattle.pmp_encoding.specs.declared.bank.Bank.{Bank}
@@ -10,12 +10,11 @@ use Rattle.enclave_table.specs.Views.{host_view}
 use Rattle.enclave_table.specs.Tables.{Kept, IsCurrent}
 use Rattle.enclave_table.specs.Fewest.{IsListOf}
 use Rattle.worlds.specs.declared.world.World.TheVariants.{Host}
-use Rattle.context_switch.specs.Harts.{bank_of}
 use Rattle.hart_sim.specs.declared.hardware.Hardware.{Hardware}
 use Rattle.hart_sim.specs.States.{view_of}
-use Rattle.hart_sim.specs.Hardware.{world_in, BankOn, KeepsBanks}
-use Rattle.hart_sim.specs.Parts.{IsWhole, LoadsFewest, AreBanksRight}
-use Rattle.hart_sim.proofs.Loaded.{hart_there}
+use Rattle.hart_sim.specs.Banks.{LoadsFewest, AreBanksRight, KeepsOtherBanks}
+use Rattle.hart_sim.specs.Hardware.{state_on, world_in, bank_in}
+use Rattle.hart_sim.specs.Parts.{IsWhole}
 use Rattle.hart_sim.proofs.Shown.{both}
 
 mark_here : (marked : List Bool) (n : ℕ) → slice_index_or (slice_set marked n false) n false ≡ false
@@ -30,7 +29,7 @@ mark_other (m ∷ marked) zero (suc i) other = refl
 mark_other (m ∷ marked) (suc n) zero other = refl
 mark_other (m ∷ marked) (suc n) (suc i) other = mark_other marked n i (λ e. other (ap suc e))
 
-mark_gone : (marked : List Bool) (n i : ℕ) → slice_index_or (slice_set marked n false) i false ≡ (if i == n then false else slice_index_or marked i false)
+pub mark_gone : (marked : List Bool) (n i : ℕ) → slice_index_or (slice_set marked n false) i false ≡ (if i == n then false else slice_index_or marked i false)
 mark_gone marked n i = both (i == n)
     (λ e. ap (λ k. slice_index_or (slice_set marked n false) k false) (eqb-true i n e) ∙ mark_here marked n ∙ sym (ap (λ b. if b then false else slice_index_or marked i false) e))
     (λ e. mark_other marked n i (λ is. both_ways (i == n) e (eq-eqb i n is)) ∙ sym (ap (λ b. if b then false else slice_index_or marked i false) e))
@@ -48,35 +47,28 @@ whole_woken kept old new hart w limit worlds marks = record {
 }
 
 -- the banks are right where that of the hart is the host's
-pub banks_woken : (kept : Kept) (old new : Hardware) (hart : ℕ) (bank : Bank) (entries : List Entry) → IsWhole kept old → slice_index_or old.marked hart false ≡ true → ((i : ℕ) → world_in (slice_get new.harts i) ≡ world_in (slice_get old.harts i)) → new.marked ≡ slice_set old.marked hart false → BankOn new hart bank → KeepsBanks old new hart → HasList bank entries → IsListOf kept.table.layout.limit (host_view kept.table) entries → AreBanksRight kept old → AreBanksRight kept new
+pub banks_woken : (kept : Kept) (old new : Hardware) (hart : ℕ) (bank : Bank) (entries : List Entry) → IsWhole kept old → slice_index_or old.marked hart false ≡ true
+    → ((i : ℕ) → world_in (slice_get new.harts i) ≡ world_in (slice_get old.harts i)) → new.marked ≡ slice_set old.marked hart false
+    → bank_in new hart ≡ Some bank → KeepsOtherBanks (bank_in old) (bank_in new) hart → HasList bank entries → IsListOf kept.table.layout.limit (host_view kept.table) entries
+    → AreBanksRight (state_on kept.table old) (bank_in old) → AreBanksRight (state_on kept.table new) (bank_in new)
 banks_woken kept old new hart bank entries w was worlds marks loaded others list fits right = λ i b low off has. both (i == hart)
     (λ e.
     let is : i ≡ hart = eqb-true i hart e in
-    let that : has.0 ≡ loaded.0 = same_Some has.0 loaded.0 (sym has.1 ∙ ap (slice_get new.harts) is ∙ loaded.1) in
-    let same : b ≡ bank = sym has.2 ∙ ap bank_of that ∙ loaded.2 in
+    let same : b ≡ bank = same_Some b bank (sym has ∙ ap (bank_in new) is ∙ loaded) in
     let world : world_in (slice_get new.harts i) ≡ Host = worlds i ∙ ap (λ k. world_in (slice_get old.harts k)) is ∙ w.marked hart was in
     let here : LoadsFewest bank (view_of kept.table Host) = record { list = entries; loaded = list; fewest = fits.fewest } in
     subst (λ x. LoadsFewest x (view_of kept.table (world_in (slice_get new.harts i)))) (sym same) (subst (λ v. LoadsFewest bank (view_of kept.table v)) (sym world) here))
     (λ e.
     let other : i ≢ hart = λ is. both_ways (i == hart) e (eq-eqb i hart is) in
-    let there = hart_there old.harts i (omega (arith, old.fit.four, w.few, low)) in
-    let kept_bank = others i (bank_of there.0) other (there.0, there.1, refl) in
-    let that : has.0 ≡ kept_bank.0 = same_Some has.0 kept_bank.0 (sym has.1 ∙ kept_bank.1) in
-    let same : b ≡ bank_of there.0 = sym has.2 ∙ ap bank_of that ∙ kept_bank.2 in
     let off' : slice_index_or old.marked i false ≡ false = sym (ap (λ t. if t then false else slice_index_or old.marked i false) e) ∙ sym (mark_gone old.marked hart i) ∙ sym (ap (λ ms. slice_index_or ms i false) marks) ∙ off in
-    let here = right i (bank_of there.0) low off' (there.0, there.1, refl) in
-    subst (λ x. LoadsFewest x (view_of kept.table (world_in (slice_get new.harts i)))) (sym same) (subst (λ v. LoadsFewest (bank_of there.0) (view_of kept.table v)) (sym (worlds i)) here))
+    subst (λ v. LoadsFewest b (view_of kept.table v)) (sym (worlds i)) (right i b low off' (sym (others i other) ∙ has)))
 
 -- the banks stay right where banks, worlds and marks stay
-pub banks_stay : (kept : Kept) (old new : Hardware) → kept.table.layout.harts ≤ 4 → ((i : ℕ) (bank : Bank) → BankOn old i bank → BankOn new i bank) → ((i : ℕ) → world_in (slice_get new.harts i) ≡ world_in (slice_get old.harts i)) → new.marked ≡ old.marked → AreBanksRight kept old → AreBanksRight kept new
-banks_stay kept old new few banks worlds marks right = λ i b low off has.
-    let there = hart_there old.harts i (omega (arith, old.fit.four, few, low)) in
-    let kept_bank = banks i (bank_of there.0) (there.0, there.1, refl) in
-    let that : has.0 ≡ kept_bank.0 = same_Some has.0 kept_bank.0 (sym has.1 ∙ kept_bank.1) in
-    let same : b ≡ bank_of there.0 = sym has.2 ∙ ap bank_of that ∙ kept_bank.2 in
+pub banks_stay : (kept : Kept) (old new : Hardware) → ((i : ℕ) → bank_in new i ≡ bank_in old i) → ((i : ℕ) → world_in (slice_get new.harts i) ≡ world_in (slice_get old.harts i)) → new.marked ≡ old.marked
+    → AreBanksRight (state_on kept.table old) (bank_in old) → AreBanksRight (state_on kept.table new) (bank_in new)
+banks_stay kept old new banks worlds marks right = λ i b low off has.
     let off' : slice_index_or old.marked i false ≡ false = sym (ap (λ ms. slice_index_or ms i false) marks) ∙ off in
-    let here = right i (bank_of there.0) low off' (there.0, there.1, refl) in
-    subst (λ x. LoadsFewest x (view_of kept.table (world_in (slice_get new.harts i)))) (sym same) (subst (λ v. LoadsFewest (bank_of there.0) (view_of kept.table v)) (sym (worlds i)) here)
+    subst (λ v. LoadsFewest b (view_of kept.table v)) (sym (worlds i)) (right i b low off' (sym (banks i) ∙ has))
 
 pub whole_stays : (kept : Kept) (old new : Hardware) → IsWhole kept old → new.limit ≡ old.limit → ((i : ℕ) → world_in (slice_get new.harts i) ≡ world_in (slice_get old.harts i)) → new.marked ≡ old.marked → IsWhole kept new
 whole_stays kept old new w limit worlds marks = record {

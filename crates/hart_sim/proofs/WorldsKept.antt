@@ -1,6 +1,6 @@
 -- On which hart each enclave runs, from step to step.
-use Rattle.std.proofs.Common.{◌≡◌, ◌≢◌, ◌∙◌, inl, inr, ℕ, zero, suc, ◌-◌, ◌<◌, ◌≤◌, List, [], ◌∷◌, Bool, true, false, ◌||◌, ◌==◌, if◌then◌else◌, Option, Some, None, slice_set, slice_index_or, Result, Ok, Err, refl, ap, sym, subst}
-use Rattle.std.proofs.lemmas.Bool.{eq-eqb, eqb-true, both_ways, or_cases}
+use Rattle.std.proofs.Common.{◌≡◌, ◌≢◌, ◌∙◌, inl, inr, ℕ, zero, suc, ◌-◌, ◌<◌, ◌≤◌, List, [], ◌∷◌, Bool, true, false, ◌&&◌, ◌||◌, ◌==◌, nat_lt, if◌then◌else◌, Option, Some, None, slice_set, slice_index_or, Result, Ok, Err, refl, ap, sym, subst}
+use Rattle.std.proofs.lemmas.Bool.{eq-eqb, eqb-true, both_ways, or_cases, and_parts}
 use Rattle.std.proofs.lemmas.Option.{same_Some}
 use Rattle.pmp_match.specs.declared.access.Access.{Access}
 use Rattle.pmp_match.specs.declared.access.Kind.{Kind}
@@ -31,14 +31,13 @@ use Rattle.sbi_decode.specs.declared.calls.Call.TheVariants as calls
 use Rattle.hart_trace.specs.declared.event.Event.{Event}
 use Rattle.hart_trace.specs.declared.event.Event.TheVariants as events
 use Rattle.hart_sim.specs.declared.reply.Reply.{Reply}
-use Rattle.hart_sim.specs.States.{State, SameState, current_view, running_registers, page_bytes, opening}
+use Rattle.hart_sim.specs.States.{State, current_view, running_registers, page_bytes, opening}
 use Rattle.hart_sim.specs.Changes.{is_host, calling, without_mark}
 use Rattle.hart_sim.specs.Steps.{Step, Run, still, step, DoesCall, DoesEnter, Accesses, TakesEffect, Interrupts, verdict}
 use Rattle.hart_sim.specs.Worlds.{AreWorlds, RunsKeepWorlds}
 use Rattle.hart_sim.proofs.Moved.{current_other}
 use Rattle.hart_sim.proofs.Opened.{none_live}
 use Rattle.hart_sim.proofs.Shown.{both}
-use Rattle.hart_sim.proofs.Alike.{itself}
 
 -- what one hart's event may do to the table and the worlds: nothing but at one id and on that hart
 record Change (s n : State) (hart id : ℕ) (slot : Option Enclave) (to : World) : Type 0 where
@@ -117,15 +116,15 @@ worlds_stay s n table worlds marks w = record {
     under h low = subst (λ t. h < t.layout.harts) table low
 
 -- in a state that is that one
-pub worlds_same : (s n : State) → SameState n s → AreWorlds s → AreWorlds n
-worlds_same s n is w = worlds_stay s n is.table is.worlds (λ h low on. sym (is.marked h low) ∙ on) w
+pub worlds_same : (s n : State) → n ≡ s → AreWorlds s → AreWorlds n
+worlds_same s n is w = subst AreWorlds (sym is) w
 
 -- an enclave was made or taken away, which is not Running before or after; the harts in the host's world may be marked
-owned : (s n : State) (hart id : ℕ) (slot : Option Enclave) → hart < s.table.layout.harts → 1 ≤ id → s.worlds hart ≡ Host
+owned : (s n : State) (hart id : ℕ) (slot : Option Enclave) (harts : ℕ) → hart < s.table.layout.harts → 1 ≤ id → s.worlds hart ≡ Host
     → ((e : Enclave) → Live s.table id e → e.state ≢ Running) → ((e : Enclave) → slot ≡ Some e → e.state ≢ Running)
     → n.table ≡ with_enclave s.table id slot → ((h : ℕ) → h < s.table.layout.harts → n.worlds h ≡ s.worlds h)
-    → ((h : ℕ) → h < s.table.layout.harts → n.marked h ≡ (if h == hart then s.marked h else (is_host (s.worlds h) || s.marked h))) → AreWorlds s → AreWorlds n
-owned s n hart id slot low above host before after table worlds marks w = worlds_changed s n hart id slot Host (record {
+    → ((h : ℕ) → h < s.table.layout.harts → n.marked h ≡ (if h == hart then s.marked h else (nat_lt h harts && is_host (s.worlds h) || s.marked h))) → AreWorlds s → AreWorlds n
+owned s n hart id slot harts low above host before after table worlds marks w = worlds_changed s n hart id slot Host (record {
   low = low;
   above = above;
   table = table;
@@ -139,8 +138,8 @@ owned s n hart id slot low above host before after table worlds marks w = worlds
   left = λ k is. let z : Host ≡ InEnclave k = sym host ∙ is in absurd cc;
   marks = λ h under on. worlds h under ∙ both (h == hart)
       (λ e. ap s.worlds (eqb-true h hart e) ∙ host)
-      (λ e. elim (or_cases (is_host (s.worlds h)) (s.marked h) (sym (ap (λ t. if t then s.marked h else (is_host (s.worlds h) || s.marked h)) e) ∙ sym (marks h under) ∙ on)) [
-        | inl at ↦ host_is (s.worlds h) at
+      (λ e. elim (or_cases (nat_lt h harts && is_host (s.worlds h)) (s.marked h) (sym (ap (λ t. if t then s.marked h else (nat_lt h harts && is_host (s.worlds h) || s.marked h)) e) ∙ sym (marks h under) ∙ on)) [
+        | inl at ↦ host_is (s.worlds h) (and_parts (nat_lt h harts) (is_host (s.worlds h)) at).1
         | inr was ↦ w.marked h under was
       ]);
 }) w
@@ -206,65 +205,52 @@ left_behind s n hart id leaving table low awake l is worlds marks w =
     same : (a b : ℕ) → InEnclave a ≡ InEnclave b → a ≡ b
     same a b e = cc
 
+-- table, worlds and marks stayed
+refused : (s n m : State) → n ≡ m → m.table ≡ s.table → m.worlds ≡ s.worlds → m.marked ≡ s.marked → AreWorlds s → AreWorlds n
+refused s n m is table worlds marked w =
+    worlds_stay s n (ap (λ y. y.table) is ∙ table) (λ h low. ap (λ y. y.worlds h) is ∙ ap (λ f. f h) worlds) (λ h low on. sym (ap (λ y. y.marked h) is ∙ ap (λ f. f h) marked) ∙ on) w
+
 effect : (kind : Kind) (s : State) (a : Access) (value : ℕ) (reply : Reply) (n : State) → TakesEffect kind s a value reply n → AreWorlds s → AreWorlds n
 effect Fetch s a value reply n x w = worlds_same s n x.1 w
 effect Load s a value reply n x w = worlds_same s n x.1 w
-effect Store s a value reply n (inl x) w = worlds_stay s n x.1.table x.1.worlds (λ h low on. sym (x.1.marked h low) ∙ on) w
+effect Store s a value reply n (inl x) w = refused s n _ x.1 refl refl refl w
 effect Store s a value reply n (inr x) w = worlds_same s n x.2 w
 
 accessed : (said : Result (Unit {0}) Cause) (s : State) (a : Access) (value : ℕ) (reply : Reply) (n : State) → Accesses said s a value reply n → AreWorlds s → AreWorlds n
 accessed (Err cause) s a value reply n x w = worlds_same s n x.1 w
 accessed (Ok done) s a value reply n x w = effect a.kind s a value reply n x w
 
--- a call that changed registers alone
-refused : (s n m : State) → SameState n m → m.table ≡ s.table → m.worlds ≡ s.worlds → m.marked ≡ s.marked → AreWorlds s → AreWorlds n
-refused s n m is table worlds marked w =
-    worlds_stay s n (is.table ∙ table) (λ h low. is.worlds h (over h low) ∙ ap (λ f. f h) worlds) (λ h low on. sym (is.marked h (over h low) ∙ ap (λ f. f h) marked) ∙ on) w
-  where
-    over : (h : ℕ) → h < s.table.layout.harts → h < m.table.layout.harts
-    over h low = subst (λ t. h < t.layout.harts) (sym table) low
-
--- a table that changed at one id has as many harts
-over_same : (s : State) (table : EnclaveTable) (id : ℕ) (slot : Option Enclave) → table ≡ with_enclave s.table id slot → (h : ℕ) → h < s.table.layout.harts → h < table.layout.harts
-over_same s table id slot is h under = subst (λ t. h < t.layout.harts) (sym is) under
-
 enters : (entering : Entering) (s : State) (hart id : ℕ) (reply : Reply) (n : State) → hart < s.table.layout.harts → s.marked hart ≡ false → DoesEnter entering id s hart reply n → AreWorlds s → AreWorlds n
 enters entering s hart id reply n low awake (inr x) w = refused s n _ x.2.0 refl refl refl w
 enters FirstRun s hart id reply n low awake (inl x) w =
-    let over = over_same s _ _ _ x.3.turned.2 in
-    entered s n hart id FirstRun x.1 low awake x.3 x.4.table (λ h under. x.4.worlds h (over h under)) (λ h under. x.4.marked h (over h under)) w
+    entered s n hart id FirstRun x.1 low awake x.3 (ap (λ y. y.table) x.4) (λ h under. ap (λ y. y.worlds h) x.4) (λ h under. ap (λ y. y.marked h) x.4) w
 enters Resume s hart id reply n low awake (inl x) w =
-    let over = over_same s _ _ _ x.3.turned.2 in
-    entered s n hart id Resume x.1 low awake x.3 x.4.table (λ h under. x.4.worlds h (over h under)) (λ h under. x.4.marked h (over h under)) w
+    entered s n hart id Resume x.1 low awake x.3 (ap (λ y. y.table) x.4) (λ h under. ap (λ y. y.worlds h) x.4) (λ h under. ap (λ y. y.marked h) x.4) w
 
 called : (call : Option Call) (s : State) (hart : ℕ) (reply : Reply) (n : State) → hart < s.table.layout.harts → s.marked hart ≡ false → DoesCall call s hart reply n → AreWorlds s → AreWorlds n
 called None s hart reply n low awake x w = refused s n _ x.0 refl refl refl w
 called (Some (calls.Create base text_pages data_pages shared_base shared_count entry_offset)) s hart reply n low awake (inl x) w =
-    let over = over_same s _ _ _ x.2.added in
     let asked : Create = record { base = base; text_pages = text_pages; data_pages = data_pages; shared_base = shared_base; shared_count = shared_count; entry_offset = entry_offset } in
     let made = fresh (page_bytes s) (parts_of asked) in
-    owned s n hart x.0 (Some made) low x.2.next.free.0 x.2.passes.0
+    owned s n hart x.0 (Some made) x.1.layout.harts low x.2.next.free.0 x.2.passes.0
     (λ e live runs. let z : None ≡ Some e = sym x.2.next.free.2 ∙ live in absurd cc)
     (λ e put runs. let same = same_Some made e put in let z : Fresh ≡ Running = ap (λ g. g.state) same ∙ runs in absurd cc)
-    (x.3.table ∙ x.2.added) (λ h under. x.3.worlds h (over h under)) (λ h under. x.3.marked h (over h under)) w
+    (ap (λ y. y.table) x.3 ∙ x.2.added) (λ h under. ap (λ y. y.worlds h) x.3) (λ h under. ap (λ y. y.marked h) x.3) w
 called (Some (calls.Create base text_pages data_pages shared_base shared_count entry_offset)) s hart reply n low awake (inr x) w = refused s n _ x.2.0 refl refl refl w
 called (Some (calls.Destroy id)) s hart reply n low awake (inl x) w =
-    let over = over_same s _ _ _ x.2.removed in
     let g = x.2.passes.1.0 in
-    owned s n hart id None low (live_above s.table.enclaves id g.0 g.1) x.2.passes.0
+    owned s n hart id None x.1.layout.harts low (live_above s.table.enclaves id g.0 g.1) x.2.passes.0
     (λ e live runs. x.2.passes.1.1.0 e live runs)
     (λ e put runs. let z : None ≡ Some e = put in absurd cc)
-    (x.3.table ∙ x.2.removed) (λ h under. x.3.worlds h (over h under)) (λ h under. x.3.marked h (over h under)) w
+    (ap (λ y. y.table) x.3 ∙ x.2.removed) (λ h under. ap (λ y. y.worlds h) x.3) (λ h under. ap (λ y. y.marked h) x.3) w
 called (Some (calls.Destroy id)) s hart reply n low awake (inr x) w = refused s n _ x.2.0 refl refl refl w
 called (Some (calls.Run id)) s hart reply n low awake x w = enters FirstRun s hart id reply n low awake x w
 called (Some calls.Stop) s hart reply n low awake (inl x) w =
-    let over = over_same s _ _ _ x.2.turned.2 in
-    left_behind s n hart x.0 Stop x.1 low awake x.2 x.3.table (λ h under. x.3.worlds h (over h under)) (λ h under. x.3.marked h (over h under)) w
+    left_behind s n hart x.0 Stop x.1 low awake x.2 (ap (λ y. y.table) x.3) (λ h under. ap (λ y. y.worlds h) x.3) (λ h under. ap (λ y. y.marked h) x.3) w
 called (Some calls.Stop) s hart reply n low awake (inr x) w = refused s n _ x.2.0 refl refl refl w
 called (Some (calls.Resume id)) s hart reply n low awake x w = enters Resume s hart id reply n low awake x w
 called (Some (calls.Exit value)) s hart reply n low awake (inl x) w =
-    let over = over_same s _ _ _ x.2.turned.2 in
-    left_behind s n hart x.0 Exit x.1 low awake x.2 x.3.table (λ h under. x.3.worlds h (over h under)) (λ h under. x.3.marked h (over h under)) w
+    left_behind s n hart x.0 Exit x.1 low awake x.2 (ap (λ y. y.table) x.3) (λ h under. ap (λ y. y.worlds h) x.3) (λ h under. ap (λ y. y.marked h) x.3) w
 called (Some (calls.Exit value)) s hart reply n low awake (inr x) w = refused s n _ x.2.0 refl refl refl w
 called (Some (calls.Measure id k)) s hart reply n low awake (inl x) w = refused s n _ x.2 refl refl refl w
 called (Some (calls.Measure id k)) s hart reply n low awake (inr x) w = refused s n _ x.2.0 refl refl refl w
@@ -272,8 +258,7 @@ called (Some (calls.Measure id k)) s hart reply n low awake (inr x) w = refused 
 interrupted : (world : World) (s : State) (hart : ℕ) (reply : Reply) (n : State) → s.worlds hart ≡ world → hart < s.table.layout.harts → s.marked hart ≡ false → Interrupts world s hart reply n → AreWorlds s → AreWorlds n
 interrupted Host s hart reply n at low awake x w = worlds_same s n x.0 w
 interrupted (InEnclave id) s hart reply n at low awake x w =
-    let over = over_same s _ _ _ x.1.turned.2 in
-    left_behind s n hart id Stop x.0 low awake (subst (λ v. Leaves s.table v Stop id x.0) (sym at) x.1) x.2.table (λ h under. x.2.worlds h (over h under)) (λ h under. x.2.marked h (over h under)) w
+    left_behind s n hart id Stop x.0 low awake (subst (λ v. Leaves s.table v Stop id x.0) (sym at) x.1) (ap (λ y. y.table) x.2) (λ h under. ap (λ y. y.worlds h) x.2) (λ h under. ap (λ y. y.marked h) x.2) w
 
 pub worlds_step : (s : State) (hart : ℕ) (event : Event) (reply : Reply) (n : State) → hart < s.table.layout.harts → Step s hart event reply n → AreWorlds s → AreWorlds n
 worlds_step s hart event reply n low x w = by_event event x
@@ -293,7 +278,7 @@ worlds_step s hart event reply n low x w = by_event event x
     by_event (events.Reg k value) x = refused (without_mark s hart) n _ x.1 refl refl refl first
     by_event (events.Ecall words) x =
         called (call_of (running_registers (calling (without_mark s hart) hart words.items) hart)) (calling (without_mark s hart) hart words.items) hart reply n low off x
-        (refused (without_mark s hart) (calling (without_mark s hart) hart words.items) (calling (without_mark s hart) hart words.items) (itself (calling (without_mark s hart) hart words.items)) refl refl refl first)
+        (refused (without_mark s hart) (calling (without_mark s hart) hart words.items) (calling (without_mark s hart) hart words.items) refl refl refl refl first)
     by_event events.Irq x = interrupted (s.worlds hart) (without_mark s hart) hart reply n refl low off x first
 
 opened : (layout : Layout) → AreWorlds (opening layout)
@@ -305,7 +290,7 @@ opened layout = record {
 }
 
 pub run_keeps_worlds : (old s : State) (events : List (ℕ × Event)) (replies : List Reply) → AreWorlds old → Run old events replies s → AreWorlds s
-run_keeps_worlds old s _ _ w (still is) = worlds_same old s is w
+run_keeps_worlds old _ _ _ w still = w
 run_keeps_worlds old s _ _ w (step {events} {replies} {mid} run hart event reply low possible happened) = worlds_step mid hart event reply s low happened (run_keeps_worlds old mid events replies w run)
 
 pub worlds_kept : RunsKeepWorlds

@@ -1,18 +1,19 @@
 -- A machine, after boot made it of a platform and so many events happened to it.
-use Rattle.std.specs.Prelude.{ℕ, ◌<◌, List, [], ◌∷◌, ◌++◌}
+use Rattle.std.specs.Prelude.{◌≡◌, ℕ, ◌<◌, List, [], ◌∷◌, ◌++◌}
 use Rattle.enclave_table.specs.Platform.{Layout, IsLayout}
 use Rattle.hart_trace.specs.declared.event.Event.{Event}
 use Rattle.hart_sim.specs.declared.machine.Machine.{Machine}
 use Rattle.hart_sim.specs.declared.reply.Reply.{Reply}
-use Rattle.hart_sim.specs.Machines.{state_of, IsJudged, KeepsBanksRight, KeepsOtherBanks}
-use Rattle.hart_sim.specs.States.{SameState, opening}
+use Rattle.hart_sim.specs.Machines.{state_of, bank_on, IsJudged, KeepsBanksRight}
+use Rattle.hart_sim.specs.Banks.{KeepsOtherBanks}
+use Rattle.hart_sim.specs.States.{opening}
 use Rattle.hart_sim.specs.Steps.{IsEvent, Step}
 
 -- boot made the machine: the platform keeps its rules, the state is the opening one, and each hart has the fewest entries of its
 -- world's view
 pub record IsBooted (platform : Layout) (machine : Machine) : Type 0 where
   pub rules : IsLayout platform
-  pub state : SameState (state_of machine) (opening platform)
+  pub state : state_of machine ≡ opening platform
   pub banks : KeepsBanksRight machine
 
 -- an event happens on a hart of the machine: it is a step of its state, an access is judged by the list that it meets, the banks
@@ -22,7 +23,7 @@ pub record Happens (old : Machine) (hart : ℕ) (event : Event) (reply : Reply) 
   pub possible : IsEvent event
   pub happened : Step (state_of old) hart event reply (state_of new)
   pub judged : IsJudged old hart event reply
-  pub others : KeepsOtherBanks old new hart
+  pub others : KeepsOtherBanks (bank_on old) (bank_on new) hart
   pub kept : KeepsBanksRight new
 
 -- the machine after boot and these events, each with its hart, which were given these replies

@@ -1,5 +1,5 @@
 -- Changes of a state: what is not named stays.
-use Rattle.std.specs.Prelude.{ℕ, ◌+◌, ◌/◌, ◌%◌, ◌^◌, Bool, true, false, ◌||◌, ◌==◌, if◌then◌else◌, List, [], ◌∷◌}
+use Rattle.std.specs.Prelude.{ℕ, ◌+◌, ◌/◌, ◌%◌, ◌^◌, Bool, true, false, ◌&&◌, ◌||◌, ◌==◌, nat_lt, if◌then◌else◌, List, [], ◌∷◌}
 use Rattle.enclave_table.specs.Enclaves.{EnclaveTable}
 use Rattle.worlds.specs.declared.world.World.{World}
 use Rattle.worlds.specs.declared.world.World.TheVariants.{Host, Enclave as InEnclave}
@@ -69,12 +69,14 @@ storing s address size value = record s { bytes = stored s.bytes address size va
 abbrev pub forgetting : State → ℕ → ℕ → State
 forgetting s first count = record s { bytes = zeroed s.bytes first count; written = λ page. if in_range first count page then false else s.written page }
 
--- the mark of a hart taken away; every other hart in the host's world marked
+-- the mark of a hart taken away; every other hart of the platform that is in the host's world marked
 abbrev pub without_mark : State → ℕ → State
 without_mark s hart = record s { marked = λ h. if h == hart then false else s.marked h }
 
 abbrev pub marking_others : State → ℕ → State
-marking_others s hart = record s { marked = λ h. if h == hart then s.marked h else (is_host (s.worlds h) || s.marked h) }
+marking_others s hart =
+    let hosts = λ (h : ℕ). nat_lt h s.table.layout.harts && is_host (s.worlds h) in
+    record s { marked = λ h. if h == hart then s.marked h else (hosts h || s.marked h) }
 
 -- the host goes on on a hart, with two words in its a0 and a1
 abbrev pub back_to_host : State → ℕ → ℕ → ℕ → State

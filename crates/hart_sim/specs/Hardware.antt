@@ -1,5 +1,5 @@
 -- The state that the harts, the saved registers and memory show.
-use Rattle.std.specs.Prelude.{◌≡◌, ◌≢◌, ℕ, Bool, false, if◌then◌else◌, List, [], ◌∷◌, Option, Some, None, slice_get, slice_index_or}
+use Rattle.std.specs.Prelude.{ℕ, false, if◌then◌else◌, List, [], ◌∷◌, Option, Some, None, option_map, slice_get, slice_index_or}
 use Rattle.enclave_table.specs.Enclaves.{EnclaveTable}
 use Rattle.worlds.specs.declared.world.World.{World}
 use Rattle.worlds.specs.declared.world.World.TheVariants.{Host}
@@ -9,9 +9,7 @@ use Rattle.context_switch.specs.declared.hart.Hart.{Hart}
 use Rattle.context_switch.specs.Harts.{world_of, registers_of, bank_of}
 use Rattle.context_switch.specs.Contexts.{saved_of}
 use Rattle.worlds.specs.Runners.{Runner}
-use Rattle.context_switch.specs.declared.contexts.Contexts.{Contexts}
 use Rattle.hart_sim.specs.declared.hardware.Hardware.{Hardware}
-use Rattle.hart_sim.specs.declared.memory.Memory.{Memory}
 pub use Rattle.hart_sim.specs.Harts.{runner_on, AreHarts}
 use Rattle.hart_sim.specs.Memory.{byte_at, is_written}
 use Rattle.hart_sim.specs.States.{State}
@@ -33,23 +31,16 @@ world_in None = Host
 world_in (Some hart) = world_of hart
 
 -- the state, with the table that is kept elsewhere
-abbrev pub shown : EnclaveTable → List Hart → Contexts → Memory → List Bool → State
-shown table harts contexts memory marked = record {
+abbrev pub state_on : EnclaveTable → Hardware → State
+state_on table h = record {
   table = table;
-  worlds = λ hart. world_in (slice_get harts hart);
-  registers = λ who. file_or (loaded_in harts who) (saved_of contexts who);
-  bytes = byte_at memory;
-  written = is_written memory;
-  marked = λ hart. slice_index_or marked hart false;
+  worlds = λ hart. world_in (slice_get h.harts hart);
+  registers = λ who. file_or (loaded_in h.harts who) (saved_of h.contexts who);
+  bytes = byte_at h.memory;
+  written = is_written h.memory;
+  marked = λ hart. slice_index_or h.marked hart false;
 }
 
-abbrev pub state_on : EnclaveTable → Hardware → State
-state_on table h = shown table h.harts h.contexts h.memory h.marked
-
 -- the bank of a hart
-abbrev pub BankOn : Hardware → ℕ → Bank → Type 0
-BankOn h i bank = (hart : Hart) × (slice_get h.harts i ≡ Some hart) × (bank_of hart ≡ bank)
-
--- only that hart's bank may have changed
-abbrev pub KeepsBanks : Hardware → Hardware → ℕ → Type 0
-KeepsBanks old new hart = (i : ℕ) (bank : Bank) → i ≢ hart → BankOn old i bank → BankOn new i bank
+abbrev pub bank_in : Hardware → ℕ → Option Bank
+bank_in h hart = option_map bank_of (slice_get h.harts hart)

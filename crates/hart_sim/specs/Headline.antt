@@ -1,13 +1,13 @@
 -- The headline: what holds of a machine after boot and any list of events.
-use Rattle.std.specs.Prelude.{◌≡◌, ℕ, ◌<◌, false, List, ◌∷◌, ◌++◌}
+use Rattle.std.specs.Prelude.{◌≡◌, ℕ, ◌<◌, false, List, Some, ◌∷◌, ◌++◌}
 use Rattle.pmp_encoding.specs.declared.bank.Bank.{Bank}
 use Rattle.enclave_table.specs.Platform.{Layout}
 use Rattle.enclave_table.specs.Tables.{IsTable}
 use Rattle.hart_trace.specs.declared.event.Event.{Event}
 use Rattle.hart_sim.specs.declared.machine.Machine.{Machine}
 use Rattle.hart_sim.specs.declared.reply.Reply.{Reply}
-use Rattle.hart_sim.specs.Machines.{state_of, HasBank}
-use Rattle.hart_sim.specs.Parts.{LoadsFewest}
+use Rattle.hart_sim.specs.Machines.{state_of, bank_on}
+use Rattle.hart_sim.specs.Banks.{LoadsFewest}
 use Rattle.hart_sim.specs.States.{current_view, opening}
 use Rattle.hart_sim.specs.Steps.{Run}
 use Rattle.hart_sim.specs.Worlds.{AreWorlds}
@@ -32,7 +32,7 @@ pub record Moment (platform : Layout) (before : List (ℕ × Event)) (hart : ℕ
 -- kept its promises. The worlds and the table are sound, and the platform is the one that was booted
 pub record Headline (platform : Layout) (events : List (ℕ × Event)) (replies : List Reply) (machine : Machine) : Type 0 where
   pub run : Run (opening platform) events replies (state_of machine)
-  pub banks : (hart : ℕ) → hart < platform.harts → (state_of machine).marked hart ≡ false → (bank : Bank) × HasBank machine hart bank × LoadsFewest bank (current_view (state_of machine) hart)
+  pub banks : (hart : ℕ) → hart < platform.harts → (state_of machine).marked hart ≡ false → (bank : Bank) × (bank_on machine hart ≡ Some bank) × LoadsFewest bank (current_view (state_of machine) hart)
   pub each : (before : List (ℕ × Event)) (hart : ℕ) (event : Event) (after : List (ℕ × Event)) → events ≡ before ++ (hart, event) ∷ after → Moment platform before hart event after replies machine
   pub worlds : AreWorlds (state_of machine)
   pub table : IsTable (state_of machine).table

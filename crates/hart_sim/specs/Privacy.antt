@@ -16,7 +16,7 @@ use Rattle.hart_trace.specs.declared.event.Event.{Event}
 use Rattle.hart_trace.specs.declared.event.Event.TheVariants as events
 use Rattle.hart_sim.specs.declared.reply.Reply.{Reply}
 use Rattle.hart_sim.specs.declared.reply.Reply.TheVariants as replies
-use Rattle.hart_sim.specs.States.{State, HasRegisters, current_view}
+use Rattle.hart_sim.specs.States.{State, current_view}
 use Rattle.hart_sim.specs.Steps.{Step, verdict}
 
 -- an enclave runs on a hart, which is then not marked
@@ -37,11 +37,11 @@ pub record LooksSame (id : ℕ) (e f : Enclave) (s other : State) : Type 0 where
 -- nothing but these changed
 pub record ChangesOwn (id : ℕ) (e : Enclave) (old new : State) : Type 0 where
   pub table : new.table ≡ old.table
-  pub worlds : (hart : ℕ) → hart < old.table.layout.harts → new.worlds hart ≡ old.worlds hart
-  pub registers : (who : Runner) → HasRegisters old.table who → who ≢ EnclaveOf id → new.registers who ≡ old.registers who
+  pub worlds : new.worlds ≡ old.worlds
+  pub registers : (who : Runner) → who ≢ EnclaveOf id → new.registers who ≡ old.registers who
   pub bytes : (address : ℕ) → enclave_view e.parts (address / 4096) ≡ NoAccess → new.bytes address ≡ old.bytes address
   pub written : (page : ℕ) → enclave_view e.parts page ≡ NoAccess → new.written page ≡ old.written page
-  pub marked : (hart : ℕ) → hart < old.table.layout.harts → new.marked hart ≡ old.marked hart
+  pub marked : new.marked ≡ old.marked
 
 -- what an enclave does by itself: accesses, and settings of registers
 abbrev pub IsOwn : Event → Type 0

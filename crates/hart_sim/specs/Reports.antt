@@ -11,9 +11,9 @@ use Rattle.text_lines.specs.LineLoop.{Does, ended}
 use Rattle.hart_sim.specs.declared.machine.Machine.{Machine}
 use Rattle.hart_sim.specs.declared.reply.Reply.{Reply}
 use Rattle.hart_sim.specs.declared.reply.Reply.TheVariants.{NoMemory}
-use Rattle.hart_sim.specs.Machines.{state_of, HasBank}
+use Rattle.hart_sim.specs.Machines.{state_of, bank_on}
 use Rattle.hart_sim.specs.After.{After, Happens}
-use Rattle.hart_sim.specs.Parts.{LoadsFewest}
+use Rattle.hart_sim.specs.Banks.{LoadsFewest}
 use Rattle.hart_sim.specs.States.{current_view}
 use Rattle.hart_sim.specs.Steps.{Run}
 use Rattle.hart_sim.specs.Texts.{reply_text, report_text}
@@ -68,8 +68,8 @@ pub record LastOwn (old : Machine) (hart : ℕ) (events : List (ℕ × Event)) (
   pub until : Run (state_of old) (before ++ (hart, event) ∷ []) (answered ++ reply ∷ []) (state_of mid)
   pub since : Run (state_of mid) after rest (state_of new)
   pub elsewhere : AreElsewhere hart after
-  pub meant : (bank : Bank) → HasBank mid hart bank → LoadsFewest bank (current_view (state_of mid) hart)
-  pub stays : (bank : Bank) → HasBank mid hart bank → HasBank new hart bank
+  pub meant : (bank : Bank) → bank_on mid hart ≡ Some bank → LoadsFewest bank (current_view (state_of mid) hart)
+  pub stays : bank_on new hart ≡ bank_on mid hart
 
 -- the events that lines say are a run from one state to the other, the text tells the replies, none of which wanted memory,
 -- and a hart on which none of them was has the bank that it had, and each other one that which its own last event left it. Where
@@ -81,7 +81,7 @@ pub record Report (old : Machine) (lines : List (List ℕ)) (text : List ℕ) (n
   pub run : Run (state_of old) events replies (state_of new)
   pub told : text ≡ report_text replies
   pub each : AreAnswered replies
-  pub idle : (hart : ℕ) (bank : Bank) → AreElsewhere hart events → HasBank old hart bank → HasBank new hart bank
+  pub idle : (hart : ℕ) → AreElsewhere hart events → bank_on new hart ≡ bank_on old hart
   pub last : (hart : ℕ) → AreElsewhere hart events ⊎ LastOwn old hart events replies new
   pub after : (platform : Layout) (before : List (ℕ × Event)) (answered : List Reply) → After platform before answered old → After platform (before ++ events) (answered ++ replies) new
 

@@ -1,20 +1,19 @@
 -- The state of the machine. There are no PMP entries in it.
-use Rattle.std.specs.Prelude.{◌≡◌, ◌⊎◌, ℕ, ◌*◌, ◌<◌, Bool, false, List}
+use Rattle.std.specs.Prelude.{ℕ, ◌*◌, Bool, false, List}
 use Rattle.pmp_encoding.specs.declared.perm.Perm.{Perm}
 use Rattle.enclave_table.specs.Platform.{Layout}
-use Rattle.enclave_table.specs.Enclaves.{EnclaveTable, Live}
+use Rattle.enclave_table.specs.Enclaves.{EnclaveTable}
 use Rattle.enclave_table.specs.Booting.{opening as opening_table}
 pub use Rattle.enclave_table.specs.Views.{current_view as view_of}
-use Rattle.enclave_table.specs.declared.enclave.Enclave.{Enclave}
-use Rattle.enclave_table.specs.declared.enclave.State.TheVariants.{Running, Stopped}
 use Rattle.worlds.specs.declared.world.World.{World}
 use Rattle.worlds.specs.declared.world.World.TheVariants.{Host}
 use Rattle.sbi_decode.specs.Registers.{RegisterFile, zeros}
-use Rattle.worlds.specs.Runners.{Runner, HostOf, EnclaveOf, runner_of}
+use Rattle.worlds.specs.Runners.{Runner, runner_of}
 use Rattle.hart_sim.specs.Memory.{bytes_at}
 
 -- the enclaves, the world that runs on each hart, the registers of each host and enclave, the byte at each address, the pages
--- that were written, and the harts that are marked: each of these loads the host's entries before its next event
+-- that were written, and the harts that are marked: each of these loads the host's entries before its next event. A hart that
+-- there is not stays in the host's world, its registers zero, and is never marked
 pub record State : Type 0 where
   pub table : EnclaveTable
   pub worlds : ℕ → World
@@ -22,20 +21,6 @@ pub record State : Type 0 where
   pub bytes : ℕ → ℕ
   pub written : ℕ → Bool
   pub marked : ℕ → Bool
-
--- whose registers there are: those of the host on each hart, and of each enclave that runs or may be resumed
-abbrev pub HasRegisters : EnclaveTable → Runner → Type 0
-HasRegisters table (HostOf hart) = hart < table.layout.harts
-HasRegisters table (EnclaveOf id) = (e : Enclave) × Live table id e × ((e.state ≡ Running) ⊎ (e.state ≡ Stopped))
-
--- the state is that one
-pub record SameState (s that : State) : Type 0 where
-  pub table : s.table ≡ that.table
-  pub worlds : (hart : ℕ) → hart < that.table.layout.harts → s.worlds hart ≡ that.worlds hart
-  pub registers : (who : Runner) → HasRegisters that.table who → s.registers who ≡ that.registers who
-  pub bytes : (address : ℕ) → s.bytes address ≡ that.bytes address
-  pub written : (page : ℕ) → s.written page ≡ that.written page
-  pub marked : (hart : ℕ) → hart < that.table.layout.harts → s.marked hart ≡ that.marked hart
 
 -- the opening state of a platform: no enclave, each hart in the host's world, all registers and bytes zero, no page written
 abbrev pub opening : Layout → State

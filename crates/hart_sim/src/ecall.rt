@@ -1,14 +1,15 @@
 //! A call to the monitor: its words, the call that they name, and its answer.
 
 ghost use Rattle.std.specs.Prelude.{◌≡◌, ◌<◌, false};
-ghost use Rattle.hart_sim.specs.States.{SameState, running_registers};
+ghost use Rattle.hart_sim.specs.States.{running_registers};
 ghost use Rattle.hart_sim.specs.Steps.{DoesCall};
 ghost use Rattle.hart_sim.specs.declared.reply.Reply.{Reply};
 ghost use Rattle.sbi_decode.specs.Calls.{call_of};
 ghost use Rattle.hart_sim.specs.Changes.{calling};
 ghost use Rattle.enclave_table.specs.Enclaves.{EnclaveTable};
-ghost use Rattle.hart_sim.specs.Hardware.{state_on, KeepsBanks};
-ghost use Rattle.hart_sim.specs.Parts.{machine_state, IsWhole, AreBanksRight, StaysLoaded, KeepsLists};
+ghost use Rattle.hart_sim.specs.Hardware.{state_on};
+ghost use Rattle.hart_sim.specs.Frames.{state_in, IsOn, KeepsFrame};
+ghost use Rattle.hart_sim.specs.Banks.{AreBanksRight, KeepsOtherBanks, MeetsList};
 
 use crate::parts::Parts;
 use crate::reply::Reply;
@@ -19,25 +20,18 @@ impl Parts {
     /// The registers of the world that runs on a hart.
     pub(crate) fn registers(&self, hart: u8) -> &Registers
         requires { hart < 4 }
-        ensures { result.now ≡ running_registers (machine_state self.now.table self.now.hardware)
-            hart }
+        ensures { result.now ≡ running_registers (state_in self.now) hart }
     {
         self.hardware.hart(hart).registers()
     }
 
     /// The words of a call are in the registers on a hart, and the program is past it.
     pub(crate) fn call(&mut self, hart: u8, words: &[u64])
-        requires hart { hart < self.old.table.table.layout.harts }
-        requires whole { IsWhole self.old.table self.old.hardware }
-        ensures whole { IsWhole self.new.table self.new.hardware }
+        requires on { IsOn self.old hart }
+        ensures frame { KeepsFrame self.old self.new hart }
         ensures state { (table : EnclaveTable)
-            → SameState (state_on table self.new.hardware)
-            (calling (state_on table self.old.hardware) hart words.now) }
-        ensures banks { AreBanksRight self.old.table self.old.hardware
-            → AreBanksRight self.new.table self.new.hardware }
-        ensures others { KeepsBanks self.old.hardware self.new.hardware hart }
-        ensures stays { StaysLoaded self.old.table self.old.hardware self.new.table
-            self.new.hardware hart }
+            → state_on table self.new.hardware
+            ≡ calling (state_on table self.old.hardware) hart words.now }
         ensures table { self.new.table ≡ self.old.table }
         ensures marks { self.new.hardware.marked ≡ self.old.hardware.marked }
     {
@@ -46,19 +40,12 @@ impl Parts {
 
     /// The call that the registers on a hart name.
     pub(crate) fn serve(&mut self, hart: u8) -> Reply
-        requires hart { hart < self.old.table.table.layout.harts }
-        requires whole { IsWhole self.old.table self.old.hardware }
-        requires awake { (machine_state self.old.table self.old.hardware).marked hart ≡ false }
-        ensures whole { IsWhole self.new.table self.new.hardware }
-        ensures step { let s = machine_state self.old.table self.old.hardware in
+        requires on { IsOn self.old hart }
+        requires awake { (state_in self.old).marked hart ≡ false }
+        ensures frame { KeepsFrame self.old self.new hart }
+        ensures step { let s = state_in self.old in
             DoesCall (call_of (running_registers s hart)) s hart result
-            (machine_state self.new.table self.new.hardware) }
-        ensures banks { AreBanksRight self.old.table self.old.hardware
-            → AreBanksRight self.new.table self.new.hardware }
-        ensures others { KeepsBanks self.old.hardware self.new.hardware hart }
-        ensures stays { StaysLoaded self.old.table self.old.hardware self.new.table
-            self.new.hardware hart }
-        ensures lists { KeepsLists self.old.table self.new.table }
+            (state_in self.new) }
     {
         let Ok(call) = decode(self.registers(hart)) else {
             return self.refuse(hart, 2);
@@ -93,21 +80,13 @@ impl Parts {
 
     /// A call with these words.
     pub(crate) fn ecall(&mut self, hart: u8, words: &[u64]) -> Reply
-        requires hart { hart < self.old.table.table.layout.harts }
-        requires whole { IsWhole self.old.table self.old.hardware }
-        requires awake { (machine_state self.old.table self.old.hardware).marked hart ≡ false }
-        ensures whole { IsWhole self.new.table self.new.hardware }
-        ensures layout { self.new.table.table.layout ≡ self.old.table.table.layout }
-        ensures step { let s = calling (machine_state self.old.table self.old.hardware) hart
+        requires on { IsOn self.old hart }
+        requires awake { (state_in self.old).marked hart ≡ false }
+        ensures frame { KeepsFrame self.old self.new hart }
+        ensures step { let s = calling (state_in self.old) hart
             words.now in
             DoesCall (call_of (running_registers s hart)) s hart result
-            (machine_state self.new.table self.new.hardware) }
-        ensures banks { AreBanksRight self.old.table self.old.hardware
-            → AreBanksRight self.new.table self.new.hardware }
-        ensures others { KeepsBanks self.old.hardware self.new.hardware hart }
-        ensures stays { StaysLoaded self.old.table self.old.hardware self.new.table
-            self.new.hardware hart }
-        ensures lists { KeepsLists self.old.table self.new.table }
+            (state_in self.new) }
     {
         self.call(hart, words);
         self.serve(hart)

@@ -23,25 +23,23 @@
 #![tactic(auto)]
 
 mod access;
-mod acting;
 mod answers;
-mod booting;
-mod crossing;
+mod boot;
+mod call_registers;
+mod crossings;
 mod ecall;
 mod hardware;
 mod laws;
 mod machine;
 mod memory;
-mod moving;
-mod operating;
 mod ownership;
 mod parts;
-mod refusing;
 mod reload;
 mod reply;
 mod report;
-mod running;
 mod step;
+mod trace_run;
+mod world_change;
 
 pub use byte_streams::{Counted, DeviceFault, Sink, Source, fakes, write_whole};
 pub use hart_trace::{Event, parse_line};
@@ -51,8 +49,8 @@ pub use laws::{
 };
 pub use machine::Machine;
 pub use reply::Reply;
-pub use running::run;
 pub use text_lines::{
     Interpreter, Line, LineReader, NotUnderstood, ReadFault, Refusal, RunFault, Words,
     interpret_lines, lines_law, number, push_decimal, push_hex, push_text, words_law,
 };
+pub use trace_run::run;

@@ -18,7 +18,7 @@ pub struct Machine {
 }
 
 impl Machine {
-    ghost use Rattle.std.specs.Prelude.{◌≡◌, ℕ, ◌^◌, ◌<◌, ◌≤◌, List, [], ◌∷◌, ◌++◌, IfOk, IfErr};
+    ghost use Rattle.std.specs.Prelude.{◌≡◌, ℕ, ◌^◌, ◌<◌, ◌≤◌, List, [], ◌∷◌, ◌++◌, IfOk, IfErr, Some};
     ghost use Rattle.pmp_encoding.specs.declared.bank.Bank.{Bank};
     ghost use Rattle.pmp_encoding.specs.declared.region.Entry.{Entry};
     ghost use Rattle.pmp_encoding.specs.Banks.{HasList, limit_of};
@@ -30,18 +30,19 @@ impl Machine {
     ghost use Rattle.enclave_table.specs.Views.{host_view};
     ghost use Rattle.hart_trace.specs.declared.event.Event.{Event};
     ghost use Rattle.hart_sim.specs.declared.reply.Reply.{Reply};
-    ghost use Rattle.hart_sim.specs.Machines.{state_of, kept_of, HasBank, MeetsList, IsJudged, KeepsBanksRight, KeepsOtherBanks, KeepsOwnBank};
+    ghost use Rattle.hart_sim.specs.Machines.{state_of, kept_of, bank_on, IsJudged, KeepsBanksRight};
+    ghost use Rattle.hart_sim.specs.Banks.{MeetsList, KeepsOtherBanks, KeepsOwnBank};
     ghost use Rattle.hart_sim.specs.Privacy.{KeepsPrivate, DeniesOthers, ZeroesDestroyed};
     ghost use Rattle.hart_sim.specs.After.{After};
     ghost use Rattle.hart_sim.specs.Promises.{AnswersByView};
     ghost use Rattle.hart_sim.specs.Wants.{RefusesByNeed};
-    ghost use Rattle.hart_sim.specs.States.{SameState, opening, running_registers};
+    ghost use Rattle.hart_sim.specs.States.{opening, running_registers};
     ghost use Rattle.hart_sim.specs.Steps.{IsEvent, Step};
 
     /// The PMP registers that are loaded on a hart.
     pub fn bank(&self, hart: u8) -> &Bank
         requires { hart < 4 }
-        ensures bank { HasBank self.now hart result.now }
+        ensures bank { bank_on self.now hart ≡ Some result.now }
         ensures limit { limit_number (limit_of result.now)
             ≡ limit_number (state_of self.now).table.layout.limit }
     {
@@ -108,9 +109,9 @@ impl Machine {
         requires hart { hart < 4 }
         requires limit { limit_number (limit_of bank)
             ≡ limit_number (state_of self.old).table.layout.limit }
-        ensures bank { HasBank self.new hart bank }
-        ensures others { KeepsOtherBanks self.old self.new hart }
-        ensures state { SameState (state_of self.new) (state_of self.old) }
+        ensures bank { bank_on self.new hart ≡ Some bank }
+        ensures others { KeepsOtherBanks (bank_on self.old) (bank_on self.new) hart }
+        ensures state { state_of self.new ≡ state_of self.old }
         ensures table { kept_of self.new ≡ kept_of self.old }
     {
         self.parts.hardware.put_bank(hart, bank);
@@ -121,7 +122,7 @@ impl Machine {
     pub fn boot(alloc: Global, platform: Platform) -> Result<Machine, BootFault>
         ensures after { IfOk result (λ m. After platform [] [] m) }
         ensures rules { IfOk result (λ _. IsLayout platform) }
-        ensures state { IfOk result (λ m. SameState (state_of m) (opening platform)) }
+        ensures state { IfOk result (λ m. state_of m ≡ opening platform) }
         ensures kept { IfOk result (λ m. KeepsBanksRight m) }
         ensures fits { IfOk result (λ _. FitsIn platform.limit
             (host_view (opening_table platform))) }
@@ -144,13 +145,15 @@ impl Machine {
         requires event { IsEvent event }
         ensures judged { IsJudged self.old hart event result }
         ensures loaded { (access : Access) (value : ℕ) (list : List Entry) (bank : Bank)
-            → event ≡ Event.Access access value → MeetsList self.old hart list
-            → HasBank self.new hart bank → HasList bank list }
+            → event ≡ Event.Access access value
+            → MeetsList (state_of self.old) (kept_of self.old) (bank_on self.old) hart list
+            → bank_on self.new hart ≡ Some bank → HasList bank list }
         ensures step { KeepsBanksRight self.old
             → Step (state_of self.old) hart event result (state_of self.new) }
         ensures kept { KeepsBanksRight self.old → KeepsBanksRight self.new }
-        ensures others { KeepsOtherBanks self.old self.new hart }
-        ensures stays { KeepsOwnBank self.old self.new hart }
+        ensures others { KeepsOtherBanks (bank_on self.old) (bank_on self.new) hart }
+        ensures stays { KeepsOwnBank (state_of self.old) (bank_on self.old) (state_of self.new)
+            (bank_on self.new) hart }
         ensures lists { (state_of self.new).table ≡ (state_of self.old).table
             → kept_of self.new ≡ kept_of self.old }
         ensures platform { (state_of self.new).table.layout ≡ (state_of self.old).table.layout }

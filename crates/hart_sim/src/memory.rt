@@ -194,8 +194,8 @@ impl Memory {
     /// Makes every byte of some pages zero, and the pages not written. It looks at those alone that were written.
     pub(crate) fn forget(&mut self, first: u64, count: u64)
         requires { first + count < 2 ^ 64 }
-        ensures bytes { (a : ℕ) → byte_at self.new a
-            ≡ zeroed (byte_at self.old) first count a }
+        ensures bytes { (a : ℕ)
+            → byte_at self.new a ≡ zeroed (byte_at self.old) first count a }
         ensures written { (page : ℕ)
             → is_written self.new page ≡
             (if in_range first count page then false else is_written self.old page) }

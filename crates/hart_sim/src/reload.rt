@@ -1,15 +1,17 @@
 //! The entries of the host, loaded anew.
 
-ghost use Rattle.std.specs.Prelude.{◌≡◌, ℕ, ◌<◌, true, false};
+ghost use Rattle.std.specs.Prelude.{◌≡◌, ℕ, ◌<◌, true, false, Some};
 ghost use Rattle.pmp_encoding.specs.declared.bank.Bank.{Bank};
 ghost use Rattle.pmp_encoding.specs.Banks.{HasList};
-ghost use Rattle.hart_sim.specs.States.{SameState, view_of};
+ghost use Rattle.hart_sim.specs.States.{view_of};
 ghost use Rattle.hart_sim.specs.Changes.{without_mark, answering, is_host, marking_others};
 ghost use Rattle.enclave_table.specs.Enclaves.{EnclaveTable};
 ghost use Rattle.enclave_table.specs.Tables.{Kept};
 ghost use Rattle.permission_map.specs.Views.{SameView};
-ghost use Rattle.hart_sim.specs.Hardware.{BankOn, state_on, KeepsBanks};
-ghost use Rattle.hart_sim.specs.Parts.{machine_state, IsWhole, AreBanksRight};
+ghost use Rattle.hart_sim.specs.Hardware.{state_on, bank_in};
+ghost use Rattle.hart_sim.specs.Parts.{IsWhole};
+ghost use Rattle.hart_sim.specs.Frames.{state_in, IsOn, KeepsFrame};
+ghost use Rattle.hart_sim.specs.Banks.{AreBanksRight, KeepsOtherBanks, MeetsList};
 
 use crate::parts::Parts;
 use enclave_table::World;
@@ -17,17 +19,13 @@ use enclave_table::World;
 impl Parts {
     /// The host's entries are loaded on a marked hart, and it is not marked any more.
     fn load_host(&mut self, hart: u8)
-        requires hart { hart < self.old.table.table.layout.harts }
-        requires whole { IsWhole self.old.table self.old.hardware }
-        requires marked { (machine_state self.old.table self.old.hardware).marked hart ≡ true }
-        ensures whole { IsWhole self.new.table self.new.hardware }
+        requires on { IsOn self.old hart }
+        requires marked { (state_in self.old).marked hart ≡ true }
+        ensures frame { KeepsFrame self.old self.new hart }
         ensures state { (table : EnclaveTable)
-            → SameState (state_on table self.new.hardware)
-            (without_mark (state_on table self.old.hardware) hart) }
-        ensures banks { AreBanksRight self.old.table self.old.hardware
-            → AreBanksRight self.new.table self.new.hardware }
-        ensures others { KeepsBanks self.old.hardware self.new.hardware hart }
-        ensures loaded { (bank : Bank) × BankOn self.new.hardware hart bank
+            → state_on table self.new.hardware
+            ≡ without_mark (state_on table self.old.hardware) hart }
+        ensures loaded { (bank : Bank) × (bank_in self.new.hardware hart ≡ Some bank)
             × HasList bank self.old.table.host_list }
         ensures table { self.new.table ≡ self.old.table }
     {
@@ -37,19 +35,15 @@ impl Parts {
 
     /// A marked hart loads the host's entries, and is not marked any more.
     pub(crate) fn wake(&mut self, hart: u8)
-        requires hart { hart < self.old.table.table.layout.harts }
-        requires whole { IsWhole self.old.table self.old.hardware }
-        ensures whole { IsWhole self.new.table self.new.hardware }
+        requires on { IsOn self.old hart }
+        ensures frame { KeepsFrame self.old self.new hart }
         ensures state { (table : EnclaveTable)
-            → SameState (state_on table self.new.hardware)
-            (without_mark (state_on table self.old.hardware) hart) }
-        ensures banks { AreBanksRight self.old.table self.old.hardware
-            → AreBanksRight self.new.table self.new.hardware }
-        ensures others { KeepsBanks self.old.hardware self.new.hardware hart }
-        ensures asleep { (machine_state self.old.table self.old.hardware).marked hart ≡ false
+            → state_on table self.new.hardware
+            ≡ without_mark (state_on table self.old.hardware) hart }
+        ensures asleep { (state_in self.old).marked hart ≡ false
             → self.new.hardware ≡ self.old.hardware }
-        ensures woken { (machine_state self.old.table self.old.hardware).marked hart ≡ true
-            → (bank : Bank) × BankOn self.new.hardware hart bank
+        ensures woken { (state_in self.old).marked hart ≡ true
+            → (bank : Bank) × (bank_in self.new.hardware hart ≡ Some bank)
             × HasList bank self.old.table.host_list }
         ensures table { self.new.table ≡ self.old.table }
     {
@@ -61,27 +55,27 @@ impl Parts {
 
     /// The host on a hart is answered and loads its entries anew, and every other hart in the host's world is marked.
     pub(crate) fn reload(&mut self, hart: u8, first: u64, second: u64)
-        requires hart { hart < self.old.table.table.layout.harts }
-        requires whole { IsWhole self.old.table self.old.hardware }
-        requires host { (machine_state self.old.table self.old.hardware).worlds hart
-            ≡ World.Host }
+        requires on { IsOn self.old hart }
+        requires host { (state_in self.old).worlds hart ≡ World.Host }
         ensures whole { IsWhole self.new.table self.new.hardware }
-        ensures state { SameState (machine_state self.new.table self.new.hardware) (marking_others
-            (answering (machine_state self.old.table self.old.hardware) hart first second)
-            hart) }
+        ensures state { state_in self.new ≡ marking_others
+            (answering (state_in self.old) hart first second)
+            hart }
         ensures banks { (before : Kept) → before.table.layout.harts
             ≡ self.old.table.table.layout.harts
             → ((i : ℕ)
-            → (let w = (machine_state self.old.table self.old.hardware).worlds i in
+            → (let w = (state_in self.old).worlds i in
             is_host w ≡ false
             → SameView (view_of before.table w)
             (view_of self.old.table.table w)))
-            → AreBanksRight before self.old.hardware
-            → AreBanksRight self.new.table self.new.hardware }
-        ensures others { KeepsBanks self.old.hardware self.new.hardware hart }
+            → AreBanksRight (state_on before.table self.old.hardware) (bank_in self.old.hardware)
+            → AreBanksRight (state_in self.new) (bank_in self.new.hardware) }
+        ensures others { KeepsOtherBanks (bank_in self.old.hardware)
+            (bank_in self.new.hardware) hart }
         ensures table { self.new.table ≡ self.old.table }
     {
+        let harts = self.table.platform().harts();
         self.hardware
-            .answer_anew(hart, self.table.host_entries(), first, second);
+            .answer_anew(hart, harts, self.table.host_entries(), first, second);
     }
 }

@@ -1,6 +1,6 @@
 //! An event on a hart: it loads what it has to, and then the event happens.
 
-ghost use Rattle.std.specs.Prelude.{◌≡◌, ℕ, ◌<◌, ◌↔◌, List, false, Err};
+ghost use Rattle.std.specs.Prelude.{◌≡◌, ℕ, ◌<◌, ◌↔◌, List, false, Err, Some};
 ghost use Rattle.pmp_encoding.specs.declared.bank.Bank.{Bank};
 ghost use Rattle.pmp_encoding.specs.declared.region.Entry.{Entry};
 ghost use Rattle.pmp_encoding.specs.Banks.{HasList};
@@ -10,8 +10,9 @@ ghost use Rattle.hart_sim.specs.Steps.{Does, IsEvent, Step};
 ghost use Rattle.hart_trace.specs.declared.event.Event.{Event};
 ghost use Rattle.hart_sim.specs.declared.reply.Reply.{Reply};
 ghost use Rattle.pmp_match.specs.declared.access.Access.{Access};
-ghost use Rattle.hart_sim.specs.Hardware.{BankOn, KeepsBanks};
-ghost use Rattle.hart_sim.specs.Parts.{machine_state, IsWhole, AreBanksRight, MeetsOn, StaysLoaded, KeepsLists};
+ghost use Rattle.hart_sim.specs.Hardware.{bank_in};
+ghost use Rattle.hart_sim.specs.Frames.{state_in, IsOn, KeepsFrame};
+ghost use Rattle.hart_sim.specs.Banks.{AreBanksRight, KeepsOtherBanks, MeetsList};
 
 use crate::parts::Parts;
 use crate::reply::Reply;
@@ -22,19 +23,12 @@ use pmp_match::Access;
 impl Parts {
     /// A register of the world that runs on a hart is set.
     pub(crate) fn set_register(&mut self, hart: u8, n: u8, value: u64) -> Reply
-        requires hart { hart < self.old.table.table.layout.harts }
+        requires on { IsOn self.old hart }
         requires register { n < 32 }
-        requires whole { IsWhole self.old.table self.old.hardware }
-        ensures whole { IsWhole self.new.table self.new.hardware }
-        ensures step { let s = machine_state self.old.table self.old.hardware in
+        ensures frame { KeepsFrame self.old self.new hart }
+        ensures step { let s = state_in self.old in
             Does (Event.Reg n value) s hart result
-            (machine_state self.new.table self.new.hardware) }
-        ensures banks { AreBanksRight self.old.table self.old.hardware
-            → AreBanksRight self.new.table self.new.hardware }
-        ensures others { KeepsBanks self.old.hardware self.new.hardware hart }
-        ensures stays { StaysLoaded self.old.table self.old.hardware self.new.table
-            self.new.hardware hart }
-        ensures lists { KeepsLists self.old.table self.new.table }
+            (state_in self.new) }
     {
         self.hardware.set_register(hart, n, value);
         Reply::Done
@@ -42,27 +36,19 @@ impl Parts {
 
     /// An event on a hart that is not marked.
     pub(crate) fn happen(&mut self, hart: u8, event: Event) -> Reply
-        requires hart { hart < self.old.table.table.layout.harts }
+        requires on { IsOn self.old hart }
         requires event { IsEvent event }
-        requires whole { IsWhole self.old.table self.old.hardware }
-        requires awake { (machine_state self.old.table self.old.hardware).marked hart ≡ false }
+        requires awake { (state_in self.old).marked hart ≡ false }
+        ensures frame { KeepsFrame self.old self.new hart }
         ensures judged { (access : Access) (value : ℕ) → event ≡ Event.Access access value
             → (bank : Bank) (list : List Entry) (cause : Cause)
-            → BankOn self.old.hardware hart bank → HasList bank list
+            → bank_in self.old.hardware hart ≡ Some bank → HasList bank list
             → (result ≡ Reply.Fault cause) ↔ Judges list access (Err cause) }
         ensures loaded { (access : Access) (value : ℕ) → event ≡ Event.Access access value
             → self.new.hardware.harts ≡ self.old.hardware.harts }
-        ensures whole { IsWhole self.new.table self.new.hardware }
-        ensures layout { self.new.table.table.layout ≡ self.old.table.table.layout }
-        ensures step { AreBanksRight self.old.table self.old.hardware
-            → Does event (machine_state self.old.table self.old.hardware)
-            hart result (machine_state self.new.table self.new.hardware) }
-        ensures banks { AreBanksRight self.old.table self.old.hardware
-            → AreBanksRight self.new.table self.new.hardware }
-        ensures others { KeepsBanks self.old.hardware self.new.hardware hart }
-        ensures stays { StaysLoaded self.old.table self.old.hardware self.new.table
-            self.new.hardware hart }
-        ensures lists { KeepsLists self.old.table self.new.table }
+        ensures step { AreBanksRight (state_in self.old) (bank_in self.old.hardware)
+            → Does event (state_in self.old)
+            hart result (state_in self.new) }
     {
         match event {
             Event::Access(access, value) => self.access(hart, &access, value),
@@ -74,28 +60,20 @@ impl Parts {
 
     /// An event on a hart, which loads the host's entries first where it is marked.
     pub(crate) fn step(&mut self, hart: u8, event: Event) -> Reply
-        requires hart { hart < self.old.table.table.layout.harts }
+        requires on { IsOn self.old hart }
         requires event { IsEvent event }
-        requires whole { IsWhole self.old.table self.old.hardware }
+        ensures frame { KeepsFrame self.old self.new hart }
         ensures judged { (access : Access) (value : ℕ) (list : List Entry) (cause : Cause)
             → event ≡ Event.Access access value
-            → MeetsOn self.old.table self.old.hardware hart list
+            → MeetsList (state_in self.old) self.old.table (bank_in self.old.hardware) hart list
             → (result ≡ Reply.Fault cause) ↔ Judges list access (Err cause) }
         ensures loaded { (access : Access) (value : ℕ) (list : List Entry) (bank : Bank)
             → event ≡ Event.Access access value
-            → MeetsOn self.old.table self.old.hardware hart list
-            → BankOn self.new.hardware hart bank → HasList bank list }
-        ensures whole { IsWhole self.new.table self.new.hardware }
-        ensures layout { self.new.table.table.layout ≡ self.old.table.table.layout }
-        ensures step { AreBanksRight self.old.table self.old.hardware
-            → Step (machine_state self.old.table self.old.hardware)
-            hart event result (machine_state self.new.table self.new.hardware) }
-        ensures banks { AreBanksRight self.old.table self.old.hardware
-            → AreBanksRight self.new.table self.new.hardware }
-        ensures others { KeepsBanks self.old.hardware self.new.hardware hart }
-        ensures stays { (machine_state self.old.table self.old.hardware).marked hart ≡ false
-            → StaysLoaded self.old.table self.old.hardware self.new.table self.new.hardware hart }
-        ensures lists { KeepsLists self.old.table self.new.table }
+            → MeetsList (state_in self.old) self.old.table (bank_in self.old.hardware) hart list
+            → bank_in self.new.hardware hart ≡ Some bank → HasList bank list }
+        ensures step { AreBanksRight (state_in self.old) (bank_in self.old.hardware)
+            → Step (state_in self.old)
+            hart event result (state_in self.new) }
     {
         self.wake(hart);
         self.happen(hart, event)

@@ -1,7 +1,5 @@
-use Rattle.std.proofs.Common.{◌==◌, if◌then◌else◌, ◌≡◌, ◌∙◌, ap, sym, subst, slice_get, slice_index_or, arith}
-use Rattle.std.proofs.lemmas.Option.{same_Some}
+use Rattle.std.proofs.Common.{◌==◌, if◌then◌else◌, ◌≡◌, ◌∙◌, ap, slice_get, slice_index_or, arith, option_map}
 use Rattle.pmp_encoding.specs.Limits.{limit_number}
-use Rattle.pmp_encoding.specs.Banks.{HasList}
 use Rattle.context_switch.specs.Harts.{number_of, world_of, bank_of}
 use Rattle.worlds.specs.Runners.{runner_of}
 use Rattle.hart_sim.specs.Harts.{runner_on}
@@ -28,20 +26,19 @@ returns-clause-state c = λ table.
     let at = read_at h.harts c.args.number c.index-harts-number.result (omega (arith, h.fit.four, c.requires.number)) in
     shows_switch table h.harts h.contexts c.switch.new.contexts h.memory h.marked h.limit c.args.number hart c.switch.new.hart c.args.to h.fit at c.switch.ensures.switches c.requires.free
 
-pub returns-clause-list : goal.returns-clause-list
-returns-clause-list c = λ bank has.
-    let h = c.args.self.now in
-    let hart = slice_index_or h.harts c.args.number c.index-harts-number.result in
-    let at = read_at h.harts c.args.number c.index-harts-number.result (omega (arith, h.fit.four, c.requires.number)) in
-    let same : c.switch.new.hart ≡ has.0 = same_Some _ _ (sym (get_here h.harts c.args.number hart c.switch.new.hart at) ∙ has.1) in
-    subst (λ b. HasList b c.args.entries.now) (ap bank_of same ∙ has.2) c.switch.ensures.list
-
-pub returns-clause-others : goal.returns-clause-others
-returns-clause-others c = λ i bank other has. banks_other c.args.self.now.harts c.args.number c.switch.new.hart i bank other has
-
 pub returns-clause-worlds : goal.returns-clause-worlds
 returns-clause-worlds c = λ i.
     let h = c.args.self.now in
     let hart = slice_index_or h.harts c.args.number c.index-harts-number.result in
     let at = read_at h.harts c.args.number c.index-harts-number.result (omega (arith, h.fit.four, c.requires.number)) in
     worlds_are h.harts c.args.number i hart c.switch.new.hart at ∙ ap (λ w. if i == c.args.number then w else world_in (slice_get h.harts i)) c.switch.ensures.switches.world
+
+pub returns-clause-list : goal.returns-clause-list
+returns-clause-list c =
+    let h = c.args.self.now in
+    let hart = slice_index_or h.harts c.args.number c.index-harts-number.result in
+    let at = read_at h.harts c.args.number c.index-harts-number.result (omega (arith, h.fit.four, c.requires.number)) in
+    (bank_of c.switch.new.hart, ap (option_map bank_of) (get_here h.harts c.args.number hart c.switch.new.hart at), c.switch.ensures.list)
+
+pub returns-clause-others : goal.returns-clause-others
+returns-clause-others c = λ i other. banks_other c.args.self.now.harts c.args.number c.switch.new.hart i other

@@ -1,13 +1,13 @@
-use Rattle.std.proofs.Common.{◌∙◌, sym, ap}
+use Rattle.std.proofs.Common.{◌∙◌, Some, option_map, sym, ap}
+use Rattle.context_switch.specs.Harts.{bank_of}
 use Rattle.pmp_encoding.specs.Banks.{limit_of}
 use Rattle.pmp_encoding.specs.Limits.{limit_number}
 use Rattle.hart_sim.specs.Machines.{state_of, bank_on}
-use Rattle.hart_sim.proofs.Banks.{has_to}
 use Rattle.hart_sim.proofs.machine.Machine.bank.Goals as goal
 
 pub returns-clause-bank : goal.returns-clause-bank
 unfolding bank_on
-returns-clause-bank c = has_to c.args.self.now.parts.hardware c.args.hart c.bank.result.now (c.hart.result.now, c.hart.ensures.value, sym c.bank.ensures)
+returns-clause-bank c = ap (option_map bank_of) c.hart.ensures.value ∙ ap Some (sym c.bank.ensures)
 
 pub returns-clause-limit : goal.returns-clause-limit
 unfolding state_of

@@ -1,6 +1,5 @@
 use Rattle.std.proofs.Common.{◌∙◌, sym}
 use Rattle.hart_sim.specs.Machines.{state_of, bank_on}
-use Rattle.hart_sim.proofs.Banks.{has_to, others_to}
 use Rattle.hart_sim.proofs.machine.Machine.set_bank.Goals as goal
 
 pub put_bank-requires-clause-limit : goal.put_bank-requires-clause-limit
@@ -13,8 +12,8 @@ returns-clause-state c = c.put_bank.ensures.state c.args.self.now.parts.table.ta
 
 pub returns-clause-bank : goal.returns-clause-bank
 unfolding bank_on
-returns-clause-bank c = has_to c.put_bank.new.self c.args.hart c.args.bank c.put_bank.ensures.bank
+returns-clause-bank c = c.put_bank.ensures.bank
 
 pub returns-clause-others : goal.returns-clause-others
 unfolding bank_on
-returns-clause-others c = others_to c.args.self.now.parts.hardware c.put_bank.new.self c.args.hart c.put_bank.ensures.others
+returns-clause-others c = c.put_bank.ensures.others

@@ -3,7 +3,7 @@ use Rattle.hart_trace.specs.Events.{meaning_of}
 use Rattle.hart_sim.specs.After.{Happens}
 use Rattle.hart_sim.specs.declared.reply.Reply.TheVariants.{NoMemory}
 use Rattle.hart_sim.proofs.KnownEvents.{line_known}
-use Rattle.hart_sim.proofs.running.MachineInterpreter.interpret.Goals as goal
+use Rattle.hart_sim.proofs.trace_run.MachineInterpreter.interpret.Goals as goal
 
 pub step-reply-requires-clause-hart : goal.step-reply-requires-clause-hart
 step-reply-requires-clause-hart c =
