@@ -1,4 +1,3 @@
-mod Ends
+pub mod Ends
 pub mod Live
 pub mod Refusals
-mod PlanCertificates

@@ -1,4 +1,5 @@
 pub use Rattle.trace_judge.specs.Judging
 pub mod Closing
-pub mod Commands
+pub mod Programs
+pub mod Running
 pub mod Tasks

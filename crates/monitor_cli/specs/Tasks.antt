@@ -1,41 +1,13 @@
 -- What the parts of a task come to.
-use Rattle.std.specs.Prelude.{◌≡◌, ℕ, ◌+◌, ◌≤◌, List, [], ◌++◌, length, Option}
-use Rattle.std.specs.Io.KnownBytes.{Consumes, IsAtEnd}
+use Rattle.std.specs.Prelude.{◌≡◌, ℕ, ◌+◌, List, [], ◌++◌}
 use Rattle.std.specs.Str.{IsUtf8}
 use Rattle.byteorder.specs.Endian.{little_bytes}
 use Rattle.enclave_table.specs.Enclaves.{EnclaveTable, Live}
 use Rattle.enclave_table.specs.Digests.{AnswersWord}
 use Rattle.enclave_table.specs.Platform.{Layout}
 use Rattle.enclave_table.specs.declared.enclave.Enclave.{Enclave}
-use Rattle.map_text.specs.declared.map_file.MapFileFault.{MapFileFault}
-use Rattle.map_text.specs.declared.map_file.MapFileFault.TheVariants as maps
-use Rattle.map_text.specs.MapFile.{FaultAt, IsUnknown, MakesFirst, MakesTooMany}
-use Rattle.text_lines.specs.declared.fault.RunFault.{RunFault}
-use Rattle.text_lines.specs.declared.fault.RunFault.TheVariants as runs
-use Rattle.text_lines.specs.LineLoop.{Meaning, StopsAt, StopsForMemory, StopsReading, StopsTooLong, StopsWriting}
 use Rattle.platform_file.specs.Document.{IsPlatformText}
 use Rattle.printed_lines.specs.Texts.{measure_text}
-
--- all the bytes of a source, at most so many
-pub record IsWhole (most : ℕ) (before after : Option (List ℕ)) (bytes : List ℕ) : Type 0 where
-  pub consumed : Consumes before after bytes
-  pub at_end : IsAtEnd after
-  pub few : length bytes ≤ most
-
--- why bytes make no map: the first line at fault
-abbrev pub IsMapFault : List ℕ → MapFileFault → Type 0
-IsMapFault bytes (maps.Line n) = FaultAt bytes n IsUnknown
-IsMapFault bytes maps.TooManyRanges = (n : ℕ) × FaultAt bytes n MakesTooMany
-IsMapFault bytes maps.Memory = (n : ℕ) × FaultAt bytes n MakesFirst
-
--- how the lines of an input stop being interpreted, by the fault
-abbrev pub Stops :
-    {S : Type 0} → Meaning S → (S → List ℕ → Type 0) → (S → List ℕ → S → Type 0) → S → S → Option (List ℕ) → Option (List ℕ) → Option (List ℕ) → Option (List ℕ) → RunFault → Type 0
-Stops does refuses starves old new before after held holds (runs.Line n) = StopsAt n does refuses old new before after held holds
-Stops does refuses starves old new before after held holds runs.TooLong = StopsTooLong does old new before after held holds
-Stops does refuses starves old new before after held holds runs.Read = StopsReading does old new before after held holds
-Stops does refuses starves old new before after held holds runs.Write = StopsWriting does old new before after held holds
-Stops does refuses starves old new before after held holds runs.Memory = StopsForMemory does starves old new before after held holds
 
 -- the bytes of a file are the platform: they are a text of UTF-8 that is
 pub record IsPlatformFile (bytes : List ℕ) (platform : Layout) : Type 0 where

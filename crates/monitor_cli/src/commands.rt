@@ -1,27 +1,5 @@
-//! The commands, each with what it reads and writes in its order.
+//! The command that needs a machine.
 
-ghost use Rattle.std.specs.Prelude.{◌≡◌};
-ghost use Rattle.monitor_cli.specs.Commands.{answer_status};
-
-mod audit;
-mod check;
-mod judge;
-mod lint;
-mod plan;
 mod run;
-mod show;
 
-pub use audit::do_audit;
-pub use check::do_check;
-pub use judge::do_judge;
-pub use lint::do_lint;
-pub use plan::{Asked, do_plan};
 pub use run::do_run;
-pub use show::do_show;
-
-/// The status of an answer: 0 for a yes, and 1 for a no.
-fn answer_status(yes: bool) -> u8
-    ensures { result ≡ answer_status yes }
-{
-    if yes { 0 } else { 1 }
-}

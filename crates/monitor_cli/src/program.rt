@@ -2,18 +2,20 @@
 
 ghost use Rattle.std.specs.Prelude.{◌≡◌};
 ghost use Rattle.byte_streams.specs.Writings.{writing};
-ghost use Rattle.monitor_cli.specs.Commands.{placing, reading, Ends, Performs, Tells};
+ghost use Rattle.map_commands.specs.Commands.{placing, reading};
+ghost use Rattle.monitor_cli.specs.Programs.{Ends, Performs, Tells};
 ghost use Rattle.program_troubles.specs.Troubles.{status_of};
 
-use crate::commands::{Asked, do_audit, do_check, do_judge, do_lint, do_plan, do_run, do_show};
+use crate::commands::do_run;
 use byte_streams::{Sink, Source};
+use map_commands::{Asked, do_audit, do_check, do_judge, do_lint, do_plan, do_show};
 use program_files::WholeSink;
 use program_tasks::Task;
 use program_troubles::Trouble;
 use std::alloc::Global;
 
-/// The status of a task, whose trouble is reported on standard error.
-fn ended<E: Sink>(done: Result<u8, Trouble<'_>>, err: &mut E) -> u8
+/// Reports the trouble of a task on standard error, and answers its status.
+fn report<E: Sink>(done: Result<u8, Trouble<'_>>, err: &mut E) -> u8
     ensures status { result ≡ status_of done.entry }
     ensures tells { Tells (writing E.contents E.failures E.stalls err.old err.new) done.entry }
 {
@@ -27,7 +29,7 @@ fn ended<E: Sink>(done: Result<u8, Trouble<'_>>, err: &mut E) -> u8
 }
 
 /// Does a task's command.
-fn done<'a, R: Source, C: WholeSink, W: Sink>(
+fn run_task<'a, R: Source, C: WholeSink, W: Sink>(
     alloc: Global,
     task: &Task<'a>,
     first: &mut R,
@@ -94,6 +96,6 @@ pub fn perform<R: Source, C: WholeSink, W: Sink, E: Sink>(
         (writing W.contents W.failures W.stalls out.old out.new)
         (writing E.contents E.failures E.stalls err.old err.new) result }
 {
-    let done = done(alloc, task, first, second, cert, out);
-    ended(done, err)
+    let done = run_task(alloc, task, first, second, cert, out);
+    report(done, err)
 }

@@ -12,17 +12,23 @@ ghost use Rattle.enclave_table.specs.Platform.{Layout};
 ghost use Rattle.hart_sim.specs.After.{IsBooted};
 ghost use Rattle.hart_sim.specs.Machines.{KeepsBanksRight};
 ghost use Rattle.program_troubles.specs.Troubles.{boot_trouble};
+ghost use Rattle.map_commands.specs.Commands.{reading};
+ghost use Rattle.monitor_cli.specs.Running.{HasNoPlatform, HasPlatform};
 ghost use Rattle.monitor_cli.specs.Tasks.{AreMeasures, IsDigest, IsMeasureText, IsPlatformFile};
 
-use byte_streams::{DeviceFault, Sink, write_whole};
+use byte_streams::{DeviceFault, Sink, Source, write_whole};
 use byteorder::{ByteOrder, LittleEndian};
 use enclave_table::{Platform, Table};
 use hart_sim::Machine;
+use map_commands::bytes_in;
 use platform_file::platform_of;
 use printed_lines::measure_line;
 use program_troubles::Trouble;
 use std::alloc::Global;
 use std::str;
+
+/// How many bytes a platform file may have.
+const PLATFORM_BYTES: usize = 1 << 20;
 
 /// The most enclaves that are live, and their largest id.
 const ENCLAVES: u64 = 64;
@@ -42,6 +48,21 @@ pub fn platform_in<'a>(alloc: Global, file: &'a str, bytes: &[u8]) -> Result<Pla
         Ok(platform) => Ok(platform),
         Err(fault) => Err(Trouble::of_text(file, fault)),
     }
+}
+
+/// The platform of a platform file.
+pub fn read_platform<'a, R: Source>(
+    alloc: Global,
+    file: &'a str,
+    source: &mut R,
+) -> Result<Platform, Trouble<'a>>
+    ensures made { IfOk result
+        (HasPlatform (reading R.remaining R.failures source.old source.new)) }
+    ensures refused { IfErr result
+        (HasNoPlatform file.entry (reading R.remaining R.failures source.old source.new)) }
+{
+    let bytes = bytes_in(alloc, file, source, PLATFORM_BYTES)?;
+    platform_in(alloc, file, bytes.as_slice())
 }
 
 /// The machine of a platform.

@@ -16,9 +16,10 @@ use byte_streams::Counted;
 use clap::Error;
 use clap::error::ErrorKind;
 use command_line::{command_of, takes_place};
-use monitor_cli::{
-    CertificateFile, InputToRead, RetryInterrupted, Task, Trouble, is_same_file, perform_and_close,
-};
+use monitor_cli::perform_and_close;
+use program_files::{CertificateFile, InputToRead, RetryInterrupted, is_same_file};
+use program_tasks::Task;
+use program_troubles::Trouble;
 use std::alloc::AllocError;
 use std::io::{BufWriter, Stderr, Stdin};
 use std::process::ExitCode;

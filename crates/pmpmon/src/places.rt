@@ -3,7 +3,7 @@
 ghost use Rattle.std.specs.Prelude.{◌≡◌};
 ghost use Rattle.pmpmon.specs.Places.{cert_of, first_of, place_of, second_of};
 
-use monitor_cli::Task;
+use program_tasks::Task;
 
 /// The word that standard input stands for.
 const STANDARD_INPUT: &str = "-";

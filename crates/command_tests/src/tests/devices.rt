@@ -5,7 +5,8 @@ ghost use Rattle.std.specs.Prelude.{None};
 use byte_streams::fakes::{PieceSink, PieceSource};
 use byte_streams::{DeviceFault, Sink};
 use command_line::command_of;
-use monitor_cli::{WholeSink, perform};
+use monitor_cli::perform;
+use program_files::WholeSink;
 use std::alloc::Global;
 use std::test::Fail;
 

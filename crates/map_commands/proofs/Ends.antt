@@ -1,0 +1,46 @@
+-- How runs over lines and plans end.
+use Rattle.std.proofs.Common.{ℕ, ◌≡◌, ◌≤◌, ◌⊎◌, inl, inr, List, Option, Some, None, Result, Ok, Err, IfErr, arith, refl}
+use Rattle.std.specs.Borrow.{Bor}
+use Rattle.byte_streams.specs.Writings.{IsUnwritten}
+use Rattle.text_lines.specs.declared.fault.RunFault.{RunFault}
+use Rattle.text_lines.specs.declared.fault.RunFault.TheVariants as runs
+use Rattle.text_lines.specs.LineLoop.{Meaning, StopsAt, StopsForMemory, StopsReading, StopsTooLong, StopsWriting}
+use Rattle.program_troubles.specs.declared.trouble.Trouble.{Trouble}
+use Rattle.pmp_encoding.specs.declared.limit.Limit.{Limit}
+use Rattle.pmp_encoding.specs.Limits.{limit_number}
+use Rattle.pmp_match.specs.Meaning.{View}
+use Rattle.program_tasks.specs.declared.task.Format.TheVariants as formats
+use Rattle.program_troubles.specs.declared.trouble.Trouble.TheVariants.{Memory}
+use Rattle.map_commands.specs.Commands.{Placing, IsUnplanned, IsWithin, NeedsMore, beyond, most_entries, starved}
+use Rattle.map_commands.specs.Parts.{Stops}
+
+pub stops :
+    {S : Type 0} (does : Meaning S) (refuses : S → List ℕ → Type 0) (starves : S → List ℕ → S → Type 0) (old new : S) (before after held holds : Option (List ℕ)) (fault : RunFault)
+    → ((n : ℕ) → fault ≡ runs.Line n → StopsAt n does refuses old new before after held holds)
+    → (fault ≡ runs.TooLong → StopsTooLong does old new before after held holds)
+    → (fault ≡ runs.Read → StopsReading does old new before after held holds)
+    → (fault ≡ runs.Write → StopsWriting does old new before after held holds)
+    → (fault ≡ runs.Memory → StopsForMemory does starves old new before after held holds)
+    → Stops does refuses starves old new before after held holds fault
+stops does refuses starves old new before after held holds (runs.Line n) line long read write memory = line n refl
+stops does refuses starves old new before after held holds runs.TooLong line long read write memory = long refl
+stops does refuses starves old new before after held holds runs.Read line long read write memory = read refl
+stops does refuses starves old new before after held holds runs.Write line long read write memory = write refl
+stops does refuses starves old new before after held holds runs.Memory line long read write memory = memory refl
+
+-- no plan, where there is none within the bound
+pub unplanned :
+    {C X : Type 0} (view : View) (limit : Limit) (most : Option ℕ) (file : Option (Bor (List ℕ))) (cert : Placing C) (result : Result X Trouble) → IsUnwritten cert.sink
+    → IfErr result (λ trouble. (trouble ≡ Memory) ⊎ NeedsMore view most trouble) → IfErr result (λ trouble. IsUnplanned view limit most file cert trouble)
+unplanned view limit most file cert (Ok x) quiet refused = tt
+unplanned view limit most file cert (Err trouble) quiet (inl e) = starved e quiet
+unplanned view limit most file cert (Err trouble) quiet (inr more) = beyond more quiet
+
+-- what is within the bound of C and of assembly fits the hart
+pub fits_c : (limit : Limit) (at_most : Option ℕ) (n : ℕ) → IsWithin (most_entries limit at_most formats.C) n → n ≤ limit_number limit
+fits_c limit None n h = h
+fits_c limit (Some most) n h = omega (arith, h)
+
+pub fits_asm : (limit : Limit) (at_most : Option ℕ) (n : ℕ) → IsWithin (most_entries limit at_most formats.Asm) n → n ≤ limit_number limit
+fits_asm limit None n h = h
+fits_asm limit (Some most) n h = omega (arith, h)

@@ -1,0 +1,4 @@
+pub mod Ends
+pub mod Names
+mod PlanCertificates
+pub mod Refusals

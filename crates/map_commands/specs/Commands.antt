@@ -1,0 +1,273 @@
+-- What each command that needs no machine comes to, on the files and streams that are lent for it: a rule for each way in
+-- which it ends.
+use Rattle.std.specs.Prelude.{◌≡◌, ℕ, ◌+◌, ◌^◌, ◌<◌, ◌≤◌, min, Bool, true, false, List, Option, Some, None, Result, Ok, Err, length}
+use Rattle.std.specs.Borrow.{Bor}
+use Rattle.std.specs.Io.KnownBytes.{Appends, Consumes}
+use Rattle.byte_streams.specs.Streams.{WriteFails, one_failure_more}
+use Rattle.byte_streams.specs.Writings.{Breaks, IsUnwritten, IsWell, TakesAll, TakesPart, Writing, writing}
+use Rattle.pmp_encoding.specs.declared.bank.Bank.{Bank}
+use Rattle.pmp_encoding.specs.declared.limit.Limit.{Limit}
+use Rattle.pmp_encoding.specs.declared.region.Entry.{Entry}
+use Rattle.pmp_encoding.specs.Banks.{HasList, IsBankOf}
+use Rattle.pmp_encoding.specs.Limits.{limit_number}
+use Rattle.pmp_match.specs.Meaning.{View, IsFewest}
+use Rattle.pmp_match.specs.Bounds.{BoundTree}
+use Rattle.permission_map.specs.declared.runs.Run.{Run}
+use Rattle.permission_map.specs.Runs.{view_of_runs}
+use Rattle.prefix_tree.specs.TreeOf.{tree_of}
+use Rattle.entry_planner.specs.Choice.{AreChosen}
+use Rattle.entry_planner.specs.Order.{AreInOrder}
+use Rattle.text_lines.specs.declared.fault.RunFault.{RunFault}
+use Rattle.text_lines.specs.LineLoop.{CountsReads, CountsWrites, DoesAll}
+use Rattle.map_text.specs.declared.map_file.MapFileFault.{MapFileFault}
+use Rattle.map_text.specs.MapFile.{Makes}
+use Rattle.map_lint.specs.Findings.{IsLintText}
+use Rattle.map_lint.specs.Lints.{IsVerdictOfLines}
+use Rattle.certificate_check.specs.Certificates.{IsRight}
+use Rattle.certificate_format.specs.Spelling.{Spells}
+use Rattle.plan_certificate.specs.Written.{version_for}
+use Rattle.trace_judge.specs.Judging.{is_no_access, judged_by}
+use Rattle.printed_lines.specs.Plans.{IsPlanText}
+use Rattle.map_table.specs.Tables.{IsTable}
+use Rattle.register_formats.specs.AsmTexts.{IsAsmText}
+use Rattle.register_formats.specs.CTexts.{IsCText}
+use Rattle.register_formats.specs.JsonTexts.{IsJsonText}
+use Rattle.register_audit.specs.Audits.{IsAudit}
+use Rattle.register_text.specs.Listings.{IsFirstUnknown}
+use Rattle.program_tasks.specs.declared.task.Format.{Format}
+use Rattle.program_tasks.specs.declared.task.Format.TheVariants as formats
+use Rattle.program_troubles.specs.declared.trouble.Trouble.{Trouble}
+use Rattle.program_troubles.specs.declared.trouble.Trouble.TheVariants.{NotUnderstood, TooLarge, NeedsEntries, CannotRead, CannotWrite, Output, Memory}
+use Rattle.map_commands.specs.Parts.{IsMapFault, IsWhole, Stops}
+use Rattle.program_troubles.specs.Troubles.{map_trouble, run_trouble}
+use Rattle.map_commands.specs.Verdicts.{IsVerdict}
+
+-- a source over a call: itself, the bytes that are still to come, and how often it has failed
+pub record Reading (R : Type 0) : Type 0 where
+  pub old : R
+  pub new : R
+  pub before : Option (List ℕ)
+  pub after : Option (List ℕ)
+  pub failures : ℕ
+  pub failed : ℕ
+
+abbrev pub reading : {R : Type 0} → (R → Option (List ℕ)) → (R → ℕ) → R → R → Reading R
+reading remaining failures old new = record {
+  old = old;
+  new = new;
+  before = remaining old;
+  after = remaining new;
+  failures = failures old;
+  failed = failures new;
+}
+
+-- a sink whose bytes come to stand in a place, over a call, and the bytes that stand there after it, where they are known
+pub record Placing (C : Type 0) : Type 0 where
+  pub sink : Writing C
+  pub stands : Option (List ℕ)
+
+abbrev pub placing : {C : Type 0} → (C → Option (List ℕ)) → (C → ℕ) → (C → ℕ) → (C → Option (List ℕ)) → C → C → Placing C
+placing contents failures stalls stands old new = record { sink = writing contents failures stalls old new; stands = stands new }
+
+-- nothing was read from it
+abbrev pub IsUnread : {R : Type 0} → Reading R → Type 0
+IsUnread source = source.new ≡ source.old
+
+-- a file was read to its end, without a failure: at most so many bytes
+pub record HasBytes {R : Type 0} (most : ℕ) (source : Reading R) (bytes : List ℕ) : Type 0 where
+  pub whole : IsWhole most source.before source.after bytes
+  pub well : source.failed ≡ source.failures
+
+-- why a file could not be had
+pub data HasNoBytes {R : Type 0} (most : ℕ) (file : Bor (List ℕ)) (source : Reading R) : Trouble → Type 0 where
+  too_large : (bytes : List ℕ) → Consumes source.before source.after bytes → most < length bytes → HasNoBytes most file source (TooLarge file)
+  cannot_read : source.failed ≡ one_failure_more source.failures → HasNoBytes most file source (CannotRead file)
+  memory : source.failed ≡ source.failures → HasNoBytes most file source Memory
+
+-- the bytes of a file make the map
+pub record HasMap {R : Type 0} (source : Reading R) (map : List Run) : Type 0 where
+  pub bytes : List ℕ
+  pub read : HasBytes (2 ^ 20) source bytes
+  pub makes : Makes bytes map
+
+-- why the map of a file could not be had
+pub data HasNoMap {R : Type 0} (file : Bor (List ℕ)) (source : Reading R) : Trouble → Type 0 where
+  no_bytes : (trouble : Trouble) → HasNoBytes (2 ^ 20) file source trouble → HasNoMap file source trouble
+  no_map : (bytes : List ℕ) → HasBytes (2 ^ 20) source bytes → (fault : MapFileFault) → IsMapFault bytes fault → HasNoMap file source (map_trouble file fault)
+
+-- the bank has the fewest entries that mean a view
+pub record IsLoaded (view : View) (limit : Limit) (bank : Bank) : Type 0 where
+  pub entries : List Entry
+  pub fewest : IsFewest view entries
+  pub list : HasList bank entries
+  pub registers : IsBankOf bank limit entries
+
+-- the bytes are a right certificate of the entries, for a hart of that limit
+pub record IsCertificateOf (view : View) (limit : Limit) (entries : List Entry) (bytes : List ℕ) : Type 0 where
+  pub tree : BoundTree
+  pub spells : Spells bytes (version_for limit) entries tree
+  pub right : IsRight view bytes (length entries)
+
+-- a certificate was written and put in its place where a file for it is named, and otherwise nothing was
+abbrev pub IsCertified : {C : Type 0} → View → Limit → List Entry → Option (Bor (List ℕ)) → Placing C → Type 0
+IsCertified view limit entries None cert = IsUnwritten cert.sink
+IsCertified view limit entries (Some file) cert =
+    (bytes : List ℕ) × IsCertificateOf view limit entries bytes × TakesAll bytes cert.sink × (cert.stands ≡ cert.sink.after)
+
+-- bytes were not written whole, or they were not put in their place
+pub data IsNotPlaced {C : Type 0} (bytes : List ℕ) (cert : Placing C) : Type 0 where
+  not_written : Breaks bytes cert.sink → IsNotPlaced bytes cert
+  not_moved : Appends cert.sink.before cert.sink.after bytes → cert.sink.failed ≡ one_failure_more cert.sink.failures → cert.sink.stalled ≡ cert.sink.stalls → IsNotPlaced bytes cert
+
+-- as many entries as that are within the bound, or beyond it
+abbrev pub IsWithin : Option ℕ → ℕ → Type 0
+IsWithin None n = Unit {0}
+IsWithin (Some most) n = n ≤ most
+
+abbrev pub IsBeyond : Option ℕ → ℕ → Type 0
+IsBeyond None n = ⊥
+IsBeyond (Some most) n = most < n
+
+-- the plan of a map: of the lists of fewest entries the one that is chosen, in its order, as many as may be
+pub record IsPlanned (view : View) (most : Option ℕ) (entries : List Entry) : Type 0 where
+  pub fewest : IsFewest view entries
+  pub chosen : AreChosen (tree_of view) entries
+  pub order : AreInOrder entries
+  pub within : IsWithin most (length entries)
+
+-- the certificate of a plan could not be written
+pub record BreaksCertificate {C : Type 0} (view : View) (limit : Limit) (most : Option ℕ) (file : Option (Bor (List ℕ))) (cert : Placing C) (trouble : Trouble) : Type 0 where
+  pub name : Bor (List ℕ)
+  pub named : file ≡ Some name
+  pub told : trouble ≡ CannotWrite name
+  pub entries : List Entry
+  pub planned : IsPlanned view most entries
+  pub bytes : List ℕ
+  pub certificate : IsCertificateOf view limit entries bytes
+  pub broken : IsNotPlaced bytes cert
+
+-- how many entries a plan may have, where there is a bound: what was asked for, and for C and assembly as many as the hart has
+abbrev pub most_entries : Limit → Option ℕ → Format → Option ℕ
+most_entries limit at_most formats.Text = at_most
+most_entries limit at_most formats.Json = at_most
+most_entries limit None format = Some (limit_number limit)
+most_entries limit (Some n) format = Some (min n (limit_number limit))
+
+-- the text of a plan in a format, of the map of that name
+abbrev pub IsPrinted : Format → List ℕ → Limit → List Entry → List ℕ → Type 0
+IsPrinted formats.Text map limit entries text = IsPlanText limit entries text
+IsPrinted formats.C map limit entries text = IsCText limit entries text
+IsPrinted formats.Asm map limit entries text = IsAsmText limit entries text
+IsPrinted formats.Json map limit entries text = IsJsonText map limit entries text
+
+-- the plan of a map has more entries than may be
+pub record NeedsMore (view : View) (most : Option ℕ) (trouble : Trouble) : Type 0 where
+  pub entries : List Entry
+  pub fewest : IsFewest view entries
+  pub beyond : IsBeyond most (length entries)
+  pub told : trouble ≡ NeedsEntries (length entries)
+
+-- why there is no plan with its certificate: memory, too many entries, or the certificate
+pub data IsUnplanned {C : Type 0} (view : View) (limit : Limit) (most : Option ℕ) (file : Option (Bor (List ℕ))) (cert : Placing C) (trouble : Trouble) : Type 0 where
+  starved : trouble ≡ Memory → IsUnwritten cert.sink → IsUnplanned view limit most file cert trouble
+  beyond : NeedsMore view most trouble → IsUnwritten cert.sink → IsUnplanned view limit most file cert trouble
+  uncertified : BreaksCertificate view limit most file cert trouble → IsUnplanned view limit most file cert trouble
+
+-- `plan`: the map is read, the certificate is written where one is asked for, and the plan after it
+pub data Plans {R C W : Type 0} (map : Bor (List ℕ)) (file : Option (Bor (List ℕ))) (limit : Limit) (at_most : Option ℕ) (format : Format) (first : Reading R) (cert : Placing C) (out : Writing W) : Result ℕ Trouble → Type 0 where
+  planned :
+      (runs : List Run) (entries : List Entry) (text : List ℕ) → HasMap first runs → IsPlanned (view_of_runs runs) (most_entries limit at_most format) entries
+      → IsCertified (view_of_runs runs) limit entries file cert → IsPrinted format map.now limit entries text → TakesAll text out
+      → Plans map file limit at_most format first cert out (Ok 0)
+  no_map : (trouble : Trouble) → HasNoMap map first trouble → IsUnwritten cert.sink → IsUnwritten out → Plans map file limit at_most format first cert out (Err trouble)
+  no_memory : (runs : List Run) → HasMap first runs → IsUnwritten cert.sink → IsUnwritten out → Plans map file limit at_most format first cert out (Err Memory)
+  too_many :
+      (runs : List Run) (trouble : Trouble) → HasMap first runs → NeedsMore (view_of_runs runs) (most_entries limit at_most format) trouble → IsUnwritten cert.sink → IsUnwritten out
+      → Plans map file limit at_most format first cert out (Err trouble)
+  no_certificate :
+      (runs : List Run) (trouble : Trouble) → HasMap first runs → BreaksCertificate (view_of_runs runs) limit (most_entries limit at_most format) file cert trouble → IsUnwritten out
+      → Plans map file limit at_most format first cert out (Err trouble)
+  no_output :
+      (runs : List Run) (entries : List Entry) (text : List ℕ) → HasMap first runs → IsPlanned (view_of_runs runs) (most_entries limit at_most format) entries
+      → IsCertified (view_of_runs runs) limit entries file cert → IsPrinted format map.now limit entries text → Breaks text out
+      → Plans map file limit at_most format first cert out (Err Output)
+
+-- `show`: the map is read, and the table of its stretches is printed
+pub data Shows {R W : Type 0} (map : Bor (List ℕ)) (limit : Limit) (at_most : Option ℕ) (first : Reading R) (out : Writing W) : Result ℕ Trouble → Type 0 where
+  shown :
+      (runs : List Run) (entries : List Entry) (text : List ℕ) → HasMap first runs → IsPlanned (view_of_runs runs) at_most entries → IsTable (view_of_runs runs) entries limit text
+      → TakesAll text out → Shows map limit at_most first out (Ok 0)
+  no_map : (trouble : Trouble) → HasNoMap map first trouble → IsUnwritten out → Shows map limit at_most first out (Err trouble)
+  no_memory : (runs : List Run) → HasMap first runs → IsUnwritten out → Shows map limit at_most first out (Err Memory)
+  too_many : (runs : List Run) (trouble : Trouble) → HasMap first runs → NeedsMore (view_of_runs runs) at_most trouble → IsUnwritten out → Shows map limit at_most first out (Err trouble)
+  no_output :
+      (runs : List Run) (entries : List Entry) (text : List ℕ) → HasMap first runs → IsPlanned (view_of_runs runs) at_most entries → IsTable (view_of_runs runs) entries limit text
+      → Breaks text out → Shows map limit at_most first out (Err Output)
+
+-- `judge`: the map is read and its entries are loaded, and then the trace is judged line by line
+pub data Judges {R W : Type 0} (map trace : Bor (List ℕ)) (limit : Limit) (first second : Reading R) (out : Writing W) : Result ℕ Trouble → Type 0 where
+  judged :
+      (runs : List Run) (bank : Bank) → HasMap first runs → IsLoaded (view_of_runs runs) limit bank
+      → DoesAll (judged_by bank) tt tt second.before second.after out.before out.after → second.failed ≡ second.failures → IsWell out → Judges map trace limit first second out (Ok 0)
+  no_map : (trouble : Trouble) → HasNoMap map first trouble → IsUnread second → IsUnwritten out → Judges map trace limit first second out (Err trouble)
+  no_memory : (runs : List Run) → HasMap first runs → IsUnread second → IsUnwritten out → Judges map trace limit first second out (Err Memory)
+  no_bank :
+      (runs : List Run) (entries : List Entry) → HasMap first runs → IsFewest (view_of_runs runs) entries → limit_number limit < length entries → IsUnread second → IsUnwritten out
+      → Judges map trace limit first second out (Err (NeedsEntries (length entries)))
+  stopped :
+      (runs : List Run) (bank : Bank) (fault : RunFault) → HasMap first runs → IsLoaded (view_of_runs runs) limit bank
+      → Stops (judged_by bank) is_no_access (λ old line new. ⊥) tt tt second.before second.after out.before out.after fault
+      → CountsReads (Err fault) second.failures second.failed → CountsWrites (Err fault) out.failures out.failed out.stalls out.stalled
+      → Judges map trace limit first second out (Err (run_trouble trace fault))
+
+-- `check`: the map is read, then the certificate, and the line of the verdict is written
+pub data Checks {R W : Type 0} (map cert : Bor (List ℕ)) (first second : Reading R) (out : Writing W) : Result ℕ Trouble → Type 0 where
+  checked :
+      (runs : List Run) (bytes line : List ℕ) (status : ℕ) → HasMap first runs → HasBytes (2 ^ 26) second bytes → IsVerdict (view_of_runs runs) bytes line status
+      → TakesAll line out → Checks map cert first second out (Ok status)
+  no_map : (trouble : Trouble) → HasNoMap map first trouble → IsUnread second → IsUnwritten out → Checks map cert first second out (Err trouble)
+  no_certificate : (runs : List Run) (trouble : Trouble) → HasMap first runs → HasNoBytes (2 ^ 26) cert second trouble → IsUnwritten out → Checks map cert first second out (Err trouble)
+  no_output :
+      (runs : List Run) (bytes line : List ℕ) (status : ℕ) → HasMap first runs → HasBytes (2 ^ 26) second bytes → IsVerdict (view_of_runs runs) bytes line status
+      → Breaks line out → Checks map cert first second out (Err Output)
+
+-- the status of an answer: 0 for a yes, and 1 for a no
+abbrev pub answer_status : Bool → ℕ
+answer_status true = 0
+answer_status false = 1
+
+-- what an audit is made of: the map of the first file, the listing in the second, and how many entries are enough
+pub record IsAudited {R : Type 0} (first second : Reading R) (view : View) (listing : List ℕ) (fewest : ℕ) : Type 0 where
+  pub runs : List Run
+  pub has_map : HasMap first runs
+  pub is_view : view ≡ view_of_runs runs
+  pub read : HasBytes (2 ^ 20) second listing
+  pub entries : List Entry
+  pub is_fewest : IsFewest view entries
+  pub count : length entries ≡ fewest
+
+-- `audit`: the map is read, then the listing of registers, and the line of the verdict is printed
+pub data Audits {R W : Type 0} (map registers : Bor (List ℕ)) (first second : Reading R) (out : Writing W) : Result ℕ Trouble → Type 0 where
+  audited :
+      (view : View) (listing text : List ℕ) (fewest : ℕ) (means : Bool) → IsAudited first second view listing fewest → IsAudit view fewest listing text means
+      → TakesAll text out → Audits map registers first second out (Ok (answer_status means))
+  no_map : (trouble : Trouble) → HasNoMap map first trouble → IsUnread second → IsUnwritten out → Audits map registers first second out (Err trouble)
+  no_registers : (runs : List Run) (trouble : Trouble) → HasMap first runs → HasNoBytes (2 ^ 20) registers second trouble → IsUnwritten out → Audits map registers first second out (Err trouble)
+  no_memory : (runs : List Run) (listing : List ℕ) → HasMap first runs → HasBytes (2 ^ 20) second listing → IsUnwritten out → Audits map registers first second out (Err Memory)
+  not_understood :
+      (view : View) (listing : List ℕ) (fewest n : ℕ) → IsAudited first second view listing fewest → IsFirstUnknown listing n → IsUnwritten out
+      → Audits map registers first second out (Err (NotUnderstood registers n))
+  no_output :
+      (view : View) (listing text : List ℕ) (fewest : ℕ) (means : Bool) → IsAudited first second view listing fewest → IsAudit view fewest listing text means → Breaks text out
+      → Audits map registers first second out (Err Output)
+
+-- `lint`: the file is read, and what is wrong with it is printed
+pub data Lints {R W : Type 0} (map : Bor (List ℕ)) (first : Reading R) (out : Writing W) : Result ℕ Trouble → Type 0 where
+  linted :
+      (bytes text : List ℕ) (is_map : Bool) → HasBytes (2 ^ 20) first bytes → IsVerdictOfLines bytes is_map → IsLintText map.now bytes is_map text
+      → TakesAll text out → Lints map first out (Ok (answer_status is_map))
+  no_bytes : (trouble : Trouble) → HasNoBytes (2 ^ 20) map first trouble → IsUnwritten out → Lints map first out (Err trouble)
+  no_memory : (bytes : List ℕ) → HasBytes (2 ^ 20) first bytes → IsUnwritten out → Lints map first out (Err Memory)
+  no_output :
+      (bytes text : List ℕ) (is_map : Bool) → HasBytes (2 ^ 20) first bytes → IsVerdictOfLines bytes is_map → IsLintText map.now bytes is_map text → Breaks text out
+      → Lints map first out (Err Output)

@@ -1,0 +1,158 @@
+//! Plans with their certificates.
+
+ghost use Rattle.std.specs.Prelude.{◌≡◌, ◌≤◌, ◌<◌, ◌-◌, ◌^◌, ◌⊎◌, ◌↔◌, List, IfErr, IfOk, IfSome, None, length};
+ghost use Rattle.pmp_encoding.specs.declared.region.Entry.{Entry};
+ghost use Rattle.pmp_encoding.specs.Banks.{HasList, IsBankOf};
+ghost use Rattle.pmp_encoding.specs.Limits.{limit_number};
+ghost use Rattle.pmp_match.specs.Meaning.{IsFewest};
+ghost use Rattle.permission_map.specs.Runs.{view_of_runs};
+ghost use Rattle.prefix_tree.specs.Counts.{splits};
+ghost use Rattle.prefix_tree.specs.TreeOf.{tree_of};
+ghost use Rattle.entry_planner.specs.Choice.{AreChosen};
+ghost use Rattle.entry_planner.specs.Order.{AreInOrder};
+ghost use Rattle.plan_certificate.specs.Written.{certificate_for};
+ghost use Rattle.byte_streams.specs.Writings.{writing, TakesAll};
+ghost use Rattle.map_commands.specs.Commands.{placing, IsBeyond, IsCertified, IsLoaded, IsNotPlaced, IsPlanned, IsUnplanned, IsWithin, NeedsMore};
+
+use byte_streams::DeviceFault;
+use entry_planner::{Plan, plan_map};
+use permission_map::{Memory, PermissionMap};
+use plan_certificate::send_map;
+use pmp_encoding::{Bank, Entry, Limit};
+use program_files::WholeSink;
+use program_troubles::Trouble;
+use std::alloc::Global;
+
+/// The plan of a map: the fewest entries that mean it, of the lists of so many the one that the planner chooses.
+pub fn planned(alloc: Global, map: &PermissionMap) -> Result<Plan, Memory>
+    ensures fewest { IfOk result (λ plan. IsFewest (view_of_runs map.now) plan.entries) }
+    ensures choice { IfOk result (λ plan.
+        AreChosen (tree_of (view_of_runs map.now)) plan.entries) }
+    ensures order { IfOk result (λ plan. AreInOrder plan.entries) }
+{
+    let plan = plan_map(alloc, map)?;
+    Ok(plan)
+}
+
+/// How many entries mean a map at the fewest.
+pub fn fewest_in(alloc: Global, map: &PermissionMap) -> Result<u64, Memory>
+    ensures { IfOk result (λ fewest.
+        (entries : List Entry) × IsFewest (view_of_runs map.now) entries
+        × (length entries ≡ fewest)) }
+{
+    let plan = planned(alloc, map)?;
+    Ok(plan.entries().len() as u64)
+}
+
+/// The bank of a list of entries; none exactly where there are more than the limit.
+pub fn bank_of(entries: &[Entry], limit: Limit) -> Option<Bank>
+    ensures registers { IfSome result (λ bank. IsBankOf bank limit entries.now) }
+    ensures list { IfSome result (λ bank. HasList bank entries.now) }
+    ensures none { (result ≡ None) ↔ (limit_number limit < length entries.now) }
+{
+    if entries.len() > limit.number() as usize {
+        return None;
+    }
+    Some(Bank::of(entries, limit))
+}
+
+/// The fewest entries of a map, where they are within the bound.
+pub fn planned_within<'a>(
+    alloc: Global,
+    map: &PermissionMap,
+    most: Option<u64>,
+) -> Result<Plan, Trouble<'a>>
+    ensures planned { IfOk result (λ plan. IsPlanned (view_of_runs map.now) most plan.entries) }
+    ensures refused { IfErr result (λ trouble.
+        (trouble ≡ Trouble.Memory) ⊎ NeedsMore (view_of_runs map.now) most trouble) }
+{
+    let plan = planned(alloc, map)?;
+    within(plan.entries(), most)?;
+    Ok(plan)
+}
+
+/// Refuses a list that is beyond the bound.
+fn within<'a>(entries: &[Entry], most: Option<u64>) -> Result<(), Trouble<'a>>
+    ensures within { IfOk result (λ _. IsWithin most (length entries.now)) }
+    ensures beyond { IfErr result (λ trouble.
+        IsBeyond most (length entries.now)
+        × (trouble ≡ Trouble.NeedsEntries (length entries.now))) }
+{
+    let needed = entries.len() as u64;
+    match most {
+        Some(most) if most < needed => Err(Trouble::NeedsEntries { needed }),
+        _ => Ok(()),
+    }
+}
+
+/// Writes the certificate of a map's plan and puts it in its place.
+fn put<'a, C: WholeSink>(
+    map: &PermissionMap,
+    plan: &Plan,
+    limit: Limit,
+    file: &'a str,
+    sink: &mut C,
+) -> Result<(), Trouble<'a>>
+    requires splits { splits (tree_of (view_of_runs map.now)) ≡ length plan.now.costs }
+    ensures put { IfOk result (λ _.
+        TakesAll (certificate_for limit plan.now (tree_of (view_of_runs map.now)))
+        (writing C.contents C.failures C.stalls sink.old sink.new)
+        × (C.stands sink.new ≡ C.contents sink.new)) }
+    ensures broken { IfErr result (λ trouble.
+        (trouble ≡ Trouble.CannotWrite file.entry)
+        × IsNotPlaced (certificate_for limit plan.now (tree_of (view_of_runs map.now)))
+        (placing C.contents C.failures C.stalls C.stands sink.old sink.new)) }
+{
+    let Ok(()) = send_map(map, plan, limit, sink) else {
+        return Err(Trouble::CannotWrite { file });
+    };
+    match sink.put_in_place() {
+        Ok(()) => Ok(()),
+        Err(DeviceFault) => Err(Trouble::CannotWrite { file }),
+    }
+}
+
+/// The fewest entries of a map, where they are within the bound, whose certificate is put where a file for it is named.
+pub fn plan_and_certify<'a, C: WholeSink>(
+    alloc: Global,
+    map: &PermissionMap,
+    limit: Limit,
+    most: Option<u64>,
+    cert: Option<&'a str>,
+    sink: &mut C,
+) -> Result<Plan, Trouble<'a>>
+    ensures planned { IfOk result (λ plan. IsPlanned (view_of_runs map.now) most plan.entries) }
+    ensures certified { IfOk result (λ plan.
+        IsCertified (view_of_runs map.now) limit plan.entries cert.entry
+        (placing C.contents C.failures C.stalls C.stands sink.old sink.new)) }
+    ensures refused { IfErr result (λ trouble.
+        IsUnplanned (view_of_runs map.now) limit most cert.entry
+        (placing C.contents C.failures C.stalls C.stands sink.old sink.new) trouble) }
+{
+    let Some(file) = cert else {
+        return planned_within(alloc, map, most);
+    };
+    let plan = plan_map(alloc, map)?;
+    within(plan.entries(), most)?;
+    put(map, &plan, limit, file, sink)?;
+    Ok(plan)
+}
+
+/// The bank of the fewest entries that mean a map.
+pub fn bank_in<'a>(alloc: Global, map: &PermissionMap, limit: Limit) -> Result<Bank, Trouble<'a>>
+    ensures loaded { IfOk result (IsLoaded (view_of_runs map.now) limit) }
+    ensures refused { IfErr result (λ trouble.
+        (trouble ≡ Trouble.Memory)
+        ⊎ ((entries : List Entry) × IsFewest (view_of_runs map.now) entries
+        × (limit_number limit < length entries)
+        × (trouble ≡ Trouble.NeedsEntries (length entries)))) }
+{
+    let plan = planned(alloc, map)?;
+    let entries = plan.entries();
+    match bank_of(entries, limit) {
+        Some(bank) => Ok(bank),
+        None => Err(Trouble::NeedsEntries {
+            needed: entries.len() as u64,
+        }),
+    }
+}

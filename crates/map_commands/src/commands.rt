@@ -1,0 +1,27 @@
+//! The commands that need no machine, each with what it reads and writes in its order.
+
+ghost use Rattle.std.specs.Prelude.{◌≡◌};
+ghost use Rattle.map_commands.specs.Commands.{answer_status};
+
+mod audit;
+mod check;
+mod judge;
+mod lint;
+mod plan;
+mod show;
+mod verdicts;
+
+pub use audit::do_audit;
+pub use check::do_check;
+pub use judge::do_judge;
+pub use lint::do_lint;
+pub use plan::{Asked, do_plan};
+pub use show::do_show;
+pub use verdicts::verdict;
+
+/// The status of an answer: 0 for a yes, and 1 for a no.
+fn answer_status(yes: bool) -> u8
+    ensures { result ≡ answer_status yes }
+{
+    if yes { 0 } else { 1 }
+}

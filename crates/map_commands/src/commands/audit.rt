@@ -1,0 +1,43 @@
+//! `audit`: registers against a map.
+
+ghost use Rattle.std.specs.Prelude.{◌-◌, ◌^◌, ◌<◌};
+ghost use Rattle.byte_streams.specs.Writings.{writing};
+ghost use Rattle.map_commands.specs.Commands.{reading, Audits};
+
+use crate::certifying::fewest_in;
+use crate::commands::answer_status;
+use crate::inputs::{bytes_in, map_in};
+use byte_streams::{Sink, Source};
+use program_troubles::Trouble;
+use register_audit::{AuditFault, audit};
+use std::alloc::Global;
+
+/// How many bytes a listing of registers may have.
+const REGISTER_BYTES: usize = 1 << 20;
+
+/// Audits registers against a map, and answers the status 0 where they mean it and 1 where they don't.
+pub fn do_audit<'a, R: Source, W: Sink>(
+    alloc: Global,
+    map: &'a str,
+    registers: &'a str,
+    first: &mut R,
+    second: &mut R,
+    out: &mut W,
+) -> Result<u8, Trouble<'a>>
+    ensures { let source = reading R.remaining R.failures in
+        Audits map.entry registers.entry (source first.old first.new) (source second.old second.new)
+        (writing W.contents W.failures W.stalls out.old out.new) result }
+{
+    let map = map_in(alloc, map, first)?;
+    let listing = bytes_in(alloc, registers, second, REGISTER_BYTES)?;
+    let fewest = fewest_in(alloc, &map)?;
+    match audit(alloc, &map, fewest, listing.as_slice(), out) {
+        Ok(means) => Ok(answer_status(means)),
+        Err(AuditFault::Line(line)) => Err(Trouble::NotUnderstood {
+            file: registers,
+            line,
+        }),
+        Err(AuditFault::Memory) => Err(Trouble::Memory),
+        Err(AuditFault::Device) => Err(Trouble::Output),
+    }
+}

@@ -1,0 +1,97 @@
+//! `plan`: the fewest entries of a map, and their certificate.
+
+ghost use Rattle.std.specs.Prelude.{◌≡◌, ◌-◌, ◌^◌, ◌<◌, ℕ, List, Option, IfErr, IfOk, length};
+ghost use Rattle.map_commands.specs.Commands.{most_entries, placing, reading, IsPrinted, IsWithin, Plans};
+ghost use Rattle.byte_streams.specs.Writings.{writing, PrintsOne};
+
+use crate::certifying::plan_and_certify;
+use crate::inputs::map_in;
+use byte_streams::{DeviceFault, Sink, Source};
+use pmp_encoding::{Entry, Limit};
+use printed_lines::print_plan;
+use program_files::WholeSink;
+use program_tasks::Format;
+use program_troubles::Trouble;
+use register_formats::{print_asm, print_c, print_json};
+use std::alloc::Global;
+
+/// What is asked of a plan.
+#[derive(Clone, Copy)]
+pub struct Asked<'a> {
+    /// The file for its certificate.
+    pub cert: Option<&'a str>,
+    /// How many entries the hart has.
+    pub limit: Limit,
+    /// How many entries it may have.
+    pub at_most: Option<u64>,
+    /// How it is printed.
+    pub format: Format,
+}
+
+/// How many entries a plan may have, where there is a bound: C and assembly are printed of a whole bank alone.
+fn most(limit: Limit, at_most: Option<u64>, format: Format) -> Option<u64>
+    ensures { result ≡ most_entries limit at_most format }
+{
+    match format {
+        Format::Text | Format::Json => at_most,
+        Format::C | Format::Asm => {
+            let entries = u64::from(limit.number());
+            match at_most {
+                Some(n) => Some(n.min(entries)),
+                None => Some(entries),
+            }
+        }
+    }
+}
+
+/// Prints a plan in a format.
+fn print_as<W: Sink>(
+    format: Format,
+    map: &str,
+    entries: &[Entry],
+    limit: Limit,
+    out: &mut W,
+) -> Result<(), DeviceFault>
+    requires fits { (at_most : Option ℕ) × IsWithin (most_entries limit at_most format)
+        (length entries.now) }
+    ensures { PrintsOne (IsPrinted format map.now limit entries.now)
+        (writing W.contents W.failures W.stalls out.old out.new) result }
+{
+    match format {
+        Format::Text => print_plan(entries, limit, out),
+        Format::C => print_c(entries, limit, out),
+        Format::Asm => print_asm(entries, limit, out),
+        Format::Json => print_json(map, entries, limit, out),
+    }
+}
+
+/// Plans a map, writes the certificate where one is asked for, and prints the plan.
+pub fn do_plan<'a, R: Source, C: WholeSink, W: Sink>(
+    alloc: Global,
+    map: &'a str,
+    asked: Asked<'a>,
+    first: &mut R,
+    certificate: &mut C,
+    out: &mut W,
+) -> Result<u8, Trouble<'a>>
+    ensures { Plans map.entry asked.entry.cert asked.entry.limit asked.entry.at_most
+        asked.entry.format
+        (reading R.remaining R.failures first.old first.new)
+        (placing C.contents C.failures C.stalls C.stands certificate.old certificate.new)
+        (writing W.contents W.failures W.stalls out.old out.new) result }
+{
+    let Asked {
+        cert,
+        limit,
+        at_most,
+        format,
+    } = asked;
+    let name = map;
+    let map = map_in(alloc, name, first)?;
+    let most = most(limit, at_most, format);
+    let plan = plan_and_certify(alloc, &map, limit, most, cert, certificate)?;
+    match print_as(format, name, plan.entries(), limit, out) {
+        Ok(()) => Ok(0),
+        Err(DeviceFault) => Err(Trouble::Output),
+    }
+}

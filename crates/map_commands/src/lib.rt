@@ -1,0 +1,20 @@
+//! The program's commands that need no machine: maps are planned, shown and linted, and certificates, accesses and registers
+//! are checked, judged and audited against them.
+//!
+//! For the layer above: `do_plan`, `do_check`, `do_judge`, `do_show`, `do_audit` and `do_lint` each do one command on the
+//! devices that are lent for it; the clause of each has a rule for each way in which it ends, with what was read and written
+//! in which order. [`planned`] answers the fewest entries of a map, [`plan_and_certify`] puts a certificate of them in its
+//! place, which the checker accepts, and [`bank_of`] answers the bank of a list that fits it. [`bytes_in`] reads a file whole.
+//!
+//! ```rust
+//! let status = do_check(rt.alloc(), "map.txt", "map.pmpc", &mut first, &mut second, &mut out)?;
+//! ```
+#![tactic(auto)]
+
+mod certifying;
+mod commands;
+mod inputs;
+
+pub use certifying::{bank_of, plan_and_certify, planned};
+pub use commands::{Asked, do_audit, do_check, do_judge, do_lint, do_plan, do_show, verdict};
+pub use inputs::bytes_in;
