@@ -1,6 +1,7 @@
 //! A command line, run on devices that give and take few bytes at a time, and fail where they are told to.
 
-ghost use Rattle.std.specs.Prelude.{None};
+ghost use Rattle.std.specs.Prelude.{Some, [], if◌then◌else◌};
+ghost use Rattle.byte_streams.specs.Fakes.{written_of};
 
 use byte_streams::fakes::{PieceSink, PieceSource};
 use byte_streams::{DeviceFault, Sink};
@@ -10,7 +11,8 @@ use program_files::WholeSink;
 use std::alloc::Global;
 use std::test::Fail;
 
-/// A sink whose k-th call fails, the one that puts its bytes in their place among them.
+/// A place, and a sink whose k-th call fails, the one that puts its bytes there among them. Nothing stands in the place until
+/// then, and afterwards what was written.
 #[derive(Drop)]
 struct PlacedSink {
     sink: PieceSink,
@@ -18,7 +20,7 @@ struct PlacedSink {
 }
 
 impl Sink for PlacedSink {
-    ghost contents = { λ _. None };
+    ghost contents = { λ s. Some (written_of s.sink) };
 
     ghost failures = { λ s. s.sink.failures };
 
@@ -30,7 +32,7 @@ impl Sink for PlacedSink {
 }
 
 impl WholeSink for PlacedSink {
-    ghost stands = { λ _. None };
+    ghost stands = { λ s. if s.is_placed then Some (written_of s.sink) else Some [] };
 
     fn put_in_place(&mut self) -> Result<(), DeviceFault> {
         // A write of no bytes is counted, and fails in its turn, as any other.
