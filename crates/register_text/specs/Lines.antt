@@ -40,26 +40,36 @@ word_at value k = if nat_lt k 16 && k % 2 == 0 then Some (settings.Word (4 * k) 
 abbrev pub word_setting : List ℕ → ℕ → Option Setting
 word_setting digits value = option_and_then (word_at value) (index_of digits)
 
--- a name of a register and its value, or a count of entries, which sets nothing
+-- a name of a register and its value
 abbrev pub by_behind : ℕ → Option (List ℕ) → Option (List ℕ) → Option Setting
 by_behind value (Some digits) cfg = address_setting digits value
 by_behind value None (Some digits) = word_setting digits value
 by_behind value None None = None
 
+abbrev pub register_setting : List ℕ → ℕ → Option Setting
+register_setting name value = by_behind value (behind name (codes "pmpaddr")) (behind name (codes "pmpcfg"))
+
+-- a register, or a count of entries, which sets nothing
 abbrev pub named_setting : List ℕ → ℕ → Option Setting
-named_setting name value =
-    if bytes_eq name (codes "entries") then Some settings.Nothing else by_behind value (behind name (codes "pmpaddr")) (behind name (codes "pmpcfg"))
+named_setting name value = if bytes_eq name (codes "entries") then Some settings.Nothing else register_setting name value
 
 -- the number of an entry, below 64, its configuration byte and its address
 abbrev pub pair_setting : ℕ → ℕ → ℕ → Option Setting
 pair_setting place cfg address = if nat_lt place 64 && nat_lt cfg 256 then Some (settings.Pair place cfg address) else None
 
+abbrev pub pair_by_words : ℕ → List ℕ → List ℕ → Option Setting
+pair_by_words place cfg address = option_and_then (λ c. option_and_then (pair_setting place c) (number_of address)) (number_of cfg)
+
+-- the pair of an entry, where a number stands first; otherwise a register, its value, and a word that is not looked at
+abbrev pub set_by_three : Option ℕ → List ℕ → List ℕ → List ℕ → Option Setting
+set_by_three (Some place) first second third = pair_by_words place second third
+set_by_three None first second third = option_and_then (register_setting first) (number_of second)
+
 -- what words set
 abbrev pub set_by_words : List (List ℕ) → Option Setting
 set_by_words [] = Some settings.Nothing
 set_by_words (name ∷ value ∷ []) = option_and_then (named_setting name) (number_of value)
-set_by_words (place ∷ cfg ∷ address ∷ []) =
-    option_and_then (λ p. option_and_then (λ c. option_and_then (pair_setting p c) (number_of address)) (number_of cfg)) (number_of place)
+set_by_words (first ∷ second ∷ third ∷ []) = set_by_three (number_of first) first second third
 set_by_words _ = None
 
 -- what a line sets, where it is understood

@@ -3,7 +3,9 @@
 ghost use Rattle.std.specs.Prelude.{◌≡◌, [], ◌∷◌, IfOk, IfSome, bytes_eq, option_map};
 ghost use Rattle.std.specs.Result.{result_ok};
 ghost use Rattle.text_lines.specs.Words.{split_words};
-ghost use Rattle.register_text.specs.Lines.{IsInside, address_setting, behind, has_leading_zero, index_of, line_sets, named_setting, pair_setting, set_by_words, word_setting};
+ghost use Rattle.text_lines.specs.Numbers.{number_of};
+ghost use Rattle.std.specs.Option.{option_and_then};
+ghost use Rattle.register_text.specs.Lines.{IsInside, address_setting, behind, has_leading_zero, index_of, line_sets, named_setting, pair_by_words, pair_setting, register_setting, set_by_words, word_setting};
 
 use crate::setting::Setting;
 use text_lines::{NotUnderstood, Words, number, numeral};
@@ -75,6 +77,18 @@ fn word_setting(digits: &[u8], value: u64) -> Option<Setting>
     })
 }
 
+/// What the name of a register and a value set.
+fn register_setting(name: &[u8], value: u64) -> Option<Setting>
+    ensures value { result ≡ register_setting name.now value }
+    ensures inside { IfSome result IsInside }
+{
+    if let Some(digits) = behind(name, b"pmpaddr") {
+        return address_setting(digits, value);
+    }
+    let digits = behind(name, b"pmpcfg")?;
+    word_setting(digits, value)
+}
+
 /// What a name and a value set.
 fn named_setting(name: &[u8], value: u64) -> Option<Setting>
     ensures value { result ≡ named_setting name.now value }
@@ -83,11 +97,7 @@ fn named_setting(name: &[u8], value: u64) -> Option<Setting>
     if is_text(name, b"entries") {
         return Some(Setting::Nothing);
     }
-    if let Some(digits) = behind(name, b"pmpaddr") {
-        return address_setting(digits, value);
-    }
-    let digits = behind(name, b"pmpcfg")?;
-    word_setting(digits, value)
+    register_setting(name, value)
 }
 
 /// What the number of an entry and its pair set.
@@ -114,15 +124,34 @@ fn set_by_two(name: &[u8], value: &[u8]) -> Option<Setting>
     named_setting(name, value)
 }
 
-/// What three words set.
-fn set_by_three(place: &[u8], cfg: &[u8], address: &[u8]) -> Option<Setting>
-    ensures value { result ≡ set_by_words (place.now ∷ cfg.now ∷ address.now ∷ []) }
+/// What the number of an entry and two words set.
+fn pair_by_words(place: u64, cfg: &[u8], address: &[u8]) -> Option<Setting>
+    ensures value { result ≡ pair_by_words place cfg.now address.now }
     ensures inside { IfSome result IsInside }
 {
-    let place = number(place)?;
     let cfg = number(cfg)?;
     let address = number(address)?;
     pair_setting(place, cfg, address)
+}
+
+/// What the name of a register and a word set.
+fn register_by_word(name: &[u8], value: &[u8]) -> Option<Setting>
+    ensures value { result ≡ option_and_then (register_setting name.now) (number_of value.now) }
+    ensures inside { IfSome result IsInside }
+{
+    let value = number(value)?;
+    register_setting(name, value)
+}
+
+/// What three words set: a pair, or a register as gdb prints it, with its value once more.
+fn set_by_three(first: &[u8], second: &[u8], third: &[u8]) -> Option<Setting>
+    ensures value { result ≡ set_by_words (first.now ∷ second.now ∷ third.now ∷ []) }
+    ensures inside { IfSome result IsInside }
+{
+    match number(first) {
+        Some(place) => pair_by_words(place, second, third),
+        None => register_by_word(first, second),
+    }
 }
 
 /// What words set.
