@@ -1,6 +1,8 @@
 -- What a line of a listing sets.
-use Rattle.std.specs.Prelude.{ℕ, ◌+◌, ◌*◌, ◌%◌, ◌<◌, ◌≤◌, ⊤, Bool, false, ◌&&◌, ◌==◌, nat_lt, nat_le, if◌then◌else◌, List, [], ◌∷◌, length, take, drop, Option, Some, None, codes, bytes_eq}
+use Rattle.std.specs.Prelude.{ℕ, ◌+◌, ◌*◌, ◌%◌, ◌-◌, ◌<◌, ◌≤◌, ⊤, Bool, false, ◌&&◌, ◌||◌, ◌==◌, nat_lt, nat_le, if◌then◌else◌, List, [], ◌∷◌, length, take, drop, Option, Some, None, codes, bytes_eq}
+use Rattle.std.specs.List.{position_or_len}
 use Rattle.std.specs.Option.{option_and_then}
+use Rattle.std.specs.Str.{str_eq_ignore_ascii_case}
 use Rattle.text_lines.specs.Words.{words_of}
 use Rattle.text_lines.specs.Numbers.{numeral_of, number_of}
 use Rattle.text_lines.specs.Lines.{without_return}
@@ -14,9 +16,9 @@ IsInside (settings.Pair place cfg address) = place < 64
 IsInside (settings.Address place value) = place < 64
 IsInside (settings.Word place value) = place + 8 ≤ 64
 
--- what stands after a name that a word begins with
+-- what stands after a name that a word begins with, in upper or lower case
 abbrev pub behind : List ℕ → List ℕ → Option (List ℕ)
-behind word name = if nat_le (length name) (length word) && bytes_eq (take (length name) word) name then Some (drop (length name) word) else None
+behind word name = if nat_le (length name) (length word) && str_eq_ignore_ascii_case (take (length name) word) name then Some (drop (length name) word) else None
 
 -- decimal digits with no leading zero
 abbrev pub has_leading_zero : List ℕ → Bool
@@ -46,8 +48,23 @@ by_behind value (Some digits) cfg = address_setting digits value
 by_behind value None (Some digits) = word_setting digits value
 by_behind value None None = None
 
+-- a name without the colon that may follow it
+abbrev pub without_colon : List ℕ → List ℕ
+without_colon name = if bytes_eq (drop (length name - 1) name) (codes ":") then take (length name - 1) name else name
+
+abbrev pub plain_setting : List ℕ → ℕ → Option Setting
+plain_setting name value = by_behind value (behind name (codes "pmpaddr")) (behind name (codes "pmpcfg"))
+
 abbrev pub register_setting : List ℕ → ℕ → Option Setting
-register_setting name value = by_behind value (behind name (codes "pmpaddr")) (behind name (codes "pmpcfg"))
+register_setting name value = plain_setting (without_colon name) value
+
+-- `NAME=VALUE`
+abbrev pub equals_at : List ℕ → ℕ
+equals_at word = position_or_len (λ b. b == 61) word
+
+abbrev pub set_by_one : List ℕ → Option Setting
+set_by_one word =
+    if nat_lt (equals_at word) (length word) then option_and_then (plain_setting (take (equals_at word) word)) (number_of (drop (equals_at word + 1) word)) else None
 
 -- a register, or a count of entries, which sets nothing
 abbrev pub named_setting : List ℕ → ℕ → Option Setting
@@ -60,14 +77,23 @@ pair_setting place cfg address = if nat_lt place 64 && nat_lt cfg 256 then Some 
 abbrev pub pair_by_words : ℕ → List ℕ → List ℕ → Option Setting
 pair_by_words place cfg address = option_and_then (λ c. option_and_then (pair_setting place c) (number_of address)) (number_of cfg)
 
--- the pair of an entry, where a number stands first; otherwise a register, its value, and a word that is not looked at
+-- between a name and its value: a sign, or the width of the register in bits
+abbrev pub is_between : List ℕ → Bool
+is_between word = bytes_eq word (codes ":") || bytes_eq word (codes "=") || bytes_eq word (codes "(/64):")
+
+-- the value's word: the second, and what stands after it is not looked at
+abbrev pub value_word : List ℕ → List ℕ → List ℕ
+value_word second third = if is_between second then third else second
+
+-- the pair of an entry, where a number stands first; otherwise a register and its value
 abbrev pub set_by_three : Option ℕ → List ℕ → List ℕ → List ℕ → Option Setting
 set_by_three (Some place) first second third = pair_by_words place second third
-set_by_three None first second third = option_and_then (register_setting first) (number_of second)
+set_by_three None first second third = option_and_then (register_setting first) (number_of (value_word second third))
 
 -- what words set
 abbrev pub set_by_words : List (List ℕ) → Option Setting
 set_by_words [] = Some settings.Nothing
+set_by_words (word ∷ []) = set_by_one word
 set_by_words (name ∷ value ∷ []) = option_and_then (named_setting name) (number_of value)
 set_by_words (first ∷ second ∷ third ∷ []) = set_by_three (number_of first) first second third
 set_by_words _ = None
