@@ -1,5 +1,5 @@
 -- What a line of a listing sets.
-use Rattle.std.specs.Prelude.{ℕ, ◌+◌, ◌*◌, ◌%◌, ◌-◌, ◌<◌, ◌≤◌, ⊤, Bool, false, ◌&&◌, ◌||◌, ◌==◌, nat_lt, nat_le, if◌then◌else◌, List, [], ◌∷◌, length, take, drop, Option, Some, None, codes, bytes_eq}
+use Rattle.std.specs.Prelude.{ℕ, ◌+◌, ◌*◌, ◌%◌, ◌-◌, ◌<◌, ◌≤◌, ⊤, Bool, false, not, ◌&&◌, ◌||◌, ◌==◌, nat_lt, nat_le, if◌then◌else◌, List, [], ◌∷◌, length, take, drop, Option, Some, None, codes, bytes_eq}
 use Rattle.std.specs.List.{position_or_len}
 use Rattle.std.specs.Option.{option_and_then}
 use Rattle.std.specs.Str.{str_eq_ignore_ascii_case}
@@ -16,9 +16,12 @@ IsInside (settings.Pair place cfg address) = place < 64
 IsInside (settings.Address place value) = place < 64
 IsInside (settings.Word place value) = place + 8 ≤ 64
 
--- what stands after a name that a word begins with, in upper or lower case
+-- a word begins with a name, in upper or lower case, and what stands after it
+abbrev pub begins_with : List ℕ → List ℕ → Bool
+begins_with word name = nat_le (length name) (length word) && str_eq_ignore_ascii_case (take (length name) word) name
+
 abbrev pub behind : List ℕ → List ℕ → Option (List ℕ)
-behind word name = if nat_le (length name) (length word) && str_eq_ignore_ascii_case (take (length name) word) name then Some (drop (length name) word) else None
+behind word name = if begins_with word name then Some (drop (length name) word) else None
 
 -- decimal digits with no leading zero
 abbrev pub has_leading_zero : List ℕ → Bool
@@ -42,18 +45,32 @@ word_at value k = if nat_lt k 16 && k % 2 == 0 then Some (settings.Word (4 * k) 
 abbrev pub word_setting : List ℕ → ℕ → Option Setting
 word_setting digits value = option_and_then (word_at value) (index_of digits)
 
+abbrev pub is_letter : ℕ → Bool
+is_letter b = nat_le 65 b && nat_le b 90 || nat_le 97 b && nat_le b 122
+
+abbrev pub begins_with_letter : List ℕ → Bool
+begins_with_letter [] = false
+begins_with_letter (first ∷ rest) = is_letter first
+
+-- another register, which is passed over; mseccfg only where it is zero, since its bits change what the entries mean
+abbrev pub is_other : List ℕ → ℕ → Bool
+is_other name value = begins_with_letter name && not (begins_with name (codes "pmp")) && (value == 0 || not (begins_with name (codes "mseccfg")))
+
+abbrev pub other_setting : List ℕ → ℕ → Option Setting
+other_setting name value = if is_other name value then Some settings.Nothing else None
+
 -- a name of a register and its value
-abbrev pub by_behind : ℕ → Option (List ℕ) → Option (List ℕ) → Option Setting
-by_behind value (Some digits) cfg = address_setting digits value
-by_behind value None (Some digits) = word_setting digits value
-by_behind value None None = None
+abbrev pub by_behind : List ℕ → ℕ → Option (List ℕ) → Option (List ℕ) → Option Setting
+by_behind name value (Some digits) cfg = address_setting digits value
+by_behind name value None (Some digits) = word_setting digits value
+by_behind name value None None = other_setting name value
 
 -- a name without the colon that may follow it
 abbrev pub without_colon : List ℕ → List ℕ
 without_colon name = if bytes_eq (drop (length name - 1) name) (codes ":") then take (length name - 1) name else name
 
 abbrev pub plain_setting : List ℕ → ℕ → Option Setting
-plain_setting name value = by_behind value (behind name (codes "pmpaddr")) (behind name (codes "pmpcfg"))
+plain_setting name value = by_behind name value (behind name (codes "pmpaddr")) (behind name (codes "pmpcfg"))
 
 abbrev pub register_setting : List ℕ → ℕ → Option Setting
 register_setting name value = plain_setting (without_colon name) value

@@ -6,7 +6,7 @@ ghost use Rattle.text_lines.specs.Words.{split_words};
 ghost use Rattle.text_lines.specs.Numbers.{number_of};
 ghost use Rattle.std.specs.Option.{option_and_then};
 ghost use Rattle.std.specs.Str.{str_eq_ignore_ascii_case};
-ghost use Rattle.register_text.specs.Lines.{IsInside, address_setting, behind, equals_at, has_leading_zero, index_of, is_between, line_sets, named_setting, pair_by_words, pair_setting, plain_setting, register_setting, set_by_words, value_word, without_colon, word_setting};
+ghost use Rattle.register_text.specs.Lines.{IsInside, address_setting, begins_with, begins_with_letter, behind, equals_at, has_leading_zero, index_of, is_between, is_letter, is_other, line_sets, named_setting, other_setting, pair_by_words, pair_setting, plain_setting, register_setting, set_by_words, value_word, without_colon, word_setting};
 
 use crate::setting::Setting;
 use text_lines::{NotUnderstood, Words, number, numeral};
@@ -85,6 +85,53 @@ fn word_setting(digits: &[u8], value: u64) -> Option<Setting>
     })
 }
 
+/// Whether a word begins with a name, in upper or lower case.
+fn begins_with(word: &[u8], name: &[u8]) -> bool
+    ensures { result ≡ begins_with word.now name.now }
+{
+    behind(word, name).is_some()
+}
+
+fn is_letter(byte: u8) -> bool
+    ensures { result ≡ is_letter byte }
+{
+    (byte >= 65 && byte <= 90) || (byte >= 97 && byte <= 122)
+}
+
+fn begins_with_letter(name: &[u8]) -> bool
+    ensures { result ≡ begins_with_letter name.now }
+{
+    match name {
+        [first, ..] => is_letter(*first),
+        [] => false,
+    }
+}
+
+/// Whether a register is another one than those of the protection, and leaves them their meaning.
+fn is_other(name: &[u8], value: u64) -> bool
+    ensures { result ≡ is_other name.now value }
+{
+    if !begins_with_letter(name) {
+        return false;
+    }
+    if begins_with(name, b"pmp") {
+        return false;
+    }
+    value == 0 || !begins_with(name, b"mseccfg")
+}
+
+/// What another register sets.
+fn other_setting(name: &[u8], value: u64) -> Option<Setting>
+    ensures value { result ≡ other_setting name.now value }
+    ensures inside { IfSome result IsInside }
+{
+    if is_other(name, value) {
+        Some(Setting::Nothing)
+    } else {
+        None
+    }
+}
+
 /// A name without the colon that may follow it.
 fn without_colon(name: &[u8]) -> &[u8]
     ensures { result.now ≡ without_colon name.now }
@@ -105,8 +152,10 @@ fn plain_setting(name: &[u8], value: u64) -> Option<Setting>
     if let Some(digits) = behind(name, b"pmpaddr") {
         return address_setting(digits, value);
     }
-    let digits = behind(name, b"pmpcfg")?;
-    word_setting(digits, value)
+    if let Some(digits) = behind(name, b"pmpcfg") {
+        return word_setting(digits, value);
+    }
+    other_setting(name, value)
 }
 
 /// What the name of a register, a colon after it or not, and a value set.
