@@ -1,6 +1,8 @@
 -- What a line of a listing sets.
-use Rattle.std.specs.Prelude.{ℕ, ◌+◌, ◌*◌, ◌%◌, ◌<◌, ◌≤◌, ⊤, Bool, false, ◌&&◌, ◌==◌, nat_lt, nat_le, if◌then◌else◌, List, [], ◌∷◌, length, take, drop, Option, Some, None, codes, bytes_eq}
+use Rattle.std.specs.Prelude.{ℕ, ◌+◌, ◌*◌, ◌%◌, ◌-◌, ◌<◌, ◌≤◌, ⊤, Bool, false, not, ◌&&◌, ◌||◌, ◌==◌, nat_lt, nat_le, if◌then◌else◌, List, [], ◌∷◌, length, take, drop, Option, Some, None, codes, bytes_eq}
+use Rattle.std.specs.List.{position_or_len}
 use Rattle.std.specs.Option.{option_and_then}
+use Rattle.std.specs.Str.{str_eq_ignore_ascii_case}
 use Rattle.text_lines.specs.Words.{words_of}
 use Rattle.text_lines.specs.Numbers.{numeral_of, number_of}
 use Rattle.text_lines.specs.Lines.{without_return}
@@ -14,9 +16,12 @@ IsInside (settings.Pair place cfg address) = place < 64
 IsInside (settings.Address place value) = place < 64
 IsInside (settings.Word place value) = place + 8 ≤ 64
 
--- what stands after a name that a word begins with
+-- a word begins with a name, in upper or lower case, and what stands after it
+abbrev pub begins_with : List ℕ → List ℕ → Bool
+begins_with word name = nat_le (length name) (length word) && str_eq_ignore_ascii_case (take (length name) word) name
+
 abbrev pub behind : List ℕ → List ℕ → Option (List ℕ)
-behind word name = if nat_le (length name) (length word) && bytes_eq (take (length name) word) name then Some (drop (length name) word) else None
+behind word name = if begins_with word name then Some (drop (length name) word) else None
 
 -- decimal digits with no leading zero
 abbrev pub has_leading_zero : List ℕ → Bool
@@ -40,26 +45,74 @@ word_at value k = if nat_lt k 16 && k % 2 == 0 then Some (settings.Word (4 * k) 
 abbrev pub word_setting : List ℕ → ℕ → Option Setting
 word_setting digits value = option_and_then (word_at value) (index_of digits)
 
--- a name of a register and its value, or a count of entries, which sets nothing
-abbrev pub by_behind : ℕ → Option (List ℕ) → Option (List ℕ) → Option Setting
-by_behind value (Some digits) cfg = address_setting digits value
-by_behind value None (Some digits) = word_setting digits value
-by_behind value None None = None
+abbrev pub is_letter : ℕ → Bool
+is_letter b = nat_le 65 b && nat_le b 90 || nat_le 97 b && nat_le b 122
 
+abbrev pub begins_with_letter : List ℕ → Bool
+begins_with_letter [] = false
+begins_with_letter (first ∷ rest) = is_letter first
+
+-- another register, which is passed over; mseccfg only where it is zero, since its bits change what the entries mean
+abbrev pub is_other : List ℕ → ℕ → Bool
+is_other name value = begins_with_letter name && not (begins_with name (codes "pmp")) && (value == 0 || not (begins_with name (codes "mseccfg")))
+
+abbrev pub other_setting : List ℕ → ℕ → Option Setting
+other_setting name value = if is_other name value then Some settings.Nothing else None
+
+-- a name of a register and its value
+abbrev pub by_behind : List ℕ → ℕ → Option (List ℕ) → Option (List ℕ) → Option Setting
+by_behind name value (Some digits) cfg = address_setting digits value
+by_behind name value None (Some digits) = word_setting digits value
+by_behind name value None None = other_setting name value
+
+-- a name without the colon that may follow it
+abbrev pub without_colon : List ℕ → List ℕ
+without_colon name = if bytes_eq (drop (length name - 1) name) (codes ":") then take (length name - 1) name else name
+
+abbrev pub plain_setting : List ℕ → ℕ → Option Setting
+plain_setting name value = by_behind name value (behind name (codes "pmpaddr")) (behind name (codes "pmpcfg"))
+
+abbrev pub register_setting : List ℕ → ℕ → Option Setting
+register_setting name value = plain_setting (without_colon name) value
+
+-- `NAME=VALUE`
+abbrev pub equals_at : List ℕ → ℕ
+equals_at word = position_or_len (λ b. b == 61) word
+
+abbrev pub set_by_one : List ℕ → Option Setting
+set_by_one word =
+    if nat_lt (equals_at word) (length word) then option_and_then (plain_setting (take (equals_at word) word)) (number_of (drop (equals_at word + 1) word)) else None
+
+-- a register, or a count of entries, which sets nothing
 abbrev pub named_setting : List ℕ → ℕ → Option Setting
-named_setting name value =
-    if bytes_eq name (codes "entries") then Some settings.Nothing else by_behind value (behind name (codes "pmpaddr")) (behind name (codes "pmpcfg"))
+named_setting name value = if bytes_eq name (codes "entries") then Some settings.Nothing else register_setting name value
 
 -- the number of an entry, below 64, its configuration byte and its address
 abbrev pub pair_setting : ℕ → ℕ → ℕ → Option Setting
 pair_setting place cfg address = if nat_lt place 64 && nat_lt cfg 256 then Some (settings.Pair place cfg address) else None
 
+abbrev pub pair_by_words : ℕ → List ℕ → List ℕ → Option Setting
+pair_by_words place cfg address = option_and_then (λ c. option_and_then (pair_setting place c) (number_of address)) (number_of cfg)
+
+-- between a name and its value: a sign, or the width of the register in bits
+abbrev pub is_between : List ℕ → Bool
+is_between word = bytes_eq word (codes ":") || bytes_eq word (codes "=") || bytes_eq word (codes "(/64):")
+
+-- the value's word: the second, and what stands after it is not looked at
+abbrev pub value_word : List ℕ → List ℕ → List ℕ
+value_word second third = if is_between second then third else second
+
+-- the pair of an entry, where a number stands first; otherwise a register and its value
+abbrev pub set_by_three : Option ℕ → List ℕ → List ℕ → List ℕ → Option Setting
+set_by_three (Some place) first second third = pair_by_words place second third
+set_by_three None first second third = option_and_then (register_setting first) (number_of (value_word second third))
+
 -- what words set
 abbrev pub set_by_words : List (List ℕ) → Option Setting
 set_by_words [] = Some settings.Nothing
+set_by_words (word ∷ []) = set_by_one word
 set_by_words (name ∷ value ∷ []) = option_and_then (named_setting name) (number_of value)
-set_by_words (place ∷ cfg ∷ address ∷ []) =
-    option_and_then (λ p. option_and_then (λ c. option_and_then (pair_setting p c) (number_of address)) (number_of cfg)) (number_of place)
+set_by_words (first ∷ second ∷ third ∷ []) = set_by_three (number_of first) first second third
 set_by_words _ = None
 
 -- what a line sets, where it is understood

@@ -1,8 +1,8 @@
 //! Registers as text: what the lines of a listing set, and the registers that they leave.
 //!
-//! A listing is what `plan` prints, or lines `pmpaddrN VALUE` and `pmpcfgK VALUE` in any order, as a debugger or a boot log
-//! has them. A later line overrides an earlier one, and what no line sets is zero. For the layer above: [`registers_of`]
-//! answers the registers, or the number of the first line that is not understood.
+//! A listing is what `plan` prints, or lines `pmpaddrN VALUE` and `pmpcfgK VALUE` in any order, as gdb, OpenOCD or a boot log
+//! has them. A later line overrides an earlier one, and what no line sets is zero. Lines of other registers set nothing. For the
+//! layer above: [`registers_of`] answers the registers, or the number of the first line that is not understood.
 //!
 //! ```rust
 //! let registers = registers_of(b"pmpaddr0 0x200001ff\npmpcfg0 0x1f\n")?;

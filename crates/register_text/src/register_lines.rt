@@ -1,9 +1,12 @@
 //! What one line of a listing sets.
 
-ghost use Rattle.std.specs.Prelude.{◌≡◌, [], ◌∷◌, IfOk, IfSome, bytes_eq, option_map};
+ghost use Rattle.std.specs.Prelude.{◌≡◌, ◌≤◌, [], ◌∷◌, length, IfOk, IfSome, bytes_eq, option_map};
 ghost use Rattle.std.specs.Result.{result_ok};
 ghost use Rattle.text_lines.specs.Words.{split_words};
-ghost use Rattle.register_text.specs.Lines.{IsInside, address_setting, behind, has_leading_zero, index_of, line_sets, named_setting, pair_setting, set_by_words, word_setting};
+ghost use Rattle.text_lines.specs.Numbers.{number_of};
+ghost use Rattle.std.specs.Option.{option_and_then};
+ghost use Rattle.std.specs.Str.{str_eq_ignore_ascii_case};
+ghost use Rattle.register_text.specs.Lines.{IsInside, address_setting, begins_with, begins_with_letter, behind, equals_at, has_leading_zero, index_of, is_between, is_letter, is_other, line_sets, named_setting, other_setting, pair_by_words, pair_setting, plain_setting, register_setting, set_by_words, value_word, without_colon, word_setting};
 
 use crate::setting::Setting;
 use text_lines::{NotUnderstood, Words, number, numeral};
@@ -14,14 +17,21 @@ fn is_text(word: &[u8], text: &[u8]) -> bool
     word == text
 }
 
-/// What stands after a name that a word begins with.
+/// Whether a word is a text, in upper or lower case.
+fn is_text_in_any_case(word: &[u8], text: &[u8]) -> bool
+    ensures { result ≡ str_eq_ignore_ascii_case word.now text.now }
+{
+    word.eq_ignore_ascii_case(text)
+}
+
+/// What stands after a name that a word begins with, in upper or lower case.
 fn behind<'a>(word: &'a [u8], name: &[u8]) -> Option<&'a [u8]>
     ensures { option_map (λ rest. rest.now) result ≡ behind word.now name.now }
 {
     if name.len() > word.len() {
         return None;
     }
-    if is_text(&word[..name.len()], name) {
+    if is_text_in_any_case(&word[..name.len()], name) {
         Some(&word[name.len()..])
     } else {
         None
@@ -75,6 +85,87 @@ fn word_setting(digits: &[u8], value: u64) -> Option<Setting>
     })
 }
 
+/// Whether a word begins with a name, in upper or lower case.
+fn begins_with(word: &[u8], name: &[u8]) -> bool
+    ensures { result ≡ begins_with word.now name.now }
+{
+    behind(word, name).is_some()
+}
+
+fn is_letter(byte: u8) -> bool
+    ensures { result ≡ is_letter byte }
+{
+    (byte >= 65 && byte <= 90) || (byte >= 97 && byte <= 122)
+}
+
+fn begins_with_letter(name: &[u8]) -> bool
+    ensures { result ≡ begins_with_letter name.now }
+{
+    match name {
+        [first, ..] => is_letter(*first),
+        [] => false,
+    }
+}
+
+/// Whether a register is another one than those of the protection, and leaves them their meaning.
+fn is_other(name: &[u8], value: u64) -> bool
+    ensures { result ≡ is_other name.now value }
+{
+    if !begins_with_letter(name) {
+        return false;
+    }
+    if begins_with(name, b"pmp") {
+        return false;
+    }
+    value == 0 || !begins_with(name, b"mseccfg")
+}
+
+/// What another register sets.
+fn other_setting(name: &[u8], value: u64) -> Option<Setting>
+    ensures value { result ≡ other_setting name.now value }
+    ensures inside { IfSome result IsInside }
+{
+    if is_other(name, value) {
+        Some(Setting::Nothing)
+    } else {
+        None
+    }
+}
+
+/// A name without the colon that may follow it.
+fn without_colon(name: &[u8]) -> &[u8]
+    ensures { result.now ≡ without_colon name.now }
+{
+    let before = name.len().saturating_sub(1);
+    if is_text(&name[before..], b":") {
+        &name[..before]
+    } else {
+        name
+    }
+}
+
+/// What the name of a register and a value set.
+fn plain_setting(name: &[u8], value: u64) -> Option<Setting>
+    ensures value { result ≡ plain_setting name.now value }
+    ensures inside { IfSome result IsInside }
+{
+    if let Some(digits) = behind(name, b"pmpaddr") {
+        return address_setting(digits, value);
+    }
+    if let Some(digits) = behind(name, b"pmpcfg") {
+        return word_setting(digits, value);
+    }
+    other_setting(name, value)
+}
+
+/// What the name of a register, a colon after it or not, and a value set.
+fn register_setting(name: &[u8], value: u64) -> Option<Setting>
+    ensures value { result ≡ register_setting name.now value }
+    ensures inside { IfSome result IsInside }
+{
+    plain_setting(without_colon(name), value)
+}
+
 /// What a name and a value set.
 fn named_setting(name: &[u8], value: u64) -> Option<Setting>
     ensures value { result ≡ named_setting name.now value }
@@ -83,11 +174,7 @@ fn named_setting(name: &[u8], value: u64) -> Option<Setting>
     if is_text(name, b"entries") {
         return Some(Setting::Nothing);
     }
-    if let Some(digits) = behind(name, b"pmpaddr") {
-        return address_setting(digits, value);
-    }
-    let digits = behind(name, b"pmpcfg")?;
-    word_setting(digits, value)
+    register_setting(name, value)
 }
 
 /// What the number of an entry and its pair set.
@@ -114,15 +201,74 @@ fn set_by_two(name: &[u8], value: &[u8]) -> Option<Setting>
     named_setting(name, value)
 }
 
-/// What three words set.
-fn set_by_three(place: &[u8], cfg: &[u8], address: &[u8]) -> Option<Setting>
-    ensures value { result ≡ set_by_words (place.now ∷ cfg.now ∷ address.now ∷ []) }
+/// What the number of an entry and two words set.
+fn pair_by_words(place: u64, cfg: &[u8], address: &[u8]) -> Option<Setting>
+    ensures value { result ≡ pair_by_words place cfg.now address.now }
     ensures inside { IfSome result IsInside }
 {
-    let place = number(place)?;
     let cfg = number(cfg)?;
     let address = number(address)?;
     pair_setting(place, cfg, address)
+}
+
+/// What the name of a register and a word set.
+fn register_by_word(name: &[u8], value: &[u8]) -> Option<Setting>
+    ensures value { result ≡ option_and_then (register_setting name.now) (number_of value.now) }
+    ensures inside { IfSome result IsInside }
+{
+    let value = number(value)?;
+    register_setting(name, value)
+}
+
+/// Where a word has an equals sign, or how long it is.
+fn equals_at(word: &[u8]) -> usize
+    ensures within { result ≤ length word.now }
+    ensures place { result ≡ equals_at word.now }
+{
+    for (i, b) in word.iter().enumerate() {
+        if *b == b'=' {
+            return i;
+        }
+    }
+    word.len()
+}
+
+/// What one word sets: a register and its value with an equals sign between them.
+fn set_by_one(word: &[u8]) -> Option<Setting>
+    ensures value { result ≡ set_by_words (word.now ∷ []) }
+    ensures inside { IfSome result IsInside }
+{
+    let place = equals_at(word);
+    if place >= word.len() {
+        return None;
+    }
+    let value = number(&word[place + 1..])?;
+    plain_setting(&word[..place], value)
+}
+
+/// Whether a word stands between a name and its value: a sign, or the width of the register in bits.
+fn is_between(word: &[u8]) -> bool
+    ensures { result ≡ is_between word.now }
+{
+    is_text(word, b":") || is_text(word, b"=") || is_text(word, b"(/64):")
+}
+
+/// The word of the value: the second, and gdb's third has the same in decimal.
+fn value_word<'a>(second: &'a [u8], third: &'a [u8]) -> &'a [u8]
+    ensures { result.now ≡ value_word second.now third.now }
+{
+    if is_between(second) { third } else { second }
+}
+
+/// What three words set: a pair, or a register.
+fn set_by_three(first: &[u8], second: &[u8], third: &[u8]) -> Option<Setting>
+    ensures value { result ≡ set_by_words (first.now ∷ second.now ∷ third.now ∷ []) }
+    ensures inside { IfSome result IsInside }
+{
+    match number(first) {
+        Some(place) => pair_by_words(place, second, third),
+        None => register_by_word(first, value_word(second, third)),
+    }
 }
 
 /// What words set.
@@ -133,7 +279,9 @@ fn set_by_words(mut words: Words<'_>) -> Option<Setting>
     let Some(first) = words.next_word() else {
         return Some(Setting::Nothing);
     };
-    let second = words.next_word()?;
+    let Some(second) = words.next_word() else {
+        return set_by_one(first);
+    };
     let Some(third) = words.next_word() else {
         return set_by_two(first, second);
     };

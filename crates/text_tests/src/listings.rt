@@ -32,6 +32,39 @@ fn registers_in_any_order_and_set_twice(rt: HostRuntime) -> Result<(), Fail> {
 }
 
 #[test]
+fn what_gdb_prints(rt: HostRuntime) -> Result<(), Fail> {
+    let listing =
+        b"mstatus        0x1800\t6144\npmpcfg0        0x1f\t31\npmpcfg2        0x8000000000000000\t-9223372036854775808\npmpaddr0       0x801fff\t8396799\nmseccfg        0x0\t0\n";
+    let registers = registers_of(listing.as_slice()).expect(&rt, "understood");
+    assert_eq!(rt; &registers.cfgs[..3], [0x1f, 0, 0].as_slice());
+    assert_eq!(rt; registers.cfgs[15], 0x80);
+    assert_eq!(rt; &registers.addresses[..2], [0x80_1fff, 0].as_slice());
+    Ok(())
+}
+
+#[test]
+fn what_openocd_prints(rt: HostRuntime) -> Result<(), Fail> {
+    let listing =
+        b"mstatus (/64): 0x0000000a00000000\npmpcfg0 (/64): 0x0000000000000f1f\npmpaddr0 (/64): 0x0000000000801fff\npmpaddr1: 0x20\npmpaddr2 : 33\npmpaddr3=0x22\npmpaddr4 = 35\n";
+    let registers = registers_of(listing.as_slice()).expect(&rt, "understood");
+    assert_eq!(rt; &registers.cfgs[..3], [0x1f, 0x0f, 0].as_slice());
+    assert_eq!(rt;
+        &registers.addresses[..6],
+        [0x80_1fff, 32, 33, 34, 35, 0].as_slice()
+    );
+    Ok(())
+}
+
+#[test]
+fn names_in_upper_case(rt: HostRuntime) -> Result<(), Fail> {
+    let listing = b"PMPADDR0 1\nPmpAddr1: 2\nPMPCFG0=0x1f18\n";
+    let registers = registers_of(listing.as_slice()).expect(&rt, "understood");
+    assert_eq!(rt; &registers.cfgs[..3], [0x18, 0x1f, 0].as_slice());
+    assert_eq!(rt; &registers.addresses[..3], [1, 2, 0].as_slice());
+    Ok(())
+}
+
+#[test]
 fn the_first_line_that_is_not_understood(rt: HostRuntime) {
     for (listing, line) in [
         (b"pmpaddr64 1".as_slice(), 1),
@@ -44,9 +77,19 @@ fn the_first_line_that_is_not_understood(rt: HostRuntime) {
         (b"0 0x100 0\n", 1),
         (b"0 0 0 0\n", 1),
         (b"entries many\n", 1),
-        (b"PMPADDR0 1\n", 1),
         (b"pmpaddr0 0x10000000000000000\n", 1),
         (b"pmpaddr0 1\npmpaddr1 \x80\n", 2),
+        (b"mstatus 0x1800\npmpcfg1 0x0 0\n", 2),
+        (b"PMPCFG3 (/64): 0x0\n", 1),
+        (b"pmpcfg0 (/32): 0x1f\n", 1),
+        (b"pmpaddr64 0x0 0\n", 1),
+        (b"pmp0cfg 0\n", 1),
+        (b"pmpaddr0\t1 2 3\n", 1),
+        (b"pmpaddr0=\n", 1),
+        (b"=1\n", 1),
+        (b"mseccfg 0\nmseccfg 0x1\n", 2),
+        (b"mseccfg (/64): 0x0000000000000001\n", 1),
+        (b"mstatus what\n", 1),
     ] {
         assert!(rt; registers_of(listing) == Err(line));
     }
