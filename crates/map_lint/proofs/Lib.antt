@@ -1,2 +1,4 @@
 mod Appended
 mod FirstLine
+mod Followed
+mod Named

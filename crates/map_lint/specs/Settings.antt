@@ -1,5 +1,5 @@
 -- The settings of a map's lines, and the maps to which they lead.
-use Rattle.std.specs.Prelude.{◌≡◌, ◌⊎◌, ◌≢◌, ℕ, ◌+◌, ◌^◌, ◌<◌, ◌≤◌, Bool, true, false, List, [], ◌∷◌, ◌++◌, length, take, drop, codes, Option, Some}
+use Rattle.std.specs.Prelude.{◌≡◌, ◌⊎◌, ◌≢◌, ℕ, ◌+◌, ◌^◌, ◌<◌, ◌≤◌, Bool, true, false, List, [], ◌∷◌, ◌++◌, length, codes, Option, Some}
 use Rattle.permission_map.specs.declared.runs.Run.{Run}
 use Rattle.map_text.specs.MapFile.{Sets, SetsTooMany, raw_says}
 use Rattle.map_lint.specs.declared.idle.Numbered.{Numbered}
@@ -26,42 +26,49 @@ IsTooManyAfter n before [] = ⊥
 IsTooManyAfter n before (numbered ∷ settings) =
     ((numbered.line ≡ n) × SetsTooMany before numbered.setting) ⊎ ((middle : List Run) × Sets before numbered.setting middle × IsTooManyAfter n middle settings)
 
--- all settings but the one of a place lead to a map
-abbrev pub SetsWithout : List Numbered → ℕ → List Run → Type 0
-SetsWithout settings i map = (middle : List Run) × SetTo [] (take i settings) middle × SetTo middle (drop (i + 1) settings) map
+-- settings lead to another map than this one, or on their way there are too many ranges
+abbrev pub LeadElsewhere : List Numbered → List Run → Type 0
+LeadElsewhere settings whole = ((other : List Run) × SetTo [] settings other × (other ≢ whole)) ⊎ ((n : ℕ) × IsTooManyAfter n [] settings)
 
--- on their way there are too many ranges
-abbrev pub IsTooManyWithout : List Numbered → ℕ → Type 0
-IsTooManyWithout settings i =
-    (n : ℕ) × (IsTooManyAfter n [] (take i settings) ⊎ ((middle : List Run) × SetTo [] (take i settings) middle × IsTooManyAfter n middle (drop (i + 1) settings)))
+-- which settings are named, from first to last, and which are left of all: `kept` are those left of the ones before. A setting
+-- is named exactly where all that are still left lead to the whole map without it; from then on it is left out
+pub data AreNamed (whole : List Run) : List Numbered → List Numbered → List Numbered → List Numbered → Type 0 where
+  end : {kept : List Numbered} → AreNamed whole kept [] [] kept
+  idle :
+      {kept rest named left : List Numbered} → (numbered : Numbered)
+      → SetTo [] (kept ++ rest) whole → AreNamed whole kept rest named left → AreNamed whole kept (numbered ∷ rest) (numbered ∷ named) left
+  needed :
+      {kept rest named left : List Numbered} → (numbered : Numbered)
+      → LeadElsewhere (kept ++ rest) whole → AreNamed whole (kept ++ numbered ∷ []) rest named left → AreNamed whole kept (numbered ∷ rest) named left
 
--- the warning of a line that changes nothing
+-- the warning of a line that is named
 abbrev pub idle_text : List ℕ → ℕ → List ℕ
 idle_text name n = place_text name n ++ codes "1: warning: the line changes nothing of the whole map; it can go\n"
 
--- what is written of a setting: a warning where the map is the same without it, and otherwise nothing
-pub data IsWarning (name : List ℕ) (settings : List Numbered) (whole : List Run) (i : ℕ) (numbered : Numbered) : List ℕ → Type 0 where
-  idle : SetsWithout settings i whole → IsWarning name settings whole i numbered (idle_text name numbered.line)
-  needed : (other : List Run) → SetsWithout settings i other → other ≢ whole → IsWarning name settings whole i numbered []
-  growing : IsTooManyWithout settings i → IsWarning name settings whole i numbered []
+-- the warnings of the named lines, one after another
+abbrev pub idle_texts : List ℕ → List Numbered → List ℕ
+idle_texts name [] = []
+idle_texts name (numbered ∷ named) = idle_text name numbered.line ++ idle_texts name named
 
--- what is written of the settings from place i on, one after another
-abbrev pub AreWarnings : List ℕ → List Numbered → List Run → ℕ → List Numbered → List ℕ → Type 0
-AreWarnings name settings whole i [] text = text ≡ []
-AreWarnings name settings whole i (numbered ∷ rest) text =
-    (first last : List ℕ) × IsWarning name settings whole i numbered first × AreWarnings name settings whole (i + 1) rest last × (text ≡ first ++ last)
+-- a warning of each named line; without all of them together, the settings that are left lead to the same map
+pub record AreWarnings (name : List ℕ) (settings : List Numbered) (whole : List Run) (text : List ℕ) : Type 0 where
+  pub named : List Numbered
+  pub left : List Numbered
+  pub are_named : AreNamed whole [] settings named left
+  pub same : SetTo [] left whole
+  pub text_is : text ≡ idle_texts name named
 
 -- what is said of the line after which there would be too many ranges
 abbrev pub too_many_text : List ℕ → ℕ → List ℕ
 too_many_text name n = place_text name n ++ codes "1: more than 4096 ranges after this line; a map has at most 4096\n"
 
 -- what is written after the lines at fault: the line after which there would be too many ranges; otherwise, of a map where at
--- most 512 lines set something, those that change nothing
+-- most 512 lines set something, those that can all be left out together
 pub data IsTail (name : List ℕ) (settings : List Numbered) : Bool → List ℕ → Type 0 where
   after : {is_map : Bool} (n : ℕ) → IsTooManyAfter n [] settings → IsTail name settings is_map (too_many_text name n)
   no_map : (map : List Run) → SetTo [] settings map → IsTail name settings false []
   many : (map : List Run) → SetTo [] settings map → 512 < length settings → IsTail name settings true []
-  warned : (map : List Run) (text : List ℕ) → SetTo [] settings map → length settings ≤ 512 → AreWarnings name settings map 0 settings text → IsTail name settings true text
+  warned : (map : List Run) (text : List ℕ) → SetTo [] settings map → length settings ≤ 512 → AreWarnings name settings map text → IsTail name settings true text
 
 -- the range of a setting lies in the space
 abbrev pub IsInside : Numbered → Type 0

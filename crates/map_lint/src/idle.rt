@@ -1,14 +1,14 @@
-//! Lines that change nothing of what stands after the whole file, and the line after which there are too many ranges.
+//! Lines without which the whole map is the same, all of them together, and the line after which there are too many ranges.
 
-ghost use Rattle.std.specs.Prelude.{◌≡◌, ◌≢◌, ◌++◌, ◌<◌, ℕ, IfNone, IfOk, IfSome, List, OnOk, false, length, true};
+ghost use Rattle.std.specs.Prelude.{◌≡◌, ◌≢◌, ◌++◌, ℕ, IfNone, IfOk, IfSome, List, OnOk, Ok, [], false, true};
 ghost use Rattle.std.specs.List.{All};
-ghost use Rattle.map_lint.specs.Settings.{AreWarnings, IsInside, IsTail, IsTooManyAfter, IsTooManyWithout, IsWarning, SetTo, SetsWithout, idle_text, too_many_text};
+ghost use Rattle.map_lint.specs.Settings.{AreWarnings, IsInside, IsTail, IsTooManyAfter, LeadElsewhere, SetTo, idle_text, too_many_text};
 
 use crate::texts::{push, push_place};
 use permission_map::{MapBuilder, MapFault, Memory, PermissionMap, Run};
 use std::alloc::{AllocError, Global};
 
-/// How many settings a file may have to be looked at for lines that change nothing.
+/// How many settings a file may have to be looked at for lines that can be left out.
 const MOST: usize = 512;
 
 /// What a line sets.
@@ -37,22 +37,23 @@ fn follow(map: &mut MapBuilder, settings: &[Numbered]) -> Result<Option<u64>, Me
     Ok(None)
 }
 
-/// The map of all settings but one, where there are never too many ranges.
-fn map_without(
+/// The map of settings and of those after them, where there are never too many ranges.
+fn map_of_both(
     alloc: Global,
-    settings: &[Numbered],
-    left_out: usize,
+    kept: &[Numbered],
+    rest: &[Numbered],
 ) -> Result<Option<PermissionMap>, Memory>
-    requires inside { All IsInside settings.now }
-    requires index { left_out < length settings.now }
-    ensures made { IfOk result (λ made. IfSome made (SetsWithout settings.now left_out)) }
-    ensures many { IfOk result (λ made. IfNone made (IsTooManyWithout settings.now left_out)) }
+    requires kept { All IsInside kept.now }
+    requires rest { All IsInside rest.now }
+    ensures made { IfOk result (λ made. IfSome made (SetTo [] (kept.now ++ rest.now))) }
+    ensures many { IfOk result (λ made. IfNone made
+        ((n : ℕ) × IsTooManyAfter n [] (kept.now ++ rest.now))) }
 {
     let mut map = MapBuilder::new(alloc);
-    if let Some(_) = follow(&mut map, &settings[..left_out])? {
+    if let Some(_) = follow(&mut map, kept)? {
         return Ok(None);
     }
-    if let Some(_) = follow(&mut map, &settings[left_out + 1..])? {
+    if let Some(_) = follow(&mut map, rest)? {
         return Ok(None);
     }
     let map = map.finish()?;
@@ -67,7 +68,7 @@ fn is_same(one: &PermissionMap, other: &PermissionMap) -> bool
     one.ranges() == other.ranges()
 }
 
-/// Appends the warning of a line that changes nothing.
+/// Appends the warning of a line without which the map is the same.
 fn push_idle(text: &mut Vec<u8>, name: &str, line: u64) -> Result<(), Memory>
     ensures { OnOk result (text.new.items ≡ text.old.items ++ idle_text name.now line) }
 {
@@ -89,33 +90,25 @@ fn push_too_many(text: &mut Vec<u8>, name: &str, line: u64) -> Result<(), Memory
     )
 }
 
-/// Appends a warning of a setting without which the map is the same.
-fn push_warning(
+/// Whether settings and those after them lead to the whole map.
+fn is_whole(
     alloc: Global,
-    text: &mut Vec<u8>,
-    name: &str,
-    settings: &[Numbered],
-    i: usize,
-    numbered: &Numbered,
+    kept: &[Numbered],
+    rest: &[Numbered],
     whole: &PermissionMap,
-) -> Result<(), Memory>
-    requires inside { All IsInside settings.now }
-    requires index { i < length settings.now }
-    ensures { IfOk result (λ _.
-        (said : List ℕ) × IsWarning name.now settings.now whole.now i numbered.now said
-        × (text.new.items ≡ text.old.items ++ said)) }
+) -> Result<bool, Memory>
+    requires kept { All IsInside kept.now }
+    requires rest { All IsInside rest.now }
+    ensures yes { result ≡ Ok true → SetTo [] (kept.now ++ rest.now) whole.now }
+    ensures no { result ≡ Ok false → LeadElsewhere (kept.now ++ rest.now) whole.now }
 {
-    let Some(other) = map_without(alloc, settings, i)? else {
-        return Ok(());
+    let Some(other) = map_of_both(alloc, kept, rest)? else {
+        return Ok(false);
     };
-    if !is_same(&other, whole) {
-        return Ok(());
-    }
-    push_idle(text, name, numbered.line)?;
-    Ok(())
+    Ok(is_same(&other, whole))
 }
 
-/// Appends a warning of each setting without which the map is the same.
+/// Appends a warning of each setting without which those that are left lead to the whole map. It is left out from then on.
 fn push_warnings(
     alloc: Global,
     text: &mut Vec<u8>,
@@ -123,19 +116,25 @@ fn push_warnings(
     settings: &[Numbered],
     whole: &PermissionMap,
 ) -> Result<(), Memory>
-    requires { All IsInside settings.now }
+    requires inside { All IsInside settings.now }
+    requires whole { SetTo [] settings.now whole.now }
     ensures { IfOk result (λ _.
-        (said : List ℕ) × AreWarnings name.now settings.now whole.now 0 settings.now said
+        (said : List ℕ) × AreWarnings name.now settings.now whole.now said
         × (text.new.items ≡ text.old.items ++ said)) }
 {
+    let mut kept = Vec::new(alloc);
     for (i, numbered) in settings.iter().enumerate() {
-        push_warning(alloc, text, name, settings, i, numbered, whole)?;
+        if is_whole(alloc, kept.as_slice(), &settings[i + 1..], whole)? {
+            push_idle(text, name, numbered.line)?;
+        } else {
+            kept.push(*numbered)?;
+        }
     }
     Ok(())
 }
 
-/// Appends the line after which there are too many ranges, where there is one; otherwise a warning of each line of a map that
-/// changes nothing, where few lines set something.
+/// Appends the line after which there are too many ranges, where there is one; otherwise warnings of the lines of a map that can
+/// all be left out together, where few lines set something.
 pub(crate) fn push_tail(
     alloc: Global,
     text: &mut Vec<u8>,

@@ -2,6 +2,7 @@
 
 use byte_streams::fakes::PieceSink;
 use map_lint::lint;
+use map_text::map_of;
 use std::alloc::Global;
 use std::process::Abort;
 use std::test::Fail;
@@ -12,6 +13,14 @@ fn expect_lint(rt: &impl Abort, alloc: Global, bytes: &[u8], is_map: bool, wante
     let answer = lint(alloc, "m", bytes, &mut out);
     assert!(rt; answer == Ok(is_map));
     assert_eq!(rt; out.written(), wanted.as_bytes());
+}
+
+/// That two files make the same map.
+fn expect_same_map(rt: &impl Abort, alloc: Global, one: &[u8], other: &[u8]) {
+    match (map_of(alloc, one), map_of(alloc, other)) {
+        (Ok(one), Ok(other)) => assert_eq!(rt; one.ranges(), other.ranges()),
+        _ => panic!(rt; "a file makes no map"),
+    }
 }
 
 #[test]
@@ -71,5 +80,20 @@ fn a_map_without_fault_and_lines_that_change_nothing(rt: HostRuntime) -> Result<
     let wanted =
         "m:1:1: warning: the line changes nothing of the whole map; it can go\nm:4:1: warning: the line changes nothing of the whole map; it can go\nm:5:1: warning: the line changes nothing of the whole map; it can go\n";
     expect_lint(&rt, alloc, idle.as_slice(), true, wanted);
+    Ok(())
+}
+
+#[test]
+fn lines_that_are_named_can_all_be_left_out(rt: HostRuntime) -> Result<(), Fail> {
+    let alloc = rt.alloc();
+    let twice = b"0 0x1000 r\n0 0x1000 r\n";
+    let wanted = "m:1:1: warning: the line changes nothing of the whole map; it can go\n";
+    expect_lint(&rt, alloc, twice.as_slice(), true, wanted);
+    let guard = b"0x80000000 0x8000000 rwx\n0x80000000 0x200000 none\n0x80000000 0x200000 none\n";
+    let wanted = "m:2:1: warning: the line changes nothing of the whole map; it can go\n";
+    expect_lint(&rt, alloc, guard.as_slice(), true, wanted);
+    let left = b"0x80000000 0x8000000 rwx\n0x80000000 0x200000 none\n";
+    expect_lint(&rt, alloc, left.as_slice(), true, "");
+    expect_same_map(&rt, alloc, guard.as_slice(), left.as_slice());
     Ok(())
 }

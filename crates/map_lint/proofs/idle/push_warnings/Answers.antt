@@ -1,24 +1,44 @@
-use Rattle.std.proofs.Common.{ℕ, List, [], ◌∙◌, ◌+◌, ◌++◌, ◌<◌, ap, append_assoc, append-nil, arith, drop, get_or, length, refl, sym}
-use Rattle.std.proofs.lemmas.List.{drop_more}
+use Rattle.std.proofs.Common.{◌∙◌, ◌+◌, ◌++◌, [], ◌∷◌, Ok, ap, append_assoc, append-nil, refl, sym}
 use Rattle.std.proofs.Math.ListN.{drop_of_length-le}
-use Rattle.permission_map.specs.declared.runs.Run.{Run}
-use Rattle.map_lint.specs.declared.idle.Numbered.{Numbered}
-use Rattle.map_lint.specs.Settings.{AreWarnings, IsWarning}
+use Rattle.std.proofs.lemmas.List.Elements.{All-push}
+use Rattle.map_lint.specs.Settings.{IsInside, end, idle_texts}
+use Rattle.map_lint.proofs.Named.{keep_it, move_it, name_it, rest_from}
 use Rattle.map_lint.proofs.idle.push_warnings.Goals as goal
-
-with_first :
-    (name : List ℕ) (settings : List Numbered) (whole : List Run) (i : ℕ) (d : Numbered) (first rest : List ℕ) → i < length settings → IsWarning name settings whole i (get_or settings i d) first
-    → AreWarnings name settings whole (i + 1) (drop (i + 1) settings) rest → AreWarnings name settings whole i (drop i settings) (first ++ rest)
-with_first name settings whole i d first rest less said warned = rw (drop_more settings i d less) (first, rest, said, warned, refl)
+use Rattle.map_lint.proofs.idle.push_warnings.Goals.{then-branch+in_ok-push_idle, else-branch+in_ok-push}
 
 pub loop-i-preserved : goal.loop-i-preserved
-loop-i-preserved c = λ rest warned.
-    let said = c.in_ok-push_warning.ensures in
-    let here = with_first c.args.name.now c.args.settings.now c.args.whole.now c.loop-i.i _ said.0 rest (omega (arith, c.loop-i-test.true)) said.1 warned in
-    let all = c.loop-i.invariant (said.0 ++ rest) here in
-    (all.0, all.1, ap (λ x. x ++ rest) said.2 ∙ (append_assoc c.loop-i.text.items said.0 rest ∙ all.2))
+loop-i-preserved c =
+    let name = c.args.name.now in
+    let settings = c.args.settings.now in
+    let whole = c.args.whole.now in
+    let kept = c.loop-i.kept.items in
+    let i = c.loop-i.i in
+    let less = c.loop-i-test.true in
+    elim c.if-branch.branch [
+      | then-branch+in_ok-push_idle w ↦
+          let set = rw (c.as_slice.ensures.value, rest_from (i + 1) settings) at c.in_ok-is_whole.ensures.yes (ap (λ b. Ok b) w.if-branch.true) in
+          rw (w.kept-is, w.text-is)
+          (record {
+            inside = c.loop-i.invariant.inside;
+            whole = set;
+            named = λ named left are.
+                let all = c.loop-i.invariant.named (_ ∷ named) left (name_it whole kept settings i _ named left less set are) in
+                (all.0, all.1, ap (λ t. t ++ idle_texts name named) w.in_ok-push_idle.ensures ∙ (append_assoc c.loop-i.text.items _ (idle_texts name named) ∙ all.2));
+          })
+      | else-branch+in_ok-push w ↦
+          let elsewhere = rw (c.as_slice.ensures.value, rest_from (i + 1) settings) at c.in_ok-is_whole.ensures.no (ap (λ b. Ok b) w.if-branch.false) in
+          rw (w.kept-is, w.text-is, w.in_ok-push.ensures.items)
+          (record {
+            inside = All-push IsInside kept _ c.loop-i.invariant.inside (c.requires.inside i _ less);
+            whole = move_it whole kept settings i _ less c.loop-i.invariant.whole;
+            named = λ named left are. c.loop-i.invariant.named named left (keep_it whole kept settings i _ named left less elsewhere are);
+          })
+    ]
 
 pub returns : goal.returns
 returns c =
-    let all = c.loop-i.invariant [] (rw (drop_of_length-le c.args.settings.now {i = c.loop-i.i} (omega (arith, c.loop-i-test.false))) refl) in
-    (all.0, all.1, sym (append-nil c.loop-i.text.items) ∙ all.2)
+    let none = drop_of_length-le c.args.settings.now {i = c.loop-i.i} c.loop-i-test.false in
+    let kept = c.loop-i.kept.items in
+    let all = c.loop-i.invariant.named [] kept (rw none end) in
+    let set = rw (none, append-nil kept) at c.loop-i.invariant.whole in
+    (idle_texts c.args.name.now all.0, record { named = all.0; left = kept; are_named = all.1; same = set; text_is = refl }, sym (append-nil c.loop-i.text.items) ∙ all.2)
