@@ -98,6 +98,6 @@ fn measure_arg<'a>(alloc: Global) -> Arg<'a>
 {
     Arg::new(alloc, "measure")
         .long("measure")
-        .help("Print the measurement of each live enclave behind the report")
+        .help("Print the measurement of each live enclave after the report")
         .action(ArgAction::SetTrue)
 }

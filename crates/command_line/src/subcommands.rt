@@ -160,7 +160,7 @@ fn audit_command<'a>(alloc: Global) -> Result<Command<'a>, AllocError>
 fn lint_command<'a>(alloc: Global) -> Result<Command<'a>, AllocError>
     ensures { IfOk result (IsCommandOf (app_by Subcommand.Lint)) }
 {
-    let about = "Say what is wrong with a map file, line by line, and what would mend it";
+    let about = "Say what is wrong with a map file, line by line, and how to fix it";
     let arguments = [Argument::File("MAP", "The map file")];
     command(alloc, Subcommand::Lint.name(), about, LINT_HELP, &arguments)
 }

@@ -26,7 +26,7 @@ pub const AUDIT_HELP: &str =
 
 /// After those of `lint`.
 pub const LINT_HELP: &str =
-    "Prints a line for each line of the file that is at fault: 'MAP:LINE:COLUMN:', what is wrong with it, and what would mend\nit; in a map without fault, a warning for each line that changes nothing of the whole map.\n\nStatus 0 where the file is a map, with warnings too, and 1 where it is none.\n\nExample:\n  pmpmon lint map.txt";
+    "Prints a line for each line of the file that is at fault: 'MAP:LINE:COLUMN:', what is wrong with it, and how to fix\nit; in a map without fault, a warning for each line that can go, all of them together.\n\nStatus 0 where the file is a map, with warnings too, and 1 where it is none.\n\nExample:\n  pmpmon lint map.txt";
 
 /// After those of `show`.
 pub const SHOW_HELP: &str =

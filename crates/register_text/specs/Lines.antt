@@ -52,9 +52,10 @@ abbrev pub begins_with_letter : List ℕ → Bool
 begins_with_letter [] = false
 begins_with_letter (first ∷ rest) = is_letter first
 
--- another register, which is passed over; mseccfg only where it is zero, since its bits change what the entries mean
+-- another register, which is passed over: its name does not begin with p, so that a misspelt one of the protection is not passed
+-- over; mseccfg only where it is zero, since its bits change what the entries mean
 abbrev pub is_other : List ℕ → ℕ → Bool
-is_other name value = begins_with_letter name && not (begins_with name (codes "pmp")) && (value == 0 || not (begins_with name (codes "mseccfg")))
+is_other name value = begins_with_letter name && not (begins_with name (codes "p")) && (value == 0 || not (begins_with name (codes "mseccfg")))
 
 abbrev pub other_setting : List ℕ → ℕ → Option Setting
 other_setting name value = if is_other name value then Some settings.Nothing else None

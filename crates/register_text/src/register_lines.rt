@@ -114,7 +114,7 @@ fn is_other(name: &[u8], value: u64) -> bool
     if !begins_with_letter(name) {
         return false;
     }
-    if begins_with(name, b"pmp") {
+    if begins_with(name, b"p") {
         return false;
     }
     value == 0 || !begins_with(name, b"mseccfg")

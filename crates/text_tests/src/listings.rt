@@ -90,6 +90,7 @@ fn the_first_line_that_is_not_understood(rt: HostRuntime) {
         (b"mseccfg 0\nmseccfg 0x1\n", 2),
         (b"mseccfg (/64): 0x0000000000000001\n", 1),
         (b"mstatus what\n", 1),
+        (b"pmaddr0 0x1\n", 1),
     ] {
         assert!(rt; registers_of(listing) == Err(line));
     }
