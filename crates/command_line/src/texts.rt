@@ -22,7 +22,7 @@ pub const PLAN_HELP: &str =
 
 /// After those of `audit`.
 pub const AUDIT_HELP: &str =
-    "REGISTERS is what 'plan' prints, or lines 'pmpaddrN VALUE' and 'pmpcfgK VALUE' in any order; a later line overrides an\nearlier one, and what no line sets is zero.\n\nPrints 'means the map: 5 entries where 3 are enough'; or, with status 1, the first stretch that differs, what the map and\nthe registers say there and which entry says it, or the first pair that no entry has.\n\nExample:\n  pmpmon audit map.txt registers.txt";
+    "REGISTERS is what 'plan' prints, or lines 'pmpaddrN VALUE' and 'pmpcfgK VALUE' in any order; a later line overrides an\nearlier one, and what no line sets is zero.\n\nPrints 'means the map: 5 entries where 3 are enough'; or, with status 1, the first stretch that differs, what the map and\nthe registers say there and which entry says it, or the first pair that no entry has. Lines of other\nregisters are passed over, which a comment says. Where mseccfg is not zero there is no verdict, with status 1.\n\nExample:\n  pmpmon audit map.txt registers.txt";
 
 /// After those of `lint`.
 pub const LINT_HELP: &str =

@@ -1,5 +1,5 @@
 -- Why a file could not be had, by the fault of what is read.
-use Rattle.std.proofs.Common.{ℕ, ◌≡◌, ◌≢◌, ◌+◌, ◌^◌, ◌<◌, ◌⊎◌, inl, inr, List, length, refl, Result, Ok, Err, IfErr}
+use Rattle.std.proofs.Common.{ℕ, ◌≡◌, ◌≢◌, ◌<◌, List, length, refl}
 use Rattle.std.specs.Borrow.{Bor}
 use Rattle.std.specs.Io.KnownBytes.{Consumes}
 use Rattle.byte_streams.specs.Streams.{one_failure_more}
@@ -8,8 +8,6 @@ use Rattle.map_text.specs.declared.map_file.MapFileFault.TheVariants as maps
 use Rattle.map_text.specs.MapFile.{FaultAt, IsUnknown, MakesFirst, MakesTooMany}
 use Rattle.program_files.specs.declared.whole.WholeFault.{WholeFault}
 use Rattle.program_files.specs.declared.whole.WholeFault.TheVariants as whole
-use Rattle.program_troubles.specs.declared.trouble.Trouble.{Trouble}
-use Rattle.program_troubles.specs.declared.trouble.Trouble.TheVariants.{Memory}
 use Rattle.map_commands.specs.Commands.{Reading, HasNoBytes, too_large, cannot_read}
 use Rattle.map_commands.specs.Commands as commands
 use Rattle.map_commands.specs.Parts.{IsMapFault}

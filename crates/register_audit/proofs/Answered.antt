@@ -1,9 +1,8 @@
 -- What a verdict says of the registers.
-use Rattle.std.proofs.Common.{ℕ, ◌≡◌, ◌∙◌, List, true, false, sym, subst, arith}
+use Rattle.std.proofs.Common.{ℕ, ◌≡◌, ◌≢◌, ◌∙◌, ◌⊎◌, inl, inr, List, Bool, true, false, sym, subst, arith}
 use Rattle.pmp_encoding.specs.declared.extent.Extent.{Extent}
 use Rattle.page_views.specs.Views.{View}
 use Rattle.pmp_registers.specs.declared.registers.Registers.{Registers}
-use Rattle.pmp_registers.specs.declared.reserved.ReservedAt.{ReservedAt}
 use Rattle.pmp_registers.specs.Decision.{ExtentsMean, RegistersMean}
 use Rattle.pmp_registers.specs.Matching.{AreExtents}
 use Rattle.pmp_registers.proofs.EachByte.{each_byte}
@@ -12,6 +11,8 @@ use Rattle.stretches.specs.declared.stretch.Stretch.{Stretch}
 use Rattle.register_audit.specs.declared.verdict.Verdict.{Verdict}
 use Rattle.register_audit.specs.declared.verdict.Verdict.TheVariants as verdicts
 use Rattle.register_audit.specs.Findings.{IsFirstDifference}
+use Rattle.register_text.specs.declared.listing.Listing.{Listing}
+use Rattle.register_audit.specs.Audits.{IsAnswer, judged, unmodelled}
 use Rattle.register_audit.specs.Verdicts.{IsVerdict, IsWritable, is_meant}
 use Rattle.register_audit.proofs.Cut.{cut_not}
 
@@ -44,3 +45,14 @@ writable view registers (verdicts.Means count) is = tt
 writable view registers (verdicts.Differs stretch) is = let s = is.2.stretch in omega (arith, s.some)
 writable view registers (verdicts.Cuts entry at) is = let c = is.2.first.cut.cut in omega (arith, c.inside)
 writable view registers (verdicts.NoMeaning found) is = is.inside
+
+-- what an answer says of the registers
+pub answer_yes : (view : View) (fewest : ℕ) (listing : Listing) (line : List ℕ) (means : Bool) → IsAnswer view fewest listing line means → means ≡ true
+    → (listing.mseccfg ≡ 0) × RegistersMean listing.registers view
+answer_yes view fewest listing line means (judged none verdict is) told = (none, verdict_yes view listing.registers verdict is (sym told))
+answer_yes view fewest listing line means (unmodelled other) told = absurd cc
+
+pub answer_no : (view : View) (fewest : ℕ) (listing : Listing) (line : List ℕ) (means : Bool) → IsAnswer view fewest listing line means → means ≡ false
+    → (listing.mseccfg ≢ 0) ⊎ (¬ RegistersMean listing.registers view)
+answer_no view fewest listing line means (judged none verdict is) told = inr (verdict_no view listing.registers verdict is (sym told))
+answer_no view fewest listing line means (unmodelled other) told = inl other

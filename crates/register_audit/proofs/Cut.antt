@@ -3,7 +3,7 @@ use Rattle.std.proofs.Common.{◌≡◌, ◌≢◌, ◌∙◌, ℕ, ◌+◌, ◌
 use Rattle.std.specs.Prelude.{IsTrue, nat_lt, slice_get}
 use Rattle.std.specs.List.{AllByRecursion}
 use Rattle.std.proofs.lemmas.Bool.{cases_lt, eqb-true, lt-ltb, ltb-true, or_cases}
-use Rattle.std.proofs.lemmas.List.Elements.{All-head, recursion_from_All, All-from_recursion}
+use Rattle.std.proofs.lemmas.List.Elements.{recursion_from_All, All-from_recursion}
 use Rattle.std.proofs.lemmas.Option.{get_or_from_slice_get, slice_get-get_or, slice_get_within}
 use Rattle.pmp_encoding.specs.declared.extent.Extent.{Extent}
 use Rattle.pmp_encoding.specs.declared.perm.Perm.{Perm}
@@ -13,14 +13,14 @@ use Rattle.page_views.specs.Views.{View}
 use Rattle.pmp_match.specs.declared.access.Access.{Access}
 use Rattle.pmp_match.specs.declared.access.Kind.{Kind}
 use Rattle.pmp_match.specs.declared.access.Kind.TheVariants.{Fetch, Load, Store}
-use Rattle.pmp_match.specs.Accesses.{IsAligned, Reaches}
+use Rattle.pmp_match.specs.Accesses.{IsAligned}
 use Rattle.pmp_match.specs.Kinds.{has_size, holds}
-use Rattle.pmp_registers.specs.Decision.{ContainsAll, ExtentsMean, HasByte, IsFirstMatch, IsNeverCut, IsWords, Meets, NoneMeets, Permits}
+use Rattle.pmp_registers.specs.Decision.{ContainsAll, ExtentsMean, IsFirstMatch, IsNeverCut, IsWords, Meets, NoneMeets}
 use Rattle.pmp_registers.specs.Tor.{nowhere}
 use Rattle.pmp_registers.proofs.Decided.{contains_from_ends, ends_from_contains}
 use Rattle.pmp_registers.proofs.EachByte.{IsSmall, small_contained}
 use Rattle.pmp_registers.proofs.Uncut.{one_match}
-use Rattle.register_audit.specs.Findings.{IsCut, IsFirstCut, IsFirstOf, IsLowestCut, IsUncut, load_of_eight}
+use Rattle.register_audit.specs.Findings.{IsCut, IsFirstOf, IsLowestCut, IsUncut, load_of_eight}
 use Rattle.register_audit.proofs.Each.{split_at}
 
 -- ---- an extent and eight bytes

@@ -1,5 +1,5 @@
 -- The line of a verdict.
-use Rattle.std.specs.Prelude.{ℕ, ◌+◌, ◌-◌, ◌==◌, if◌then◌else◌, List, ◌++◌, codes, decimal, Option, Some, None}
+use Rattle.std.specs.Prelude.{ℕ, ◌+◌, ◌-◌, ◌==◌, if◌then◌else◌, List, [], ◌++◌, codes, decimal, Option, Some, None}
 use Rattle.text_lines.specs.Written.{hex}
 use Rattle.printed_lines.specs.Fields.{letters_of}
 use Rattle.pmp_registers.specs.declared.registers.Registers.{Registers}
@@ -39,3 +39,12 @@ verdict_text fewest registers (verdicts.Cuts entry at) =
     differs_text at (at + 7) ++ sayer (Some entry) ++ codes " cuts an access of 8 bytes\n"
 verdict_text fewest registers (verdicts.NoMeaning f) =
     codes "pair " ++ decimal f.place ++ codes " 0x" ++ hex 2 (cfg_at registers f.place) ++ codes " 0x" ++ hex 16 (address_at registers f.place) ++ codes ": " ++ reserved_name f.value ++ codes "\n"
+
+-- what is said of registers beside an mseccfg that is not zero
+abbrev pub smepmp_text : ℕ → List ℕ
+smepmp_text mseccfg = codes "mseccfg 0x" ++ hex 16 mseccfg ++ codes ": no verdict, Smepmp is not modelled\n"
+
+-- the comment on lines that are passed over, by the first of them
+abbrev pub passed_text : Option ℕ → List ℕ
+passed_text None = []
+passed_text (Some first) = codes "# lines of other registers are passed over, line " ++ decimal first ++ codes " first\n"

@@ -1,23 +1,23 @@
 //! The audit of a listing.
 
-ghost use Rattle.std.specs.Prelude.{◌≡◌, ◌-◌, ◌^◌, ◌<◌, ℕ, Bool, Err, Ok, Some, List, OnOk, IfOk, length, true, false};
-ghost use Rattle.std.specs.Io.KnownBytes.{Appends};
-ghost use Rattle.byte_streams.specs.Streams.{WriteFails};
+ghost use Rattle.std.specs.Prelude.{◌≡◌, ◌≢◌, ◌⊎◌, ◌-◌, ◌^◌, ◌<◌, ◌++◌, ℕ, Bool, Err, Ok, Some, List, IfOk, OnOk, length, true, false};
+ghost use Rattle.byte_streams.specs.Writings.{writing, Breaks, TakesAll};
 ghost use Rattle.permission_map.specs.Runs.{view_of_runs};
-ghost use Rattle.byte_streams.specs.Writings.{TakesPart};
-ghost use Rattle.pmp_registers.specs.declared.registers.Registers.{Registers};
 ghost use Rattle.pmp_registers.specs.Decision.{RegistersMean};
+ghost use Rattle.register_text.specs.declared.listing.Listing.{Listing};
 ghost use Rattle.register_text.specs.Listings.{IsFirstUnknown, listed};
 ghost use Rattle.register_audit.specs.declared.auditing.AuditFault as AuditFault;
-ghost use Rattle.register_audit.specs.Audits.{IsAudit};
+ghost use Rattle.register_audit.specs.Audits.{IsAnswer, IsAudit};
+ghost use Rattle.register_audit.specs.Texts.{passed_text};
 ghost use Rattle.register_audit.specs.Verdicts.{is_meant};
 
-use crate::texts::verdict_line;
+use crate::texts::{passed_line, smepmp_line, verdict_line};
 use crate::verdict::{Verdict, verdict_of};
 use byte_streams::{Sink, write_whole};
-use permission_map::PermissionMap;
-use register_text::registers_of;
+use permission_map::{Memory, PermissionMap};
+use register_text::{Listing, listing_of};
 use std::alloc::Global;
+use text_lines::Line;
 
 /// Why a listing was not audited.
 #[derive(Clone, Copy, PartialEq, Eq, Debug)]
@@ -30,15 +30,57 @@ pub enum AuditFault {
     Device,
 }
 
+/// The line of an answer, and whether it is a yes.
+#[derive(Drop)]
+struct Answer {
+    line: Line,
+    means: bool,
+}
+
 fn is_meant(verdict: &Verdict) -> bool
     ensures { result ≡ is_meant verdict.now }
 {
     matches!(verdict, Verdict::Means { .. })
 }
 
-/// Reads a listing of registers and writes, in one line, whether they mean the map, and where they do not. Where a line is
-/// not understood or memory is refused, nothing is written; where the device failed, or took none of some bytes, a
-/// beginning of the line was written, not all of it. `fewest` is how many entries are enough for the map.
+/// The answer on what a listing leaves. The only error is out of memory.
+fn answer_of(
+    alloc: Global,
+    map: &PermissionMap,
+    fewest: u64,
+    listing: &Listing,
+) -> Result<Answer, Memory>
+    ensures { IfOk result (λ answer.
+        IsAnswer (view_of_runs map.now) fewest listing.now answer.line.items answer.means) }
+{
+    if listing.mseccfg != 0 {
+        return Ok(Answer {
+            line: smepmp_line(listing.mseccfg),
+            means: false,
+        });
+    }
+    let verdict = verdict_of(alloc, map, &listing.registers)?;
+    Ok(Answer {
+        line: verdict_line(fewest, &listing.registers, &verdict),
+        means: is_meant(&verdict),
+    })
+}
+
+/// The line of an answer and the comment after it. The only error is out of memory.
+fn text_of(alloc: Global, line: &Line, passed: Option<u64>) -> Result<Vec<u8>, Memory>
+    ensures { IfOk result (λ text. text.items ≡ line.now.items ++ passed_text passed) }
+{
+    let mut text = Vec::new(alloc);
+    text.extend_from_slice(line.as_slice())?;
+    let comment = passed_line(passed);
+    text.extend_from_slice(comment.as_slice())?;
+    Ok(text)
+}
+
+/// Reads a listing of registers and writes, in one line, whether they mean the map, and where they do not; and after it a
+/// comment where lines of other registers are passed over. `fewest` is how many entries are enough for the map. Where a line
+/// is not understood or memory is refused, nothing is written; where the device failed, or took none of some bytes, a
+/// beginning of the text was written, not all of it.
 pub fn audit<W: Sink>(
     alloc: Global,
     map: &PermissionMap,
@@ -49,36 +91,32 @@ pub fn audit<W: Sink>(
     requires short { length listing.now < 2 ^ 64 - 1 }
     ensures written { IfOk result (λ means.
         (text : List ℕ) × IsAudit (view_of_runs map.now) fewest listing.now text means
-        × Appends (W.contents out.old) (W.contents out.new) text) }
+        × TakesAll text (writing W.contents W.failures W.stalls out.old out.new)) }
     ensures means { result ≡ Ok true
-        → (registers : Registers) × (listed listing.now ≡ Some registers)
-        × RegistersMean registers (view_of_runs map.now) }
+        → (leaves : Listing) × (listed listing.now ≡ Some leaves) × (leaves.mseccfg ≡ 0)
+        × RegistersMean leaves.registers (view_of_runs map.now) }
     ensures differs { result ≡ Ok false
-        → (registers : Registers) × (listed listing.now ≡ Some registers)
-        × ¬ RegistersMean registers (view_of_runs map.now) }
+        → (leaves : Listing) × (listed listing.now ≡ Some leaves)
+        × (leaves.mseccfg ≢ 0 ⊎ ¬ RegistersMean leaves.registers (view_of_runs map.now)) }
     ensures line { (n : ℕ) → result ≡ Err (AuditFault.Line n)
         → IsFirstUnknown listing.now n × (out.new ≡ out.old) }
     ensures untouched { result ≡ Err AuditFault.Memory → out.new ≡ out.old }
-    ensures well { OnOk result (W.failures out.new ≡ W.failures out.old) }
-    ensures unstalled { OnOk result (W.stalls out.new ≡ W.stalls out.old) }
-    ensures part { result ≡ Err AuditFault.Device
-        → (text : List ℕ) × (means : Bool)
+    ensures broken { result ≡ Err AuditFault.Device → (text : List ℕ) × (means : Bool)
         × IsAudit (view_of_runs map.now) fewest listing.now text means
-        × TakesPart text (W.contents out.old) (W.contents out.new) }
-    ensures failed { result ≡ Err AuditFault.Device
-        → WriteFails (W.failures out.old)
-        (W.failures out.new) (W.stalls out.old) (W.stalls out.new) }
+        × Breaks text (writing W.contents W.failures W.stalls out.old out.new) }
 {
-    let registers = match registers_of(listing) {
-        Ok(registers) => registers,
+    let listing = match listing_of(listing) {
+        Ok(listing) => listing,
         Err(number) => return Err(AuditFault::Line(number)),
     };
-    let Ok(verdict) = verdict_of(alloc, map, &registers) else {
+    let Ok(answer) = answer_of(alloc, map, fewest, &listing) else {
         return Err(AuditFault::Memory);
     };
-    let line = verdict_line(fewest, &registers, &verdict);
-    let Ok(()) = write_whole(out, line.as_slice()) else {
+    let Ok(text) = text_of(alloc, &answer.line, listing.passed) else {
+        return Err(AuditFault::Memory);
+    };
+    let Ok(()) = write_whole(out, text.as_slice()) else {
         return Err(AuditFault::Device);
     };
-    Ok(is_meant(&verdict))
+    Ok(answer.means)
 }

@@ -4,7 +4,7 @@ ghost use Rattle.std.specs.Prelude.{◌≡◌, ℕ, ◌+◌, ◌^◌, ◌++◌, 
 ghost use Rattle.pmp_registers.specs.declared.registers.Registers.{Registers};
 ghost use Rattle.register_audit.specs.declared.verdict.Verdict as Verdict;
 ghost use Rattle.arrayvec.specs.ArrayVec.{array_vec_len};
-ghost use Rattle.register_audit.specs.Texts.{differs_text, enough, entries_named, reserved_name, sayer, verdict_text};
+ghost use Rattle.register_audit.specs.Texts.{differs_text, enough, entries_named, passed_text, reserved_name, sayer, smepmp_text, verdict_text};
 ghost use Rattle.register_audit.specs.Verdicts.{IsWritable};
 
 use crate::verdict::Verdict;
@@ -138,4 +138,29 @@ pub(crate) fn verdict_line(fewest: u64, registers: &Registers, verdict: &Verdict
         Verdict::Cuts { entry, at } => cut_line(*entry, *at),
         Verdict::NoMeaning(found) => reserved_line(registers, found),
     }
+}
+
+/// The line on an `mseccfg` that is not zero.
+pub(crate) fn smepmp_line(mseccfg: u64) -> Line
+    ensures { result.items ≡ smepmp_text mseccfg }
+{
+    let mut line = ArrayVec::new();
+    push_text(&mut line, b"mseccfg 0x");
+    push_hex(&mut line, mseccfg, 16);
+    push_text(&mut line, b": no verdict, Smepmp is not modelled\n");
+    line
+}
+
+/// The comment on lines that are passed over.
+pub(crate) fn passed_line(passed: Option<u64>) -> Line
+    ensures { result.items ≡ passed_text passed }
+{
+    let mut line = ArrayVec::new();
+    let Some(first) = passed else {
+        return line;
+    };
+    push_text(&mut line, b"# lines of other registers are passed over, line ");
+    push_decimal(&mut line, first);
+    push_text(&mut line, b" first\n");
+    line
 }

@@ -1,6 +1,6 @@
 -- What a line of a listing sets.
 use Rattle.std.specs.Prelude.{ℕ, ◌+◌, ◌*◌, ◌%◌, ◌-◌, ◌<◌, ◌≤◌, ⊤, Bool, false, not, ◌&&◌, ◌||◌, ◌==◌, nat_lt, nat_le, if◌then◌else◌, List, [], ◌∷◌, length, take, drop, Option, Some, None, codes, bytes_eq}
-use Rattle.std.specs.List.{position_or_len}
+use Rattle.std.specs.List.{list_all, position_or_len}
 use Rattle.std.specs.Option.{option_and_then}
 use Rattle.std.specs.Str.{str_eq_ignore_ascii_case}
 use Rattle.text_lines.specs.Words.{words_of}
@@ -12,6 +12,8 @@ use Rattle.register_text.specs.declared.setting.Setting.TheVariants as settings
 -- the places of a setting are those of 64 entries
 abbrev pub IsInside : Setting → Type 0
 IsInside settings.Nothing = ⊤
+IsInside settings.Other = ⊤
+IsInside (settings.Security value) = ⊤
 IsInside (settings.Pair place cfg address) = place < 64
 IsInside (settings.Address place value) = place < 64
 IsInside (settings.Word place value) = place + 8 ≤ 64
@@ -52,13 +54,20 @@ abbrev pub begins_with_letter : List ℕ → Bool
 begins_with_letter [] = false
 begins_with_letter (first ∷ rest) = is_letter first
 
--- another register, which is passed over: its name does not begin with p, so that a misspelt one of the protection is not passed
--- over; mseccfg only where it is zero, since its bits change what the entries mean
-abbrev pub is_other : List ℕ → ℕ → Bool
-is_other name value = begins_with_letter name && not (begins_with name (codes "p")) && (value == 0 || not (begins_with name (codes "mseccfg")))
+-- a register that is none of the protection: gdb's `pc` and `priv`, or one whose name does not begin with p, so that a misspelt
+-- one of the protection is not passed over
+abbrev pub is_foreign : List ℕ → Bool
+is_foreign name =
+    str_eq_ignore_ascii_case name (codes "pc") || str_eq_ignore_ascii_case name (codes "priv") || (begins_with_letter name && not (begins_with name (codes "p")))
 
+-- another register, which is passed over; `mseccfgh` and the like only where they are zero
+abbrev pub is_other : List ℕ → ℕ → Bool
+is_other name value = is_foreign name && (value == 0 || not (begins_with name (codes "mseccfg")))
+
+-- mseccfg, whose bits change what the entries mean, or a register that is passed over
 abbrev pub other_setting : List ℕ → ℕ → Option Setting
-other_setting name value = if is_other name value then Some settings.Nothing else None
+other_setting name value =
+    if str_eq_ignore_ascii_case name (codes "mseccfg") then Some (settings.Security value) else if is_other name value then Some settings.Other else None
 
 -- a name of a register and its value
 abbrev pub by_behind : List ℕ → ℕ → Option (List ℕ) → Option (List ℕ) → Option Setting
@@ -108,13 +117,21 @@ abbrev pub set_by_three : Option ℕ → List ℕ → List ℕ → List ℕ → 
 set_by_three (Some place) first second third = pair_by_words place second third
 set_by_three None first second third = option_and_then (register_setting first) (number_of (value_word second third))
 
+-- a word that begins with pmp can be the name of a register of the protection
+abbrev pub is_no_name : List ℕ → Bool
+is_no_name word = not (begins_with word (codes "pmp"))
+
+-- another register with its fields after its value, as gdb prints mstatus; no word after the value is such a name
+abbrev pub set_by_many : List ℕ → List ℕ → List (List ℕ) → Option Setting
+set_by_many first second rest = if list_all is_no_name rest then option_and_then (other_setting (without_colon first)) (number_of second) else None
+
 -- what words set
 abbrev pub set_by_words : List (List ℕ) → Option Setting
 set_by_words [] = Some settings.Nothing
 set_by_words (word ∷ []) = set_by_one word
 set_by_words (name ∷ value ∷ []) = option_and_then (named_setting name) (number_of value)
 set_by_words (first ∷ second ∷ third ∷ []) = set_by_three (number_of first) first second third
-set_by_words _ = None
+set_by_words (first ∷ second ∷ third ∷ rest) = set_by_many first second (third ∷ rest)
 
 -- what a line sets, where it is understood
 abbrev pub line_sets : List ℕ → Option Setting

@@ -1,36 +1,48 @@
--- The registers that a listing leaves.
+-- What a listing leaves.
 use Rattle.std.specs.Prelude.{◌≡◌, ℕ, zero, suc, ◌+◌, ◌/◌, ◌%◌, List, [], ◌∷◌, ◌++◌, length, replicate, slice_set, Option, Some, None}
 use Rattle.std.specs.Option.{option_and_then}
 use Rattle.pmp_registers.specs.declared.registers.Registers.{Registers}
+use Rattle.register_text.specs.declared.listing.Listing.{Listing}
 use Rattle.register_text.specs.declared.setting.Setting.{Setting}
 use Rattle.register_text.specs.declared.setting.Setting.TheVariants as settings
 use Rattle.text_lines.specs.Lines.{raw_lines}
 use Rattle.register_text.specs.Lines.{raw_sets}
 
--- registers that are all zero
-abbrev pub are_off : Registers
-are_off = record { cfgs = replicate 64 0; addresses = replicate 64 0 }
+-- registers that are all zero, and no line that is passed over
+abbrev pub nothing_set : Listing
+nothing_set = record { registers = record { cfgs = replicate 64 0; addresses = replicate 64 0 }; mseccfg = 0; passed = None }
 
 -- the bytes of a number put in place, so many of them, the lowest first
 abbrev pub set_bytes : ℕ → ℕ → ℕ → List ℕ → List ℕ
 set_bytes place zero value bytes = bytes
 set_bytes place (suc count) value bytes = set_bytes (place + 1) count (value / 256) (slice_set bytes place (value % 256))
 
--- the registers after a setting
-abbrev pub set_by : Registers → Setting → Registers
-set_by registers settings.Nothing = registers
-set_by registers (settings.Pair place cfg address) = record { cfgs = slice_set registers.cfgs place cfg; addresses = slice_set registers.addresses place address }
-set_by registers (settings.Address place value) = record { cfgs = registers.cfgs; addresses = slice_set registers.addresses place value }
-set_by registers (settings.Word place value) = record { cfgs = set_bytes place 8 value registers.cfgs; addresses = registers.addresses }
+-- the registers of the protection after a setting
+abbrev pub registers_by : Registers → Setting → Registers
+registers_by registers (settings.Pair place cfg address) = record { cfgs = slice_set registers.cfgs place cfg; addresses = slice_set registers.addresses place address }
+registers_by registers (settings.Address place value) = record { cfgs = registers.cfgs; addresses = slice_set registers.addresses place value }
+registers_by registers (settings.Word place value) = record { cfgs = set_bytes place 8 value registers.cfgs; addresses = registers.addresses }
+registers_by registers setting = registers
 
--- the registers after lines, each of which is understood
-abbrev pub set_by_lines : Registers → List (List ℕ) → Option Registers
-set_by_lines registers [] = Some registers
-set_by_lines registers (raw ∷ raws) = option_and_then (λ setting. set_by_lines (set_by registers setting) raws) (raw_sets raw)
+-- the first line that is passed over, where line n is one
+abbrev pub first_of : Option ℕ → ℕ → Option ℕ
+first_of (Some first) n = Some first
+first_of None n = Some n
 
--- the registers that the lines of a listing leave, where all are understood
-abbrev pub listed : List ℕ → Option Registers
-listed bytes = set_by_lines are_off (raw_lines bytes)
+-- what the listing says after the setting of line n
+abbrev pub set_by : Listing → ℕ → Setting → Listing
+set_by listing n settings.Other = record { registers = listing.registers; mseccfg = listing.mseccfg; passed = first_of listing.passed n }
+set_by listing n (settings.Security value) = record { registers = listing.registers; mseccfg = value; passed = listing.passed }
+set_by listing n setting = record { registers = registers_by listing.registers setting; mseccfg = listing.mseccfg; passed = listing.passed }
+
+-- what it says after lines from number n on, each of which is understood
+abbrev pub set_by_lines : Listing → ℕ → List (List ℕ) → Option Listing
+set_by_lines listing n [] = Some listing
+set_by_lines listing n (raw ∷ raws) = option_and_then (λ setting. set_by_lines (set_by listing n setting) (n + 1) raws) (raw_sets raw)
+
+-- what the lines of a listing leave, where all are understood
+abbrev pub listed : List ℕ → Option Listing
+listed bytes = set_by_lines nothing_set 1 (raw_lines bytes)
 
 -- line n of a listing is not understood, and those before it are
 pub record IsFirstUnknown (bytes : List ℕ) (n : ℕ) : Type 0 where
@@ -39,6 +51,6 @@ pub record IsFirstUnknown (bytes : List ℕ) (n : ℕ) : Type 0 where
   pub rest : List (List ℕ)
   pub are_lines : raw_lines bytes ≡ before ++ raw ∷ rest
   pub number : length before + 1 ≡ n
-  pub registers : Registers
-  pub understood : set_by_lines are_off before ≡ Some registers
+  pub listing : Listing
+  pub understood : set_by_lines nothing_set 1 before ≡ Some listing
   pub unknown : raw_sets raw ≡ None

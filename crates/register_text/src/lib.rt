@@ -1,12 +1,13 @@
 //! Registers as text: what the lines of a listing set, and the registers that they leave.
 //!
 //! A listing is what `plan` prints, or lines `pmpaddrN VALUE` and `pmpcfgK VALUE` in any order, as gdb, OpenOCD or a boot log
-//! has them. A later line overrides an earlier one, and what no line sets is zero. Lines of other registers set nothing. For the
-//! layer above: [`registers_of`] answers the registers, or the number of the first line that is not understood.
+//! has them. A later line overrides an earlier one, and what no line sets is zero. Lines of other registers set nothing, and the
+//! first of them is named. For the layer above: [`listing_of`] answers the registers, `mseccfg` and that line, or the number of
+//! the first line that is not understood.
 //!
 //! ```rust
-//! let registers = registers_of(b"pmpaddr0 0x200001ff\npmpcfg0 0x1f\n")?;
-//! assert_eq!(registers.cfgs[0], 0x1f);
+//! let listing = listing_of(b"pmpaddr0 0x200001ff\npmpcfg0 0x1f\n")?;
+//! assert_eq!(listing.registers.cfgs[0], 0x1f);
 //! ```
 #![tactic(auto)]
 
@@ -14,7 +15,7 @@ mod listing;
 mod register_lines;
 mod setting;
 
-pub use listing::registers_of;
+pub use listing::{Listing, listing_of};
 pub use pmp_registers::Registers;
 pub use register_lines::line_sets;
 pub use setting::Setting;

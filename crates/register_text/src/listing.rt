@@ -4,25 +4,37 @@ ghost use Rattle.std.specs.Prelude.{◌≡◌, ◌-◌, ◌^◌, ◌<◌, IfErr,
 ghost use Rattle.register_text.specs.Listings.{IsFirstUnknown, listed};
 
 use crate::register_lines::line_sets;
-use crate::setting::off;
+use crate::setting::nothing_set;
 use map_text::next_line;
 use pmp_registers::Registers;
 use text_lines::LineReader;
 
-/// The registers that the lines of a listing leave, or the number of the first line that is not understood.
-pub fn registers_of(bytes: &[u8]) -> Result<Registers, u64>
+/// What the lines of a listing leave.
+#[derive(Clone, Copy, Debug, PartialEq, Eq)]
+pub struct Listing {
+    /// The registers of the protection. What no line sets is zero.
+    pub registers: Registers,
+    /// `mseccfg`, the register of Smepmp: zero where no line sets it.
+    pub mseccfg: u64,
+    /// The number of the first line of another register, which is passed over, from 1.
+    pub passed: Option<u64>,
+}
+
+/// What the lines of a listing leave, or the number of the first line that is not understood.
+pub fn listing_of(bytes: &[u8]) -> Result<Listing, u64>
     requires { length bytes.now < 2 ^ 64 - 1 }
-    ensures registers { IfOk result (λ registers. listed bytes.now ≡ Some registers) }
+    ensures listing { IfOk result (λ listing. listed bytes.now ≡ Some listing) }
     ensures unknown { IfErr result (IsFirstUnknown bytes.now) }
 {
-    let mut registers = off();
+    let mut listing = nothing_set();
     let mut lines = LineReader::with_limit(u64::MAX);
     let mut rest = bytes;
     while next_line(&mut lines, &mut rest)? {
+        let number = lines.number();
         let Ok(setting) = line_sets(lines.line()) else {
-            return Err(lines.number());
+            return Err(number);
         };
-        registers = setting.of(&registers);
+        listing = setting.of(&listing, number);
     }
-    Ok(registers)
+    Ok(listing)
 }

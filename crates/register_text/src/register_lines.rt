@@ -4,9 +4,10 @@ ghost use Rattle.std.specs.Prelude.{◌≡◌, ◌≤◌, [], ◌∷◌, length,
 ghost use Rattle.std.specs.Result.{result_ok};
 ghost use Rattle.text_lines.specs.Words.{split_words};
 ghost use Rattle.text_lines.specs.Numbers.{number_of};
+ghost use Rattle.std.specs.List.{list_all};
 ghost use Rattle.std.specs.Option.{option_and_then};
 ghost use Rattle.std.specs.Str.{str_eq_ignore_ascii_case};
-ghost use Rattle.register_text.specs.Lines.{IsInside, address_setting, begins_with, begins_with_letter, behind, equals_at, has_leading_zero, index_of, is_between, is_letter, is_other, line_sets, named_setting, other_setting, pair_by_words, pair_setting, plain_setting, register_setting, set_by_words, value_word, without_colon, word_setting};
+ghost use Rattle.register_text.specs.Lines.{IsInside, address_setting, begins_with, begins_with_letter, behind, equals_at, has_leading_zero, index_of, is_between, is_foreign, is_letter, is_no_name, is_other, line_sets, named_setting, other_setting, pair_by_words, pair_setting, plain_setting, register_setting, set_by_many, set_by_words, value_word, without_colon, word_setting};
 
 use crate::setting::Setting;
 use text_lines::{NotUnderstood, Words, number, numeral};
@@ -107,17 +108,21 @@ fn begins_with_letter(name: &[u8]) -> bool
     }
 }
 
-/// Whether a register is another one than those of the protection, and leaves them their meaning.
+/// Whether a register is none of the protection by its name: gdb's `pc` and `priv`, or a name that does not begin with `p`.
+fn is_foreign(name: &[u8]) -> bool
+    ensures { result ≡ is_foreign name.now }
+{
+    if is_text_in_any_case(name, b"pc") || is_text_in_any_case(name, b"priv") {
+        return true;
+    }
+    begins_with_letter(name) && !begins_with(name, b"p")
+}
+
+/// Whether a register is another one, and leaves those of the protection their meaning.
 fn is_other(name: &[u8], value: u64) -> bool
     ensures { result ≡ is_other name.now value }
 {
-    if !begins_with_letter(name) {
-        return false;
-    }
-    if begins_with(name, b"p") {
-        return false;
-    }
-    value == 0 || !begins_with(name, b"mseccfg")
+    is_foreign(name) && (value == 0 || !begins_with(name, b"mseccfg"))
 }
 
 /// What another register sets.
@@ -125,8 +130,11 @@ fn other_setting(name: &[u8], value: u64) -> Option<Setting>
     ensures value { result ≡ other_setting name.now value }
     ensures inside { IfSome result IsInside }
 {
+    if is_text_in_any_case(name, b"mseccfg") {
+        return Some(Setting::Security { value });
+    }
     if is_other(name, value) {
-        Some(Setting::Nothing)
+        Some(Setting::Other)
     } else {
         None
     }
@@ -271,6 +279,49 @@ fn set_by_three(first: &[u8], second: &[u8], third: &[u8]) -> Option<Setting>
     }
 }
 
+/// Whether a word cannot be the name of another register of the protection.
+fn is_no_name(word: &[u8]) -> bool
+    ensures { result ≡ is_no_name word.now }
+{
+    !begins_with(word, b"pmp")
+}
+
+/// Whether none of the words is such a name.
+fn are_no_names(words: Words<'_>) -> bool
+    ensures { result ≡ list_all is_no_name (split_words words.entry.rest.now) }
+{
+    let mut left = words;
+    while let Some(word) = left.next_word() {
+        if !is_no_name(word) {
+            return false;
+        }
+    }
+    true
+}
+
+/// What the name of another register and a word set.
+fn other_by_word(name: &[u8], value: &[u8]) -> Option<Setting>
+    ensures value { result ≡ option_and_then (other_setting (without_colon name.now))
+        (number_of value.now) }
+    ensures inside { IfSome result IsInside }
+{
+    let value = number(value)?;
+    other_setting(without_colon(name), value)
+}
+
+/// What four and more words set: another register, with its fields after its value.
+fn set_by_many(first: &[u8], second: &[u8], third: &[u8], rest: Words<'_>) -> Option<Setting>
+    ensures value { result ≡ set_by_many first.now second.now
+        (third.now ∷ split_words rest.entry.rest.now) }
+    ensures inside { IfSome result IsInside }
+{
+    if is_no_name(third) && are_no_names(rest) {
+        other_by_word(first, second)
+    } else {
+        None
+    }
+}
+
 /// What words set.
 fn set_by_words(mut words: Words<'_>) -> Option<Setting>
     ensures value { result ≡ set_by_words (split_words words.entry.rest.now) }
@@ -285,8 +336,9 @@ fn set_by_words(mut words: Words<'_>) -> Option<Setting>
     let Some(third) = words.next_word() else {
         return set_by_two(first, second);
     };
+    let rest = words;
     match words.next_word() {
-        Some(_) => None,
+        Some(_) => set_by_many(first, second, third, rest),
         None => set_by_three(first, second, third),
     }
 }

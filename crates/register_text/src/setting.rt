@@ -1,9 +1,10 @@
-//! What a line of a listing sets, and the registers after it.
+//! What a line of a listing sets, and what the listing says after it.
 
 ghost use Rattle.std.specs.Prelude.{◌≡◌, ◌≤◌, ◌+◌};
 ghost use Rattle.register_text.specs.Lines.{IsInside};
-ghost use Rattle.register_text.specs.Listings.{are_off, set_by, set_bytes};
+ghost use Rattle.register_text.specs.Listings.{first_of, nothing_set, registers_by, set_by, set_bytes};
 
+use crate::listing::Listing;
 use pmp_registers::Registers;
 
 /// What a line sets. Places are below 64.
@@ -11,6 +12,13 @@ use pmp_registers::Registers;
 pub enum Setting {
     /// A line without words, or a count of entries.
     Nothing,
+    /// Another register, which is passed over.
+    Other,
+    /// `mseccfg`, the register of Smepmp.
+    Security {
+        /// What it holds.
+        value: u64,
+    },
     /// The pair of an entry.
     Pair {
         /// The number of the entry.
@@ -36,13 +44,27 @@ pub enum Setting {
     },
 }
 
-/// Registers that are all zero.
-pub(crate) fn off() -> Registers
-    ensures { result ≡ are_off }
+/// What no line has set.
+pub(crate) fn nothing_set() -> Listing
+    ensures { result ≡ nothing_set }
 {
-    Registers {
-        cfgs: [0; 64],
-        addresses: [0; 64],
+    Listing {
+        registers: Registers {
+            cfgs: [0; 64],
+            addresses: [0; 64],
+        },
+        mseccfg: 0,
+        passed: None,
+    }
+}
+
+/// The first line that is passed over, where line n is one.
+fn first_of(passed: Option<u64>, n: u64) -> Option<u64>
+    ensures { result ≡ first_of passed n }
+{
+    match passed {
+        Some(first) => Some(first),
+        None => Some(n),
     }
 }
 
@@ -61,14 +83,14 @@ fn with_word(cfgs: [u8; 64], place: usize, value: u64) -> [u8; 64]
 }
 
 impl Setting {
-    /// The registers after the setting.
-    pub(crate) fn of(self, registers: &Registers) -> Registers
+    /// The registers after the setting, where it sets one of the protection.
+    fn registers(self, registers: &Registers) -> Registers
         requires { IsInside self }
-        ensures { result ≡ set_by registers.now self }
+        ensures { result ≡ registers_by registers.now self }
     {
         let mut registers = *registers;
         match self {
-            Setting::Nothing => {}
+            Setting::Nothing | Setting::Other | Setting::Security { .. } => {}
             Setting::Pair {
                 place,
                 cfg,
@@ -83,5 +105,29 @@ impl Setting {
             }
         }
         registers
+    }
+
+    /// What the listing says after the setting of line n.
+    pub(crate) fn of(self, listing: &Listing, n: u64) -> Listing
+        requires { IsInside self }
+        ensures { result ≡ set_by listing.now n self }
+    {
+        match self {
+            Setting::Other => Listing {
+                registers: listing.registers,
+                mseccfg: listing.mseccfg,
+                passed: first_of(listing.passed, n),
+            },
+            Setting::Security { value } => Listing {
+                registers: listing.registers,
+                mseccfg: value,
+                passed: listing.passed,
+            },
+            _ => Listing {
+                registers: self.registers(&listing.registers),
+                mseccfg: listing.mseccfg,
+                passed: listing.passed,
+            },
+        }
     }
 }

@@ -88,6 +88,16 @@ fn a_board_whose_registers_mean_its_map_or_not(rt: HostRuntime) -> Result<(), Fa
             false,
             "differs 0x0000000010000000 0x0000000010000fff: map rw-, no entry ---\n",
         ),
+        (
+            "# state\nmstatus 0x1800\npmpaddr2 0x20ffffff\npmpaddr1 0x2003ffff\npmpaddr0 0x40001ff\npmpcfg0 0x1f181b\npc 0x80000000\n",
+            true,
+            "means the map: 3 entries where 3 are enough\n# lines of other registers are passed over, line 2 first\n",
+        ),
+        (
+            "pmpaddr2 0x20ffffff\npmpaddr1 0x2003ffff\npmpaddr0 0x40001ff\npmpcfg0 0x1f181b\nmseccfg 0x1 1\n",
+            false,
+            "mseccfg 0x0000000000000001: no verdict, Smepmp is not modelled\n",
+        ),
     ] {
         expect_audit(&rt, alloc, &map, 3, listing, means, line);
     }

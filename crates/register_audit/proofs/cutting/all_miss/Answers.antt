@@ -1,5 +1,5 @@
 -- The extents one after another.
-use Rattle.std.proofs.Common.{refl, arith, get_or}
+use Rattle.std.proofs.Common.{refl, arith}
 use Rattle.std.proofs.lemmas.Bool.{both_ways}
 use Rattle.pmp_registers.specs.Decision.{Meets}
 use Rattle.pmp_registers.specs.Tor.{nowhere}

@@ -1,5 +1,5 @@
 -- An end of an entry that is no multiple of eight stands in the middle of eight aligned bytes.
-use Rattle.std.proofs.Common.{◌≡◌, ◌∙◌, ◌+◌, ◌-◌, ◌%◌, ◌≤◌, ap, sym, arith}
+use Rattle.std.proofs.Common.{◌≡◌, ◌∙◌, ◌+◌, ◌-◌, ◌≤◌, ap, sym, arith}
 use Rattle.pmp_encoding.specs.Perms.{can_read}
 use Rattle.permission_map.specs.Runs.{view_of_runs}
 use Rattle.register_audit.proofs.Cut.{cut_found, end_four}

@@ -1,5 +1,5 @@
 -- No entry before has one of the bytes, and this one has.
-use Rattle.std.proofs.Common.{sym, subst, get_or}
+use Rattle.std.proofs.Common.{sym, subst}
 use Rattle.std.proofs.lemmas.Option.{get_or_from_slice_get}
 use Rattle.pmp_registers.specs.Decision.{Meets}
 use Rattle.pmp_registers.specs.Tor.{nowhere}

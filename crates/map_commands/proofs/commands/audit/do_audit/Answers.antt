@@ -41,7 +41,7 @@ pub returns-in-Ok : goal.returns-in-Ok
 returns-in-Ok g c =
     let w = rw c.as_slice.ensures.value at c.in-Ok.ensures.written in
     let made = is_audited c.in_ok-map.ensures.made c.in_ok-listing.ensures.whole c.in_ok-fewest.ensures in
-    rw c.answer_status.ensures (audited _ _ w.0 _ c.in-Ok.means made w.1 (record { whole = w.2; well = (c.in-Ok.ensures.well, c.in-Ok.ensures.unstalled) }))
+    rw c.answer_status.ensures (audited _ _ w.0 _ c.in-Ok.means made w.1 w.2)
 
 pub returns-in-Err-Line : goal.returns-in-Err-Line
 returns-in-Err-Line g c =
@@ -55,6 +55,6 @@ returns-in-Err-Memory g c = commands.Audits.no_memory _ _ c.in_ok-map.ensures.ma
 pub returns : goal.returns
 returns g c =
     let device = ap (λ f. Err f) c.in-Err-Device.field-0-is in
-    let w = rw c.as_slice.ensures.value at c.in-Err-Device.ensures.part device in
+    let w = rw c.as_slice.ensures.value at c.in-Err-Device.ensures.broken device in
     let made = is_audited c.in_ok-map.ensures.made c.in_ok-listing.ensures.whole c.in_ok-fewest.ensures in
-    commands.Audits.no_output _ _ w.0 _ w.1 made w.2 (record { part = w.3; fails = c.in-Err-Device.ensures.failed device })
+    commands.Audits.no_output _ _ w.0 _ w.1 made w.2 w.3
