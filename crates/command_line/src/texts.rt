@@ -26,7 +26,7 @@ pub const AUDIT_HELP: &str =
 
 /// After those of `lint`.
 pub const LINT_HELP: &str =
-    "Prints a line for each line of the file that is at fault: 'MAP:LINE:COLUMN:', what is wrong with it, and how to fix\nit; in a map without fault, a warning for each line that can go, all of them together.\n\nStatus 0 where the file is a map, with warnings too, and 1 where it is none.\n\nExample:\n  pmpmon lint map.txt";
+    "Prints a line for each line of the file that is at fault: 'MAP:LINE:COLUMN:', what is wrong with it, and how to fix\nit; in a map without fault, a warning for each line that can go, all of them together. A file whose name ends in\n'.toml' should be a platform: the first thing that it breaks is printed.\n\nStatus 0 where the file is a map, with warnings too, or a platform, and 1 where it is none.\n\nExample:\n  pmpmon lint map.txt";
 
 /// After those of `show`.
 pub const SHOW_HELP: &str =

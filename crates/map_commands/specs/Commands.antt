@@ -1,6 +1,7 @@
 -- What each command that needs no machine comes to, on the files and streams that are lent for it: a rule for each way in
 -- which it ends.
-use Rattle.std.specs.Prelude.{◌≡◌, ℕ, ◌^◌, ◌<◌, ◌≤◌, min, Bool, true, false, List, Option, Some, None, Result, Ok, Err, length}
+use Rattle.std.specs.Prelude.{◌≡◌, ℕ, ◌^◌, ◌<◌, ◌≤◌, min, Bool, true, false, List, codes, ◌==◌, [], Option, Some, None, Result, Ok, Err, length}
+use Rattle.std.specs.List.{ends_with}
 use Rattle.std.specs.Borrow.{Bor}
 use Rattle.std.specs.Io.KnownBytes.{Appends, Consumes}
 use Rattle.byte_streams.specs.Streams.{one_failure_more}
@@ -21,6 +22,9 @@ use Rattle.text_lines.specs.declared.fault.RunFault.{RunFault}
 use Rattle.text_lines.specs.LineLoop.{CountsReads, CountsWrites, DoesAll}
 use Rattle.map_text.specs.declared.map_file.MapFileFault.{MapFileFault}
 use Rattle.map_text.specs.MapFile.{Makes}
+use Rattle.enclave_table.specs.Platform.{Layout}
+use Rattle.platform_file.specs.Document.{IsPlatformFile}
+use Rattle.platform_lint.specs.Lints.{IsLintLine}
 use Rattle.map_lint.specs.Findings.{IsLintText}
 use Rattle.map_lint.specs.Lints.{IsVerdictOfLines}
 use Rattle.certificate_check.specs.Certificates.{IsRight}
@@ -261,13 +265,31 @@ pub data Audits {R W : Type 0} (map registers : Bor (List ℕ)) (first second : 
       (view : View) (listing text : List ℕ) (fewest : ℕ) (means : Bool) → IsAudited first second view listing fewest → IsAudit view fewest listing text means → Breaks text out
       → Audits map registers first second out (Err Output)
 
+-- a file whose name ends in `.toml` should be a platform, and any other one a map
+abbrev pub names_platform : List ℕ → Bool
+names_platform name = ends_with (λ a b. a == b) name (codes ".toml")
+
+-- what is written of the bytes of a file that should be a map, and whether they are one
+abbrev pub IsMapLint : List ℕ → List ℕ → Bool → List ℕ → Type 0
+IsMapLint name bytes is_map text = IsVerdictOfLines bytes is_map × IsLintText name bytes is_map text
+
+-- of a file that should be a platform: nothing where it is one
+abbrev pub IsPlatformLint : List ℕ → List ℕ → Bool → List ℕ → Type 0
+IsPlatformLint name bytes true text = ((platform : Layout) × IsPlatformFile bytes platform) × (text ≡ [])
+IsPlatformLint name bytes false text = IsLintLine name bytes text
+
+abbrev pub IsLint : Bool → List ℕ → List ℕ → Bool → List ℕ → Type 0
+IsLint true = IsPlatformLint
+IsLint false = IsMapLint
+
+-- what a file should be and is or is not, is printed, and the status says which
+pub data Tells {W : Type 0} (IsText : Bool → List ℕ → Type 0) (out : Writing W) : Result ℕ Trouble → Type 0 where
+  whole : (is : Bool) (text : List ℕ) → IsText is text → TakesAll text out → Tells IsText out (Ok (answer_status is))
+  no_memory : IsUnwritten out → Tells IsText out (Err Memory)
+  no_output : (is : Bool) (text : List ℕ) → IsText is text → Breaks text out → Tells IsText out (Err Output)
+
 -- `lint`: the file is read, and what is wrong with it is printed
-pub data Lints {R W : Type 0} (map : Bor (List ℕ)) (first : Reading R) (out : Writing W) : Result ℕ Trouble → Type 0 where
+pub data Lints {R W : Type 0} (file : Bor (List ℕ)) (first : Reading R) (out : Writing W) : Result ℕ Trouble → Type 0 where
   linted :
-      (bytes text : List ℕ) (is_map : Bool) → HasBytes (2 ^ 20) first bytes → IsVerdictOfLines bytes is_map → IsLintText map.now bytes is_map text
-      → TakesAll text out → Lints map first out (Ok (answer_status is_map))
-  no_bytes : (trouble : Trouble) → HasNoBytes (2 ^ 20) map first trouble → IsUnwritten out → Lints map first out (Err trouble)
-  no_memory : (bytes : List ℕ) → HasBytes (2 ^ 20) first bytes → IsUnwritten out → Lints map first out (Err Memory)
-  no_output :
-      (bytes text : List ℕ) (is_map : Bool) → HasBytes (2 ^ 20) first bytes → IsVerdictOfLines bytes is_map → IsLintText map.now bytes is_map text → Breaks text out
-      → Lints map first out (Err Output)
+      (bytes : List ℕ) (result : Result ℕ Trouble) → HasBytes (2 ^ 20) first bytes → Tells (IsLint (names_platform file.now) file.now bytes) out result → Lints file first out result
+  no_bytes : (trouble : Trouble) → HasNoBytes (2 ^ 20) file first trouble → IsUnwritten out → Lints file first out (Err trouble)

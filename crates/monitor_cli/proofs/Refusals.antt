@@ -7,7 +7,7 @@ use Rattle.program_troubles.specs.declared.trouble.Trouble.TheVariants.{NotAPlat
 use Rattle.map_commands.specs.Commands.{HasBytes, Reading}
 use Rattle.monitor_cli.specs.Running.{HasNoPlatform}
 use Rattle.monitor_cli.specs.Running as running
-use Rattle.monitor_cli.specs.Tasks.{IsPlatformFile}
+use Rattle.platform_file.specs.Document.{IsPlatformFile}
 
 pub no_platform :
     {R X : Type 0} (file : Bor (List ℕ)) (source : Reading R) (bytes : List ℕ) (result : Result X Trouble) → HasBytes (2 ^ 20) source bytes

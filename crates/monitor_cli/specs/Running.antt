@@ -18,7 +18,8 @@ use Rattle.program_troubles.specs.declared.trouble.Trouble.TheVariants.{NotAPlat
 use Rattle.program_troubles.specs.Troubles.{boot_trouble, run_trouble}
 use Rattle.map_commands.specs.Commands.{HasBytes, HasNoBytes, IsUnread, Reading}
 use Rattle.map_commands.specs.Parts.{Stops}
-use Rattle.monitor_cli.specs.Tasks.{AreMeasures, IsPlatformFile}
+use Rattle.monitor_cli.specs.Tasks.{AreMeasures}
+use Rattle.platform_file.specs.Document.{IsPlatformFile}
 
 -- the bytes of a file are the platform
 pub record HasPlatform {R : Type 0} (source : Reading R) (platform : Layout) : Type 0 where

@@ -1,18 +1,10 @@
 -- What the parts of a task come to.
 use Rattle.std.specs.Prelude.{◌≡◌, ℕ, ◌+◌, List, [], ◌++◌}
-use Rattle.std.specs.Str.{IsUtf8}
 use Rattle.byteorder.specs.Endian.{little_bytes}
 use Rattle.enclave_table.specs.Enclaves.{EnclaveTable, Live}
 use Rattle.enclave_table.specs.Digests.{AnswersWord}
-use Rattle.enclave_table.specs.Platform.{Layout}
 use Rattle.enclave_table.specs.declared.enclave.Enclave.{Enclave}
-use Rattle.platform_file.specs.Document.{IsPlatformText}
 use Rattle.printed_lines.specs.Texts.{measure_text}
-
--- the bytes of a file are the platform: they are a text of UTF-8 that is
-pub record IsPlatformFile (bytes : List ℕ) (platform : Layout) : Type 0 where
-  pub text : IsUtf8 bytes
-  pub platform_text : IsPlatformText bytes platform
 
 -- the digest of the enclave of an id, by its four words
 pub record IsDigest (table : EnclaveTable) (id : ℕ) (digest : List ℕ) : Type 0 where

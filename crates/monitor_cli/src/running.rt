@@ -14,7 +14,8 @@ ghost use Rattle.hart_sim.specs.Machines.{KeepsBanksRight};
 ghost use Rattle.program_troubles.specs.Troubles.{boot_trouble};
 ghost use Rattle.map_commands.specs.Commands.{reading};
 ghost use Rattle.monitor_cli.specs.Running.{HasNoPlatform, HasPlatform};
-ghost use Rattle.monitor_cli.specs.Tasks.{AreMeasures, IsDigest, IsMeasureText, IsPlatformFile};
+ghost use Rattle.monitor_cli.specs.Tasks.{AreMeasures, IsDigest, IsMeasureText};
+ghost use Rattle.platform_file.specs.Document.{IsPlatformFile};
 
 use byte_streams::{DeviceFault, Sink, Source, write_whole};
 use byteorder::{ByteOrder, LittleEndian};

@@ -1,5 +1,6 @@
 -- What a platform file says: the numbers of its document, and the platform that they are.
 use Rattle.std.specs.Prelude.{◌≡◌, ℕ, ◌<◌, ◌≤◌, ℤ, pos, negsuc, Bool, true, false, ◌&&◌, ◌||◌, bytes_eq, if◌then◌else◌, List, [], ◌∷◌, Option, Some, None, option_map, option_and_then, codes}
+use Rattle.std.specs.Str.{IsUtf8}
 use Rattle.toml.specs.Data.{Data, Items, no_items, item, Members, no_members, member, get_member, as_str, as_integer, as_array, as_table}
 use Rattle.toml.specs.Parse.{parse_document}
 use Rattle.pmp_encoding.specs.declared.perm.Perm.{Perm}
@@ -114,3 +115,8 @@ pub record IsPlatformText (text : List ℕ) (platform : Layout) : Type 0 where
   pub document : Members
   pub parsed : parse_document text ≡ Some document
   pub told : Tells document platform
+
+-- the bytes of a file are the platform: they are a text of UTF-8 that is
+pub record IsPlatformFile (bytes : List ℕ) (platform : Layout) : Type 0 where
+  pub text : IsUtf8 bytes
+  pub platform_text : IsPlatformText bytes platform

@@ -1,6 +1,6 @@
 //! Look-ups in a document.
 
-ghost use Rattle.std.specs.Prelude.{◌≡◌, map, option_map};
+ghost use Rattle.std.specs.Prelude.{◌≡◌, map, option_map, false, true, IfSome, None};
 ghost use Rattle.std.specs.Option.{option_and_then};
 ghost use Rattle.toml.specs.Data.{as_table, get_member};
 ghost use Rattle.toml.specs.View.{table_view, view};
@@ -21,16 +21,27 @@ fn is_known(key: &str, names: &[&str]) -> bool
     false
 }
 
+/// The first key of a table that has another name than these.
+pub fn unknown_key<'a>(table: &'a Table, names: &[&str]) -> Option<&'a str>
+    ensures some { IfSome result (λ key.
+        (has_only (map (λ name. name.now) names.now) (table_view table.now) ≡ false)
+        × (is_known key.now (map (λ name. name.now) names.now) ≡ false)) }
+    ensures none { result ≡ None
+        → has_only (map (λ name. name.now) names.now) (table_view table.now) ≡ true }
+{
+    'keys: for (key, _value) in table.iter() {
+        if !is_known(key.as_str(), names) {
+            return Some(key.as_str());
+        }
+    }
+    None
+}
+
 /// Whether no key of a table has another name than these.
 pub fn has_only(table: &Table, names: &[&str]) -> bool
     ensures { result ≡ has_only (map (λ name. name.now) names.now) (table_view table.now) }
 {
-    'keys: for (key, _value) in table.iter() {
-        if !is_known(key.as_str(), names) {
-            return false;
-        }
-    }
-    true
+    unknown_key(table, names).is_none()
 }
 
 /// The value at a key.
@@ -71,7 +82,7 @@ pub fn number_or(table: &Table, key: &str, usual: u64) -> Option<u64>
 }
 
 /// The permission that a text names.
-fn perm_of(value: &Value) -> Option<Perm>
+pub fn perm_of(value: &Value) -> Option<Perm>
     ensures { result ≡ perm_of (view value.now) }
 {
     let word = value.as_str()?;

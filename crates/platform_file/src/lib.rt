@@ -1,7 +1,7 @@
 //! The platform file: a TOML document that tells where memory, devices and the monitor are.
 //!
 //! For the layer above: [`platform_of`] answers the platform that a text is, and `NotAPlatform` exactly where the text
-//! is none. This crate alone knows of TOML.
+//! is none. The look-ups that it is made of are public for `platform_lint`, which says why a text is none.
 //!
 //! ```rust
 //! let text = "monitor = { base = 0x80000000, size = 0x200000 }\nram = [{ base = 0x80000000, size = 0x8000000 }]";
@@ -14,5 +14,7 @@ mod fault;
 mod platform;
 mod ranges;
 
+pub use document::{number, number_or, perm_of, unknown_key, value_at};
 pub use fault::TextFault;
 pub use platform::platform_of;
+pub use ranges::{devices_at, monitor_at, ram_at, range_in};

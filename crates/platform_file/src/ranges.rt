@@ -14,7 +14,7 @@ use toml::value::Array;
 use toml::{Table, Value};
 
 /// A base and a size, in bytes.
-fn range_in(table: &Table) -> Option<(u64, u64)>
+pub fn range_in(table: &Table) -> Option<(u64, u64)>
     ensures { result ≡ range_in (table_view table.now) }
 {
     let base = number_at(table, "base")?;

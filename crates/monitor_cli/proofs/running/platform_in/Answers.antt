@@ -4,7 +4,7 @@ use Rattle.enclave_table.specs.Platform.{Layout}
 use Rattle.platform_file.specs.declared.fault.TextFault.{TextFault}
 use Rattle.platform_file.specs.declared.fault.TextFault.TheVariants as texts
 use Rattle.program_troubles.specs.declared.trouble.Trouble.TheVariants.{NotAPlatform, Memory}
-use Rattle.monitor_cli.specs.Tasks.{IsPlatformFile}
+use Rattle.platform_file.specs.Document.{IsPlatformFile}
 use Rattle.program_troubles.specs.Troubles.{text_trouble}
 use Rattle.monitor_cli.proofs.running.platform_in.Goals as goal
 

@@ -1,7 +1,7 @@
 use Rattle.std.proofs.Common.{◌≡◌, map}
 use Rattle.toml.specs.View.{members_view}
 use Rattle.platform_file.specs.Document.{has_only}
-use Rattle.platform_file.proofs.document.has_only.Given as goal
+use Rattle.platform_file.proofs.document.unknown_key.Given as goal
 
 abbrev pub invariant-keys : goal.invariant-keys
 invariant-keys l =

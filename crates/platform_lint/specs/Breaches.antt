@@ -1,0 +1,87 @@
+-- Why a document tells no platform.
+use Rattle.std.specs.Prelude.{◌≡◌, ◌≢◌, ◌⊎◌, ℕ, ◌+◌, ◌-◌, ◌<◌, false, true, List, [], ◌∷◌, Option, Some, None, option_and_then, codes}
+use Rattle.toml.specs.Data.{Data, table, Items, Members, get_item, get_member, at, as_array, as_table}
+use Rattle.pmp_encoding.specs.declared.perm.Perm.{Perm}
+use Rattle.enclave_table.specs.Platform.{platform_rules}
+use Rattle.enclave_table.specs.Ranges.{IsRange}
+use Rattle.enclave_table.specs.Refusals.{FailsFirst}
+use Rattle.enclave_table.specs.declared.platform.PlatformFault.{PlatformFault}
+use Rattle.enclave_table.specs.declared.platform.PlatformFault.TheVariants.{BadHarts, BadEntries}
+use Rattle.platform_file.specs.Document.{is_known, has_only, known, number, number_or, perm_of, range_in, monitor_at, ram_at, devices_at}
+use Rattle.platform_lint.specs.declared.breach.Key.{Key}
+use Rattle.platform_lint.specs.declared.breach.Key.TheVariants as keys
+use Rattle.platform_lint.specs.declared.breach.Place.{Place}
+use Rattle.platform_lint.specs.declared.breach.Place.TheVariants.{File, Monitor, Ram, Device}
+use Rattle.platform_lint.specs.declared.breach.Breach.{Breach}
+use Rattle.platform_lint.specs.declared.breach.Breach.TheVariants.{Unknown, Missing, NoNumber, NoPages, NoPerm, NoTable, NoTables, Rule}
+
+-- a key as it is written
+abbrev pub key_name : Key → List ℕ
+key_name keys.Monitor = codes "monitor"
+key_name keys.Ram = codes "ram"
+key_name keys.Device = codes "device"
+key_name keys.Harts = codes "harts"
+key_name keys.Entries = codes "entries"
+key_name keys.Base = codes "base"
+key_name keys.Size = codes "size"
+key_name keys.Perm = codes "perm"
+
+-- the keys that the table of a place may have
+abbrev pub keys_of : Place → List (List ℕ)
+keys_of File = known
+keys_of Monitor = codes "base" ∷ codes "size" ∷ []
+keys_of (Ram n) = codes "base" ∷ codes "size" ∷ []
+keys_of (Device n) = codes "base" ∷ codes "size" ∷ codes "perm" ∷ []
+
+-- what stands at a place of a document: a range of memory and a device are counted from 1
+abbrev pub value_of : Members → Place → Option Data
+value_of document File = Some (table document)
+value_of document Monitor = get_member (codes "monitor") document
+value_of document (Ram n) = option_and_then (at (n - 1)) (get_member (codes "ram") document)
+value_of document (Device n) = option_and_then (at (n - 1)) (get_member (codes "device") document)
+
+-- the table of a place breaks this: it has a key that it may not have, lacks one, or has a value that will not do
+abbrev pub Breaks : Members → Place → Breach → Type 0
+Breaks members place (Unknown spot key) = (spot ≡ place) × (has_only (keys_of place) members ≡ false) × (is_known key.now (keys_of place) ≡ false)
+Breaks members place (Missing spot key) = (spot ≡ place) × (get_member (key_name key) members ≡ None)
+Breaks members place (NoNumber spot key) = (spot ≡ place) × (value : Data) × (get_member (key_name key) members ≡ Some value) × (number value ≡ None)
+Breaks members place (NoPages spot) = (spot ≡ place) × (range : ℕ × ℕ) × (range_in members ≡ Some range) × (IsRange range → ⊥)
+Breaks members place (NoPerm spot) = (spot ≡ place) × (value : Data) × (get_member (codes "perm") members ≡ Some value) × (perm_of value ≡ None)
+Breaks members place _ = ⊥
+
+-- what stands at a place breaks this: it is no table, or one that breaks it
+abbrev pub BreaksAt : Data → Place → Breach → Type 0
+BreaksAt value place breach =
+    ((as_table value ≡ None) × (breach ≡ NoTable place)) ⊎ ((members : Members) × (as_table value ≡ Some members) × Breaks members place breach)
+
+-- an item of an array breaks this, at the place of its number, counted from 1
+abbrev pub BreaksItem : Items → (ℕ → Place) → Breach → Type 0
+BreaksItem items place breach = (i : ℕ) × (value : Data) × (get_item i items ≡ Some value) × BreaksAt value (place (i + 1)) breach
+
+-- a rule on platforms that ranges and numbers break
+abbrev pub BreaksRule : (ℕ × ℕ) → List (ℕ × ℕ) → List (ℕ × ℕ × Perm) → ℕ → ℕ → PlatformFault → Type 0
+BreaksRule monitor ram devices harts entries BadHarts = 0 < harts → 4 < harts
+BreaksRule monitor ram devices harts entries BadEntries = (entries ≢ 16) × (entries ≢ 64)
+BreaksRule monitor ram devices harts entries fault = FailsFirst (platform_rules monitor ram devices) fault
+
+-- each part of a platform is there and has its form. What is left are the rules on its ranges and numbers
+pub record HasForm (document : Members) : Type 0 where
+  pub keys : has_only known document ≡ true
+  pub monitor : ℕ × ℕ
+  pub ram : List (ℕ × ℕ)
+  pub devices : List (ℕ × ℕ × Perm)
+  pub harts : ℕ
+  pub entries : ℕ
+  pub monitor_is : monitor_at document ≡ Some monitor
+  pub ram_is : ram_at document ≡ Some ram
+  pub devices_are : devices_at document ≡ Some devices
+  pub harts_are : number_or 1 (codes "harts") document ≡ Some harts
+  pub entries_are : number_or 16 (codes "entries") document ≡ Some entries
+
+-- a document breaks this: what stands at a place does, a value is no array, or a rule is broken
+pub data IsBreach (document : Members) : Breach → Type 0 where
+  at_place : (place : Place) (value : Data) (breach : Breach) → value_of document place ≡ Some value → BreaksAt value place breach → IsBreach document breach
+  missing : (key : Key) → get_member (key_name key) document ≡ None → IsBreach document (Missing File key)
+  no_number : (key : Key) (value : Data) → get_member (key_name key) document ≡ Some value → number value ≡ None → IsBreach document (NoNumber File key)
+  no_array : (key : Key) (value : Data) → get_member (key_name key) document ≡ Some value → as_array value ≡ None → IsBreach document (NoTables key)
+  rule : (form : HasForm document) (fault : PlatformFault) → BreaksRule form.monitor form.ram form.devices form.harts form.entries fault → IsBreach document (Rule fault)

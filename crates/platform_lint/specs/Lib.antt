@@ -1,0 +1,3 @@
+pub mod Breaches
+pub mod Lints
+pub mod Texts

@@ -1,0 +1,77 @@
+//! The rule on platforms that a document breaks, where each of its parts has its form.
+
+ghost use Rattle.std.specs.Prelude.{◌≡◌, ◌<◌, ◌≤◌, IfOk, IfSome, None, Ok};
+ghost use Rattle.toml.specs.View.{table_view};
+ghost use Rattle.enclave_table.specs.Platform.{Layout};
+ghost use Rattle.platform_file.specs.Document.{Builds, Tells};
+ghost use Rattle.platform_lint.specs.Breaches.{BreaksRule, HasForm, IsBreach};
+
+use crate::breach::Breach;
+use enclave_table::{Platform, PlatformFault};
+use platform_file::{devices_at, monitor_at, number_or, ram_at};
+use pmp_encoding::Perm;
+use std::alloc::{AllocError, Global};
+use toml::Table;
+
+/// A number that is too large for a byte is no number of harts, or of entries, either.
+fn byte_of(n: u64) -> u8
+    ensures small { n < 256 → result ≡ n }
+    ensures large { 256 ≤ n → result ≡ 255 }
+{
+    if n < 256 { n as u8 } else { 255 }
+}
+
+/// The first rule that a document breaks whose parts have their form.
+pub(crate) fn rule_breach(
+    alloc: Global,
+    document: &Table,
+) -> Result<Option<PlatformFault>, AllocError>
+    requires { HasForm (table_view document.now) }
+    ensures some { IfOk result (λ found.
+        IfSome found (λ fault. IsBreach (table_view document.now) (Breach.Rule fault))) }
+    ensures none { result ≡ Ok None
+        → (platform : Layout) × Tells (table_view document.now) platform }
+{
+    let Some(monitor) = monitor_at(document) else {
+        unreachable!();
+    };
+    let Ok(ram) = ram_at(alloc, document) else {
+        return Err(AllocError);
+    };
+    let Ok(devices) = devices_at(alloc, document) else {
+        return Err(AllocError);
+    };
+    let Some(harts) = number_or(document, "harts", 1) else {
+        unreachable!();
+    };
+    let Some(entries) = number_or(document, "entries", 16) else {
+        unreachable!();
+    };
+    Ok(broken_rule(monitor, ram.as_slice(), devices.as_slice(), harts, entries))
+}
+
+/// The first rule that ranges and numbers break.
+fn broken_rule(
+    monitor: (u64, u64),
+    ram: &[(u64, u64)],
+    devices: &[(u64, u64, Perm)],
+    harts: u64,
+    entries: u64,
+) -> Option<PlatformFault>
+    ensures some { IfSome result (BreaksRule monitor ram.now devices.now harts entries) }
+    ensures none { result ≡ None
+        → (platform : Layout) × Builds monitor ram.now devices.now harts entries platform }
+{
+    let bare = match Platform::new(monitor, ram, devices) {
+        Ok(bare) => bare,
+        Err(fault) => return Some(fault),
+    };
+    let with_harts = match bare.with_harts(byte_of(harts)) {
+        Ok(with_harts) => with_harts,
+        Err(fault) => return Some(fault),
+    };
+    match with_harts.with_entries(byte_of(entries)) {
+        Ok(_) => None,
+        Err(fault) => Some(fault),
+    }
+}

@@ -1,0 +1,108 @@
+//! Files that are no platforms, with what is said of each.
+
+use byte_streams::fakes::PieceSink;
+use platform_lint::lint_platform;
+use std::alloc::Global;
+use std::process::Abort;
+use std::test::Fail;
+
+/// That the lint of the file has this answer and this line.
+fn expect_lint(rt: &impl Abort, alloc: Global, bytes: &[u8], is_platform: bool, wanted: &str) {
+    let mut out = PieceSink::new(4096, None);
+    let answer = lint_platform(alloc, "p", bytes, &mut out);
+    assert!(rt; answer == Ok(is_platform));
+    assert_eq!(rt; out.written(), wanted.as_bytes());
+}
+
+#[test]
+fn a_platform_has_nothing_said_of_it(rt: HostRuntime) -> Result<(), Fail> {
+    let text =
+        b"monitor = { base = 0x80000000, size = 0x200000 }\nram = [{ base = 0x80000000, size = 0x8000000 }]\n";
+    expect_lint(&rt, rt.alloc(), text, true, "");
+    Ok(())
+}
+
+#[test]
+fn keys_and_values_of_tables_are_named(rt: HostRuntime) -> Result<(), Fail> {
+    for (text, wanted) in [
+        (
+            b"hart = 2\n".as_slice(),
+            "p: unknown key 'hart'; the keys are monitor, ram, device, harts and entries\n",
+        ),
+        (b"harts = 2\n", "p: the key monitor is missing\n"),
+        (
+            b"monitor = 1\n",
+            "p: monitor: this is no table of base and size\n",
+        ),
+        (
+            b"monitor = { base = 0, size = 4096, name = 'm' }\n",
+            "p: monitor: unknown key 'name'; the keys are base and size\n",
+        ),
+        (
+            b"monitor = { base = '0x80000000', size = 4096 }\n",
+            "p: monitor: the value of base is no whole number from 0\n",
+        ),
+        (
+            b"monitor = { base = 2048, size = 4096 }\n",
+            "p: monitor: base and size are multiples of 4096, size is above 0, and the end is at most 2^56\n",
+        ),
+        (
+            b"monitor = { base = 0, size = 4096 }\n[ram]\nbase = 0\nsize = 4096\n",
+            "p: ram is no array of tables; write its name in double brackets\n",
+        ),
+        (
+            b"monitor = { base = 0, size = 4096 }\nram = [{ base = 0, size = 4096 }, { base = 8192 }]\n",
+            "p: ram 2: the key size is missing\n",
+        ),
+    ] {
+        expect_lint(&rt, rt.alloc(), text, false, wanted);
+    }
+    Ok(())
+}
+
+#[test]
+fn devices_and_numbers_are_named(rt: HostRuntime) -> Result<(), Fail> {
+    for (text, wanted) in [
+        (
+            b"monitor = { base = 0, size = 4096 }\nram = [{ base = 0, size = 8192 }]\ndevice = [{ base = 8192, size = 4096 }]\n".as_slice(),
+            "p: device 1: the key perm is missing\n",
+        ),
+        (
+            b"monitor = { base = 0, size = 4096 }\nram = [{ base = 0, size = 8192 }]\ndevice = [{ base = 8192, size = 4096, perm = 'wr' }]\n",
+            "p: device 1: perm is no permission; write \"none\", \"r\", \"rw\", \"x\", \"rx\" or \"rwx\"\n",
+        ),
+        (
+            b"monitor = { base = 0, size = 4096 }\nram = [{ base = 0, size = 8192 }]\nharts = -1\n",
+            "p: the value of harts is no whole number from 0\n",
+        ),
+        (
+            b"monitor = { base = 0, size = 4096 }\nram = [{ base = 0, size = 8192 }]\nharts = 5\n",
+            "p: harts is 1, 2, 3 or 4\n",
+        ),
+        (
+            b"monitor = { base = 0, size = 4096 }\nram = [{ base = 0, size = 8192 }]\nentries = 8\n",
+            "p: entries is 16 or 64\n",
+        ),
+        (
+            b"monitor = { base = 8192, size = 4096 }\nram = [{ base = 0, size = 8192 }]\n",
+            "p: a page of the monitor is not in a range of memory\n",
+        ),
+        (
+            b"monitor = { base = 0, size = 4096 }\nram = [{ base = 0, size = 8192 }, { base = 4096, size = 4096 }]\n",
+            "p: two of the ranges of memory and devices have a page in common\n",
+        ),
+    ] {
+        expect_lint(&rt, rt.alloc(), text, false, wanted);
+    }
+    Ok(())
+}
+
+#[test]
+fn what_is_no_document_has_its_line_and_column(rt: HostRuntime) -> Result<(), Fail> {
+    let mut out = PieceSink::new(4096, None);
+    let answer = lint_platform(rt.alloc(), "p", b"harts = 1\nram = [\n", &mut out);
+    assert!(rt; answer == Ok(false));
+    assert!(rt; out.written().starts_with(b"p:3:1: "));
+    expect_lint(&rt, rt.alloc(), b"harts = \xff\n", false, "p: not UTF-8\n");
+    Ok(())
+}
