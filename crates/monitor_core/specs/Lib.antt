@@ -1,0 +1,10 @@
+pub mod States
+pub mod Changes
+pub mod Answers
+pub mod Steps
+pub mod RegisterSets
+pub mod Parts
+pub mod Frames
+pub mod Monitors
+pub mod Wants
+pub mod Worlds

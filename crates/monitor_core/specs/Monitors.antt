@@ -1,0 +1,22 @@
+-- The monitor as its caller sees it.
+use Rattle.std.specs.Prelude.{List}
+use Rattle.pmp_encoding.specs.declared.region.Entry.{Entry}
+use Rattle.enclave_table.specs.Tables.{Kept, list_at}
+use Rattle.worlds.specs.declared.world.World.{World}
+use Rattle.worlds.specs.declared.world.World.TheVariants.{Host, Enclave as InEnclave}
+use Rattle.monitor_core.specs.declared.monitor.Monitor.{Monitor}
+use Rattle.monitor_core.specs.Parts.{state_in}
+use Rattle.monitor_core.specs.States.{State}
+
+-- the state of the monitor. What it is, its observers show: its table, the world and the registers on each hart, and the marks
+unfoldable pub state_of : Monitor → State
+state_of monitor = state_in monitor.parts
+
+-- its table of enclaves, with the list of entries that is kept for each view, which `table` shows
+unfoldable pub kept_of : Monitor → Kept
+kept_of monitor = monitor.parts.table
+
+-- the list that is kept for a world
+abbrev pub list_of : Kept → World → List Entry
+list_of kept Host = kept.host_list
+list_of kept (InEnclave id) = list_at kept id

@@ -1,0 +1,51 @@
+-- The parts of the monitor: the state that they show, and what is true of them together.
+use Rattle.std.specs.Prelude.{◌≡◌, ℕ, ◌≤◌, Bool, true, false, List, Option, None, Some, slice_index_or}
+use Rattle.enclave_table.specs.Tables.{Kept}
+use Rattle.enclave_table.specs.Enclaves.{EnclaveTable, enclave_at}
+use Rattle.enclave_table.specs.declared.enclave.Enclave.{Enclave}
+use Rattle.enclave_table.specs.declared.enclave.State.{State as Stage}
+use Rattle.enclave_table.specs.declared.enclave.State.TheVariants.{Running}
+use Rattle.worlds.specs.declared.world.World.{World}
+use Rattle.worlds.specs.declared.world.World.TheVariants.{Host, Enclave as InEnclave}
+use Rattle.monitor_core.specs.declared.parts.Parts.{Parts}
+use Rattle.monitor_core.specs.Changes.{is_host}
+use Rattle.monitor_core.specs.RegisterSets.{registers_in}
+use Rattle.monitor_core.specs.States.{State}
+
+-- the world on a hart, and whether it is marked
+abbrev pub world_in : List World → ℕ → World
+world_in worlds hart = slice_index_or worlds hart Host
+
+abbrev pub mark_in : List Bool → ℕ → Bool
+mark_in marked hart = slice_index_or marked hart false
+
+-- the state that the parts show
+abbrev pub state_in : Parts → State
+state_in parts = record {
+  table = parts.table.table;
+  worlds = world_in parts.worlds;
+  registers = registers_in parts.registers;
+  marked = mark_in parts.marked;
+}
+
+-- the host, or an enclave that is Running, as truth values
+abbrev pub is_run : Stage → Bool
+is_run Running = true
+is_run _ = false
+
+abbrev pub is_running : Option Enclave → Bool
+is_running None = false
+is_running (Some e) = is_run e.state
+
+abbrev pub is_current : EnclaveTable → World → Bool
+is_current table Host = true
+is_current table (InEnclave id) = is_running (enclave_at table.enclaves id)
+
+-- at most four harts, each in the host's world or in that of an enclave that is Running, and no enclave runs on two; a hart that
+-- there is not, or that is marked, is in the host's world
+pub record HoldsTogether (kept : Kept) (worlds : List World) (marked : List Bool) : Type 0 where
+  pub few : kept.table.layout.harts ≤ 4
+  pub current : (hart : ℕ) → is_current kept.table (world_in worlds hart) ≡ true
+  pub alone : (hart other id : ℕ) → world_in worlds hart ≡ InEnclave id → world_in worlds other ≡ InEnclave id → hart ≡ other
+  pub idle : (hart : ℕ) → kept.table.layout.harts ≤ hart → is_host (world_in worlds hart) ≡ true
+  pub hosted : (hart : ℕ) → mark_in marked hart ≡ true → is_host (world_in worlds hart) ≡ true

@@ -1,0 +1,40 @@
+-- The state of the monitor. There are no PMP entries in it, and no bytes of memory.
+use Rattle.std.specs.Prelude.{ℕ, Bool, false}
+use Rattle.pmp_encoding.specs.declared.perm.Perm.{Perm}
+use Rattle.enclave_table.specs.Platform.{Layout}
+use Rattle.enclave_table.specs.Enclaves.{EnclaveTable}
+use Rattle.enclave_table.specs.Booting.{opening as opening_table}
+pub use Rattle.enclave_table.specs.Views.{current_view as view_of}
+use Rattle.worlds.specs.declared.world.World.{World}
+use Rattle.worlds.specs.declared.world.World.TheVariants.{Host}
+use Rattle.sbi_decode.specs.Registers.{RegisterFile, zeros}
+use Rattle.worlds.specs.Runners.{Runner, runner_of}
+
+-- the enclaves, the world that runs on each hart, the registers of each host and enclave, and the harts that are marked: each of
+-- these is to load the host's entries before it goes on. A hart that there is not stays in the host's world, its registers zero,
+-- and is never marked
+pub record State : Type 0 where
+  pub table : EnclaveTable
+  pub worlds : ℕ → World
+  pub registers : Runner → RegisterFile
+  pub marked : ℕ → Bool
+
+-- the opening state of a platform: no enclave, each hart in the host's world, all registers zero, no hart marked
+abbrev pub opening : Layout → State
+opening layout = record {
+  table = opening_table layout;
+  worlds = λ hart. Host;
+  registers = λ who. zeros;
+  marked = λ hart. false;
+}
+
+-- the current view of a hart: what the world that runs there may do on each page
+abbrev pub current_view : State → ℕ → ℕ → Perm
+current_view s hart page = view_of s.table (s.worlds hart) page
+
+-- who runs on a hart, and with which registers
+abbrev pub who_runs : State → ℕ → Runner
+who_runs s hart = runner_of hart (s.worlds hart)
+
+abbrev pub running_registers : State → ℕ → RegisterFile
+running_registers s hart = s.registers (who_runs s hart)

@@ -1,0 +1,73 @@
+//! What a call is answered with, and what goes on after it.
+
+ghost use Rattle.std.specs.Prelude.{◌≡◌, ◌≤◌};
+ghost use Rattle.monitor_core.specs.Answers.{below_zero, word_below_zero, done_with, refused_with};
+
+use page_views::PageRange;
+use sbi_decode::Registers;
+
+/// The answer of a call, which its caller finds in a0 and a1 when it goes on.
+#[derive(Clone, Copy, PartialEq, Eq, Debug)]
+pub struct Answer {
+    /// 0 where the call was done; below zero where it was refused.
+    pub status: i64,
+    /// What a call that was done gives back.
+    pub value: u64,
+}
+
+/// What goes on on a hart after a call or an interrupt.
+#[derive(Clone, Copy, PartialEq, Eq, Debug)]
+pub struct Onward {
+    /// The registers of the world that runs there now.
+    pub registers: Registers,
+    /// Whether the hart's entries are to be loaded anew before it does.
+    pub load: bool,
+}
+
+/// How a call was served.
+#[derive(Clone, Copy, PartialEq, Eq, Debug)]
+pub struct Served {
+    pub answer: Answer,
+    /// The pages whose every byte is to be made zero before any hart goes on.
+    pub zero: Option<PageRange>,
+    pub onward: Onward,
+}
+
+impl Answer {
+    /// That of a call that is done.
+    pub(crate) fn done(value: u64) -> Answer
+        ensures { result ≡ done_with value }
+    {
+        Answer { status: 0, value }
+    }
+
+    /// That of a call that is refused with a number below zero.
+    pub(crate) fn refused(number: u64) -> Answer
+        requires low { 1 ≤ number }
+        requires high { number ≤ 112 }
+        ensures { result ≡ refused_with number }
+    {
+        Answer {
+            status: below_zero(number),
+            value: 0,
+        }
+    }
+}
+
+/// That far below zero, as a status.
+fn below_zero(number: u64) -> i64
+    requires low { 1 ≤ number }
+    requires high { number ≤ 112 }
+    ensures { result ≡ below_zero number }
+{
+    -1 - (number - 1) as i64
+}
+
+/// That far below zero, as a word.
+pub(crate) fn word_below_zero(number: u64) -> u64
+    requires low { 1 ≤ number }
+    requires high { number ≤ 112 }
+    ensures { result ≡ word_below_zero number }
+{
+    u64::MAX - (number - 1)
+}

@@ -1,0 +1,32 @@
+//! The registers of a call and its answer, and those of a first entry.
+
+ghost use Rattle.std.specs.Prelude.{◌≡◌};
+ghost use Rattle.monitor_core.specs.Changes.{past_call, with_answer, first_registers};
+
+use sbi_decode::Registers;
+
+/// Goes past the instruction that made a call.
+pub(crate) fn go_past_call(registers: &mut Registers)
+    ensures { registers.new ≡ past_call registers.old }
+{
+    let pc = registers.pc().wrapping_add(4);
+    registers.set_pc(pc);
+}
+
+/// Puts an answer into a0 and a1.
+pub(crate) fn put_answer(registers: &mut Registers, first: u64, second: u64)
+    ensures { registers.new ≡ with_answer registers.old first second }
+{
+    registers.set(10, first);
+    registers.set(11, second);
+}
+
+/// The registers of a first entry.
+pub(crate) fn first_registers(pc: u64, id: u64) -> Registers
+    ensures { result ≡ first_registers pc id }
+{
+    let mut registers = Registers::new();
+    registers.set_pc(pc);
+    registers.set(10, id);
+    registers
+}

@@ -1,0 +1,142 @@
+//! The ways between the host and an enclave: run, resume, stop, exit, and the timer.
+
+use crate::answer::Answer;
+use crate::call_registers::first_registers;
+use crate::outcome::Outcome;
+use crate::parts::Parts;
+use enclave_table::{Entering, Leaving, Refusal, World};
+
+impl Parts {
+    ghost use Rattle.std.specs.Prelude.{◌≡◌, ℕ, ◌+◌, ◌<◌, ◌≤◌, false, IfErr, OnOk, OnErr};
+    ghost use Rattle.enclave_table.specs.Checks.{leave_checks};
+    ghost use Rattle.enclave_table.specs.Living.{Leaves};
+    ghost use Rattle.enclave_table.specs.Refusals.{FailsFirst};
+    ghost use Rattle.enclave_table.specs.declared.enclave.Enclave.{Enclave};
+    ghost use Rattle.monitor_core.specs.Changes.{back_to_host, with_table};
+    ghost use Rattle.monitor_core.specs.Frames.{IsOn, KeepsFrame, LoadsAnew};
+    ghost use Rattle.monitor_core.specs.Parts.{state_in};
+    ghost use Rattle.monitor_core.specs.Steps.{DoesEnter, DoesStop, DoesExit, Interrupts, entering_with};
+
+    /// The registers that an enclave goes on with: at its entry for the first time, as it was stopped after that.
+    fn prepare(&mut self, id: u64, entering: Entering, pc: u64)
+        requires low { 1 ≤ id }
+        requires high { id ≤ 64 }
+        ensures state { (e : Enclave) → pc ≡ e.parts.base + e.parts.entry_offset
+            → state_in self.new ≡ entering_with entering (state_in self.old) id e }
+        ensures table { self.new.table ≡ self.old.table }
+        ensures worlds { self.new.worlds ≡ self.old.worlds }
+        ensures marks { self.new.marked ≡ self.old.marked }
+    {
+        match entering {
+            Entering::Run => self.put_saved(id, first_registers(pc, id)),
+            Entering::Resume => {}
+        }
+    }
+
+    /// Run and resume: an enclave goes on on a hart.
+    pub(crate) fn enter(&mut self, hart: u8, id: u64, entering: Entering) -> Outcome
+        requires on { IsOn self.old hart }
+        requires awake { (state_in self.old).marked hart ≡ false }
+        ensures frame { KeepsFrame self.old self.new }
+        ensures step { DoesEnter entering id (state_in self.old) hart result.answer result.zero
+            (state_in self.new) }
+        ensures load { LoadsAnew result.load (state_in self.old) (state_in self.new) hart }
+    {
+        let world = self.world(hart);
+        match self.table.enter(world, id, entering) {
+            Ok(()) => {}
+            Err(refusal) => return self.refuse_for(hart, refusal),
+        }
+        self.table.cite_invariant();
+        let Some(pc) = self.table.entry_point(id) else {
+            unreachable!();
+        };
+        self.prepare(id, entering, pc);
+        self.go_to(hart, World::Enclave(id));
+        Outcome {
+            answer: Answer::done(0),
+            zero: None,
+            load: true,
+        }
+    }
+
+    /// The enclave on a hart is left, and the host goes on there with two words.
+    fn leave(&mut self, hart: u8, leaving: Leaving, first: u64, second: u64) -> Result<(), Refusal>
+        requires on { IsOn self.old hart }
+        ensures frame { KeepsFrame self.old self.new }
+        ensures done { OnOk result ((id : ℕ)
+            × Leaves self.old.table.table ((state_in self.old).worlds hart) leaving id
+            self.new.table.table
+            × (state_in self.new ≡ back_to_host
+            (with_table (state_in self.old) self.new.table.table) hart first second)) }
+        ensures refused { IfErr result (λ refusal.
+            FailsFirst (leave_checks ((state_in self.old).worlds hart)) refusal) }
+        ensures kept { OnErr result (self.new ≡ self.old) }
+    {
+        let world = self.world(hart);
+        match self.table.leave(world, leaving) {
+            Ok(_) => {}
+            Err(refusal) => return Err(refusal),
+        }
+        self.go_to(hart, World::Host);
+        self.answer(hart, first, second);
+        Ok(())
+    }
+
+    /// An enclave ends itself with a value for the host.
+    pub(crate) fn exit(&mut self, hart: u8, value: u64) -> Outcome
+        requires on { IsOn self.old hart }
+        ensures frame { KeepsFrame self.old self.new }
+        ensures step { DoesExit value (state_in self.old) hart result.answer result.zero
+            (state_in self.new) }
+        ensures load { LoadsAnew result.load (state_in self.old) (state_in self.new) hart }
+    {
+        match self.leave(hart, Leaving::Exit, 0, value) {
+            Ok(()) => Outcome {
+                answer: Answer::done(value),
+                zero: None,
+                load: true,
+            },
+            Err(refusal) => self.refuse_for(hart, refusal),
+        }
+    }
+
+    /// An enclave stops itself.
+    pub(crate) fn stop(&mut self, hart: u8) -> Outcome
+        requires on { IsOn self.old hart }
+        ensures frame { KeepsFrame self.old self.new }
+        ensures step { DoesStop (state_in self.old) hart result.answer result.zero
+            (state_in self.new) }
+        ensures load { LoadsAnew result.load (state_in self.old) (state_in self.new) hart }
+    {
+        if self.world(hart) == World::Host {
+            return self.refuse_for(hart, Refusal::NotEnclave);
+        }
+        self.answer(hart, 0, 0);
+        let Ok(()) = self.leave(hart, Leaving::Stop, 1, 0) else {
+            unreachable!();
+        };
+        Outcome {
+            answer: Answer::done(0),
+            zero: None,
+            load: true,
+        }
+    }
+
+    /// The timer's interrupt. The answer is whether the hart's entries are to be loaded anew.
+    pub(crate) fn pause(&mut self, hart: u8) -> bool
+        requires on { IsOn self.old hart }
+        ensures frame { KeepsFrame self.old self.new }
+        ensures step { let s = state_in self.old in
+            Interrupts (s.worlds hart) s hart (state_in self.new) }
+        ensures load { LoadsAnew result (state_in self.old) (state_in self.new) hart }
+    {
+        if self.world(hart) == World::Host {
+            return false;
+        }
+        let Ok(()) = self.leave(hart, Leaving::Stop, 1, 0) else {
+            unreachable!();
+        };
+        true
+    }
+}

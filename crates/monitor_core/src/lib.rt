@@ -1,0 +1,43 @@
+//! The monitor on one to four harts, without memory, traces or a hart's simulated registers.
+//!
+//! A [`Monitor`] is booted for a platform. It keeps the table of enclaves, the world that runs on each hart, the registers
+//! of every host and enclave, and which harts are marked. [`Monitor::serve`] takes the registers of a hart that made a
+//! call, and the pages to measure; it gives back the call's answer, the registers that go on, and the pages that the caller
+//! makes zero before they do. [`Monitor::interrupt`] does the same for the timer. [`Monitor::entries`] are the PMP entries
+//! that a hart is to have.
+//!
+//! For the layer above: each call is a step of the small machine in `specs/Steps`, which has no PMP entries and no bytes in
+//! it. On every state the entries of a hart mean what its world may do, and no list of entries of any regions in any order
+//! that means it is shorter. A hart is marked where another hart's call changed the host's view: it loads the host's
+//! entries, and [`Monitor::wake`] takes the mark away, before it goes on.
+//!
+//! Only boot, and a creation or a destruction that passes its other checks, take memory.
+//!
+//! ```text
+//! let mut monitor = Monitor::boot(alloc, platform)?;
+//! let served = monitor.serve(hart, registers, &pages);
+//! if served.onward.load {
+//!     load(monitor.entries(hart));
+//! }
+//! ```
+#![tactic(auto)]
+
+mod answer;
+mod boot;
+mod call_registers;
+mod calls;
+mod crossings;
+mod current;
+mod monitor;
+mod outcome;
+mod ownership;
+mod parts;
+mod refused;
+mod register_sets;
+
+pub use answer::{Answer, Onward, Served};
+pub use enclave_table::{BootFault, Pages, Platform, Table, World};
+pub use monitor::Monitor;
+pub use page_views::PageRange;
+pub use pmp_encoding::Entry;
+pub use sbi_decode::Registers;

@@ -1,0 +1,172 @@
+//! The monitor.
+
+ghost use Rattle.monitor_core.specs.Parts.{HoldsTogether};
+
+use crate::answer::{Onward, Served};
+use crate::parts::Parts;
+use enclave_table::{BootFault, Pages, Platform, Table, World};
+use pmp_encoding::Entry;
+use sbi_decode::Registers;
+use std::alloc::Global;
+
+/// The table of enclaves, the worlds on one to four harts with their registers, and the harts that are marked.
+#[derive(Drop)]
+pub struct Monitor {
+    pub(crate) parts: Parts,
+    pub ghost whole: { HoldsTogether parts.table parts.worlds parts.marked },
+}
+
+impl Monitor {
+    ghost use Rattle.std.specs.Prelude.{◌≡◌, ◌<◌, ◌≤◌, false, length, IfOk, IfErr};
+    ghost use Rattle.pmp_encoding.specs.Limits.{limit_number};
+    ghost use Rattle.pmp_match.specs.Meaning.{IsFewest, Needs};
+    ghost use Rattle.enclave_table.specs.Booting.{IsBootFault, opening as opening_table};
+    ghost use Rattle.enclave_table.specs.Fewest.{FitsIn};
+    ghost use Rattle.enclave_table.specs.Platform.{IsLayout};
+    ghost use Rattle.enclave_table.specs.Tables.{IsTable};
+    ghost use Rattle.enclave_table.specs.Views.{host_view};
+    ghost use Rattle.sbi_decode.specs.Calls.{call_of};
+    ghost use Rattle.monitor_core.specs.Changes.{past_call, with_running, without_mark};
+    ghost use Rattle.monitor_core.specs.Frames.{LoadsAnew};
+    ghost use Rattle.monitor_core.specs.Monitors.{state_of, kept_of, list_of};
+    ghost use Rattle.monitor_core.specs.States.{opening, current_view, running_registers};
+    ghost use Rattle.monitor_core.specs.Steps.{DoesCall, Interrupts};
+    ghost use Rattle.monitor_core.specs.Wants.{IsRefusedByNeed};
+
+    /// The monitor of a platform: no enclave, each hart in the host's world, all registers zero, no hart marked. It is
+    /// refused where the host's view needs more entries than the platform has, and where memory is.
+    pub fn boot(alloc: Global, platform: Platform) -> Result<Monitor, BootFault>
+        ensures state { IfOk result (λ m. state_of m ≡ opening platform) }
+        ensures rules { IfOk result (λ _. IsLayout platform) }
+        ensures fits { IfOk result (λ _. FitsIn platform.limit
+            (host_view (opening_table platform))) }
+        ensures fault { IfErr result (λ fault. IsBootFault platform fault) }
+    {
+        match Parts::boot(alloc, platform) {
+            Ok(parts) => {
+                parts.table.cite_invariant();
+                Ok(Monitor { parts })
+            }
+            Err(fault) => Err(fault),
+        }
+    }
+
+    /// How many harts there are, 1 to 4.
+    pub fn harts(&self) -> u8
+        ensures value { result ≡ (state_of self.now).table.layout.harts }
+        ensures some { 0 < result }
+        ensures most { result ≤ 4 }
+    {
+        self.parts.table.platform().harts()
+    }
+
+    /// The table of enclaves.
+    pub fn table(&self) -> &Table
+        ensures kept { result.now ≡ kept_of self.now }
+        ensures state { result.now.table ≡ (state_of self.now).table }
+    {
+        &self.parts.table
+    }
+
+    /// The world that runs on a hart.
+    pub fn world(&self, hart: u8) -> World
+        requires { hart < 4 }
+        ensures { result ≡ (state_of self.now).worlds hart }
+    {
+        self.parts.world(hart)
+    }
+
+    /// The registers of the world that runs on a hart, as they are kept: those that went on there last, or were put since.
+    pub fn registers(&self, hart: u8) -> &Registers
+        requires { hart < 4 }
+        ensures { result.now ≡ running_registers (state_of self.now) hart }
+    {
+        self.parts.running(hart)
+    }
+
+    /// Whether a hart is marked: it is to load its entries, and to be woken, before it goes on.
+    pub fn is_marked(&self, hart: u8) -> bool
+        requires { hart < 4 }
+        ensures { result ≡ (state_of self.now).marked hart }
+    {
+        self.parts.is_marked(hart)
+    }
+
+    /// The PMP entries that a hart is to have: those of the view of the world that runs there, and no list of any regions
+    /// in any order that means that view is shorter.
+    pub fn entries(&self, hart: u8) -> &[Entry]
+        requires { hart < 4 }
+        ensures fewest { IsFewest (current_view (state_of self.now) hart) result.now }
+        ensures room { length result.now ≤ limit_number (state_of self.now).table.layout.limit }
+        ensures value { result.now ≡ list_of (kept_of self.now) ((state_of self.now).worlds hart) }
+    {
+        self.parts.entries(hart)
+    }
+
+    /// How many entries the view of the world on a hart needs, which are as many as [`Monitor::entries`].
+    pub fn used(&self, hart: u8) -> u64
+        requires { hart < 4 }
+        ensures { Needs (current_view (state_of self.now) hart) result }
+    {
+        self.parts.entries(hart).len() as u64
+    }
+
+    /// The mark of a hart is taken away, which loads its entries before it goes on. Nothing else changes.
+    pub fn wake(&mut self, hart: u8)
+        requires { hart < 4 }
+        ensures state { state_of self.new ≡ without_mark (state_of self.old) hart }
+        ensures kept { kept_of self.new ≡ kept_of self.old }
+    {
+        self.parts.clear_mark(hart);
+    }
+
+    /// The registers of the world that runs on a hart are these now. Nothing else changes.
+    pub fn put_registers(&mut self, hart: u8, registers: &Registers)
+        requires { hart < 4 }
+        ensures state { state_of self.new ≡ with_running (state_of self.old) hart registers.now }
+        ensures kept { kept_of self.new ≡ kept_of self.old }
+    {
+        self.parts.put_running(hart, *registers);
+    }
+
+    /// The call that a hart with these registers made. The caller then makes the pages in `zero` zero, loads the entries
+    /// of the hart where it is asked to, and stops every other hart that is marked now until it was woken; then the
+    /// registers go on.
+    pub fn serve<P: Pages>(&mut self, hart: u8, registers: &Registers, pages: &P) -> Served
+        requires hart { hart < (state_of self.old).table.layout.harts }
+        requires awake { (state_of self.old).marked hart ≡ false }
+        ensures step { let file = past_call registers.now in
+            DoesCall (call_of file) (P.bytes_of pages.now)
+            (with_running (state_of self.old) hart file) hart result.answer result.zero
+            (state_of self.new) }
+        ensures registers { result.onward.registers
+            ≡ running_registers (state_of self.new) hart }
+        ensures load { LoadsAnew result.onward.load (state_of self.old) (state_of self.new) hart }
+        ensures awake { (state_of self.new).marked hart ≡ false }
+        ensures platform { (state_of self.new).table.layout ≡ (state_of self.old).table.layout }
+        ensures lists { (state_of self.new).table ≡ (state_of self.old).table
+            → kept_of self.new ≡ kept_of self.old }
+        ensures need { let s = state_of self.old in
+            IsRefusedByNeed (call_of registers.now) s.table (s.worlds hart) result.answer }
+    {
+        self.parts.table.cite_invariant();
+        self.parts.serve(hart, registers, pages)
+    }
+
+    /// The timer's interrupt on a hart with these registers: an enclave is stopped, and the host goes on there. In the
+    /// host's world nothing but the registers changes.
+    pub fn interrupt(&mut self, hart: u8, registers: &Registers) -> Onward
+        requires hart { hart < (state_of self.old).table.layout.harts }
+        requires awake { (state_of self.old).marked hart ≡ false }
+        ensures step { let s = with_running (state_of self.old) hart registers.now in
+            Interrupts (s.worlds hart) s hart (state_of self.new) }
+        ensures registers { result.registers ≡ running_registers (state_of self.new) hart }
+        ensures load { LoadsAnew result.load (state_of self.old) (state_of self.new) hart }
+        ensures awake { (state_of self.new).marked hart ≡ false }
+        ensures platform { (state_of self.new).table.layout ≡ (state_of self.old).table.layout }
+        ensures lists { (state_of self.new).table ≡ (state_of self.old).table
+            → kept_of self.new ≡ kept_of self.old }
+    {
+        self.parts.interrupt(hart, registers)
+    }
+}

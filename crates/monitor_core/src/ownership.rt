@@ -1,0 +1,92 @@
+//! The calls on what enclaves own: create, destroy, and a word of a digest.
+
+use crate::answer::Answer;
+use crate::outcome::Outcome;
+use crate::parts::Parts;
+use enclave_table::{Create, Pages};
+
+impl Parts {
+    ghost use Rattle.std.specs.Prelude.{◌≡◌, ◌<◌};
+    ghost use Rattle.monitor_core.specs.Changes.{answering, marking_others};
+    ghost use Rattle.monitor_core.specs.Frames.{IsOn, KeepsFrame, LoadsAnew};
+    ghost use Rattle.monitor_core.specs.Parts.{HoldsTogether, state_in};
+    ghost use Rattle.monitor_core.specs.Steps.{DoesCreate, DoesDestroy, DoesMeasure};
+
+    /// The host on a hart is answered, and every other hart in the host's world is marked.
+    fn answer_and_mark(&mut self, hart: u8, first: u64, second: u64)
+        requires on { IsOn self.old hart }
+        ensures whole { HoldsTogether self.new.table self.new.worlds self.new.marked }
+        ensures state { state_in self.new
+            ≡ marking_others (answering (state_in self.old) hart first second) hart }
+        ensures table { self.new.table ≡ self.old.table }
+    {
+        self.answer(hart, first, second);
+        self.mark_others(hart);
+    }
+
+    /// Creates an enclave.
+    pub(crate) fn create<P: Pages>(&mut self, hart: u8, pages: &P, asked: Create) -> Outcome
+        requires on { IsOn self.old hart }
+        ensures frame { KeepsFrame self.old self.new }
+        ensures step { DoesCreate asked (P.bytes_of pages.now) (state_in self.old) hart
+            result.answer result.zero (state_in self.new) }
+        ensures load { LoadsAnew result.load (state_in self.old) (state_in self.new) hart }
+    {
+        self.table.cite_invariant();
+        let world = self.world(hart);
+        match self.table.create(world, pages, asked) {
+            Ok(id) => {
+                self.answer_and_mark(hart, 0, id);
+                Outcome {
+                    answer: Answer::done(id),
+                    zero: None,
+                    load: true,
+                }
+            }
+            Err(refusal) => self.refuse_for(hart, refusal),
+        }
+    }
+
+    /// Destroys an enclave, whose private pages are to be made zero.
+    pub(crate) fn destroy(&mut self, hart: u8, id: u64) -> Outcome
+        requires on { IsOn self.old hart }
+        ensures frame { KeepsFrame self.old self.new }
+        ensures step { DoesDestroy id (state_in self.old) hart result.answer result.zero
+            (state_in self.new) }
+        ensures load { LoadsAnew result.load (state_in self.old) (state_in self.new) hart }
+    {
+        let world = self.world(hart);
+        match self.table.destroy(world, id) {
+            Ok(range) => {
+                self.answer_and_mark(hart, 0, 0);
+                Outcome {
+                    answer: Answer::done(0),
+                    zero: Some(range),
+                    load: true,
+                }
+            }
+            Err(refusal) => self.refuse_for(hart, refusal),
+        }
+    }
+
+    /// A word of an enclave's digest.
+    pub(crate) fn measure(&mut self, hart: u8, id: u64, k: u64) -> Outcome
+        requires on { IsOn self.old hart }
+        ensures frame { KeepsFrame self.old self.new }
+        ensures step { DoesMeasure id k (state_in self.old) hart result.answer result.zero
+            (state_in self.new) }
+        ensures load { LoadsAnew result.load (state_in self.old) (state_in self.new) hart }
+    {
+        match self.table.word(id, k) {
+            Ok(word) => {
+                self.answer(hart, 0, word);
+                Outcome {
+                    answer: Answer::done(word),
+                    zero: None,
+                    load: false,
+                }
+            }
+            Err(refusal) => self.refuse_for(hart, refusal),
+        }
+    }
+}

@@ -1,0 +1,128 @@
+//! The parts of the monitor, and what a call changes of them, one part at a time.
+
+use crate::call_registers::put_answer;
+use crate::register_sets::RegisterSets;
+use enclave_table::{Table, World};
+use sbi_decode::Registers;
+
+/// The table of enclaves, the world that runs on each hart, all registers, and the harts that are marked.
+#[derive(Drop)]
+pub(crate) struct Parts {
+    pub(crate) table: Table,
+    pub(crate) worlds: [World; 4],
+    pub(crate) registers: RegisterSets,
+    pub(crate) marked: [bool; 4],
+}
+
+impl Parts {
+    ghost use Rattle.std.specs.Prelude.{◌≡◌, ◌≤◌, ◌<◌, ℕ, false, slice_set};
+    ghost use Rattle.worlds.specs.Runners.{EnclaveOf};
+    ghost use Rattle.monitor_core.specs.Changes.{in_world, is_host, with_registers, with_running, answering, without_mark, marking_others};
+    ghost use Rattle.monitor_core.specs.Frames.{IsOn};
+    ghost use Rattle.monitor_core.specs.Parts.{HoldsTogether, mark_in, state_in, world_in};
+    ghost use Rattle.monitor_core.specs.States.{running_registers};
+
+    /// The world that runs on a hart.
+    pub(crate) fn world(&self, hart: u8) -> World
+        requires { hart < 4 }
+        ensures { result ≡ world_in self.now.worlds hart }
+    {
+        self.worlds[hart as usize]
+    }
+
+    /// Whether a hart is marked.
+    pub(crate) fn is_marked(&self, hart: u8) -> bool
+        requires { hart < 4 }
+        ensures { result ≡ mark_in self.now.marked hart }
+    {
+        self.marked[hart as usize]
+    }
+
+    /// The registers of the world that runs on a hart.
+    pub(crate) fn running(&self, hart: u8) -> &Registers
+        requires hart { hart < 4 }
+        requires whole { HoldsTogether self.now.table self.now.worlds self.now.marked }
+        ensures { result.now ≡ running_registers (state_in self.now) hart }
+    {
+        self.table.cite_invariant();
+        self.registers.get(hart, self.world(hart))
+    }
+
+    /// The registers of the world that runs on a hart are these now.
+    pub(crate) fn put_running(&mut self, hart: u8, registers: Registers)
+        requires hart { hart < 4 }
+        requires whole { HoldsTogether self.old.table self.old.worlds self.old.marked }
+        ensures state { state_in self.new ≡ with_running (state_in self.old) hart registers }
+        ensures table { self.new.table ≡ self.old.table }
+        ensures worlds { self.new.worlds ≡ self.old.worlds }
+        ensures marks { self.new.marked ≡ self.old.marked }
+    {
+        self.table.cite_invariant();
+        let world = self.world(hart);
+        self.registers.set(hart, world, registers);
+    }
+
+    /// Two words are put into a0 and a1 of the world that runs on a hart.
+    pub(crate) fn answer(&mut self, hart: u8, first: u64, second: u64)
+        requires hart { hart < 4 }
+        requires whole { HoldsTogether self.old.table self.old.worlds self.old.marked }
+        ensures state { state_in self.new ≡ answering (state_in self.old) hart first second }
+        ensures table { self.new.table ≡ self.old.table }
+        ensures worlds { self.new.worlds ≡ self.old.worlds }
+        ensures marks { self.new.marked ≡ self.old.marked }
+    {
+        let mut registers = *self.running(hart);
+        put_answer(&mut registers, first, second);
+        self.put_running(hart, registers);
+    }
+
+    /// The registers that an enclave is to go on with.
+    pub(crate) fn put_saved(&mut self, id: u64, registers: Registers)
+        requires low { 1 ≤ id }
+        requires high { id ≤ 64 }
+        ensures state { state_in self.new
+            ≡ with_registers (state_in self.old) (EnclaveOf id) registers }
+        ensures table { self.new.table ≡ self.old.table }
+        ensures worlds { self.new.worlds ≡ self.old.worlds }
+        ensures marks { self.new.marked ≡ self.old.marked }
+    {
+        self.registers.set(0, World::Enclave(id), registers);
+    }
+
+    /// Another world runs on a hart now, with the registers that it has.
+    pub(crate) fn go_to(&mut self, hart: u8, to: World)
+        requires { hart < 4 }
+        ensures state { state_in self.new ≡ in_world (state_in self.old) hart to }
+        ensures table { self.new.table ≡ self.old.table }
+        ensures worlds { self.new.worlds ≡ slice_set self.old.worlds hart to }
+        ensures marks { self.new.marked ≡ self.old.marked }
+    {
+        self.worlds[hart as usize] = to;
+    }
+
+    /// The mark of a hart is taken away.
+    pub(crate) fn clear_mark(&mut self, hart: u8)
+        requires { hart < 4 }
+        ensures state { state_in self.new ≡ without_mark (state_in self.old) hart }
+        ensures table { self.new.table ≡ self.old.table }
+        ensures worlds { self.new.worlds ≡ self.old.worlds }
+        ensures marks { self.new.marked ≡ slice_set self.old.marked hart false }
+    {
+        self.marked[hart as usize] = false;
+    }
+
+    /// Every other hart of the platform that is in the host's world is marked.
+    pub(crate) fn mark_others(&mut self, hart: u8)
+        requires on { IsOn self.old hart }
+        ensures whole { HoldsTogether self.new.table self.new.worlds self.new.marked }
+        ensures state { state_in self.new ≡ marking_others (state_in self.old) hart }
+        ensures table { self.new.table ≡ self.old.table }
+    {
+        let harts = self.table.platform().harts();
+        for other in 0..harts {
+            if other != hart && self.world(other) == World::Host {
+                self.marked[other as usize] = true;
+            }
+        }
+    }
+}

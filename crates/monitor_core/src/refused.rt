@@ -1,0 +1,43 @@
+//! Calls that are refused.
+
+use crate::answer::{Answer, word_below_zero};
+use crate::outcome::Outcome;
+use crate::parts::Parts;
+use enclave_table::Refusal;
+
+impl Parts {
+    ghost use Rattle.std.specs.Prelude.{◌≡◌, ◌<◌, ◌≤◌};
+    ghost use Rattle.enclave_table.specs.Refusals.{refusal_number};
+    ghost use Rattle.monitor_core.specs.Frames.{IsOn, KeepsFrame, LoadsAnew};
+    ghost use Rattle.monitor_core.specs.Parts.{state_in};
+    ghost use Rattle.monitor_core.specs.Steps.{Refuses};
+
+    /// A call is refused with a number below zero.
+    pub(crate) fn refuse(&mut self, hart: u8, number: u64) -> Outcome
+        requires on { IsOn self.old hart }
+        requires low { 1 ≤ number }
+        requires high { number ≤ 112 }
+        ensures frame { KeepsFrame self.old self.new }
+        ensures step { Refuses number (state_in self.old) hart result.answer result.zero
+            (state_in self.new) }
+        ensures load { LoadsAnew result.load (state_in self.old) (state_in self.new) hart }
+    {
+        self.answer(hart, word_below_zero(number), 0);
+        Outcome {
+            answer: Answer::refused(number),
+            zero: None,
+            load: false,
+        }
+    }
+
+    /// A call is refused, and this is why.
+    pub(crate) fn refuse_for(&mut self, hart: u8, refusal: Refusal) -> Outcome
+        requires on { IsOn self.old hart }
+        ensures frame { KeepsFrame self.old self.new }
+        ensures step { Refuses (refusal_number refusal) (state_in self.old) hart result.answer
+            result.zero (state_in self.new) }
+        ensures load { LoadsAnew result.load (state_in self.old) (state_in self.new) hart }
+    {
+        self.refuse(hart, u64::from(refusal.number()))
+    }
+}
