@@ -1,0 +1,11 @@
+pub mod Cases
+pub mod Equal
+pub mod Currents
+pub mod Stayed
+pub mod Layouts
+pub mod SoundTables
+pub mod Awake
+pub mod WorldsKept
+pub mod Wanted
+pub mod Moved
+pub mod Framed

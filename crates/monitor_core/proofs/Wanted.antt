@@ -1,0 +1,246 @@
+-- When a call is refused for want of entries, and when for want of memory.
+use Rattle.std.proofs.Common.{◌≡◌, ◌∙◌, inl, inr, ℕ, List, [], ◌∷◌, Option, None, Some, ℤ, pos, negsuc, ◌-◌, Result, Ok, Err, refl, ap, sym, subst, arith}
+use Rattle.pmp_encoding.specs.declared.limit.Limit.{Limit}
+use Rattle.pmp_match.specs.Meaning.{View}
+use Rattle.pmp_match.proofs.Meant.{needs_one}
+use Rattle.enclave_table.specs.Enclaves.{EnclaveTable, with_enclave}
+use Rattle.enclave_table.specs.Requests.{parts_of}
+use Rattle.enclave_table.specs.Views.{host_view, enclave_view}
+use Rattle.enclave_table.specs.Refusals.{AllPass, FailsFirst, refusal_number}
+use Rattle.enclave_table.specs.Checks.{create_checks, host_checks, MayDestroy, MayEnter, leave_checks, word_checks}
+use Rattle.enclave_table.specs.Fewest.{FitsIn, NeedsMore}
+use Rattle.enclave_table.specs.Creating.{OutgrowsByCreate, RefusesCreate, fresh}
+use Rattle.enclave_table.specs.Destroying.{RefusesDestroy}
+use Rattle.enclave_table.specs.Enclaves.{IsNextId}
+use Rattle.enclave_table.specs.declared.request.Create.{Create}
+use Rattle.enclave_table.specs.declared.refusal.Refusal.{Refusal}
+use Rattle.enclave_table.specs.declared.refusal.Refusal.TheVariants.{NotHost, NotEnclave, BadCount, BadAddress, BadEntry, NotRam, Overlap, TableFull, NoEntries, NoMemory, BadId, BadState, BadWord}
+use Rattle.enclave_table.specs.Tables.{IsTable}
+use Rattle.enclave_table.specs.declared.life.Entering.TheVariants.{Run as FirstRun, Resume}
+use Rattle.enclave_table.proofs.Placed.{free_place, host_added}
+use Rattle.enclave_table.proofs.SameViews.{more_same}
+use Rattle.permission_map.specs.Views.{SameView}
+use Rattle.worlds.specs.declared.world.World.{World}
+use Rattle.worlds.specs.declared.world.World.TheVariants.{Host, Enclave as InEnclave}
+use Rattle.sbi_decode.specs.declared.calls.Call.{Call}
+use Rattle.sbi_decode.specs.declared.calls.Call.TheVariants as calls
+use Rattle.page_views.specs.declared.pages.PageRange.{PageRange}
+use Rattle.monitor_core.specs.declared.answer.Answer.{Answer}
+use Rattle.monitor_core.specs.States.{State}
+use Rattle.monitor_core.specs.Steps.{Done, Refuses, DoesCall}
+use Rattle.monitor_core.specs.Wants.{IsAnsweredBy, PassesOthers, Outgrows, IsRefusedByNeed, host_view_without}
+
+-- where all checks pass, none fails
+none_fails : (checks : List (Refusal × Type 0)) (refusal : Refusal) → AllPass checks → FailsFirst checks refusal → ⊥
+none_fails [] refusal pass fails = fails
+none_fails (check ∷ checks) refusal pass (inl f) = f.1 pass.0
+none_fails (check ∷ checks) refusal pass (inr f) = none_fails checks refusal pass.1 f.1
+
+-- a view that fits does not need more
+fits_not_more : (limit : Limit) (view : View) → FitsIn limit view → NeedsMore limit view → ⊥
+fits_not_more limit view fits more = let same = needs_one view fits.0 more.0 fits.1 more.1 in omega (arith, same, fits.2, more.2)
+
+-- what a refused call was answered with
+answered : (refusal : Refusal) (s new : State) (hart : ℕ) (answer : Answer) (zero : Option PageRange) → Refuses (refusal_number refusal) s hart answer zero new → IsAnsweredBy refusal answer
+answered refusal s new hart answer zero x = ap (λ a. a.status) x.told
+
+abbrev under_zero : ℤ → ℕ
+under_zero (pos n) = 0
+under_zero (negsuc n) = n
+
+-- want of memory is another answer than want of entries
+not_both : (answer : Answer) → IsAnsweredBy NoMemory answer → IsAnsweredBy NoEntries answer → ⊥
+not_both answer x y = let z : 108 ≡ 107 = ap under_zero (sym x ∙ y) in absurd (omega (arith, z))
+
+-- one id is the next
+one_next : (table : EnclaveTable) (id other : ℕ) → IsNextId table id → IsNextId table other → id ≡ other
+one_next table id other n m = omega (arith, n.smallest other m.free, m.smallest id n.free)
+
+-- an answer to a call that is neither want of entries nor want of memory
+record Neither (answer : Answer) : Type 0 where
+  entries : IsAnsweredBy NoEntries answer → ⊥
+  memory : IsAnsweredBy NoMemory answer → ⊥
+
+-- a call that is never refused so
+never : (call : Option Call) (table : EnclaveTable) (world : World) (answer : Answer) → (PassesOthers call table world → ⊥) → Neither answer → IsRefusedByNeed call table world answer
+never call table world answer none n = record { entries = λ is. absurd (n.entries is); outgrown = λ pass out. absurd (none pass); memory = λ is. absurd (n.memory is) }
+
+-- an answer with another status
+other_status : (answer : Answer) (status : ℤ) → answer.status ≡ status → (under_zero status ≡ 107 → ⊥) → (under_zero status ≡ 108 → ⊥) → Neither answer
+other_status answer status is not_entries not_memory = record {
+  entries = λ e. not_entries (ap under_zero (sym is ∙ e));
+  memory = λ e. not_memory (ap under_zero (sym is ∙ e));
+}
+
+-- one that succeeded
+well : (that new : State) (value : ℕ) (pages : Option PageRange) (answer : Answer) (zero : Option PageRange) → Done that value pages answer zero new → Neither answer
+well that new value pages answer zero x = other_status answer (pos 0) (ap (λ a. a.status) x.told) (λ e. let z : 0 ≡ 107 = e in absurd (omega (arith, z))) (λ e. let z : 0 ≡ 108 = e in absurd (omega (arith, z)))
+
+-- one that is refused with another number
+numbered : (number : ℕ) (s new : State) (hart : ℕ) (answer : Answer) (zero : Option PageRange) → (number - 1 ≡ 107 → ⊥) → (number - 1 ≡ 108 → ⊥) → Refuses number s hart answer zero new → Neither answer
+numbered number s new hart answer zero a b x = other_status answer (negsuc (number - 1)) (ap (λ a. a.status) x.told) a b
+
+-- the refusals of other checks
+abbrev IsOther : Refusal → Type 0
+IsOther NoEntries = ⊥
+IsOther NoMemory = ⊥
+IsOther _ = Unit {0}
+
+checked : (refusal : Refusal) (s new : State) (hart : ℕ) (answer : Answer) (zero : Option PageRange) → IsOther refusal → Refuses (refusal_number refusal) s hart answer zero new → Neither answer
+checked refusal s new hart answer zero o x = numbered (refusal_number refusal) s new hart answer zero (not_entries refusal o) (not_memory refusal o) x
+  where
+    not_entries : (refusal : Refusal) → IsOther refusal → refusal_number refusal - 1 ≡ 107 → ⊥
+    not_entries NotHost o e = let z : 100 ≡ 107 = e in omega (arith, z)
+    not_entries NotEnclave o e = let z : 100 ≡ 107 = e in omega (arith, z)
+    not_entries BadCount o e = let z : 101 ≡ 107 = e in omega (arith, z)
+    not_entries BadAddress o e = let z : 102 ≡ 107 = e in omega (arith, z)
+    not_entries BadEntry o e = let z : 103 ≡ 107 = e in omega (arith, z)
+    not_entries NotRam o e = let z : 104 ≡ 107 = e in omega (arith, z)
+    not_entries Overlap o e = let z : 105 ≡ 107 = e in omega (arith, z)
+    not_entries TableFull o e = let z : 106 ≡ 107 = e in omega (arith, z)
+    not_entries NoEntries o e = o
+    not_entries NoMemory o e = o
+    not_entries BadId o e = let z : 109 ≡ 107 = e in omega (arith, z)
+    not_entries BadState o e = let z : 110 ≡ 107 = e in omega (arith, z)
+    not_entries BadWord o e = let z : 111 ≡ 107 = e in omega (arith, z)
+
+    not_memory : (refusal : Refusal) → IsOther refusal → refusal_number refusal - 1 ≡ 108 → ⊥
+    not_memory NotHost o e = let z : 100 ≡ 108 = e in omega (arith, z)
+    not_memory NotEnclave o e = let z : 100 ≡ 108 = e in omega (arith, z)
+    not_memory BadCount o e = let z : 101 ≡ 108 = e in omega (arith, z)
+    not_memory BadAddress o e = let z : 102 ≡ 108 = e in omega (arith, z)
+    not_memory BadEntry o e = let z : 103 ≡ 108 = e in omega (arith, z)
+    not_memory NotRam o e = let z : 104 ≡ 108 = e in omega (arith, z)
+    not_memory Overlap o e = let z : 105 ≡ 108 = e in omega (arith, z)
+    not_memory TableFull o e = let z : 106 ≡ 108 = e in omega (arith, z)
+    not_memory NoEntries o e = o
+    not_memory NoMemory o e = o
+    not_memory BadId o e = let z : 109 ≡ 108 = e in omega (arith, z)
+    not_memory BadState o e = let z : 110 ≡ 108 = e in omega (arith, z)
+    not_memory BadWord o e = let z : 111 ≡ 108 = e in omega (arith, z)
+
+-- the first of some checks that fails is one of them
+abbrev AreOthers : List (Refusal × Type 0) → Type 0
+AreOthers [] = Unit {0}
+AreOthers (check ∷ checks) = IsOther check.0 × AreOthers checks
+
+fails_other : (checks : List (Refusal × Type 0)) (refusal : Refusal) → AreOthers checks → FailsFirst checks refusal → IsOther refusal
+fails_other [] refusal o x = absurd x
+fails_other (check ∷ checks) refusal o (inl x) = subst IsOther (sym x.0) o.0
+fails_other (check ∷ checks) refusal o (inr x) = fails_other checks refusal o.1 x.1
+
+-- the host's view of the table with the new enclave is the one with its private pages closed
+closes : (pages : ℕ → List ℕ) (table : EnclaveTable) (id : ℕ) (parts : Create) → IsTable table → IsNextId table id → SameView (host_view_without table parts) (host_view (with_enclave table id (Some (fresh pages parts))))
+closes pages table id parts t next = host_added table id (fresh pages parts) (free_place table id t next.free.0 next.free.1) next.free.2
+
+opens : (pages : ℕ → List ℕ) (table : EnclaveTable) (id : ℕ) (parts : Create) → IsTable table → IsNextId table id → SameView (host_view (with_enclave table id (Some (fresh pages parts)))) (host_view_without table parts)
+opens pages table id parts t next page small = sym (closes pages table id parts t next page small)
+
+-- a call that succeeded or failed another check, which it then does not pass
+otherwise : (call : Option Call) (table : EnclaveTable) (world : World) (answer : Answer) → (PassesOthers call table world → Outgrows call table → ⊥) → Neither answer → IsRefusedByNeed call table world answer
+otherwise call table world answer none n = record { entries = λ is. absurd (n.entries is); outgrown = λ pass out. absurd (none pass out); memory = λ is. absurd (n.memory is) }
+
+abbrev creates_of : Create → Option Call
+creates_of asked = Some (calls.Create asked.base asked.text_pages asked.data_pages asked.shared_base asked.shared_count asked.entry_offset)
+
+create_failed : (asked : Create) (s : State) (hart : ℕ) (answer : Answer) (zero : Option PageRange) (new : State) (refusal : Refusal) → FailsFirst (create_checks s.table (s.worlds hart) (parts_of asked)) refusal → IsOther refusal
+    → Refuses (refusal_number refusal) s hart answer zero new → IsRefusedByNeed (creates_of asked) s.table (s.worlds hart) answer
+create_failed asked s hart answer zero new refusal why other x =
+    otherwise (creates_of asked) s.table (s.worlds hart) answer (λ pass out. none_fails (create_checks s.table (s.worlds hart) (parts_of asked)) refusal pass why) (checked refusal s new hart answer zero other x)
+
+-- a creation that is refused, by its refusal
+create_by_need : (asked : Create) (pages : ℕ → List ℕ) (s : State) (hart : ℕ) (answer : Answer) (zero : Option PageRange) (new : State) (refusal : Refusal) → IsTable s.table → RefusesCreate pages s.table (s.worlds hart) asked refusal
+    → Refuses (refusal_number refusal) s hart answer zero new → IsRefusedByNeed (creates_of asked) s.table (s.worlds hart) answer
+create_by_need asked pages s hart answer zero new NoEntries t why x = record {
+  entries = λ is. (
+    why.0,
+    elim why.1 [
+      | inl host ↦ inl (more_same s.table.layout.limit (host_view (with_enclave s.table host.0 (Some (fresh pages (parts_of asked))))) (host_view_without s.table (parts_of asked)) (opens pages s.table host.0 (parts_of asked) t host.1) host.2)
+      | inr own ↦ inr own
+    ],
+  );
+  outgrown = λ pass out. inl (answered NoEntries s new hart answer zero x);
+  memory = λ is. absurd (not_both answer is (answered NoEntries s new hart answer zero x));
+}
+create_by_need asked pages s hart answer zero new NoMemory t why x = record {
+  entries = λ is. absurd (not_both answer (answered NoMemory s new hart answer zero x) is);
+  outgrown = λ pass out. inr (answered NoMemory s new hart answer zero x);
+  memory = λ is. why;
+}
+create_by_need asked pages s hart answer zero new NotHost t why x = create_failed asked s hart answer zero new NotHost why tt x
+create_by_need asked pages s hart answer zero new NotEnclave t why x = create_failed asked s hart answer zero new NotEnclave why tt x
+create_by_need asked pages s hart answer zero new BadCount t why x = create_failed asked s hart answer zero new BadCount why tt x
+create_by_need asked pages s hart answer zero new BadAddress t why x = create_failed asked s hart answer zero new BadAddress why tt x
+create_by_need asked pages s hart answer zero new BadEntry t why x = create_failed asked s hart answer zero new BadEntry why tt x
+create_by_need asked pages s hart answer zero new NotRam t why x = create_failed asked s hart answer zero new NotRam why tt x
+create_by_need asked pages s hart answer zero new Overlap t why x = create_failed asked s hart answer zero new Overlap why tt x
+create_by_need asked pages s hart answer zero new TableFull t why x = create_failed asked s hart answer zero new TableFull why tt x
+create_by_need asked pages s hart answer zero new BadId t why x = create_failed asked s hart answer zero new BadId why tt x
+create_by_need asked pages s hart answer zero new BadState t why x = create_failed asked s hart answer zero new BadState why tt x
+create_by_need asked pages s hart answer zero new BadWord t why x = create_failed asked s hart answer zero new BadWord why tt x
+
+destroy_failed : (id : ℕ) (s : State) (hart : ℕ) (answer : Answer) (zero : Option PageRange) (new : State) (refusal : Refusal) → FailsFirst (host_checks MayDestroy s.table (s.worlds hart) id) refusal → IsOther refusal
+    → Refuses (refusal_number refusal) s hart answer zero new → IsRefusedByNeed (Some (calls.Destroy id)) s.table (s.worlds hart) answer
+destroy_failed id s hart answer zero new refusal why other x =
+    otherwise (Some (calls.Destroy id)) s.table (s.worlds hart) answer (λ pass out. none_fails (host_checks MayDestroy s.table (s.worlds hart) id) refusal pass why) (checked refusal s new hart answer zero other x)
+
+destroy_by_need : (id : ℕ) (s : State) (hart : ℕ) (answer : Answer) (zero : Option PageRange) (new : State) (refusal : Refusal) → RefusesDestroy s.table (s.worlds hart) id refusal
+    → Refuses (refusal_number refusal) s hart answer zero new → IsRefusedByNeed (Some (calls.Destroy id)) s.table (s.worlds hart) answer
+destroy_by_need id s hart answer zero new NoEntries why x = record {
+  entries = λ is. (why.0, why.1);
+  outgrown = λ pass out. inl (answered NoEntries s new hart answer zero x);
+  memory = λ is. absurd (not_both answer is (answered NoEntries s new hart answer zero x));
+}
+destroy_by_need id s hart answer zero new NoMemory why x = record {
+  entries = λ is. absurd (not_both answer (answered NoMemory s new hart answer zero x) is);
+  outgrown = λ pass out. inr (answered NoMemory s new hart answer zero x);
+  memory = λ is. why;
+}
+destroy_by_need id s hart answer zero new NotHost why x = destroy_failed id s hart answer zero new NotHost why tt x
+destroy_by_need id s hart answer zero new NotEnclave why x = destroy_failed id s hart answer zero new NotEnclave why tt x
+destroy_by_need id s hart answer zero new BadCount why x = destroy_failed id s hart answer zero new BadCount why tt x
+destroy_by_need id s hart answer zero new BadAddress why x = destroy_failed id s hart answer zero new BadAddress why tt x
+destroy_by_need id s hart answer zero new BadEntry why x = destroy_failed id s hart answer zero new BadEntry why tt x
+destroy_by_need id s hart answer zero new NotRam why x = destroy_failed id s hart answer zero new NotRam why tt x
+destroy_by_need id s hart answer zero new Overlap why x = destroy_failed id s hart answer zero new Overlap why tt x
+destroy_by_need id s hart answer zero new TableFull why x = destroy_failed id s hart answer zero new TableFull why tt x
+destroy_by_need id s hart answer zero new BadId why x = destroy_failed id s hart answer zero new BadId why tt x
+destroy_by_need id s hart answer zero new BadState why x = destroy_failed id s hart answer zero new BadState why tt x
+destroy_by_need id s hart answer zero new BadWord why x = destroy_failed id s hart answer zero new BadWord why tt x
+
+-- a call of another kind that is refused
+refused_other : (call : Option Call) (checks : List (Refusal × Type 0)) (s : State) (hart : ℕ) (answer : Answer) (zero : Option PageRange) (new : State) (refusal : Refusal) → (PassesOthers call s.table (s.worlds hart) → ⊥) → AreOthers checks → FailsFirst checks refusal
+    → Refuses (refusal_number refusal) s hart answer zero new → IsRefusedByNeed call s.table (s.worlds hart) answer
+refused_other call checks s hart answer zero new refusal none others why x =
+    never call s.table (s.worlds hart) answer none (checked refusal s new hart answer zero (fails_other checks refusal others why) x)
+
+pub call_refused_by_need : (call : Option Call) (pages : ℕ → List ℕ) (s : State) (hart : ℕ) (answer : Answer) (zero : Option PageRange) (new : State) → IsTable s.table → DoesCall call pages s hart answer zero new → IsRefusedByNeed call s.table (s.worlds hart) answer
+call_refused_by_need None pages s hart answer zero new t x =
+    never None s.table (s.worlds hart) answer (λ none. none) (numbered 2 s new hart answer zero (λ e. let z : 1 ≡ 107 = e in omega (arith, z)) (λ e. let z : 1 ≡ 108 = e in omega (arith, z)) x)
+call_refused_by_need (Some (calls.Create base text_pages data_pages shared_base shared_count entry_offset)) pages s hart answer zero new t (inl x) =
+    let asked : Create = record { base = base; text_pages = text_pages; data_pages = data_pages; shared_base = shared_base; shared_count = shared_count; entry_offset = entry_offset } in
+    let parts = parts_of asked in
+    let made = with_enclave s.table x.0 (Some (fresh pages parts)) in
+    otherwise (creates_of asked) s.table (s.worlds hart) answer
+    (λ pass out. elim out [
+      | inl host ↦ fits_not_more s.table.layout.limit (host_view made) (subst (λ t. FitsIn t.layout.limit (host_view t)) x.2.added x.2.host_fits) (more_same s.table.layout.limit (host_view_without s.table parts) (host_view made) (closes pages s.table x.0 parts t x.2.next) host)
+      | inr own ↦ fits_not_more s.table.layout.limit (enclave_view parts) (subst (λ t. FitsIn t.layout.limit (enclave_view parts)) x.2.added x.2.enclave_fits) own
+    ])
+    (well _ new x.0 _ answer zero x.3)
+call_refused_by_need (Some (calls.Create base text_pages data_pages shared_base shared_count entry_offset)) pages s hart answer zero new t (inr x) =
+    let asked : Create = record { base = base; text_pages = text_pages; data_pages = data_pages; shared_base = shared_base; shared_count = shared_count; entry_offset = entry_offset } in
+    create_by_need asked pages s hart answer zero new x.0 t x.1 x.2
+call_refused_by_need (Some (calls.Destroy id)) pages s hart answer zero new t (inl x) =
+    otherwise (Some (calls.Destroy id)) s.table (s.worlds hart) answer
+    (λ pass out. fits_not_more s.table.layout.limit (host_view (with_enclave s.table id None)) (subst (λ t. FitsIn t.layout.limit (host_view t)) x.2.removed x.2.host_fits) out) (well _ new 0 _ answer zero x.3)
+call_refused_by_need (Some (calls.Destroy id)) pages s hart answer zero new t (inr x) = destroy_by_need id s hart answer zero new x.0 x.1 x.2
+call_refused_by_need (Some (calls.Run id)) pages s hart answer zero new t (inl x) = never (Some (calls.Run id)) s.table (s.worlds hart) answer (λ none. none) (well _ new 0 _ answer zero x.4)
+call_refused_by_need (Some (calls.Run id)) pages s hart answer zero new t (inr x) = refused_other (Some (calls.Run id)) (host_checks (MayEnter FirstRun) s.table (s.worlds hart) id) s hart answer zero new x.0 (λ none. none) (tt, (tt, (tt, tt))) x.1 x.2
+call_refused_by_need (Some calls.Stop) pages s hart answer zero new t (inl x) = never (Some calls.Stop) s.table (s.worlds hart) answer (λ none. none) (well _ new 0 _ answer zero x.3)
+call_refused_by_need (Some calls.Stop) pages s hart answer zero new t (inr x) = refused_other (Some calls.Stop) (leave_checks (s.worlds hart)) s hart answer zero new x.0 (λ none. none) (tt, tt) x.1 x.2
+call_refused_by_need (Some (calls.Resume id)) pages s hart answer zero new t (inl x) = never (Some (calls.Resume id)) s.table (s.worlds hart) answer (λ none. none) (well _ new 0 _ answer zero x.4)
+call_refused_by_need (Some (calls.Resume id)) pages s hart answer zero new t (inr x) = refused_other (Some (calls.Resume id)) (host_checks (MayEnter Resume) s.table (s.worlds hart) id) s hart answer zero new x.0 (λ none. none) (tt, (tt, (tt, tt))) x.1 x.2
+call_refused_by_need (Some (calls.Exit value)) pages s hart answer zero new t (inl x) = never (Some (calls.Exit value)) s.table (s.worlds hart) answer (λ none. none) (well _ new value _ answer zero x.3)
+call_refused_by_need (Some (calls.Exit value)) pages s hart answer zero new t (inr x) = refused_other (Some (calls.Exit value)) (leave_checks (s.worlds hart)) s hart answer zero new x.0 (λ none. none) (tt, tt) x.1 x.2
+call_refused_by_need (Some (calls.Measure id k)) pages s hart answer zero new t (inl x) = never (Some (calls.Measure id k)) s.table (s.worlds hart) answer (λ none. none) (well _ new x.0 _ answer zero x.2)
+call_refused_by_need (Some (calls.Measure id k)) pages s hart answer zero new t (inr x) = refused_other (Some (calls.Measure id k)) (word_checks s.table id k) s hart answer zero new x.0 (λ none. none) (tt, (tt, tt)) x.1 x.2
