@@ -9,3 +9,4 @@ pub mod WorldsKept
 pub mod Wanted
 pub mod Moved
 pub mod Framed
+pub mod Marks

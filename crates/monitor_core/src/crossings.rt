@@ -109,17 +109,19 @@ impl Parts {
             (state_in self.new) }
         ensures load { LoadsAnew result.load (state_in self.old) (state_in self.new) hart }
     {
-        if self.world(hart) == World::Host {
-            return self.refuse_for(hart, Refusal::NotEnclave);
-        }
-        self.answer(hart, 0, 0);
-        let Ok(()) = self.leave(hart, Leaving::Stop, 1, 0) else {
-            unreachable!();
-        };
-        Outcome {
-            answer: Answer::done(0),
-            zero: None,
-            load: true,
+        match self.world(hart) {
+            World::Host => self.refuse_for(hart, Refusal::NotEnclave),
+            World::Enclave(_) => {
+                self.answer(hart, 0, 0);
+                let Ok(()) = self.leave(hart, Leaving::Stop, 1, 0) else {
+                    unreachable!();
+                };
+                Outcome {
+                    answer: Answer::done(0),
+                    zero: None,
+                    load: true,
+                }
+            }
         }
     }
 
@@ -131,12 +133,14 @@ impl Parts {
             Interrupts (s.worlds hart) s hart (state_in self.new) }
         ensures load { LoadsAnew result (state_in self.old) (state_in self.new) hart }
     {
-        if self.world(hart) == World::Host {
-            return false;
+        match self.world(hart) {
+            World::Host => false,
+            World::Enclave(_) => {
+                let Ok(()) = self.leave(hart, Leaving::Stop, 1, 0) else {
+                    unreachable!();
+                };
+                true
+            }
         }
-        let Ok(()) = self.leave(hart, Leaving::Stop, 1, 0) else {
-            unreachable!();
-        };
-        true
     }
 }

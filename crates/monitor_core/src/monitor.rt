@@ -52,6 +52,7 @@ impl Monitor {
     }
 
     /// How many harts there are, 1 to 4.
+    #[tactic(auto, unfolding(crate::specs::Monitors::state_of, crate::specs::Monitors::kept_of))]
     pub fn harts(&self) -> u8
         ensures value { result ≡ (state_of self.now).table.layout.harts }
         ensures some { 0 < result }
@@ -61,6 +62,7 @@ impl Monitor {
     }
 
     /// The table of enclaves.
+    #[tactic(auto, unfolding(crate::specs::Monitors::state_of, crate::specs::Monitors::kept_of))]
     pub fn table(&self) -> &Table
         ensures kept { result.now ≡ kept_of self.now }
         ensures state { result.now.table ≡ (state_of self.now).table }
@@ -69,6 +71,7 @@ impl Monitor {
     }
 
     /// The world that runs on a hart.
+    #[tactic(auto, unfolding(crate::specs::Monitors::state_of, crate::specs::Monitors::kept_of))]
     pub fn world(&self, hart: u8) -> World
         requires { hart < 4 }
         ensures { result ≡ (state_of self.now).worlds hart }
@@ -77,6 +80,7 @@ impl Monitor {
     }
 
     /// The registers of the world that runs on a hart, as they are kept: those that went on there last, or were put since.
+    #[tactic(auto, unfolding(crate::specs::Monitors::state_of, crate::specs::Monitors::kept_of))]
     pub fn registers(&self, hart: u8) -> &Registers
         requires { hart < 4 }
         ensures { result.now ≡ running_registers (state_of self.now) hart }
@@ -85,6 +89,7 @@ impl Monitor {
     }
 
     /// Whether a hart is marked: it is to load its entries, and to be woken, before it goes on.
+    #[tactic(auto, unfolding(crate::specs::Monitors::state_of, crate::specs::Monitors::kept_of))]
     pub fn is_marked(&self, hart: u8) -> bool
         requires { hart < 4 }
         ensures { result ≡ (state_of self.now).marked hart }
@@ -112,6 +117,7 @@ impl Monitor {
     }
 
     /// The mark of a hart is taken away, which loads its entries before it goes on. Nothing else changes.
+    #[tactic(auto, unfolding(crate::specs::Monitors::state_of, crate::specs::Monitors::kept_of))]
     pub fn wake(&mut self, hart: u8)
         requires { hart < 4 }
         ensures state { state_of self.new ≡ without_mark (state_of self.old) hart }
@@ -121,6 +127,7 @@ impl Monitor {
     }
 
     /// The registers of the world that runs on a hart are these now. Nothing else changes.
+    #[tactic(auto, unfolding(crate::specs::Monitors::state_of, crate::specs::Monitors::kept_of))]
     pub fn put_registers(&mut self, hart: u8, registers: &Registers)
         requires { hart < 4 }
         ensures state { state_of self.new ≡ with_running (state_of self.old) hart registers.now }

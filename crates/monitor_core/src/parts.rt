@@ -94,7 +94,6 @@ impl Parts {
         requires { hart < 4 }
         ensures state { state_in self.new ≡ in_world (state_in self.old) hart to }
         ensures table { self.new.table ≡ self.old.table }
-        ensures worlds { self.new.worlds ≡ slice_set self.old.worlds hart to }
         ensures marks { self.new.marked ≡ self.old.marked }
     {
         self.worlds[hart as usize] = to;
@@ -106,9 +105,16 @@ impl Parts {
         ensures state { state_in self.new ≡ without_mark (state_in self.old) hart }
         ensures table { self.new.table ≡ self.old.table }
         ensures worlds { self.new.worlds ≡ self.old.worlds }
-        ensures marks { self.new.marked ≡ slice_set self.old.marked hart false }
     {
         self.marked[hart as usize] = false;
+    }
+
+    /// Whether a hart is in the host's world.
+    fn is_at_host(&self, hart: u8) -> bool
+        requires { hart < 4 }
+        ensures { result ≡ is_host (world_in self.now.worlds hart) }
+    {
+        matches!(self.world(hart), World::Host)
     }
 
     /// Every other hart of the platform that is in the host's world is marked.
@@ -120,7 +126,7 @@ impl Parts {
     {
         let harts = self.table.platform().harts();
         for other in 0..harts {
-            if other != hart && self.world(other) == World::Host {
+            if other != hart && self.is_at_host(other) {
                 self.marked[other as usize] = true;
             }
         }
