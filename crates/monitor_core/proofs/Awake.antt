@@ -8,7 +8,7 @@ use Rattle.sbi_decode.specs.declared.calls.Call.TheVariants as calls
 use Rattle.page_views.specs.declared.pages.PageRange.{PageRange}
 use Rattle.monitor_core.specs.declared.answer.Answer.{Answer}
 use Rattle.monitor_core.specs.States.{State}
-use Rattle.monitor_core.specs.Changes.{is_host, with_table, answering, without_mark, marking_others}
+use Rattle.monitor_core.specs.Changes.{is_host, with_table, answering, marking_others}
 use Rattle.monitor_core.specs.Steps.{DoesCall, Interrupts}
 
 -- what a state after a hart's event says of its mark
@@ -43,4 +43,3 @@ call_leaves_awake (Some (calls.Measure id k)) pages s hart answer zero new awake
 pub interrupt_leaves_awake : (world : World) (s : State) (hart : ℕ) (new : State) → Off s hart → Interrupts world s hart new → Off new hart
 interrupt_leaves_awake Host s hart new awake x = ap (λ y. y.marked hart) x ∙ awake
 interrupt_leaves_awake (InEnclave id) s hart new awake x = ap (λ y. y.marked hart) x.2 ∙ awake
-

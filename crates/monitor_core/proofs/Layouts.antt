@@ -7,7 +7,6 @@ use Rattle.sbi_decode.specs.declared.calls.Call.TheVariants as calls
 use Rattle.page_views.specs.declared.pages.PageRange.{PageRange}
 use Rattle.monitor_core.specs.declared.answer.Answer.{Answer}
 use Rattle.monitor_core.specs.States.{State}
-use Rattle.monitor_core.specs.Changes.{without_mark}
 use Rattle.monitor_core.specs.Steps.{DoesCall, Interrupts}
 
 -- the platform of a state

@@ -10,3 +10,5 @@ pub mod Wanted
 pub mod Moved
 pub mod Framed
 pub mod Marks
+pub mod Blank
+pub mod Put

@@ -1,5 +1,5 @@
 -- The parts together, after the table changed at one id, or a hart went from one world to another.
-use Rattle.std.proofs.Common.{◌≡◌, ◌≢◌, ◌∙◌, inl, inr, ◌||◌, ◌&&◌, option_map, ℕ, zero, suc, ◌+◌, ◌<◌, ◌≤◌, List, [], ◌∷◌, length, Bool, true, false, ◌==◌, nat_lt, if◌then◌else◌, Option, Some, None, slice_set, slice_index_or, refl, ap, sym, subst, arith}
+use Rattle.std.proofs.Common.{◌≡◌, ◌≢◌, ◌∙◌, inl, inr, option_map, ℕ, zero, suc, ◌+◌, ◌<◌, ◌≤◌, List, [], ◌∷◌, length, Bool, true, false, ◌==◌, if◌then◌else◌, Option, Some, None, slice_set, refl, ap, sym, subst, arith}
 use Rattle.std.proofs.lemmas.Bool.{eq-eqb, eqb-true, both_ways}
 use Rattle.std.proofs.lemmas.Option.{same_Some}
 use Rattle.enclave_table.specs.Enclaves.{EnclaveTable, Live, enclave_at, with_enclave}
@@ -25,7 +25,7 @@ use Rattle.monitor_core.specs.States.{view_of}
 use Rattle.monitor_core.specs.Changes.{is_host}
 use Rattle.monitor_core.specs.Parts.{world_in, mark_in, is_current, HoldsTogether}
 use Rattle.monitor_core.proofs.Cases.{both}
-use Rattle.monitor_core.proofs.Currents.{host_is, current_from, current_to, current_other}
+use Rattle.monitor_core.proofs.Currents.{current_from, current_to, current_other}
 
 -- the view of an enclave that is live
 pub live_view : (table : EnclaveTable) (id : ℕ) (e : Enclave) → Live table id e → view_of table (InEnclave id) ≡ enclave_view e.parts

@@ -1,5 +1,5 @@
 -- When a call is refused for want of entries, and when for want of memory.
-use Rattle.std.proofs.Common.{◌≡◌, ◌∙◌, inl, inr, ℕ, List, [], ◌∷◌, Option, None, Some, ℤ, pos, negsuc, ◌-◌, Result, Ok, Err, refl, ap, sym, subst, arith}
+use Rattle.std.proofs.Common.{◌≡◌, ◌∙◌, inl, inr, ℕ, List, [], ◌∷◌, Option, None, Some, ℤ, pos, negsuc, ◌-◌, ap, sym, subst, arith}
 use Rattle.pmp_encoding.specs.declared.limit.Limit.{Limit}
 use Rattle.pmp_match.specs.Meaning.{View}
 use Rattle.pmp_match.proofs.Meant.{needs_one}
@@ -9,7 +9,7 @@ use Rattle.enclave_table.specs.Views.{host_view, enclave_view}
 use Rattle.enclave_table.specs.Refusals.{AllPass, FailsFirst, refusal_number}
 use Rattle.enclave_table.specs.Checks.{create_checks, host_checks, MayDestroy, MayEnter, leave_checks, word_checks}
 use Rattle.enclave_table.specs.Fewest.{FitsIn, NeedsMore}
-use Rattle.enclave_table.specs.Creating.{OutgrowsByCreate, RefusesCreate, fresh}
+use Rattle.enclave_table.specs.Creating.{RefusesCreate, fresh}
 use Rattle.enclave_table.specs.Destroying.{RefusesDestroy}
 use Rattle.enclave_table.specs.Enclaves.{IsNextId}
 use Rattle.enclave_table.specs.declared.request.Create.{Create}
@@ -21,7 +21,6 @@ use Rattle.enclave_table.proofs.Placed.{free_place, host_added}
 use Rattle.enclave_table.proofs.SameViews.{more_same}
 use Rattle.permission_map.specs.Views.{SameView}
 use Rattle.worlds.specs.declared.world.World.{World}
-use Rattle.worlds.specs.declared.world.World.TheVariants.{Host, Enclave as InEnclave}
 use Rattle.sbi_decode.specs.declared.calls.Call.{Call}
 use Rattle.sbi_decode.specs.declared.calls.Call.TheVariants as calls
 use Rattle.page_views.specs.declared.pages.PageRange.{PageRange}

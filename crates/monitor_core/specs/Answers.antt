@@ -1,5 +1,5 @@
 -- What a call is answered with.
-use Rattle.std.specs.Prelude.{◌≡◌, ℕ, ◌-◌, ◌^◌, ℤ, pos, negsuc}
+use Rattle.std.specs.Prelude.{ℕ, ◌-◌, ◌^◌, ℤ, pos, negsuc}
 use Rattle.worlds.specs.declared.world.World.{World}
 use Rattle.worlds.specs.declared.world.World.TheVariants.{Host, Enclave as InEnclave}
 use Rattle.monitor_core.specs.declared.answer.Answer.{Answer}

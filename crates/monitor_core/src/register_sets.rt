@@ -39,8 +39,9 @@ impl RegisterSets {
         ensures { IfOk result (λ sets. (who : Runner) → registers_in sets who ≡ zeros) }
     {
         let enclaves = enclave_sets(alloc)?;
+        let zeros = Registers::new();
         Ok(RegisterSets {
-            hosts: [Registers::new(); 4],
+            hosts: [zeros; 4],
             enclaves,
         })
     }

@@ -1,5 +1,4 @@
 use Rattle.std.proofs.Common.{◌==◌, ◌∙◌, refl, ap, sym}
-use Rattle.monitor_core.specs.Monitors.{state_of, kept_of}
 use Rattle.monitor_core.specs.Parts.{mark_in}
 use Rattle.monitor_core.proofs.Framed.{whole_same}
 use Rattle.monitor_core.proofs.Marks.{was_marked}

@@ -1,15 +1,13 @@
-use Rattle.std.proofs.Common.{◌≡◌, ◌∙◌, inl, inr, refl, ap, sym, subst, ◌==◌, if◌then◌else◌, ℕ}
-use Rattle.std.proofs.lemmas.Bool.{eq-eqb}
+use Rattle.std.proofs.Common.{◌∙◌, inl, inr, refl, ap, sym, subst, ◌==◌, if◌then◌else◌, ℕ}
 use Rattle.enclave_table.specs.Checks.{MayEnter, host_checks}
 use Rattle.enclave_table.specs.Living.{Enters}
 use Rattle.enclave_table.specs.Refusals.{FailsFirst, refusal_number}
 use Rattle.worlds.specs.declared.world.World.TheVariants.{Enclave as InEnclave}
 use Rattle.monitor_core.specs.Changes.{in_world}
-use Rattle.monitor_core.specs.Frames.{KeepsFrame}
 use Rattle.monitor_core.specs.Parts.{state_in, world_in}
 use Rattle.monitor_core.specs.Steps.{Refuses}
 use Rattle.monitor_core.proofs.Framed.{frame_turned}
-use Rattle.monitor_core.proofs.Moved.{entering_turns, entry_is, not_there}
+use Rattle.monitor_core.proofs.Moved.{entering_turns, entry_is}
 use Rattle.monitor_core.proofs.parts.Parts.enter.Goals as goal
 
 pub returns-in-Err-clause-step : goal.returns-in-Err-clause-step

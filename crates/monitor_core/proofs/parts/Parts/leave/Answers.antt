@@ -27,10 +27,11 @@ returns-clause-done c =
     let same : c.answer.new.self.table ≡ now = c.answer.ensures.table ∙ c.go_to.ensures.table in
     let done : Leaves old.table.table (world_in old.worlds c.args.hart) c.args.leaving id now.table = subst (λ w. Leaves old.table.table w c.args.leaving id now.table) at c.in-Ok.ensures.done in
     let state : state_in c.answer.new.self ≡ back_to_host (with_table (state_in old) now.table) c.args.hart c.args.first c.args.second =
-    c.answer.ensures.state ∙ ap (λ s. answering s c.args.hart c.args.first c.args.second) c.go_to.ensures.state in
-    (id,
+    c.answer.ensures.state ∙ ap (λ s. answering s c.args.hart c.args.first c.args.second) c.go_to.ensures.state in (
+      id,
       subst (λ k. Leaves old.table.table (world_in old.worlds c.args.hart) c.args.leaving id k.table) (sym same) done,
-      state ∙ ap (λ k. back_to_host (with_table (state_in old) k.table) c.args.hart c.args.first c.args.second) (sym same))
+      state ∙ ap (λ k. back_to_host (with_table (state_in old) k.table) c.args.hart c.args.first c.args.second) (sym same),
+    )
 
 pub returns-clause-frame : goal.returns-clause-frame
 returns-clause-frame c =

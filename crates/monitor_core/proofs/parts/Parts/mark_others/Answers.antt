@@ -1,6 +1,7 @@
-use Rattle.std.proofs.Common.{◌≡◌, ◌∙◌, ℕ, ◌==◌, ◌&&◌, ◌||◌, nat_lt, if◌then◌else◌, ap, sym, arith}
-use Rattle.monitor_core.specs.Changes.{is_host, marking_others}
-use Rattle.monitor_core.specs.Parts.{mark_in, registers_in, state_in, world_in}
+use Rattle.std.proofs.Common.{◌≡◌, ◌∙◌, ◌==◌, ◌&&◌, ◌||◌, nat_lt, if◌then◌else◌, refl, ap, sym, arith}
+use Rattle.monitor_core.specs.Changes.{is_host}
+use Rattle.monitor_core.specs.Parts.{mark_in, world_in}
+use Rattle.monitor_core.specs.RegisterSets.{registers_in}
 use Rattle.monitor_core.proofs.Equal.{equal}
 use Rattle.monitor_core.proofs.Framed.{whole_same}
 use Rattle.monitor_core.proofs.Marks.{hosted, mark_is}
@@ -31,7 +32,7 @@ returns-clause-whole c =
     let inv = c.loop-other.invariant in
     let many : c.harts-harts.result ≡ old.table.table.layout.harts = c.harts-harts.ensures.value ∙ ap (λ l. l.harts) c.platform.ensures in
     let end : c.loop-other.other ≡ c.harts-harts.result = omega arith in
-    whole_same old.table new.table old.worlds new.worlds new.marked new.marked inv.table inv.worlds _
+    whole_same old.table new.table old.worlds new.worlds new.marked new.marked inv.table inv.worlds refl
     (whole_marked old.table old.worlds old.marked new.marked c.requires.on.whole
     (λ i on. hosted (i == c.args.hart) (nat_lt i c.loop-other.other) (mark_in old.marked i) (world_in old.worlds i) (c.requires.on.whole.hosted i)
     (sym (inv.marks i ∙ mark_is (nat_lt i c.loop-other.other) (i == c.args.hart) (is_host (world_in old.worlds i)) (mark_in old.marked i)) ∙ on)))

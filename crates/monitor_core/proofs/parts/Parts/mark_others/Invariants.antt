@@ -1,4 +1,4 @@
-use Rattle.std.proofs.Common.{◌≡◌, ℕ, ◌<◌, ◌==◌, ◌&&◌, not, true, nat_lt, if◌then◌else◌}
+use Rattle.std.proofs.Common.{◌≡◌, ℕ, ◌==◌, ◌&&◌, not, true, nat_lt, if◌then◌else◌}
 use Rattle.monitor_core.specs.Changes.{is_host}
 use Rattle.monitor_core.specs.Parts.{mark_in, world_in}
 use Rattle.monitor_core.proofs.parts.Parts.mark_others.Given as goal
