@@ -7,6 +7,8 @@ pub mod SoundTables
 pub mod Awake
 pub mod WorldsKept
 pub mod Wanted
+pub mod OtherViews
+pub mod Cleared
 pub mod Moved
 pub mod Framed
 pub mod Marks

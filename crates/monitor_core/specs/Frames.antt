@@ -1,8 +1,11 @@
 -- What each part of a call on a hart may rely on, and what it keeps.
-use Rattle.std.specs.Prelude.{◌≡◌, ℕ, ◌<◌, Bool, true, false}
+use Rattle.std.specs.Prelude.{◌≡◌, ◌≢◌, ℕ, ◌+◌, ◌^◌, ◌<◌, ◌≤◌, Bool, true, false}
+use Rattle.page_views.specs.Views.{in_range, SameView}
+use Rattle.page_views.specs.declared.pages.PageRange.{PageRange}
+use Rattle.enclave_table.specs.Platform.{Layout, is_monitor, is_ram}
 use Rattle.monitor_core.specs.declared.parts.Parts.{Parts}
 use Rattle.monitor_core.specs.Parts.{HoldsTogether}
-use Rattle.monitor_core.specs.States.{State}
+use Rattle.monitor_core.specs.States.{State, current_view}
 
 -- the hart is one of the platform, and the parts belong together
 pub record IsOn (parts : Parts) (hart : ℕ) : Type 0 where
@@ -19,3 +22,15 @@ pub record KeepsFrame (old new : Parts) : Type 0 where
 abbrev pub LoadsAnew : Bool → State → State → ℕ → Type 0
 LoadsAnew false old new hart = (new.table ≡ old.table) × (new.worlds hart ≡ old.worlds hart)
 LoadsAnew true old new hart = new.table ≡ old.table → new.worlds hart ≡ old.worlds hart → ⊥
+
+-- each other hart that is not marked then was not marked before, and its view is as it was: the entries that are loaded there are
+-- right still
+abbrev pub KeepsOtherViews : State → State → ℕ → Type 0
+KeepsOtherViews old new hart =
+    (other : ℕ) → other ≢ hart → other < old.table.layout.harts → new.marked other ≡ false → (old.marked other ≡ false) × SameView (current_view old other) (current_view new other)
+
+-- the pages of a range are memory, and none is the monitor's
+pub record ClearsMemory (layout : Layout) (range : PageRange) : Type 0 where
+  pub inside : range.first + range.count ≤ 2 ^ 44
+  pub in_ram : (page : ℕ) → in_range range.first range.count page ≡ true → is_ram layout page ≡ true
+  pub not_monitor : (page : ℕ) → in_range range.first range.count page ≡ true → is_monitor layout page ≡ false

@@ -17,7 +17,7 @@ pub struct Monitor {
 }
 
 impl Monitor {
-    ghost use Rattle.std.specs.Prelude.{◌≡◌, ◌<◌, ◌≤◌, false, length, IfOk, IfErr};
+    ghost use Rattle.std.specs.Prelude.{◌≡◌, ◌<◌, ◌≤◌, false, length, IfOk, IfErr, IfSome};
     ghost use Rattle.pmp_encoding.specs.Limits.{limit_number};
     ghost use Rattle.pmp_match.specs.Meaning.{IsFewest, Needs};
     ghost use Rattle.enclave_table.specs.Booting.{IsBootFault, opening as opening_table};
@@ -27,7 +27,7 @@ impl Monitor {
     ghost use Rattle.enclave_table.specs.Views.{host_view};
     ghost use Rattle.sbi_decode.specs.Calls.{call_of};
     ghost use Rattle.monitor_core.specs.Changes.{past_call, with_running, without_mark};
-    ghost use Rattle.monitor_core.specs.Frames.{LoadsAnew};
+    ghost use Rattle.monitor_core.specs.Frames.{LoadsAnew, KeepsOtherViews, ClearsMemory};
     ghost use Rattle.monitor_core.specs.Monitors.{state_of, kept_of, list_of};
     ghost use Rattle.monitor_core.specs.States.{opening, current_view, running_registers};
     ghost use Rattle.monitor_core.specs.Steps.{DoesCall, Interrupts};
@@ -149,6 +149,9 @@ impl Monitor {
         ensures registers { result.onward.registers
             ≡ running_registers (state_of self.new) hart }
         ensures load { LoadsAnew result.onward.load (state_of self.old) (state_of self.new) hart }
+        ensures others { KeepsOtherViews (state_of self.old) (state_of self.new) hart }
+        ensures zeroed { IfSome result.zero (λ range.
+            ClearsMemory (state_of self.old).table.layout range) }
         ensures awake { (state_of self.new).marked hart ≡ false }
         ensures platform { (state_of self.new).table.layout ≡ (state_of self.old).table.layout }
         ensures lists { (state_of self.new).table ≡ (state_of self.old).table
@@ -169,6 +172,7 @@ impl Monitor {
             Interrupts (s.worlds hart) s hart (state_of self.new) }
         ensures registers { result.registers ≡ running_registers (state_of self.new) hart }
         ensures load { LoadsAnew result.load (state_of self.old) (state_of self.new) hart }
+        ensures others { KeepsOtherViews (state_of self.old) (state_of self.new) hart }
         ensures awake { (state_of self.new).marked hart ≡ false }
         ensures platform { (state_of self.new).table.layout ≡ (state_of self.old).table.layout }
         ensures lists { (state_of self.new).table ≡ (state_of self.old).table

@@ -1,6 +1,8 @@
+use Rattle.std.proofs.Common.{refl}
 use Rattle.monitor_core.specs.Monitors.{state_of, kept_of}
 use Rattle.monitor_core.specs.Changes.{with_running}
 use Rattle.monitor_core.specs.Parts.{state_in}
+use Rattle.monitor_core.proofs.OtherViews.{interrupt_keeps_other_views}
 use Rattle.monitor_core.proofs.Awake.{interrupt_leaves_awake}
 use Rattle.monitor_core.proofs.monitor.Monitor.interrupt.Goals as goal
 
@@ -33,3 +35,11 @@ returns-clause-platform c = c.interrupt.ensures.frame.layout
 pub returns-clause-lists : goal.returns-clause-lists
 unfolding state_of kept_of
 returns-clause-lists c = c.interrupt.ensures.frame.lists
+
+pub returns-clause-others : goal.returns-clause-others
+unfolding state_of
+returns-clause-others c =
+    let old = c.args.self.now.parts in
+    let whole = c.args.self.now.whole in
+    let s = with_running (state_in old) c.args.hart c.args.registers.now in
+    interrupt_keeps_other_views (s.worlds c.args.hart) s c.args.hart (state_in c.interrupt.new.self) refl (λ h id there here. whole.alone h c.args.hart id there here) c.interrupt.ensures.step

@@ -1,8 +1,11 @@
 use Rattle.sbi_decode.specs.Calls.{call_of}
 use Rattle.monitor_core.specs.Monitors.{state_of, kept_of}
 use Rattle.monitor_core.specs.Changes.{past_call, with_running}
-use Rattle.monitor_core.specs.Parts.{state_in}
+use Rattle.monitor_core.specs.Parts.{state_in, world_in}
 use Rattle.monitor_core.proofs.Awake.{call_leaves_awake}
+use Rattle.monitor_core.proofs.Cleared.{call_clears_memory}
+use Rattle.monitor_core.proofs.Currents.{current_from}
+use Rattle.monitor_core.proofs.OtherViews.{call_keeps_other_views}
 use Rattle.monitor_core.proofs.Wanted.{call_refused_by_need}
 use Rattle.monitor_core.proofs.monitor.Monitor.serve.Goals as goal
 
@@ -47,3 +50,20 @@ returns-clause-need g c =
     let file = past_call c.args.registers.now in
     let s = with_running (state_in c.args.self.now.parts) c.args.hart file in
     call_refused_by_need (call_of file) (g.P.Pages.bytes_of c.args.pages.now) s c.args.hart c.serve.result.answer c.serve.result.zero (state_in c.serve.new.self) c.cite_invariant.ensures.table c.serve.ensures.step
+
+pub returns-clause-others : goal.returns-clause-others
+unfolding state_of
+returns-clause-others g c =
+    let old = c.args.self.now.parts in
+    let whole = c.args.self.now.whole in
+    let file = past_call c.args.registers.now in
+    let s = with_running (state_in old) c.args.hart file in
+    call_keeps_other_views (call_of file) (g.P.Pages.bytes_of c.args.pages.now) s c.args.hart c.serve.result.answer c.serve.result.zero (state_in c.serve.new.self)
+    (λ h. current_from old.table.table (world_in old.worlds h) (whole.current h)) (λ h id there here. whole.alone h c.args.hart id there here) c.serve.ensures.step
+
+pub returns-clause-zeroed : goal.returns-clause-zeroed
+unfolding state_of
+returns-clause-zeroed g c =
+    let file = past_call c.args.registers.now in
+    let s = with_running (state_in c.args.self.now.parts) c.args.hart file in
+    call_clears_memory (call_of file) (g.P.Pages.bytes_of c.args.pages.now) s c.args.hart c.serve.result.answer c.serve.result.zero (state_in c.serve.new.self) c.cite_invariant.ensures.table c.serve.ensures.step
