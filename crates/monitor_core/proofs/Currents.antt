@@ -12,7 +12,9 @@ use Rattle.worlds.specs.Runners.{IsWorld}
 use Rattle.enclave_table.proofs.Places.{live_place, live_above, live_inside, set_other}
 use Rattle.monitor_core.specs.States.{opening}
 use Rattle.monitor_core.specs.Changes.{is_host}
-use Rattle.monitor_core.specs.Parts.{is_run, is_running, is_current}
+use Rattle.monitor_core.specs.declared.parts.Parts.{Parts}
+use Rattle.monitor_core.specs.Parts.{is_run, is_running, is_current, world_in, state_in, HoldsTogether}
+use Rattle.monitor_core.specs.Worlds.{ArePlaced}
 
 abbrev absent : Option Enclave
 absent = None
@@ -63,3 +65,11 @@ id_below table id e is live = omega (arith, is.places, live_inside table.enclave
 pub current_is_world : (table : EnclaveTable) (w : World) → IsTable table → is_current table w ≡ true → IsWorld w
 current_is_world table Host t e = tt
 current_is_world table (InEnclave id) t e = let is = current_from table (InEnclave id) e in (live_above table.enclaves id is.0 is.1, id_below table id is.0 t is.1)
+
+-- each hart of the parts is where it may be
+pub placed_from : (parts : Parts) → HoldsTogether parts.table parts.worlds parts.marked → ArePlaced (state_in parts)
+placed_from parts w = record {
+  current = λ i low. current_from parts.table.table (world_in parts.worlds i) (w.current i);
+  alone = λ i j id low also at there. w.alone i j id at there;
+  marked = λ i low on. host_is (world_in parts.worlds i) (w.hosted i on);
+}

@@ -7,8 +7,10 @@ pub mod SoundTables
 pub mod Awake
 pub mod WorldsKept
 pub mod Wanted
-pub mod OtherViews
+pub mod Views
+pub mod Zeroed
 pub mod Cleared
+pub mod Others
 pub mod Moved
 pub mod Framed
 pub mod Marks

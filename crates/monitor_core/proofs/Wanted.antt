@@ -1,15 +1,16 @@
--- When a call is refused for want of entries, and when for want of memory.
-use Rattle.std.proofs.Common.{◌≡◌, ◌∙◌, inl, inr, ℕ, List, [], ◌∷◌, Option, None, Some, ℤ, pos, negsuc, ◌-◌, ap, sym, subst, arith}
+-- When a call is refused for want of entries, and when out of memory.
+use Rattle.std.proofs.Common.{◌≡◌, ◌⊎◌, ◌∙◌, inl, inr, ℕ, List, [], ◌∷◌, Option, None, Some, ℤ, pos, negsuc, ◌-◌, ap, sym, subst, arith}
 use Rattle.pmp_encoding.specs.declared.limit.Limit.{Limit}
 use Rattle.pmp_match.specs.Meaning.{View}
 use Rattle.pmp_match.proofs.Meant.{needs_one}
+use Rattle.page_views.specs.declared.pages.PageRange.{PageRange}
 use Rattle.enclave_table.specs.Enclaves.{EnclaveTable, with_enclave}
 use Rattle.enclave_table.specs.Requests.{parts_of}
 use Rattle.enclave_table.specs.Views.{host_view, enclave_view}
 use Rattle.enclave_table.specs.Refusals.{AllPass, FailsFirst, refusal_number}
 use Rattle.enclave_table.specs.Checks.{create_checks, host_checks, MayDestroy, MayEnter, leave_checks, word_checks}
 use Rattle.enclave_table.specs.Fewest.{FitsIn, NeedsMore}
-use Rattle.enclave_table.specs.Creating.{RefusesCreate, fresh}
+use Rattle.enclave_table.specs.Creating.{OutgrowsByCreate, RefusesCreate, fresh}
 use Rattle.enclave_table.specs.Destroying.{RefusesDestroy}
 use Rattle.enclave_table.specs.Enclaves.{IsNextId}
 use Rattle.enclave_table.specs.declared.request.Create.{Create}
@@ -23,10 +24,10 @@ use Rattle.permission_map.specs.Views.{SameView}
 use Rattle.worlds.specs.declared.world.World.{World}
 use Rattle.sbi_decode.specs.declared.calls.Call.{Call}
 use Rattle.sbi_decode.specs.declared.calls.Call.TheVariants as calls
-use Rattle.page_views.specs.declared.pages.PageRange.{PageRange}
 use Rattle.monitor_core.specs.declared.answer.Answer.{Answer}
+use Rattle.monitor_core.specs.Answers.{below_zero}
 use Rattle.monitor_core.specs.States.{State}
-use Rattle.monitor_core.specs.Steps.{Done, Refuses, DoesCall}
+use Rattle.monitor_core.specs.Steps.{Done, Refuses, DoesCreate, DoesDestroy, DoesCall}
 use Rattle.monitor_core.specs.Wants.{IsAnsweredBy, PassesOthers, Outgrows, IsRefusedByNeed, host_view_without}
 
 -- where all checks pass, none fails
@@ -39,29 +40,99 @@ none_fails (check ∷ checks) refusal pass (inr f) = none_fails checks refusal p
 fits_not_more : (limit : Limit) (view : View) → FitsIn limit view → NeedsMore limit view → ⊥
 fits_not_more limit view fits more = let same = needs_one view fits.0 more.0 fits.1 more.1 in omega (arith, same, fits.2, more.2)
 
--- what a refused call was answered with
-answered : (refusal : Refusal) (s new : State) (hart : ℕ) (answer : Answer) (zero : Option PageRange) → Refuses (refusal_number refusal) s hart answer zero new → IsAnsweredBy refusal answer
-answered refusal s new hart answer zero x = ap (λ a. a.status) x.told
-
 abbrev under_zero : ℤ → ℕ
 under_zero (pos n) = 0
 under_zero (negsuc n) = n
 
+-- what a call that is refused, and one that is done, is answered with
+refused_says : (number : ℕ) (s : State) (hart : ℕ) (answer : Answer) (zero : Option PageRange) (new : State) → Refuses number s hart answer zero new → answer.status ≡ below_zero number
+refused_says number s hart answer zero new x = ap (λ a. a.status) x.told
+
+done_says : (that : State) (value : ℕ) (pages : Option PageRange) (answer : Answer) (zero : Option PageRange) (new : State) → Done that value pages answer zero new → answer.status ≡ pos 0
+done_says that value pages answer zero new x = ap (λ a. a.status) x.told
+
+-- a call that was done was not refused
+not_refused : (refusal : Refusal) (answer : Answer) → answer.status ≡ pos 0 → IsAnsweredBy answer refusal → ⊥
+not_refused refusal answer x y = let z : pos 0 ≡ below_zero (refusal_number refusal) = sym x ∙ y in cc
+
 -- want of memory is another answer than want of entries
-not_both : (answer : Answer) → IsAnsweredBy NoMemory answer → IsAnsweredBy NoEntries answer → ⊥
+not_both : (answer : Answer) → IsAnsweredBy answer NoMemory → IsAnsweredBy answer NoEntries → ⊥
 not_both answer x y = let z : 108 ≡ 107 = ap under_zero (sym x ∙ y) in absurd (omega (arith, z))
 
 -- one id is the next
 one_next : (table : EnclaveTable) (id other : ℕ) → IsNextId table id → IsNextId table other → id ≡ other
 one_next table id other n m = omega (arith, n.smallest other m.free, m.smallest id n.free)
 
+-- refused for want of entries only where a view would need more; and where one would, for that or out of memory
+abbrev ExactlyWhere : Type 0 → Answer → Type 0
+ExactlyWhere More answer = (IsAnsweredBy answer NoEntries → More) × (More → IsAnsweredBy answer NoEntries ⊎ IsAnsweredBy answer NoMemory)
+
+create_refused : (asked : Create) (pages : ℕ → List ℕ) (s : State) (hart : ℕ) (answer : Answer) (refusal : Refusal) → AllPass (create_checks s.table (s.worlds hart) (parts_of asked))
+    → RefusesCreate pages s.table (s.worlds hart) asked refusal → IsAnsweredBy answer refusal → ExactlyWhere (OutgrowsByCreate pages s.table asked) answer
+create_refused asked pages s hart answer NoEntries pass why x = ((λ is. why.1), (λ out. inl x))
+create_refused asked pages s hart answer NoMemory pass why x = ((λ is. absurd (not_both answer x is)), (λ out. inr x))
+create_refused asked pages s hart answer NotHost pass why x = absurd (none_fails (create_checks s.table (s.worlds hart) (parts_of asked)) NotHost pass why)
+create_refused asked pages s hart answer NotEnclave pass why x = absurd (none_fails (create_checks s.table (s.worlds hart) (parts_of asked)) NotEnclave pass why)
+create_refused asked pages s hart answer BadCount pass why x = absurd (none_fails (create_checks s.table (s.worlds hart) (parts_of asked)) BadCount pass why)
+create_refused asked pages s hart answer BadAddress pass why x = absurd (none_fails (create_checks s.table (s.worlds hart) (parts_of asked)) BadAddress pass why)
+create_refused asked pages s hart answer BadEntry pass why x = absurd (none_fails (create_checks s.table (s.worlds hart) (parts_of asked)) BadEntry pass why)
+create_refused asked pages s hart answer NotRam pass why x = absurd (none_fails (create_checks s.table (s.worlds hart) (parts_of asked)) NotRam pass why)
+create_refused asked pages s hart answer Overlap pass why x = absurd (none_fails (create_checks s.table (s.worlds hart) (parts_of asked)) Overlap pass why)
+create_refused asked pages s hart answer TableFull pass why x = absurd (none_fails (create_checks s.table (s.worlds hart) (parts_of asked)) TableFull pass why)
+create_refused asked pages s hart answer BadId pass why x = absurd (none_fails (create_checks s.table (s.worlds hart) (parts_of asked)) BadId pass why)
+create_refused asked pages s hart answer BadState pass why x = absurd (none_fails (create_checks s.table (s.worlds hart) (parts_of asked)) BadState pass why)
+create_refused asked pages s hart answer BadWord pass why x = absurd (none_fails (create_checks s.table (s.worlds hart) (parts_of asked)) BadWord pass why)
+
+pub creates_by_need : (asked : Create) (pages : ℕ → List ℕ) (s : State) (hart : ℕ) (answer : Answer) (zero : Option PageRange) (new : State) → AllPass (create_checks s.table (s.worlds hart) (parts_of asked)) → DoesCreate asked pages s hart answer zero new
+    → ExactlyWhere (OutgrowsByCreate pages s.table asked) answer
+creates_by_need asked pages s hart answer zero new pass (inr x) = create_refused asked pages s hart answer x.0 pass x.1 (refused_says _ s hart answer zero new x.2)
+creates_by_need asked pages s hart answer zero new pass (inl x) = (
+  (λ is. absurd (not_refused NoEntries answer (done_says _ _ _ answer zero new x.3) is)),
+  (λ out. absurd (elim out [
+    | inl host ↦
+        let made = with_enclave s.table x.0 (Some (fresh pages (parts_of asked))) in
+        let same : x.0 ≡ host.0 = one_next s.table x.0 host.0 x.2.next host.1 in
+        fits_not_more s.table.layout.limit (host_view made)
+        (subst (λ t. FitsIn t.layout.limit (host_view t)) x.2.added x.2.host_fits)
+        (subst (λ n. NeedsMore s.table.layout.limit (host_view (with_enclave s.table n (Some (fresh pages (parts_of asked)))))) (sym same) host.2)
+    | inr own ↦ fits_not_more s.table.layout.limit (enclave_view (parts_of asked)) (subst (λ t. FitsIn t.layout.limit (enclave_view (parts_of asked))) x.2.added x.2.enclave_fits) own
+  ])),
+)
+
+destroy_refused : (id : ℕ) (s : State) (hart : ℕ) (answer : Answer) (refusal : Refusal) → AllPass (host_checks MayDestroy s.table (s.worlds hart) id)
+    → RefusesDestroy s.table (s.worlds hart) id refusal → IsAnsweredBy answer refusal → ExactlyWhere (NeedsMore s.table.layout.limit (host_view (with_enclave s.table id None))) answer
+destroy_refused id s hart answer NoEntries pass why x = ((λ is. why.1), (λ out. inl x))
+destroy_refused id s hart answer NoMemory pass why x = ((λ is. absurd (not_both answer x is)), (λ out. inr x))
+destroy_refused id s hart answer NotHost pass why x = absurd (none_fails (host_checks MayDestroy s.table (s.worlds hart) id) NotHost pass why)
+destroy_refused id s hart answer NotEnclave pass why x = absurd (none_fails (host_checks MayDestroy s.table (s.worlds hart) id) NotEnclave pass why)
+destroy_refused id s hart answer BadCount pass why x = absurd (none_fails (host_checks MayDestroy s.table (s.worlds hart) id) BadCount pass why)
+destroy_refused id s hart answer BadAddress pass why x = absurd (none_fails (host_checks MayDestroy s.table (s.worlds hart) id) BadAddress pass why)
+destroy_refused id s hart answer BadEntry pass why x = absurd (none_fails (host_checks MayDestroy s.table (s.worlds hart) id) BadEntry pass why)
+destroy_refused id s hart answer NotRam pass why x = absurd (none_fails (host_checks MayDestroy s.table (s.worlds hart) id) NotRam pass why)
+destroy_refused id s hart answer Overlap pass why x = absurd (none_fails (host_checks MayDestroy s.table (s.worlds hart) id) Overlap pass why)
+destroy_refused id s hart answer TableFull pass why x = absurd (none_fails (host_checks MayDestroy s.table (s.worlds hart) id) TableFull pass why)
+destroy_refused id s hart answer BadId pass why x = absurd (none_fails (host_checks MayDestroy s.table (s.worlds hart) id) BadId pass why)
+destroy_refused id s hart answer BadState pass why x = absurd (none_fails (host_checks MayDestroy s.table (s.worlds hart) id) BadState pass why)
+destroy_refused id s hart answer BadWord pass why x = absurd (none_fails (host_checks MayDestroy s.table (s.worlds hart) id) BadWord pass why)
+
+pub destroys_by_need : (id : ℕ) (s : State) (hart : ℕ) (answer : Answer) (zero : Option PageRange) (new : State) → AllPass (host_checks MayDestroy s.table (s.worlds hart) id) → DoesDestroy id s hart answer zero new
+    → ExactlyWhere (NeedsMore s.table.layout.limit (host_view (with_enclave s.table id None))) answer
+destroys_by_need id s hart answer zero new pass (inr x) = destroy_refused id s hart answer x.0 pass x.1 (refused_says _ s hart answer zero new x.2)
+destroys_by_need id s hart answer zero new pass (inl x) = (
+  (λ is. absurd (not_refused NoEntries answer (done_says _ _ _ answer zero new x.3) is)),
+  (λ out. absurd (fits_not_more s.table.layout.limit (host_view (with_enclave s.table id None)) (subst (λ t. FitsIn t.layout.limit (host_view t)) x.2.removed x.2.host_fits) out)),
+)
+
 -- an answer to a call that is neither want of entries nor want of memory
 record Neither (answer : Answer) : Type 0 where
-  entries : IsAnsweredBy NoEntries answer → ⊥
-  memory : IsAnsweredBy NoMemory answer → ⊥
+  entries : IsAnsweredBy answer NoEntries → ⊥
+  memory : IsAnsweredBy answer NoMemory → ⊥
+
+abbrev ByNeed : Option Call → EnclaveTable → World → Answer → Type 0
+ByNeed call table world answer = IsRefusedByNeed call table world (IsAnsweredBy answer)
 
 -- a call that is never refused so
-never : (call : Option Call) (table : EnclaveTable) (world : World) (answer : Answer) → (PassesOthers call table world → ⊥) → Neither answer → IsRefusedByNeed call table world answer
+never : (call : Option Call) (table : EnclaveTable) (world : World) (answer : Answer) → (PassesOthers call table world → ⊥) → Neither answer → ByNeed call table world answer
 never call table world answer none n = record { entries = λ is. absurd (n.entries is); outgrown = λ pass out. absurd (none pass); memory = λ is. absurd (n.memory is) }
 
 -- an answer with another status
@@ -71,13 +142,13 @@ other_status answer status is not_entries not_memory = record {
   memory = λ e. not_memory (ap under_zero (sym is ∙ e));
 }
 
--- one that succeeded
-well : (that new : State) (value : ℕ) (pages : Option PageRange) (answer : Answer) (zero : Option PageRange) → Done that value pages answer zero new → Neither answer
-well that new value pages answer zero x = other_status answer (pos 0) (ap (λ a. a.status) x.told) (λ e. let z : 0 ≡ 107 = e in absurd (omega (arith, z))) (λ e. let z : 0 ≡ 108 = e in absurd (omega (arith, z)))
+-- one that is done
+well : (answer : Answer) → answer.status ≡ pos 0 → Neither answer
+well answer is = other_status answer (pos 0) is (λ e. let z : 0 ≡ 107 = e in absurd (omega (arith, z))) (λ e. let z : 0 ≡ 108 = e in absurd (omega (arith, z)))
 
 -- one that is refused with another number
-numbered : (number : ℕ) (s new : State) (hart : ℕ) (answer : Answer) (zero : Option PageRange) → (number - 1 ≡ 107 → ⊥) → (number - 1 ≡ 108 → ⊥) → Refuses number s hart answer zero new → Neither answer
-numbered number s new hart answer zero a b x = other_status answer (negsuc (number - 1)) (ap (λ a. a.status) x.told) a b
+numbered : (number : ℕ) (answer : Answer) → (number - 1 ≡ 107 → ⊥) → (number - 1 ≡ 108 → ⊥) → answer.status ≡ below_zero number → Neither answer
+numbered number answer a b is = other_status answer (negsuc (number - 1)) is a b
 
 -- the refusals of other checks
 abbrev IsOther : Refusal → Type 0
@@ -85,8 +156,8 @@ IsOther NoEntries = ⊥
 IsOther NoMemory = ⊥
 IsOther _ = Unit {0}
 
-checked : (refusal : Refusal) (s new : State) (hart : ℕ) (answer : Answer) (zero : Option PageRange) → IsOther refusal → Refuses (refusal_number refusal) s hart answer zero new → Neither answer
-checked refusal s new hart answer zero o x = numbered (refusal_number refusal) s new hart answer zero (not_entries refusal o) (not_memory refusal o) x
+checked : (refusal : Refusal) (answer : Answer) → IsOther refusal → IsAnsweredBy answer refusal → Neither answer
+checked refusal answer o x = numbered (refusal_number refusal) answer (not_entries refusal o) (not_memory refusal o) x
   where
     not_entries : (refusal : Refusal) → IsOther refusal → refusal_number refusal - 1 ≡ 107 → ⊥
     not_entries NotHost o e = let z : 100 ≡ 107 = e in omega (arith, z)
@@ -136,21 +207,21 @@ opens : (pages : ℕ → List ℕ) (table : EnclaveTable) (id : ℕ) (parts : Cr
 opens pages table id parts t next page small = sym (closes pages table id parts t next page small)
 
 -- a call that succeeded or failed another check, which it then does not pass
-otherwise : (call : Option Call) (table : EnclaveTable) (world : World) (answer : Answer) → (PassesOthers call table world → Outgrows call table → ⊥) → Neither answer → IsRefusedByNeed call table world answer
+otherwise : (call : Option Call) (table : EnclaveTable) (world : World) (answer : Answer) → (PassesOthers call table world → Outgrows call table → ⊥) → Neither answer → ByNeed call table world answer
 otherwise call table world answer none n = record { entries = λ is. absurd (n.entries is); outgrown = λ pass out. absurd (none pass out); memory = λ is. absurd (n.memory is) }
 
 abbrev creates_of : Create → Option Call
 creates_of asked = Some (calls.Create asked.base asked.text_pages asked.data_pages asked.shared_base asked.shared_count asked.entry_offset)
 
-create_failed : (asked : Create) (s : State) (hart : ℕ) (answer : Answer) (zero : Option PageRange) (new : State) (refusal : Refusal) → FailsFirst (create_checks s.table (s.worlds hart) (parts_of asked)) refusal → IsOther refusal
-    → Refuses (refusal_number refusal) s hart answer zero new → IsRefusedByNeed (creates_of asked) s.table (s.worlds hart) answer
-create_failed asked s hart answer zero new refusal why other x =
-    otherwise (creates_of asked) s.table (s.worlds hart) answer (λ pass out. none_fails (create_checks s.table (s.worlds hart) (parts_of asked)) refusal pass why) (checked refusal s new hart answer zero other x)
+create_failed : (asked : Create) (s : State) (hart : ℕ) (answer : Answer) (refusal : Refusal) → FailsFirst (create_checks s.table (s.worlds hart) (parts_of asked)) refusal → IsOther refusal
+    → IsAnsweredBy answer refusal → ByNeed (creates_of asked) s.table (s.worlds hart) answer
+create_failed asked s hart answer refusal why other x =
+    otherwise (creates_of asked) s.table (s.worlds hart) answer (λ pass out. none_fails (create_checks s.table (s.worlds hart) (parts_of asked)) refusal pass why) (checked refusal answer other x)
 
 -- a creation that is refused, by its refusal
-create_by_need : (asked : Create) (pages : ℕ → List ℕ) (s : State) (hart : ℕ) (answer : Answer) (zero : Option PageRange) (new : State) (refusal : Refusal) → IsTable s.table → RefusesCreate pages s.table (s.worlds hart) asked refusal
-    → Refuses (refusal_number refusal) s hart answer zero new → IsRefusedByNeed (creates_of asked) s.table (s.worlds hart) answer
-create_by_need asked pages s hart answer zero new NoEntries t why x = record {
+create_by_need : (asked : Create) (pages : ℕ → List ℕ) (s : State) (hart : ℕ) (answer : Answer) (refusal : Refusal) → IsTable s.table → RefusesCreate pages s.table (s.worlds hart) asked refusal
+    → IsAnsweredBy answer refusal → ByNeed (creates_of asked) s.table (s.worlds hart) answer
+create_by_need asked pages s hart answer NoEntries t why x = record {
   entries = λ is. (
     why.0,
     elim why.1 [
@@ -158,64 +229,64 @@ create_by_need asked pages s hart answer zero new NoEntries t why x = record {
       | inr own ↦ inr own
     ],
   );
-  outgrown = λ pass out. inl (answered NoEntries s new hart answer zero x);
-  memory = λ is. absurd (not_both answer is (answered NoEntries s new hart answer zero x));
+  outgrown = λ pass out. inl x;
+  memory = λ is. absurd (not_both answer is x);
 }
-create_by_need asked pages s hart answer zero new NoMemory t why x = record {
-  entries = λ is. absurd (not_both answer (answered NoMemory s new hart answer zero x) is);
-  outgrown = λ pass out. inr (answered NoMemory s new hart answer zero x);
+create_by_need asked pages s hart answer NoMemory t why x = record {
+  entries = λ is. absurd (not_both answer x is);
+  outgrown = λ pass out. inr x;
   memory = λ is. why;
 }
-create_by_need asked pages s hart answer zero new NotHost t why x = create_failed asked s hart answer zero new NotHost why tt x
-create_by_need asked pages s hart answer zero new NotEnclave t why x = create_failed asked s hart answer zero new NotEnclave why tt x
-create_by_need asked pages s hart answer zero new BadCount t why x = create_failed asked s hart answer zero new BadCount why tt x
-create_by_need asked pages s hart answer zero new BadAddress t why x = create_failed asked s hart answer zero new BadAddress why tt x
-create_by_need asked pages s hart answer zero new BadEntry t why x = create_failed asked s hart answer zero new BadEntry why tt x
-create_by_need asked pages s hart answer zero new NotRam t why x = create_failed asked s hart answer zero new NotRam why tt x
-create_by_need asked pages s hart answer zero new Overlap t why x = create_failed asked s hart answer zero new Overlap why tt x
-create_by_need asked pages s hart answer zero new TableFull t why x = create_failed asked s hart answer zero new TableFull why tt x
-create_by_need asked pages s hart answer zero new BadId t why x = create_failed asked s hart answer zero new BadId why tt x
-create_by_need asked pages s hart answer zero new BadState t why x = create_failed asked s hart answer zero new BadState why tt x
-create_by_need asked pages s hart answer zero new BadWord t why x = create_failed asked s hart answer zero new BadWord why tt x
+create_by_need asked pages s hart answer NotHost t why x = create_failed asked s hart answer NotHost why tt x
+create_by_need asked pages s hart answer NotEnclave t why x = create_failed asked s hart answer NotEnclave why tt x
+create_by_need asked pages s hart answer BadCount t why x = create_failed asked s hart answer BadCount why tt x
+create_by_need asked pages s hart answer BadAddress t why x = create_failed asked s hart answer BadAddress why tt x
+create_by_need asked pages s hart answer BadEntry t why x = create_failed asked s hart answer BadEntry why tt x
+create_by_need asked pages s hart answer NotRam t why x = create_failed asked s hart answer NotRam why tt x
+create_by_need asked pages s hart answer Overlap t why x = create_failed asked s hart answer Overlap why tt x
+create_by_need asked pages s hart answer TableFull t why x = create_failed asked s hart answer TableFull why tt x
+create_by_need asked pages s hart answer BadId t why x = create_failed asked s hart answer BadId why tt x
+create_by_need asked pages s hart answer BadState t why x = create_failed asked s hart answer BadState why tt x
+create_by_need asked pages s hart answer BadWord t why x = create_failed asked s hart answer BadWord why tt x
 
-destroy_failed : (id : ℕ) (s : State) (hart : ℕ) (answer : Answer) (zero : Option PageRange) (new : State) (refusal : Refusal) → FailsFirst (host_checks MayDestroy s.table (s.worlds hart) id) refusal → IsOther refusal
-    → Refuses (refusal_number refusal) s hart answer zero new → IsRefusedByNeed (Some (calls.Destroy id)) s.table (s.worlds hart) answer
-destroy_failed id s hart answer zero new refusal why other x =
-    otherwise (Some (calls.Destroy id)) s.table (s.worlds hart) answer (λ pass out. none_fails (host_checks MayDestroy s.table (s.worlds hart) id) refusal pass why) (checked refusal s new hart answer zero other x)
+destroy_failed : (id : ℕ) (s : State) (hart : ℕ) (answer : Answer) (refusal : Refusal) → FailsFirst (host_checks MayDestroy s.table (s.worlds hart) id) refusal → IsOther refusal
+    → IsAnsweredBy answer refusal → ByNeed (Some (calls.Destroy id)) s.table (s.worlds hart) answer
+destroy_failed id s hart answer refusal why other x =
+    otherwise (Some (calls.Destroy id)) s.table (s.worlds hart) answer (λ pass out. none_fails (host_checks MayDestroy s.table (s.worlds hart) id) refusal pass why) (checked refusal answer other x)
 
-destroy_by_need : (id : ℕ) (s : State) (hart : ℕ) (answer : Answer) (zero : Option PageRange) (new : State) (refusal : Refusal) → RefusesDestroy s.table (s.worlds hart) id refusal
-    → Refuses (refusal_number refusal) s hart answer zero new → IsRefusedByNeed (Some (calls.Destroy id)) s.table (s.worlds hart) answer
-destroy_by_need id s hart answer zero new NoEntries why x = record {
+destroy_by_need : (id : ℕ) (s : State) (hart : ℕ) (answer : Answer) (refusal : Refusal) → RefusesDestroy s.table (s.worlds hart) id refusal
+    → IsAnsweredBy answer refusal → ByNeed (Some (calls.Destroy id)) s.table (s.worlds hart) answer
+destroy_by_need id s hart answer NoEntries why x = record {
   entries = λ is. (why.0, why.1);
-  outgrown = λ pass out. inl (answered NoEntries s new hart answer zero x);
-  memory = λ is. absurd (not_both answer is (answered NoEntries s new hart answer zero x));
+  outgrown = λ pass out. inl x;
+  memory = λ is. absurd (not_both answer is x);
 }
-destroy_by_need id s hart answer zero new NoMemory why x = record {
-  entries = λ is. absurd (not_both answer (answered NoMemory s new hart answer zero x) is);
-  outgrown = λ pass out. inr (answered NoMemory s new hart answer zero x);
+destroy_by_need id s hart answer NoMemory why x = record {
+  entries = λ is. absurd (not_both answer x is);
+  outgrown = λ pass out. inr x;
   memory = λ is. why;
 }
-destroy_by_need id s hart answer zero new NotHost why x = destroy_failed id s hart answer zero new NotHost why tt x
-destroy_by_need id s hart answer zero new NotEnclave why x = destroy_failed id s hart answer zero new NotEnclave why tt x
-destroy_by_need id s hart answer zero new BadCount why x = destroy_failed id s hart answer zero new BadCount why tt x
-destroy_by_need id s hart answer zero new BadAddress why x = destroy_failed id s hart answer zero new BadAddress why tt x
-destroy_by_need id s hart answer zero new BadEntry why x = destroy_failed id s hart answer zero new BadEntry why tt x
-destroy_by_need id s hart answer zero new NotRam why x = destroy_failed id s hart answer zero new NotRam why tt x
-destroy_by_need id s hart answer zero new Overlap why x = destroy_failed id s hart answer zero new Overlap why tt x
-destroy_by_need id s hart answer zero new TableFull why x = destroy_failed id s hart answer zero new TableFull why tt x
-destroy_by_need id s hart answer zero new BadId why x = destroy_failed id s hart answer zero new BadId why tt x
-destroy_by_need id s hart answer zero new BadState why x = destroy_failed id s hart answer zero new BadState why tt x
-destroy_by_need id s hart answer zero new BadWord why x = destroy_failed id s hart answer zero new BadWord why tt x
+destroy_by_need id s hart answer NotHost why x = destroy_failed id s hart answer NotHost why tt x
+destroy_by_need id s hart answer NotEnclave why x = destroy_failed id s hart answer NotEnclave why tt x
+destroy_by_need id s hart answer BadCount why x = destroy_failed id s hart answer BadCount why tt x
+destroy_by_need id s hart answer BadAddress why x = destroy_failed id s hart answer BadAddress why tt x
+destroy_by_need id s hart answer BadEntry why x = destroy_failed id s hart answer BadEntry why tt x
+destroy_by_need id s hart answer NotRam why x = destroy_failed id s hart answer NotRam why tt x
+destroy_by_need id s hart answer Overlap why x = destroy_failed id s hart answer Overlap why tt x
+destroy_by_need id s hart answer TableFull why x = destroy_failed id s hart answer TableFull why tt x
+destroy_by_need id s hart answer BadId why x = destroy_failed id s hart answer BadId why tt x
+destroy_by_need id s hart answer BadState why x = destroy_failed id s hart answer BadState why tt x
+destroy_by_need id s hart answer BadWord why x = destroy_failed id s hart answer BadWord why tt x
 
 -- a call of another kind that is refused
-refused_other : (call : Option Call) (checks : List (Refusal × Type 0)) (s : State) (hart : ℕ) (answer : Answer) (zero : Option PageRange) (new : State) (refusal : Refusal) → (PassesOthers call s.table (s.worlds hart) → ⊥) → AreOthers checks → FailsFirst checks refusal
-    → Refuses (refusal_number refusal) s hart answer zero new → IsRefusedByNeed call s.table (s.worlds hart) answer
-refused_other call checks s hart answer zero new refusal none others why x =
-    never call s.table (s.worlds hart) answer none (checked refusal s new hart answer zero (fails_other checks refusal others why) x)
+refused_other : (call : Option Call) (checks : List (Refusal × Type 0)) (s : State) (hart : ℕ) (answer : Answer) (refusal : Refusal) → (PassesOthers call s.table (s.worlds hart) → ⊥) → AreOthers checks → FailsFirst checks refusal
+    → IsAnsweredBy answer refusal → ByNeed call s.table (s.worlds hart) answer
+refused_other call checks s hart answer refusal none others why x =
+    never call s.table (s.worlds hart) answer none (checked refusal answer (fails_other checks refusal others why) x)
 
-pub call_refused_by_need : (call : Option Call) (pages : ℕ → List ℕ) (s : State) (hart : ℕ) (answer : Answer) (zero : Option PageRange) (new : State) → IsTable s.table → DoesCall call pages s hart answer zero new → IsRefusedByNeed call s.table (s.worlds hart) answer
+pub call_refused_by_need : (call : Option Call) (pages : ℕ → List ℕ) (s : State) (hart : ℕ) (answer : Answer) (zero : Option PageRange) (new : State) → IsTable s.table → DoesCall call pages s hart answer zero new → ByNeed call s.table (s.worlds hart) answer
 call_refused_by_need None pages s hart answer zero new t x =
-    never None s.table (s.worlds hart) answer (λ none. none) (numbered 2 s new hart answer zero (λ e. let z : 1 ≡ 107 = e in omega (arith, z)) (λ e. let z : 1 ≡ 108 = e in omega (arith, z)) x)
+    never None s.table (s.worlds hart) answer (λ none. none) (numbered 2 answer (λ e. let z : 1 ≡ 107 = e in omega (arith, z)) (λ e. let z : 1 ≡ 108 = e in omega (arith, z)) (refused_says 2 s hart answer zero new x))
 call_refused_by_need (Some (calls.Create base text_pages data_pages shared_base shared_count entry_offset)) pages s hart answer zero new t (inl x) =
     let asked : Create = record { base = base; text_pages = text_pages; data_pages = data_pages; shared_base = shared_base; shared_count = shared_count; entry_offset = entry_offset } in
     let parts = parts_of asked in
@@ -225,21 +296,21 @@ call_refused_by_need (Some (calls.Create base text_pages data_pages shared_base 
       | inl host ↦ fits_not_more s.table.layout.limit (host_view made) (subst (λ t. FitsIn t.layout.limit (host_view t)) x.2.added x.2.host_fits) (more_same s.table.layout.limit (host_view_without s.table parts) (host_view made) (closes pages s.table x.0 parts t x.2.next) host)
       | inr own ↦ fits_not_more s.table.layout.limit (enclave_view parts) (subst (λ t. FitsIn t.layout.limit (enclave_view parts)) x.2.added x.2.enclave_fits) own
     ])
-    (well _ new x.0 _ answer zero x.3)
+    (well answer (done_says _ _ _ answer zero new x.3))
 call_refused_by_need (Some (calls.Create base text_pages data_pages shared_base shared_count entry_offset)) pages s hart answer zero new t (inr x) =
     let asked : Create = record { base = base; text_pages = text_pages; data_pages = data_pages; shared_base = shared_base; shared_count = shared_count; entry_offset = entry_offset } in
-    create_by_need asked pages s hart answer zero new x.0 t x.1 x.2
+    create_by_need asked pages s hart answer x.0 t x.1 (refused_says _ s hart answer zero new x.2)
 call_refused_by_need (Some (calls.Destroy id)) pages s hart answer zero new t (inl x) =
     otherwise (Some (calls.Destroy id)) s.table (s.worlds hart) answer
-    (λ pass out. fits_not_more s.table.layout.limit (host_view (with_enclave s.table id None)) (subst (λ t. FitsIn t.layout.limit (host_view t)) x.2.removed x.2.host_fits) out) (well _ new 0 _ answer zero x.3)
-call_refused_by_need (Some (calls.Destroy id)) pages s hart answer zero new t (inr x) = destroy_by_need id s hart answer zero new x.0 x.1 x.2
-call_refused_by_need (Some (calls.Run id)) pages s hart answer zero new t (inl x) = never (Some (calls.Run id)) s.table (s.worlds hart) answer (λ none. none) (well _ new 0 _ answer zero x.4)
-call_refused_by_need (Some (calls.Run id)) pages s hart answer zero new t (inr x) = refused_other (Some (calls.Run id)) (host_checks (MayEnter FirstRun) s.table (s.worlds hart) id) s hart answer zero new x.0 (λ none. none) (tt, (tt, (tt, tt))) x.1 x.2
-call_refused_by_need (Some calls.Stop) pages s hart answer zero new t (inl x) = never (Some calls.Stop) s.table (s.worlds hart) answer (λ none. none) (well _ new 0 _ answer zero x.3)
-call_refused_by_need (Some calls.Stop) pages s hart answer zero new t (inr x) = refused_other (Some calls.Stop) (leave_checks (s.worlds hart)) s hart answer zero new x.0 (λ none. none) (tt, tt) x.1 x.2
-call_refused_by_need (Some (calls.Resume id)) pages s hart answer zero new t (inl x) = never (Some (calls.Resume id)) s.table (s.worlds hart) answer (λ none. none) (well _ new 0 _ answer zero x.4)
-call_refused_by_need (Some (calls.Resume id)) pages s hart answer zero new t (inr x) = refused_other (Some (calls.Resume id)) (host_checks (MayEnter Resume) s.table (s.worlds hart) id) s hart answer zero new x.0 (λ none. none) (tt, (tt, (tt, tt))) x.1 x.2
-call_refused_by_need (Some (calls.Exit value)) pages s hart answer zero new t (inl x) = never (Some (calls.Exit value)) s.table (s.worlds hart) answer (λ none. none) (well _ new value _ answer zero x.3)
-call_refused_by_need (Some (calls.Exit value)) pages s hart answer zero new t (inr x) = refused_other (Some (calls.Exit value)) (leave_checks (s.worlds hart)) s hart answer zero new x.0 (λ none. none) (tt, tt) x.1 x.2
-call_refused_by_need (Some (calls.Measure id k)) pages s hart answer zero new t (inl x) = never (Some (calls.Measure id k)) s.table (s.worlds hart) answer (λ none. none) (well _ new x.0 _ answer zero x.2)
-call_refused_by_need (Some (calls.Measure id k)) pages s hart answer zero new t (inr x) = refused_other (Some (calls.Measure id k)) (word_checks s.table id k) s hart answer zero new x.0 (λ none. none) (tt, (tt, tt)) x.1 x.2
+    (λ pass out. fits_not_more s.table.layout.limit (host_view (with_enclave s.table id None)) (subst (λ t. FitsIn t.layout.limit (host_view t)) x.2.removed x.2.host_fits) out) (well answer (done_says _ _ _ answer zero new x.3))
+call_refused_by_need (Some (calls.Destroy id)) pages s hart answer zero new t (inr x) = destroy_by_need id s hart answer x.0 x.1 (refused_says _ s hart answer zero new x.2)
+call_refused_by_need (Some (calls.Run id)) pages s hart answer zero new t (inl x) = never (Some (calls.Run id)) s.table (s.worlds hart) answer (λ none. none) (well answer (done_says _ _ _ answer zero new x.4))
+call_refused_by_need (Some (calls.Run id)) pages s hart answer zero new t (inr x) = refused_other (Some (calls.Run id)) (host_checks (MayEnter FirstRun) s.table (s.worlds hart) id) s hart answer x.0 (λ none. none) (tt, (tt, (tt, tt))) x.1 (refused_says _ s hart answer zero new x.2)
+call_refused_by_need (Some calls.Stop) pages s hart answer zero new t (inl x) = never (Some calls.Stop) s.table (s.worlds hart) answer (λ none. none) (well answer (done_says _ _ _ answer zero new x.3))
+call_refused_by_need (Some calls.Stop) pages s hart answer zero new t (inr x) = refused_other (Some calls.Stop) (leave_checks (s.worlds hart)) s hart answer x.0 (λ none. none) (tt, tt) x.1 (refused_says _ s hart answer zero new x.2)
+call_refused_by_need (Some (calls.Resume id)) pages s hart answer zero new t (inl x) = never (Some (calls.Resume id)) s.table (s.worlds hart) answer (λ none. none) (well answer (done_says _ _ _ answer zero new x.4))
+call_refused_by_need (Some (calls.Resume id)) pages s hart answer zero new t (inr x) = refused_other (Some (calls.Resume id)) (host_checks (MayEnter Resume) s.table (s.worlds hart) id) s hart answer x.0 (λ none. none) (tt, (tt, (tt, tt))) x.1 (refused_says _ s hart answer zero new x.2)
+call_refused_by_need (Some (calls.Exit value)) pages s hart answer zero new t (inl x) = never (Some (calls.Exit value)) s.table (s.worlds hart) answer (λ none. none) (well answer (done_says _ _ _ answer zero new x.3))
+call_refused_by_need (Some (calls.Exit value)) pages s hart answer zero new t (inr x) = refused_other (Some (calls.Exit value)) (leave_checks (s.worlds hart)) s hart answer x.0 (λ none. none) (tt, tt) x.1 (refused_says _ s hart answer zero new x.2)
+call_refused_by_need (Some (calls.Measure id k)) pages s hart answer zero new t (inl x) = never (Some (calls.Measure id k)) s.table (s.worlds hart) answer (λ none. none) (well answer (done_says _ _ _ answer zero new x.2))
+call_refused_by_need (Some (calls.Measure id k)) pages s hart answer zero new t (inr x) = refused_other (Some (calls.Measure id k)) (word_checks s.table id k) s hart answer x.0 (λ none. none) (tt, (tt, tt)) x.1 (refused_says _ s hart answer zero new x.2)

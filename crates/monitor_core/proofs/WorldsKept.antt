@@ -29,10 +29,17 @@ use Rattle.monitor_core.specs.declared.answer.Answer.{Answer}
 use Rattle.monitor_core.specs.States.{State, opening}
 use Rattle.monitor_core.specs.Changes.{is_host, with_running, without_mark}
 use Rattle.monitor_core.specs.Steps.{DoesCall, DoesEnter, Interrupts}
-use Rattle.monitor_core.specs.Worlds.{AreWorlds}
 use Rattle.monitor_core.proofs.Currents.{current_other}
 use Rattle.monitor_core.proofs.Currents.{none_live}
 use Rattle.monitor_core.proofs.Cases.{both}
+
+-- each hart is in the host's world or in that of an enclave that is Running, no enclave runs on two, each that is Running runs on
+-- one, and a marked hart is in the host's world
+pub record AreWorlds (s : State) : Type 0 where
+  pub current : (hart : ℕ) → hart < s.table.layout.harts → IsCurrent s.table (s.worlds hart)
+  pub alone : (hart other id : ℕ) → hart < s.table.layout.harts → other < s.table.layout.harts → s.worlds hart ≡ InEnclave id → s.worlds other ≡ InEnclave id → hart ≡ other
+  pub held : (id : ℕ) (e : Enclave) → Live s.table id e → e.state ≡ Running → (hart : ℕ) × (hart < s.table.layout.harts) × (s.worlds hart ≡ InEnclave id)
+  pub marked : (hart : ℕ) → hart < s.table.layout.harts → s.marked hart ≡ true → s.worlds hart ≡ Host
 
 -- what one hart's event may do to the table and the worlds: nothing but at one id and on that hart
 record Change (s n : State) (hart id : ℕ) (slot : Option Enclave) (to : World) : Type 0 where

@@ -23,11 +23,10 @@ abbrev pub LoadsAnew : Bool → State → State → ℕ → Type 0
 LoadsAnew false old new hart = (new.table ≡ old.table) × (new.worlds hart ≡ old.worlds hart)
 LoadsAnew true old new hart = new.table ≡ old.table → new.worlds hart ≡ old.worlds hart → ⊥
 
--- each other hart that is not marked then was not marked before, and its view is as it was: the entries that are loaded there are
--- right still
-abbrev pub KeepsOtherViews : State → State → ℕ → Type 0
-KeepsOtherViews old new hart =
-    (other : ℕ) → other ≢ hart → other < old.table.layout.harts → new.marked other ≡ false → (old.marked other ≡ false) × SameView (current_view old other) (current_view new other)
+-- every other hart that is not marked then was not marked before, and its view is the same: what is loaded there is right still
+pub record KeepsOthers (s new : State) (hart : ℕ) : Type 0 where
+  pub awake : (i : ℕ) → i ≢ hart → new.marked i ≡ false → s.marked i ≡ false
+  pub views : (i : ℕ) → i ≢ hart → i < s.table.layout.harts → new.marked i ≡ false → SameView (current_view s i) (current_view new i)
 
 -- the pages of a range are memory, and none is the monitor's
 pub record ClearsMemory (layout : Layout) (range : PageRange) : Type 0 where

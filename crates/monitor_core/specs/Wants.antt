@@ -19,8 +19,8 @@ use Rattle.monitor_core.specs.declared.answer.Answer.{Answer}
 use Rattle.monitor_core.specs.Answers.{below_zero}
 
 -- a call was answered with this refusal
-abbrev pub IsAnsweredBy : Refusal → Answer → Type 0
-IsAnsweredBy refusal answer = answer.status ≡ below_zero (refusal_number refusal)
+abbrev pub IsAnsweredBy : Answer → Refusal → Type 0
+IsAnsweredBy answer refusal = answer.status ≡ below_zero (refusal_number refusal)
 
 -- the host's view once the private pages of an enclave are closed to it
 abbrev pub host_view_without : EnclaveTable → Create → ℕ → Perm
@@ -43,7 +43,7 @@ Outgrows _ table = ⊥
 
 -- a call is refused for want of entries only where it is one of these, and a view after it would need more entries than there are;
 -- where one would, it is refused, for want of entries or of memory. Nothing else is refused so
-pub record IsRefusedByNeed (call : Option Call) (table : EnclaveTable) (world : World) (answer : Answer) : Type 0 where
-  pub entries : IsAnsweredBy NoEntries answer → PassesOthers call table world × Outgrows call table
-  pub outgrown : PassesOthers call table world → Outgrows call table → IsAnsweredBy NoEntries answer ⊎ IsAnsweredBy NoMemory answer
-  pub memory : IsAnsweredBy NoMemory answer → PassesOthers call table world
+pub record IsRefusedByNeed (call : Option Call) (table : EnclaveTable) (world : World) (IsAnswered : Refusal → Type 0) : Type 0 where
+  pub entries : IsAnswered NoEntries → PassesOthers call table world × Outgrows call table
+  pub outgrown : PassesOthers call table world → Outgrows call table → IsAnswered NoEntries ⊎ IsAnswered NoMemory
+  pub memory : IsAnswered NoMemory → PassesOthers call table world

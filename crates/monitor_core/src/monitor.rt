@@ -26,12 +26,13 @@ impl Monitor {
     ghost use Rattle.enclave_table.specs.Tables.{IsTable};
     ghost use Rattle.enclave_table.specs.Views.{host_view};
     ghost use Rattle.sbi_decode.specs.Calls.{call_of};
-    ghost use Rattle.monitor_core.specs.Changes.{past_call, with_running, without_mark};
-    ghost use Rattle.monitor_core.specs.Frames.{LoadsAnew, KeepsOtherViews, ClearsMemory};
+    ghost use Rattle.monitor_core.specs.Changes.{past_call, with_running, with_x, without_mark};
+    ghost use Rattle.monitor_core.specs.Frames.{LoadsAnew, KeepsOthers, ClearsMemory};
     ghost use Rattle.monitor_core.specs.Monitors.{state_of, kept_of, list_of};
     ghost use Rattle.monitor_core.specs.States.{opening, current_view, running_registers};
     ghost use Rattle.monitor_core.specs.Steps.{DoesCall, Interrupts};
-    ghost use Rattle.monitor_core.specs.Wants.{IsRefusedByNeed};
+    ghost use Rattle.monitor_core.specs.Worlds.{ArePlaced};
+    ghost use Rattle.monitor_core.specs.Wants.{IsAnsweredBy, IsRefusedByNeed};
 
     /// The monitor of a platform: no enclave, each hart in the host's world, all registers zero, no hart marked. It is
     /// refused where the host's view needs more entries than the platform has, and where memory is.
@@ -49,6 +50,15 @@ impl Monitor {
             }
             Err(fault) => Err(fault),
         }
+    }
+
+    /// What is true of every monitor: its table is sound; each hart is in the host's world or in that of an enclave that is
+    /// Running, and no enclave runs on two; and a marked hart is in the host's world.
+    pub fn cite_invariant(&self)
+        ensures table { IsTable (state_of self.now).table }
+        ensures worlds { ArePlaced (state_of self.now) }
+    {
+        self.parts.table.cite_invariant();
     }
 
     /// How many harts there are, 1 to 4.
@@ -136,6 +146,17 @@ impl Monitor {
         self.parts.put_running(hart, *registers);
     }
 
+    /// A register of the world that runs on a hart is set, by its number below 32. Nothing else changes.
+    pub fn set_register(&mut self, hart: u8, n: u8, value: u64)
+        requires hart { hart < 4 }
+        requires register { n < 32 }
+        ensures state { let s = state_of self.old in
+            state_of self.new ≡ with_running s hart (with_x (running_registers s hart) n value) }
+        ensures kept { kept_of self.new ≡ kept_of self.old }
+    {
+        self.parts.set_register(hart, n, value);
+    }
+
     /// The call that a hart with these registers made. The caller then makes the pages in `zero` zero, loads the entries
     /// of the hart where it is asked to, and stops every other hart that is marked now until it was woken; then the
     /// registers go on.
@@ -149,7 +170,7 @@ impl Monitor {
         ensures registers { result.onward.registers
             ≡ running_registers (state_of self.new) hart }
         ensures load { LoadsAnew result.onward.load (state_of self.old) (state_of self.new) hart }
-        ensures others { KeepsOtherViews (state_of self.old) (state_of self.new) hart }
+        ensures others { KeepsOthers (state_of self.old) (state_of self.new) hart }
         ensures zeroed { IfSome result.zero (λ range.
             ClearsMemory (state_of self.old).table.layout range) }
         ensures awake { (state_of self.new).marked hart ≡ false }
@@ -157,7 +178,8 @@ impl Monitor {
         ensures lists { (state_of self.new).table ≡ (state_of self.old).table
             → kept_of self.new ≡ kept_of self.old }
         ensures need { let s = state_of self.old in
-            IsRefusedByNeed (call_of registers.now) s.table (s.worlds hart) result.answer }
+            IsRefusedByNeed (call_of registers.now) s.table (s.worlds hart)
+            (IsAnsweredBy result.answer) }
     {
         self.parts.table.cite_invariant();
         self.parts.serve(hart, registers, pages)
@@ -172,7 +194,7 @@ impl Monitor {
             Interrupts (s.worlds hart) s hart (state_of self.new) }
         ensures registers { result.registers ≡ running_registers (state_of self.new) hart }
         ensures load { LoadsAnew result.load (state_of self.old) (state_of self.new) hart }
-        ensures others { KeepsOtherViews (state_of self.old) (state_of self.new) hart }
+        ensures others { KeepsOthers (state_of self.old) (state_of self.new) hart }
         ensures awake { (state_of self.new).marked hart ≡ false }
         ensures platform { (state_of self.new).table.layout ≡ (state_of self.old).table.layout }
         ensures lists { (state_of self.new).table ≡ (state_of self.old).table

@@ -17,7 +17,7 @@ pub(crate) struct Parts {
 impl Parts {
     ghost use Rattle.std.specs.Prelude.{◌≡◌, ◌≤◌, ◌<◌, ℕ, false, slice_set};
     ghost use Rattle.worlds.specs.Runners.{EnclaveOf};
-    ghost use Rattle.monitor_core.specs.Changes.{in_world, is_host, with_registers, with_running, answering, without_mark, marking_others};
+    ghost use Rattle.monitor_core.specs.Changes.{in_world, is_host, with_registers, with_running, with_x, answering, without_mark, marking_others};
     ghost use Rattle.monitor_core.specs.Frames.{IsOn};
     ghost use Rattle.monitor_core.specs.Parts.{HoldsTogether, mark_in, state_in, world_in};
     ghost use Rattle.monitor_core.specs.States.{running_registers};
@@ -60,6 +60,22 @@ impl Parts {
         self.table.cite_invariant();
         let world = self.world(hart);
         self.registers.set(hart, world, registers);
+    }
+
+    /// A register of the world that runs on a hart is set.
+    pub(crate) fn set_register(&mut self, hart: u8, n: u8, value: u64)
+        requires hart { hart < 4 }
+        requires register { n < 32 }
+        requires whole { HoldsTogether self.old.table self.old.worlds self.old.marked }
+        ensures state { let s = state_in self.old in
+            state_in self.new ≡ with_running s hart (with_x (running_registers s hart) n value) }
+        ensures table { self.new.table ≡ self.old.table }
+        ensures worlds { self.new.worlds ≡ self.old.worlds }
+        ensures marks { self.new.marked ≡ self.old.marked }
+    {
+        self.table.cite_invariant();
+        let world = self.world(hart);
+        self.registers.set_one(hart, world, n, value);
     }
 
     /// Two words are put into a0 and a1 of the world that runs on a hart.

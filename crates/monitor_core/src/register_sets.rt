@@ -31,7 +31,7 @@ fn enclave_sets(alloc: Global) -> Result<Vec<Registers>, AllocError>
 impl RegisterSets {
     ghost use Rattle.std.specs.Prelude.{◌<◌, if◌then◌else◌};
     ghost use Rattle.worlds.specs.Runners.{Runner, runner_of, IsWorld};
-    ghost use Rattle.monitor_core.specs.Changes.{is_same};
+    ghost use Rattle.monitor_core.specs.Changes.{is_same, with_x};
     ghost use Rattle.monitor_core.specs.RegisterSets.{registers_in};
 
     /// Every set zero.
@@ -69,6 +69,22 @@ impl RegisterSets {
         match world {
             World::Host => self.hosts[hart as usize] = registers,
             World::Enclave(id) => self.enclaves[id as usize - 1] = registers,
+        }
+    }
+
+    /// Sets one register of the host on this hart, or of the enclave.
+    pub(crate) fn set_one(&mut self, hart: u8, world: World, n: u8, value: u64)
+        requires hart { hart < 4 }
+        requires world { IsWorld world }
+        requires register { n < 32 }
+        ensures { (who : Runner) → registers_in self.new who
+            ≡ (if is_same who (runner_of hart world)
+            then with_x (registers_in self.old (runner_of hart world)) n value
+            else registers_in self.old who) }
+    {
+        match world {
+            World::Host => self.hosts[hart as usize].set(n as usize, value),
+            World::Enclave(id) => self.enclaves[id as usize - 1].set(n as usize, value),
         }
     }
 }

@@ -2,7 +2,8 @@ use Rattle.std.proofs.Common.{refl}
 use Rattle.monitor_core.specs.Monitors.{state_of, kept_of}
 use Rattle.monitor_core.specs.Changes.{with_running}
 use Rattle.monitor_core.specs.Parts.{state_in}
-use Rattle.monitor_core.proofs.OtherViews.{interrupt_keeps_other_views}
+use Rattle.monitor_core.proofs.Others.{others_irq}
+use Rattle.monitor_core.proofs.Currents.{placed_from}
 use Rattle.monitor_core.proofs.Awake.{interrupt_leaves_awake}
 use Rattle.monitor_core.proofs.monitor.Monitor.interrupt.Goals as goal
 
@@ -40,6 +41,7 @@ pub returns-clause-others : goal.returns-clause-others
 unfolding state_of
 returns-clause-others c =
     let old = c.args.self.now.parts in
-    let whole = c.args.self.now.whole in
     let s = with_running (state_in old) c.args.hart c.args.registers.now in
-    interrupt_keeps_other_views (s.worlds c.args.hart) s c.args.hart (state_in c.interrupt.new.self) refl (λ h id there here. whole.alone h c.args.hart id there here) c.interrupt.ensures.step
+    let placed = placed_from old c.args.self.now.whole in
+    let stays = others_irq (s.worlds c.args.hart) s c.args.hart (state_in c.interrupt.new.self) refl c.requires.hart (record { current = placed.current; alone = placed.alone; marked = placed.marked }) c.interrupt.ensures.step in
+    record { awake = stays.awake; views = stays.views }

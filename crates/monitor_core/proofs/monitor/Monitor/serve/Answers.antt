@@ -1,11 +1,11 @@
 use Rattle.sbi_decode.specs.Calls.{call_of}
 use Rattle.monitor_core.specs.Monitors.{state_of, kept_of}
 use Rattle.monitor_core.specs.Changes.{past_call, with_running}
-use Rattle.monitor_core.specs.Parts.{state_in, world_in}
+use Rattle.monitor_core.specs.Parts.{state_in}
 use Rattle.monitor_core.proofs.Awake.{call_leaves_awake}
 use Rattle.monitor_core.proofs.Cleared.{call_clears_memory}
-use Rattle.monitor_core.proofs.Currents.{current_from}
-use Rattle.monitor_core.proofs.OtherViews.{call_keeps_other_views}
+use Rattle.monitor_core.proofs.Currents.{placed_from}
+use Rattle.monitor_core.proofs.Others.{others_call}
 use Rattle.monitor_core.proofs.Wanted.{call_refused_by_need}
 use Rattle.monitor_core.proofs.monitor.Monitor.serve.Goals as goal
 
@@ -55,11 +55,12 @@ pub returns-clause-others : goal.returns-clause-others
 unfolding state_of
 returns-clause-others g c =
     let old = c.args.self.now.parts in
-    let whole = c.args.self.now.whole in
     let file = past_call c.args.registers.now in
     let s = with_running (state_in old) c.args.hart file in
-    call_keeps_other_views (call_of file) (g.P.Pages.bytes_of c.args.pages.now) s c.args.hart c.serve.result.answer c.serve.result.zero (state_in c.serve.new.self)
-    (λ h. current_from old.table.table (world_in old.worlds h) (whole.current h)) (λ h id there here. whole.alone h c.args.hart id there here) c.serve.ensures.step
+    let placed = placed_from old c.args.self.now.whole in
+    let stays = others_call (call_of file) (g.P.Pages.bytes_of c.args.pages.now) s c.args.hart c.serve.result.answer c.serve.result.zero (state_in c.serve.new.self) c.requires.hart
+    (record { current = placed.current; alone = placed.alone; marked = placed.marked }) c.serve.ensures.step in
+    record { awake = stays.awake; views = stays.views }
 
 pub returns-clause-zeroed : goal.returns-clause-zeroed
 unfolding state_of
