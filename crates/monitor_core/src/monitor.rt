@@ -113,7 +113,8 @@ impl Monitor {
         requires { hart < 4 }
         ensures fewest { IsFewest (current_view (state_of self.now) hart) result.now }
         ensures room { length result.now ≤ limit_number (state_of self.now).table.layout.limit }
-        ensures value { result.now ≡ list_of (kept_of self.now) ((state_of self.now).worlds hart) }
+        ensures value { result.now
+            ≡ list_of (kept_of self.now) ((state_of self.now).worlds hart) }
     {
         self.parts.entries(hart)
     }
