@@ -16,3 +16,4 @@ pub mod Framed
 pub mod Marks
 pub mod Blank
 pub mod Put
+pub mod Loaded

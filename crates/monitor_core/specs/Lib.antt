@@ -5,6 +5,7 @@ pub mod Steps
 pub mod RegisterSets
 pub mod Parts
 pub mod Frames
+pub mod Loading
 pub mod Monitors
 pub mod Wants
 pub mod Worlds

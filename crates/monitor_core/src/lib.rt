@@ -28,6 +28,7 @@ mod call_registers;
 mod calls;
 mod crossings;
 mod current;
+mod laws;
 mod monitor;
 mod outcome;
 mod ownership;
@@ -37,6 +38,7 @@ mod register_sets;
 
 pub use answer::{Answer, Onward, Served};
 pub use enclave_table::{BootFault, Pages, Platform, Table, World};
+pub use laws::loading_law;
 pub use monitor::Monitor;
 pub use page_views::PageRange;
 pub use pmp_encoding::Entry;
