@@ -12,4 +12,6 @@ mod measuring;
 #[cfg(test)]
 mod running;
 #[cfg(test)]
+mod serving;
+#[cfg(test)]
 mod switching;
