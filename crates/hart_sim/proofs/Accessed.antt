@@ -10,18 +10,15 @@ use Rattle.pmp_match.specs.declared.cause.Cause.{Cause}
 use Rattle.pmp_match.specs.Judgement.{Judges}
 use Rattle.pmp_match.specs.Meaning.{Means}
 use Rattle.pmp_match.proofs.Judged.{judgement_law_proof}
-use Rattle.enclave_table.specs.Enclaves.{EnclaveTable}
-use Rattle.context_switch.specs.declared.hart.Hart.{Hart}
-use Rattle.context_switch.specs.declared.contexts.Contexts.{Contexts}
 use Rattle.hart_sim.specs.declared.memory.Memory.{Memory}
 use Rattle.hart_sim.specs.declared.reply.Reply.{Reply}
 use Rattle.hart_sim.specs.declared.reply.Reply.TheVariants as replies
-use Rattle.std.proofs.Common.{Bool}
 use Rattle.hart_sim.specs.Effects.{SameMemory, Stores, ReachesMemory}
 use Rattle.hart_sim.specs.Changes.{storing}
 use Rattle.hart_sim.specs.Steps.{verdict, TakesEffect, Accesses}
 use Rattle.hart_sim.proofs.Equal.{equal}
-use Rattle.hart_sim.proofs.Shown.{shown}
+use Rattle.hart_sim.specs.Parts.{shown}
+use Rattle.monitor_core.specs.States.{State as Core}
 use Rattle.hart_sim.proofs.Verdicts.{verdict_is}
 
 -- an access has one judgement
@@ -49,28 +46,26 @@ that_cause es a given cause j = (
 )
 
 -- memory as it was shows the same state
-pub shows_same : (table : EnclaveTable) (harts : List Hart) (contexts : Contexts) (marked : List Bool) (old new : Memory) → SameMemory new old → shown table harts contexts new marked ≡ shown table harts contexts old marked
-shows_same table harts contexts marked old new m =
-    equal (record { table = refl; worlds = λ h. refl; registers = λ who. refl; bytes = m.bytes; written = m.written; marked = λ h. refl })
+pub shows_same : (core : Core) (old new : Memory) → SameMemory new old → shown core new ≡ shown core old
+shows_same core old new m = equal (record { table = refl; worlds = λ h. refl; registers = λ who. refl; bytes = m.bytes; written = m.written; marked = λ h. refl })
 
-pub shows_store : (table : EnclaveTable) (harts : List Hart) (contexts : Contexts) (marked : List Bool) (old new : Memory) (address size value : ℕ) → Stores old address size value new → shown table harts contexts new marked ≡ storing (shown table harts contexts old marked) address size value
-shows_store table harts contexts marked old new address size value m =
-    equal (record { table = refl; worlds = λ h. refl; registers = λ who. refl; bytes = m.bytes; written = m.written; marked = λ h. refl })
+pub shows_store : (core : Core) (old new : Memory) (address size value : ℕ) → Stores old address size value new → shown core new ≡ storing (shown core old) address size value
+shows_store core old new address size value m = equal (record { table = refl; worlds = λ h. refl; registers = λ who. refl; bytes = m.bytes; written = m.written; marked = λ h. refl })
 
-reaches : (kind : Kind) (table : EnclaveTable) (harts : List Hart) (contexts : Contexts) (marked : List Bool) (old new : Memory) (a : Access) (value : ℕ) (reply : Reply) → ReachesMemory kind old a value reply new → TakesEffect kind (shown table harts contexts old marked) a value reply (shown table harts contexts new marked)
-reaches Fetch table harts contexts marked old new a value reply x = (x.0, shows_same table harts contexts marked old new x.1)
-reaches Load table harts contexts marked old new a value reply x = (x.0, shows_same table harts contexts marked old new x.1)
-reaches Store table harts contexts marked old new a value reply (inl x) = inl (x.0, shows_store table harts contexts marked old new a.address a.size value x.1)
-reaches Store table harts contexts marked old new a value reply (inr x) = inr (x.0, x.1, shows_same table harts contexts marked old new x.2)
+reaches : (kind : Kind) (core : Core) (old new : Memory) (a : Access) (value : ℕ) (reply : Reply) → ReachesMemory kind old a value reply new → TakesEffect kind (shown core old) a value reply (shown core new)
+reaches Fetch core old new a value reply x = (x.0, shows_same core old new x.1)
+reaches Load core old new a value reply x = (x.0, shows_same core old new x.1)
+reaches Store core old new a value reply (inl x) = inl (x.0, shows_store core old new a.address a.size value x.1)
+reaches Store core old new a value reply (inr x) = inr (x.0, x.1, shows_same core old new x.2)
 
 -- an access that the list allows is one that the view allows
-pub accesses_ok : (view : ℕ → Perm) (es : List Entry) (table : EnclaveTable) (harts : List Hart) (contexts : Contexts) (marked : List Bool) (old new : Memory) (a : Access) (value : ℕ) (reply : Reply) → Means es view → a.mode ≢ Machine → Judges es a (Ok tt) → ReachesMemory a.kind old a value reply new → Accesses (verdict view a) (shown table harts contexts old marked) a value reply (shown table harts contexts new marked)
-accesses_ok view es table harts contexts marked old new a value reply means mode j x =
-    subst (λ v. Accesses v (shown table harts contexts old marked) a value reply (shown table harts contexts new marked)) (sym (verdict_is view es a (Ok tt) means mode j)) (reaches a.kind table harts contexts marked old new a value reply x)
+pub accesses_ok : (view : ℕ → Perm) (es : List Entry) (core : Core) (old new : Memory) (a : Access) (value : ℕ) (reply : Reply) → Means es view → a.mode ≢ Machine → Judges es a (Ok tt) → ReachesMemory a.kind old a value reply new → Accesses (verdict view a) (shown core old) a value reply (shown core new)
+accesses_ok view es core old new a value reply means mode j x =
+    subst (λ v. Accesses v (shown core old) a value reply (shown core new)) (sym (verdict_is view es a (Ok tt) means mode j)) (reaches a.kind core old new a value reply x)
 
 -- and one that it refuses one that the view refuses
-pub accesses_err : (view : ℕ → Perm) (es : List Entry) (table : EnclaveTable) (harts : List Hart) (contexts : Contexts) (marked : List Bool) (old : Memory) (a : Access) (value : ℕ) (cause : Cause) → Means es view → a.mode ≢ Machine → Judges es a (Err cause) → Accesses (verdict view a) (shown table harts contexts old marked) a value (replies.Fault cause) (shown table harts contexts old marked)
-accesses_err view es table harts contexts marked old a value cause means mode j =
-    let s = shown table harts contexts old marked in
+pub accesses_err : (view : ℕ → Perm) (es : List Entry) (core : Core) (old : Memory) (a : Access) (value : ℕ) (cause : Cause) → Means es view → a.mode ≢ Machine → Judges es a (Err cause) → Accesses (verdict view a) (shown core old) a value (replies.Fault cause) (shown core old)
+accesses_err view es core old a value cause means mode j =
+    let s = shown core old in
     let there : Accesses (Err cause) s a value (replies.Fault cause) s = (refl, refl) in
     subst (λ v. Accesses v s a value (replies.Fault cause) s) (sym (verdict_is view es a (Err cause) means mode j)) there

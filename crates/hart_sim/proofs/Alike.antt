@@ -16,11 +16,13 @@ use Rattle.hart_trace.specs.declared.event.Event.TheVariants as events
 use Rattle.hart_sim.specs.declared.reply.Reply.{Reply}
 use Rattle.hart_sim.specs.declared.reply.Reply.TheVariants as replies
 use Rattle.hart_sim.specs.Memory.{bytes_at, number_of, in_range}
-use Rattle.hart_sim.specs.States.{State, view_of, current_view, who_runs, running_registers}
+use Rattle.hart_sim.specs.States.{State, core_of, with_core, view_of, current_view, who_runs, running_registers}
 use Rattle.enclave_table.proofs.ShortNames.{view_in}
-use Rattle.hart_sim.specs.Changes.{is_same, with_x, with_running, storing, without_mark}
+use Rattle.monitor_core.specs.Changes.{is_same, with_running}
+use Rattle.hart_sim.specs.Changes.{with_x, storing}
 use Rattle.hart_sim.specs.Steps.{Step, verdict, Accesses, TakesEffect}
 use Rattle.hart_sim.specs.Privacy.{RunsOn, LooksSame, ChangesOwn, IsOwn, IsPrivate}
+use Rattle.hart_sim.proofs.Asked.{awoken}
 use Rattle.hart_sim.proofs.Bytes.{bytes_moved}
 use Rattle.hart_sim.proofs.Verdicts.{IsAllowed, allowed_by, some_held, page_of_byte}
 
@@ -46,7 +48,7 @@ same_not (EnclaveOf a) (HostOf b) n = refl
 same_not (EnclaveOf a) (EnclaveOf b) n = ne_eqb a b (λ e. n (ap EnclaveOf e))
 
 -- nothing changed but a mark that was not there
-stays : (s new : State) (hart id : ℕ) (e : Enclave) → RunsOn s hart id e → new ≡ without_mark s hart → ChangesOwn id e s new
+stays : (s new : State) (hart id : ℕ) (e : Enclave) → RunsOn s hart id e → new ≡ awoken s hart → ChangesOwn id e s new
 stays s new hart id e r is = subst (ChangesOwn id e s) (sym is) (record {
   table = refl;
   worlds = refl;
@@ -67,7 +69,7 @@ still_runs s new hart id e r ch = record {
 }
 
 -- both states as they were
-same_still : (s other new now : State) (hart there id : ℕ) (e f : Enclave) → RunsOn s hart id e → RunsOn other there id f → LooksSame id e f s other → new ≡ without_mark s hart → now ≡ without_mark other there → LooksSame id e f new now
+same_still : (s other new now : State) (hart there id : ℕ) (e f : Enclave) → RunsOn s hart id e → RunsOn other there id f → LooksSame id e f s other → new ≡ awoken s hart → now ≡ awoken other there → LooksSame id e f new now
 same_still s other new now hart there id e f r q l is is' = record {
   parts = l.parts;
   registers = ap (λ x. x.registers (EnclaveOf id)) is ∙ l.registers ∙ sym (ap (λ x. x.registers (EnclaveOf id)) is');
@@ -92,7 +94,7 @@ loaded_same s other id e f a l ok =
     bytes_moved s.bytes other.bytes a.address a.address a.size (λ k low. l.bytes (a.address + k) (reached e a (a.address + k) ok (omega arith) (omega arith)))
 
 -- the same store in both
-stored_same : (s other new now : State) (hart there id : ℕ) (e f : Enclave) (a : Access) (value : ℕ) → RunsOn s hart id e → RunsOn other there id f → LooksSame id e f s other → new ≡ storing (without_mark s hart) a.address a.size value → now ≡ storing (without_mark other there) a.address a.size value → LooksSame id e f new now
+stored_same : (s other new now : State) (hart there id : ℕ) (e f : Enclave) (a : Access) (value : ℕ) → RunsOn s hart id e → RunsOn other there id f → LooksSame id e f s other → new ≡ storing (awoken s hart) a.address a.size value → now ≡ storing (awoken other there) a.address a.size value → LooksSame id e f new now
 stored_same s other new now hart there id e f a value r q l is is' = record {
   parts = l.parts;
   registers = ap (λ x. x.registers (EnclaveOf id)) is ∙ l.registers ∙ sym (ap (λ x. x.registers (EnclaveOf id)) is');
@@ -100,7 +102,7 @@ stored_same s other new now hart there id e f a value r q l is is' = record {
   written = λ p some. ap (λ x. x.written p) is ∙ ap (λ x. if p == a.address / 4096 then true else x) (l.written p some) ∙ sym (ap (λ x. x.written p) is');
 }
 
-stores_own : (s new : State) (hart id : ℕ) (e : Enclave) (a : Access) (value : ℕ) → RunsOn s hart id e → IsAllowed (enclave_view e.parts) a → new ≡ storing (without_mark s hart) a.address a.size value → ChangesOwn id e s new
+stores_own : (s new : State) (hart id : ℕ) (e : Enclave) (a : Access) (value : ℕ) → RunsOn s hart id e → IsAllowed (enclave_view e.parts) a → new ≡ storing (awoken s hart) a.address a.size value → ChangesOwn id e s new
 stores_own s new hart id e a value r ok is = subst (ChangesOwn id e s) (sym is) (record {
   table = refl;
   worlds = refl;
@@ -115,10 +117,10 @@ abbrev Follows : State → State → State → ℕ → ℕ → ℕ → Enclave �
 Follows s other new hart there id e f event reply = (now : State) × Step other there event reply now × LooksSame id e f new now × ChangesOwn id e s new × ChangesOwn id f other now
 
 -- accesses, by what the view says
-follow_access : (s other new : State) (hart there id : ℕ) (e f : Enclave) (a : Access) (value : ℕ) (reply : Reply) (said : Result (Unit {0}) Cause) → RunsOn s hart id e → RunsOn other there id f → LooksSame id e f s other → verdict (enclave_view e.parts) a ≡ said → Accesses said (without_mark s hart) a value reply new
-    → (now : State) × Accesses said (without_mark other there) a value reply now × LooksSame id e f new now × ChangesOwn id e s new × ChangesOwn id f other now
+follow_access : (s other new : State) (hart there id : ℕ) (e f : Enclave) (a : Access) (value : ℕ) (reply : Reply) (said : Result (Unit {0}) Cause) → RunsOn s hart id e → RunsOn other there id f → LooksSame id e f s other → verdict (enclave_view e.parts) a ≡ said → Accesses said (awoken s hart) a value reply new
+    → (now : State) × Accesses said (awoken other there) a value reply now × LooksSame id e f new now × ChangesOwn id e s new × ChangesOwn id f other now
 follow_access s other new hart there id e f a value reply (Err cause) r q l v x =
-    let now = without_mark other there in
+    let now = awoken other there in
     (now, (x.0, refl), same_still s other new now hart there id e f r q l x.1 (refl), stays s new hart id e r x.1, stays other now there id f q (refl))
 follow_access s other new hart there id e f a value reply (Ok done) r q l v x = by_kind a.kind x
   where
@@ -129,14 +131,14 @@ follow_access s other new hart there id e f a value reply (Ok done) r q l v x = 
     ok' = subst (λ p. IsAllowed (enclave_view p) a) l.parts ok
 
     now : State
-    now = without_mark other there
+    now = awoken other there
 
-    by_kind : (kind : Kind) → TakesEffect kind (without_mark s hart) a value reply new → (now : State) × TakesEffect kind (without_mark other there) a value reply now × LooksSame id e f new now × ChangesOwn id e s new × ChangesOwn id f other now
+    by_kind : (kind : Kind) → TakesEffect kind (awoken s hart) a value reply new → (now : State) × TakesEffect kind (awoken other there) a value reply now × LooksSame id e f new now × ChangesOwn id e s new × ChangesOwn id f other now
     by_kind Fetch x =
-        let now = without_mark other there in
+        let now = awoken other there in
         (now, (x.0, refl), same_still s other new now hart there id e f r q l x.1 (refl), stays s new hart id e r x.1, stays other now there id f q (refl))
     by_kind Load x =
-        let now = without_mark other there in (
+        let now = awoken other there in (
           now,
           (x.0 ∙ ap (λ xs. replies.Loaded (number_of xs)) (loaded_same s other id e f a l ok), refl),
           same_still s other new now hart there id e f r q l x.1 (refl),
@@ -144,7 +146,7 @@ follow_access s other new hart there id e f a value reply (Ok done) r q l v x = 
           stays other now there id f q (refl),
         )
     by_kind Store (inl x) =
-        let now = storing (without_mark other there) a.address a.size value in (
+        let now = storing (awoken other there) a.address a.size value in (
           now,
           inl (x.0, refl),
           stored_same s other new now hart there id e f a value r q l x.1 (refl),
@@ -152,7 +154,7 @@ follow_access s other new hart there id e f a value reply (Ok done) r q l v x = 
           stores_own other now there id f a value q ok' (refl),
         )
     by_kind Store (inr x) =
-        let now = without_mark other there in
+        let now = awoken other there in
         let seen = l.written (a.address / 4096) (some_held (enclave_view e.parts (a.address / 4096)) a.kind ok.held) in (
           now,
           inr (x.0, sym seen ∙ x.1, refl),
@@ -162,7 +164,7 @@ follow_access s other new hart there id e f a value reply (Ok done) r q l v x = 
         )
 
 -- a register set
-set_is : (s new : State) (hart id n value : ℕ) (e : Enclave) → RunsOn s hart id e → new ≡ with_running (without_mark s hart) hart (with_x (running_registers s hart) n value) → new.registers (EnclaveOf id) ≡ with_x (s.registers (EnclaveOf id)) n value
+set_is : (s new : State) (hart id n value : ℕ) (e : Enclave) → RunsOn s hart id e → new ≡ with_core (awoken s hart) (with_running (core_of (awoken s hart)) hart (with_x (running_registers s hart) n value)) → new.registers (EnclaveOf id) ≡ with_x (s.registers (EnclaveOf id)) n value
 set_is s new hart id n value e r is =
     let who = runner_is s hart id e r in
     let at : new.registers (EnclaveOf id) ≡ (if is_same (EnclaveOf id) (who_runs s hart) then with_x (s.registers (who_runs s hart)) n value else s.registers (EnclaveOf id)) = ap (λ x. x.registers (EnclaveOf id)) is in
@@ -170,7 +172,7 @@ set_is s new hart id n value e r is =
     ap (λ w. if is_same (EnclaveOf id) w then with_x (s.registers w) n value else s.registers (EnclaveOf id)) who in
     at ∙ there ∙ ap (λ b. if b then with_x (s.registers (EnclaveOf id)) n value else s.registers (EnclaveOf id)) (eq-eqb id id refl)
 
-sets_own : (s new : State) (hart id n value : ℕ) (e : Enclave) → RunsOn s hart id e → new ≡ with_running (without_mark s hart) hart (with_x (running_registers s hart) n value) → ChangesOwn id e s new
+sets_own : (s new : State) (hart id n value : ℕ) (e : Enclave) → RunsOn s hart id e → new ≡ with_core (awoken s hart) (with_running (core_of (awoken s hart)) hart (with_x (running_registers s hart) n value)) → ChangesOwn id e s new
 sets_own s new hart id n value e r is = subst (ChangesOwn id e s) (sym is) (record {
   table = refl;
   worlds = refl;
@@ -185,11 +187,11 @@ follow : (s other new : State) (hart there id : ℕ) (e f : Enclave) (event : Ev
 follow s other new hart there id e f (events.Access a value) reply r q l own x =
     let here = view_is s hart id e r in
     let other_view : current_view other there ≡ enclave_view e.parts = view_is other there id f q ∙ ap enclave_view (sym l.parts) in
-    let x' : Accesses (verdict (enclave_view e.parts) a) (without_mark s hart) a value reply new = subst (λ view. Accesses (verdict view a) (without_mark s hart) a value reply new) here x in
+    let x' : Accesses (verdict (enclave_view e.parts) a) (awoken s hart) a value reply new = subst (λ view. Accesses (verdict view a) (awoken s hart) a value reply new) here x in
     let t = follow_access s other new hart there id e f a value reply (verdict (enclave_view e.parts) a) r q l refl x' in
-    (t.0, subst (λ view. Accesses (verdict view a) (without_mark other there) a value reply t.0) (sym other_view) t.1, t.2, t.3, t.4)
+    (t.0, subst (λ view. Accesses (verdict view a) (awoken other there) a value reply t.0) (sym other_view) t.1, t.2, t.3, t.4)
 follow s other new hart there id e f (events.Reg n value) reply r q l own x =
-    let now = with_running (without_mark other there) there (with_x (running_registers other there) n value) in (
+    let now = with_core (awoken other there) (with_running (core_of (awoken other there)) there (with_x (running_registers other there) n value)) in (
       now,
       (x.0, refl),
       record {

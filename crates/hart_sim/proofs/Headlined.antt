@@ -10,10 +10,11 @@ use Rattle.hart_sim.specs.States.{State, opening}
 use Rattle.hart_sim.specs.Steps.{Run, still, step}
 use Rattle.hart_sim.specs.After.{After, booted, happened, Happens}
 use Rattle.hart_sim.specs.Headline.{Moment, HeadlineHolds}
-use Rattle.hart_sim.proofs.Banks.{some_bank}
+use Rattle.hart_sim.proofs.BankPlaces.{some_bank}
 use Rattle.hart_sim.proofs.Layouts.{layout_stays}
 use Rattle.hart_sim.proofs.Promises.{promised}
-use Rattle.hart_sim.proofs.SoundTables.{opening_sound, run_sound}
+use Rattle.monitor_core.proofs.SoundTables.{opening_sound}
+use Rattle.hart_sim.proofs.SoundTables.{run_sound}
 use Rattle.hart_sim.proofs.WorldsKept.{worlds_kept}
 
 -- what boot said of the platform
@@ -106,7 +107,7 @@ headline platform events replies m a =
     let layout = layout_of platform (state_of m) events replies run in
     record {
       run = run;
-      banks = λ hart low awake. let b = some_bank m hart (subst (λ l. hart < l.harts) (sym layout) low) in (b.0, b.1, banks_of platform events replies m a hart b.0 (subst (λ l. hart < l.harts) (sym layout) low) awake b.1);
+      banks = λ hart low awake. let b = some_bank m hart (subst IsLayout (sym layout) (rules_of platform events replies m a)) (subst (λ l. hart < l.harts) (sym layout) low) in (b.0, b.1, banks_of platform events replies m a hart b.0 (subst (λ l. hart < l.harts) (sym layout) low) awake b.1);
       each = moment_of platform events replies m a;
       worlds = worlds_kept platform events replies (state_of m) run;
       table = table_of platform events replies m a;

@@ -1,5 +1,5 @@
 -- Who may change a byte of a private page.
-use Rattle.std.proofs.Common.{◌≡◌, ◌⊎◌, ◌∙◌, inl, inr, ℕ, zero, suc, ◌+◌, ◌-◌, ◌/◌, ◌<◌, ◌≤◌, List, [], ◌∷◌, Bool, true, false, ◌||◌, nat_le, nat_lt, cond, if◌then◌else◌, Option, Some, None, slice_set, slice_index_or, Result, Ok, Err, refl, ap, sym, arith}
+use Rattle.std.proofs.Common.{◌≡◌, ◌⊎◌, ◌∙◌, inl, inr, ℕ, zero, suc, ◌+◌, ◌-◌, ◌/◌, ◌<◌, ◌≤◌, List, [], ◌∷◌, Bool, true, false, ◌||◌, nat_le, nat_lt, cond, if◌then◌else◌, Option, Some, None, slice_set, slice_index_or, Result, Ok, Err, refl, ap, sym, subst, arith}
 use Rattle.std.proofs.lemmas.Bool.{and_parts, and_from, leb-true, ltb-true, le-leb, lt-ltb, false_from_ne_true}
 use Rattle.pmp_encoding.specs.declared.perm.Perm.TheVariants.{NoAccess, ReadWrite, ReadExecute}
 use Rattle.pmp_encoding.specs.Registers.{byte_of}
@@ -20,16 +20,17 @@ use Rattle.enclave_table.specs.declared.request.Create.{Create}
 use Rattle.enclave_table.specs.declared.enclave.Enclave.{Enclave}
 use Rattle.worlds.specs.declared.world.World.{World}
 use Rattle.worlds.specs.declared.world.World.TheVariants.{Host, Enclave as InEnclave}
-use Rattle.sbi_decode.specs.Calls.{call_of}
-use Rattle.sbi_decode.specs.declared.calls.Call.{Call}
-use Rattle.sbi_decode.specs.declared.calls.Call.TheVariants as calls
 use Rattle.hart_trace.specs.declared.event.Event.{Event}
 use Rattle.hart_trace.specs.declared.event.Event.TheVariants as events
 use Rattle.hart_sim.specs.declared.reply.Reply.{Reply}
-use Rattle.hart_sim.specs.States.{State, view_of, current_view, running_registers}
+use Rattle.hart_sim.specs.States.{State, with_core, view_of, current_view}
 use Rattle.enclave_table.proofs.ShortNames.{view_in}
-use Rattle.hart_sim.specs.Changes.{calling, without_mark}
-use Rattle.hart_sim.specs.Steps.{Step, DoesCall, Accesses, TakesEffect, Interrupts, verdict}
+use Rattle.hart_sim.specs.Changes.{is_zeroed, zeroing}
+use Rattle.hart_sim.specs.Steps.{Step, Accesses, TakesEffect, verdict}
+use Rattle.monitor_core.specs.States.{State as Core}
+use Rattle.monitor_core.proofs.Zeroed.{Clears, cleared}
+use Rattle.page_views.specs.declared.pages.PageRange.{PageRange}
+use Rattle.hart_sim.proofs.Asked.{awoken, named, asked, lent}
 use Rattle.hart_sim.specs.Privacy.{StoresTo, KeepsPrivate}
 use Rattle.hart_sim.proofs.Verdicts.{allowed_by, some_held, page_of_byte}
 
@@ -102,7 +103,7 @@ test : {P : Type 0} (b : Bool) → (b ≡ true → P) → (b ≡ false → P) �
 test true when unless = when refl
 test false when unless = unless refl
 
-stored_there : (old new : State) (hart id byte value : ℕ) (a : Access) (e : Enclave) → IsTable old.table → Live old.table id e → is_private e.parts (byte / 4096) ≡ true → verdict (current_view old hart) a ≡ Ok tt → (kind : Kind) → a.kind ≡ kind → (reply : Reply) → TakesEffect kind (without_mark old hart) a value reply new → Kept old new hart byte (events.Access a value) reply id
+stored_there : (old new : State) (hart id byte value : ℕ) (a : Access) (e : Enclave) → IsTable old.table → Live old.table id e → is_private e.parts (byte / 4096) ≡ true → verdict (current_view old hart) a ≡ Ok tt → (kind : Kind) → a.kind ≡ kind → (reply : Reply) → TakesEffect kind (awoken old hart) a value reply new → Kept old new hart byte (events.Access a value) reply id
 stored_there old new hart id byte value a e right live p v Fetch k reply x = inl (ap (λ y. y.bytes byte) x.1)
 stored_there old new hart id byte value a e right live p v Load k reply x = inl (ap (λ y. y.bytes byte) x.1)
 stored_there old new hart id byte value a e right live p v Store k reply (inr x) = inl (ap (λ y. y.bytes byte) x.2)
@@ -114,7 +115,7 @@ stored_there old new hart id byte value a e right live p v Store k reply (inl x)
     inr (k, x.0, only_itself old.table (old.worlds hart) id (byte / 4096) e a.kind right live p held, v, w.0, w.1))
     (λ no. inl (ap (λ y. y.bytes byte) x.1 ∙ ap (λ b. if b then byte_of value (byte - a.address) else old.bytes byte) no))
 
-accessed : (old new : State) (hart id byte value : ℕ) (a : Access) (e : Enclave) (reply : Reply) (said : Result (Unit {0}) Cause) → IsTable old.table → Live old.table id e → is_private e.parts (byte / 4096) ≡ true → verdict (current_view old hart) a ≡ said → Accesses said (without_mark old hart) a value reply new → Kept old new hart byte (events.Access a value) reply id
+accessed : (old new : State) (hart id byte value : ℕ) (a : Access) (e : Enclave) (reply : Reply) (said : Result (Unit {0}) Cause) → IsTable old.table → Live old.table id e → is_private e.parts (byte / 4096) ≡ true → verdict (current_view old hart) a ≡ said → Accesses said (awoken old hart) a value reply new → Kept old new hart byte (events.Access a value) reply id
 accessed old new hart id byte value a e reply (Err cause) right live p v x = inl (ap (λ y. y.bytes byte) x.1)
 accessed old new hart id byte value a e reply (Ok done) right live p v x = stored_there old new hart id byte value a e right live p v a.kind refl reply x
 
@@ -123,45 +124,32 @@ none_there [] place = refl
 none_there (slot ∷ slots) zero = refl
 none_there (slot ∷ slots) (suc place) = none_there slots place
 
-gone : (table : EnclaveTable) (id : ℕ) (e f : Enclave) → Live table id e → enclave_at (slice_set table.enclaves (id - 1) None) id ≡ Some f → ⊥
-gone table id e f live there =
+gone : (table : EnclaveTable) (id : ℕ) (f : Enclave) → enclave_at (slice_set table.enclaves (id - 1) None) id ≡ Some f → ⊥
+gone table id f there =
     let at : slice_index_or (slice_set table.enclaves (id - 1) None) (id - 1) None ≡ Some f = live_place (slice_set table.enclaves (id - 1) None) id f there in
     let h : None ≡ Some f = sym (none_there table.enclaves (id - 1)) ∙ at in cc
 
-called : (call : Option Call) (s new : State) (hart id byte : ℕ) (e f : Enclave) (reply : Reply) → IsTable s.table → Live s.table id e → Live new.table id f → is_private e.parts (byte / 4096) ≡ true → DoesCall call s hart reply new → new.bytes byte ≡ s.bytes byte
-called None s new hart id byte e f reply right live now p x = ap (λ y. y.bytes byte) x.0
-called (Some (calls.Create base text_pages data_pages shared_base shared_count entry_offset)) s new hart id byte e f reply right live now p (inl x) = ap (λ y. y.bytes byte) x.3
-called (Some (calls.Create base text_pages data_pages shared_base shared_count entry_offset)) s new hart id byte e f reply right live now p (inr x) = ap (λ y. y.bytes byte) x.2.0
-called (Some (calls.Destroy k)) s new hart id byte e f reply right live now p (inl x) =
-    let g = x.2.passes.1.0 in
-    let range = x.2.pages g.0 g.1 in
+-- the pages that a call makes zero are private to no enclave that is live after it
+called : (s new : State) (before core : Core) (pages : Option PageRange) (id byte : ℕ) (e f : Enclave) → before.table ≡ s.table → new ≡ zeroing (with_core s core) pages → IsTable s.table → Live s.table id e → Live new.table id f → is_private e.parts (byte / 4096) ≡ true
+    → (pages ≡ None) ⊎ ((range : PageRange) × (pages ≡ Some range) × Clears before core range) → new.bytes byte ≡ s.bytes byte
+called s new before core pages id byte e f table is right live now p (inl none) =
+    ap (λ y. y.bytes byte) is ∙ ap (λ q. if is_zeroed q (byte / 4096) then 0 else s.bytes byte) none
+called s new before core pages id byte e f table is right live now p (inr x) =
+    let c = x.2 in
+    let g = c.enclave in
+    let live_g : Live s.table c.id g = subst (λ t. Live t c.id g) table c.live in
     let outside : in_range x.0.first x.0.count (byte / 4096) ≡ false = false_from_ne_true (in_range x.0.first x.0.count (byte / 4096)) (λ yes.
-    let private : is_private g.0.parts (byte / 4096) ≡ true = ap (λ r. in_range r.first r.count (byte / 4096)) (sym range) ∙ yes in
-    let same : k ≡ id = right.alone k id g.0 e (byte / 4096) g.1 live (or_first (is_private g.0.parts (byte / 4096)) (is_shared g.0.parts (byte / 4096)) private) (or_first (is_private e.parts (byte / 4096)) (is_shared e.parts (byte / 4096)) p) in
+    let private : is_private g.parts (byte / 4096) ≡ true = ap (λ (r : PageRange). in_range r.first r.count (byte / 4096)) (sym c.own) ∙ yes in
+    let same : c.id ≡ id = right.alone c.id id g e (byte / 4096) live_g live (or_first (is_private g.parts (byte / 4096)) (is_shared g.parts (byte / 4096)) private) (or_first (is_private e.parts (byte / 4096)) (is_shared e.parts (byte / 4096)) p) in
     let there : enclave_at (slice_set s.table.enclaves (id - 1) None) id ≡ Some f =
-    ap (λ n. enclave_at (slice_set s.table.enclaves (n - 1) None) id) (sym same) ∙ ap (λ t. enclave_at t.enclaves id) (sym (ap (λ y. y.table) x.3 ∙ x.2.removed)) ∙ now in
-    gone s.table id e f live there) in
-    ap (λ y. y.bytes byte) x.3 ∙ ap (λ b. if b then 0 else s.bytes byte) outside
-called (Some (calls.Destroy k)) s new hart id byte e f reply right live now p (inr x) = ap (λ y. y.bytes byte) x.2.0
-called (Some (calls.Run k)) s new hart id byte e f reply right live now p (inl x) = ap (λ y. y.bytes byte) x.4
-called (Some (calls.Run k)) s new hart id byte e f reply right live now p (inr x) = ap (λ y. y.bytes byte) x.2.0
-called (Some calls.Stop) s new hart id byte e f reply right live now p (inl x) = ap (λ y. y.bytes byte) x.3
-called (Some calls.Stop) s new hart id byte e f reply right live now p (inr x) = ap (λ y. y.bytes byte) x.2.0
-called (Some (calls.Resume k)) s new hart id byte e f reply right live now p (inl x) = ap (λ y. y.bytes byte) x.4
-called (Some (calls.Resume k)) s new hart id byte e f reply right live now p (inr x) = ap (λ y. y.bytes byte) x.2.0
-called (Some (calls.Exit value)) s new hart id byte e f reply right live now p (inl x) = ap (λ y. y.bytes byte) x.3
-called (Some (calls.Exit value)) s new hart id byte e f reply right live now p (inr x) = ap (λ y. y.bytes byte) x.2.0
-called (Some (calls.Measure k n)) s new hart id byte e f reply right live now p (inl x) = ap (λ y. y.bytes byte) x.2
-called (Some (calls.Measure k n)) s new hart id byte e f reply right live now p (inr x) = ap (λ y. y.bytes byte) x.2.0
-
-interrupted : (world : World) (s : State) (hart byte : ℕ) (reply : Reply) (new : State) → Interrupts world s hart reply new → new.bytes byte ≡ s.bytes byte
-interrupted Host s hart byte reply new x = ap (λ y. y.bytes byte) x.0
-interrupted (InEnclave id) s hart byte reply new x = ap (λ y. y.bytes byte) x.2
+    ap (λ n. enclave_at (slice_set s.table.enclaves (n - 1) None) id) (sym same) ∙ ap (λ t. enclave_at (slice_set t.enclaves (c.id - 1) None) id) (sym table) ∙ ap (λ t. enclave_at t.enclaves id) (sym (ap (λ y. y.table) is ∙ c.table)) ∙ now in
+    gone s.table id f there) in
+    ap (λ y. y.bytes byte) is ∙ ap (λ q. if is_zeroed q (byte / 4096) then 0 else s.bytes byte) x.1 ∙ ap (λ b. if b then 0 else s.bytes byte) outside
 
 -- a step leaves each byte of a private page, but for the enclave's own stores
 pub keeps_private : (old : State) (hart : ℕ) (event : Event) (reply : Reply) (new : State) → IsTable old.table → Step old hart event reply new → KeepsPrivate old hart event reply new
 keeps_private old hart (events.Access a value) reply new right x = λ id byte e f live now p q. accessed old new hart id byte value a e reply (verdict (current_view old hart) a) right live p refl x
 keeps_private old hart (events.Reg n value) reply new right x = λ id byte e f live now p q. inl (ap (λ y. y.bytes byte) x.1)
 keeps_private old hart (events.Ecall words) reply new right x = λ id byte e f live now p q.
-    inl (called (call_of (running_registers (calling (without_mark old hart) hart words.items) hart)) (calling (without_mark old hart) hart words.items) new hart id byte e f reply right live now p x)
-keeps_private old hart events.Irq reply new right x = λ id byte e f live now p q. inl (interrupted (old.worlds hart) (without_mark old hart) hart byte reply new x)
+    inl (called (awoken old hart) new (asked old hart words.items) x.2 x.1 id byte e f refl x.4 right live now p (cleared (named old hart words.items) (lent old) (asked old hart words.items) hart x.0 x.1 x.2 x.3))
+keeps_private old hart events.Irq reply new right x = λ id byte e f live now p q. inl (ap (λ y. y.bytes byte) x.2)

@@ -17,7 +17,7 @@ use Rattle.hart_sim.specs.After.{After, happened, Happens}
 use Rattle.hart_sim.specs.Reports.{harts_of, DoesLine, none, blank, one, AreAnswered, AreElsewhere, LastOwn, Report, IsReported}
 use Rattle.hart_sim.proofs.Layouts.{layout_stays}
 use Rattle.hart_sim.proofs.Awake.{awake_then}
-use Rattle.hart_sim.proofs.Shown.{both}
+use Rattle.monitor_core.proofs.Cases.{both}
 use Rattle.std.proofs.lemmas.Bool.{eq-eqb, eqb-true, both_ways}
 
 -- one reply more

@@ -1,297 +1,40 @@
 -- On which hart each enclave runs, from step to step.
-use Rattle.std.proofs.Common.{◌≡◌, ◌≢◌, ◌∙◌, inl, inr, ℕ, zero, suc, ◌-◌, ◌<◌, ◌≤◌, List, [], ◌∷◌, Bool, true, false, ◌&&◌, ◌||◌, ◌==◌, nat_lt, if◌then◌else◌, Option, Some, None, slice_set, slice_index_or, Result, Ok, Err, refl, ap, sym, subst}
-use Rattle.std.proofs.lemmas.Bool.{eq-eqb, eqb-true, both_ways, or_cases, and_parts}
-use Rattle.std.proofs.lemmas.Option.{same_Some}
-use Rattle.pmp_match.specs.declared.access.Access.{Access}
-use Rattle.pmp_match.specs.declared.access.Kind.{Kind}
-use Rattle.pmp_match.specs.declared.access.Kind.TheVariants.{Fetch, Load, Store}
-use Rattle.pmp_match.specs.declared.cause.Cause.{Cause}
-use Rattle.enclave_table.specs.Platform.{Layout}
-use Rattle.enclave_table.specs.Enclaves.{EnclaveTable, Live, enclave_at, with_enclave}
-use Rattle.enclave_table.specs.Requests.{parts_of}
-use Rattle.enclave_table.specs.Tables.{IsCurrent}
-use Rattle.enclave_table.specs.Living.{Enters, Leaves}
-use Rattle.enclave_table.specs.Creating.{fresh}
-use Rattle.enclave_table.specs.Checks.{state_before}
-use Rattle.enclave_table.specs.Living.{state_after}
-use Rattle.enclave_table.specs.declared.request.Create.{Create}
-use Rattle.enclave_table.specs.declared.enclave.Enclave.{Enclave}
-use Rattle.enclave_table.specs.declared.enclave.State.{State as Stage}
-use Rattle.enclave_table.specs.declared.enclave.State.TheVariants.{Fresh, Running, Stopped, Exited}
-use Rattle.enclave_table.specs.declared.life.Entering.{Entering}
-use Rattle.enclave_table.specs.declared.life.Entering.TheVariants.{Run as FirstRun, Resume}
-use Rattle.enclave_table.specs.declared.life.Leaving.{Leaving}
-use Rattle.enclave_table.specs.declared.life.Leaving.TheVariants.{Stop, Exit}
-use Rattle.worlds.specs.declared.world.World.{World}
-use Rattle.worlds.specs.declared.world.World.TheVariants.{Host, Enclave as InEnclave}
-use Rattle.enclave_table.proofs.Places.{live_above, live_inside, live_place, set_same, set_other}
-use Rattle.sbi_decode.specs.Calls.{call_of}
-use Rattle.sbi_decode.specs.declared.calls.Call.{Call}
-use Rattle.sbi_decode.specs.declared.calls.Call.TheVariants as calls
+use Rattle.std.proofs.Common.{◌≡◌, ◌<◌, ℕ, List, refl, ap, sym, subst}
+use Rattle.monitor_core.specs.States.{State as Core, opening as opening_core}
+use Rattle.monitor_core.proofs.WorldsKept.{AreWorlds as InCore, call_keeps_worlds, interrupt_keeps_worlds, waking_keeps_worlds, putting_keeps_worlds, opened}
 use Rattle.hart_trace.specs.declared.event.Event.{Event}
 use Rattle.hart_trace.specs.declared.event.Event.TheVariants as events
 use Rattle.hart_sim.specs.declared.reply.Reply.{Reply}
-use Rattle.hart_sim.specs.States.{State, current_view, running_registers, page_bytes, opening}
-use Rattle.hart_sim.specs.Changes.{is_host, calling, without_mark}
-use Rattle.hart_sim.specs.Steps.{Step, Run, still, step, DoesCall, DoesEnter, Accesses, TakesEffect, Interrupts, verdict}
+use Rattle.hart_sim.specs.States.{State, core_of, current_view, opening}
+use Rattle.hart_sim.specs.Steps.{Step, Run, still, step, verdict}
 use Rattle.hart_sim.specs.Worlds.{AreWorlds, RunsKeepWorlds}
-use Rattle.hart_sim.proofs.Moved.{current_other}
-use Rattle.hart_sim.proofs.Opened.{none_live}
-use Rattle.hart_sim.proofs.Shown.{both}
+use Rattle.hart_sim.proofs.Asked.{awoken, named, asked, lent, core_access}
+use Rattle.hart_sim.proofs.Awake.{off}
 
--- what one hart's event may do to the table and the worlds: nothing but at one id and on that hart
-record Change (s n : State) (hart id : ℕ) (slot : Option Enclave) (to : World) : Type 0 where
-  low : hart < s.table.layout.harts
-  above : 1 ≤ id
-  table : n.table ≡ with_enclave s.table id slot
-  worlds : (h : ℕ) → h < s.table.layout.harts → n.worlds h ≡ (if h == hart then to else s.worlds h)
-  free : (h : ℕ) → h < s.table.layout.harts → h ≢ hart → s.worlds h ≢ InEnclave id
-  now_current : IsCurrent n.table to
-  now_alone : (k : ℕ) → to ≡ InEnclave k → k ≡ id
-  now_held : (e : Enclave) → slot ≡ Some e → e.state ≡ Running → to ≡ InEnclave id
-  left : (k : ℕ) → s.worlds hart ≡ InEnclave k → k ≡ id
-  marks : (h : ℕ) → h < s.table.layout.harts → n.marked h ≡ true → n.worlds h ≡ Host
+-- said of the state, or of the monitor's part
+below : (s : State) → AreWorlds s → InCore (core_of s)
+below s w = record { current = w.current; alone = w.alone; held = w.held; marked = w.marked }
 
--- what is found where something was put is what was put
-there_is : (slots : List (Option Enclave)) (place : ℕ) (slot : Option Enclave) (e : Enclave) → slice_index_or (slice_set slots place slot) place None ≡ Some e → slot ≡ Some e
-there_is [] place slot e at = absurd (let h : None ≡ Some e = at in cc)
-there_is (first ∷ slots) zero slot e at = at
-there_is (first ∷ slots) (suc place) slot e at = there_is slots place slot e at
-
-worlds_changed : (s n : State) (hart id : ℕ) (slot : Option Enclave) (to : World) → Change s n hart id slot to → AreWorlds s → AreWorlds n
-worlds_changed s n hart id slot to c w = record {
-  current = λ h low. let low' = under h low in subst (IsCurrent n.table) (sym (c.worlds h low')) (both (h == hart)
-      (λ e. subst (λ t. IsCurrent n.table (if t then to else s.worlds h)) (sym e) c.now_current)
-      (λ e. subst (λ t. IsCurrent n.table (if t then to else s.worlds h)) (sym e) (subst (λ t. IsCurrent t (s.worlds h)) (sym c.table) (current_other s.table id slot (s.worlds h) c.above (c.free h low' (differ h e)) (w.current h low')))));
-  alone = λ h o k low also at there. both (h == hart)
-      (λ e. both (o == hart)
-      (λ f. eqb-true h hart e ∙ sym (eqb-true o hart f))
-      (λ f. let is : k ≡ id = c.now_alone k (sym (here h low e) ∙ at) in
-      absurd (c.free o (under o also) (differ o f) (sym (away o also f) ∙ there ∙ ap InEnclave is))))
-      (λ e. both (o == hart)
-      (λ f. let is : k ≡ id = c.now_alone k (sym (here o also f) ∙ there) in
-      absurd (c.free h (under h low) (differ h e) (sym (away h low e) ∙ at ∙ ap InEnclave is)))
-      (λ f. w.alone h o k (under h low) (under o also) (sym (away h low e) ∙ at) (sym (away o also f) ∙ there)));
-  held = λ k e live runs. both (k == id)
-      (λ yes.
-      let is : k ≡ id = eqb-true k id yes in
-      let live' : enclave_at (slice_set s.table.enclaves (id - 1) slot) id ≡ Some e = ap (λ j. enclave_at (slice_set s.table.enclaves (id - 1) slot) j) (sym is) ∙ ap (λ t. enclave_at t.enclaves k) (sym c.table) ∙ live in
-      let put : slot ≡ Some e = there_is s.table.enclaves (id - 1) slot e (live_place (slice_set s.table.enclaves (id - 1) slot) id e live') in
-      (hart, over hart c.low, c.worlds hart c.low ∙ ap (λ t. if t then to else s.worlds hart) (eq-eqb hart hart refl) ∙ c.now_held e put runs ∙ ap InEnclave (sym is)))
-      (λ no.
-      let not : k ≢ id = λ is. both_ways (k == id) no (eq-eqb k id is) in
-      let was : Live s.table k e = sym (set_other s.table.enclaves id k slot c.above not) ∙ ap (λ t. enclave_at t.enclaves k) (sym c.table) ∙ live in
-      let h = w.held k e was runs in
-      both (h.0 == hart)
-      (λ f. absurd (not (c.left k (ap s.worlds (sym (eqb-true h.0 hart f)) ∙ h.2))))
-      (λ f. (h.0, over h.0 h.1, c.worlds h.0 h.1 ∙ ap (λ t. if t then to else s.worlds h.0) f ∙ h.2)));
-  marked = λ h low on. c.marks h (under h low) on;
-}
-  where
-    under : (h : ℕ) → h < n.table.layout.harts → h < s.table.layout.harts
-    under h low = subst (λ t. h < t.layout.harts) c.table low
-
-    over : (h : ℕ) → h < s.table.layout.harts → h < n.table.layout.harts
-    over h low = subst (λ t. h < t.layout.harts) (sym c.table) low
-
-    differ : (h : ℕ) → (h == hart) ≡ false → h ≢ hart
-    differ h e is = both_ways (h == hart) e (eq-eqb h hart is)
-
-    here : (h : ℕ) → h < n.table.layout.harts → (h == hart) ≡ true → n.worlds h ≡ to
-    here h low e = c.worlds h (under h low) ∙ ap (λ t. if t then to else s.worlds h) e
-
-    away : (h : ℕ) → h < n.table.layout.harts → (h == hart) ≡ false → n.worlds h ≡ s.worlds h
-    away h low e = c.worlds h (under h low) ∙ ap (λ t. if t then to else s.worlds h) e
-
--- table and worlds are as they were, and no mark is new
-pub worlds_stay : (s n : State) → n.table ≡ s.table → ((h : ℕ) → h < s.table.layout.harts → n.worlds h ≡ s.worlds h) → ((h : ℕ) → h < s.table.layout.harts → n.marked h ≡ true → s.marked h ≡ true) → AreWorlds s → AreWorlds n
-worlds_stay s n table worlds marks w = record {
-  current = λ h low. subst (λ t. IsCurrent t (n.worlds h)) (sym table) (subst (IsCurrent s.table) (sym (worlds h (under h low))) (w.current h (under h low)));
-  alone = λ h o k low also at there. w.alone h o k (under h low) (under o also) (sym (worlds h (under h low)) ∙ at) (sym (worlds o (under o also)) ∙ there);
-  held = λ k e live runs. let h = w.held k e (subst (λ t. Live t k e) table live) runs in (h.0, subst (λ t. h.0 < t.layout.harts) (sym table) h.1, worlds h.0 h.1 ∙ h.2);
-  marked = λ h low on. worlds h (under h low) ∙ w.marked h (under h low) (marks h (under h low) on);
-}
-  where
-    under : (h : ℕ) → h < n.table.layout.harts → h < s.table.layout.harts
-    under h low = subst (λ t. h < t.layout.harts) table low
-
--- in a state that is that one
-pub worlds_same : (s n : State) → n ≡ s → AreWorlds s → AreWorlds n
-worlds_same s n is w = subst AreWorlds (sym is) w
-
--- an enclave was made or taken away, which is not Running before or after; the harts in the host's world may be marked
-owned : (s n : State) (hart id : ℕ) (slot : Option Enclave) (harts : ℕ) → hart < s.table.layout.harts → 1 ≤ id → s.worlds hart ≡ Host
-    → ((e : Enclave) → Live s.table id e → e.state ≢ Running) → ((e : Enclave) → slot ≡ Some e → e.state ≢ Running)
-    → n.table ≡ with_enclave s.table id slot → ((h : ℕ) → h < s.table.layout.harts → n.worlds h ≡ s.worlds h)
-    → ((h : ℕ) → h < s.table.layout.harts → n.marked h ≡ (if h == hart then s.marked h else (nat_lt h harts && is_host (s.worlds h) || s.marked h))) → AreWorlds s → AreWorlds n
-owned s n hart id slot harts low above host before after table worlds marks w = worlds_changed s n hart id slot Host (record {
-  low = low;
-  above = above;
-  table = table;
-  worlds = λ h under. worlds h under ∙ both (h == hart)
-      (λ e. ap s.worlds (eqb-true h hart e) ∙ host ∙ sym (ap (λ t. if t then Host else s.worlds h) e))
-      (λ e. sym (ap (λ t. if t then Host else s.worlds h) e));
-  free = λ h under other is. let now : IsCurrent s.table (InEnclave id) = subst (IsCurrent s.table) is (w.current h under) in before now.0 now.1 now.2;
-  now_current = tt;
-  now_alone = λ k is. let z : Host ≡ InEnclave k = is in absurd cc;
-  now_held = λ e put runs. absurd (after e put runs);
-  left = λ k is. let z : Host ≡ InEnclave k = sym host ∙ is in absurd cc;
-  marks = λ h under on. worlds h under ∙ both (h == hart)
-      (λ e. ap s.worlds (eqb-true h hart e) ∙ host)
-      (λ e. elim (or_cases (nat_lt h harts && is_host (s.worlds h)) (s.marked h) (sym (ap (λ t. if t then s.marked h else (nat_lt h harts && is_host (s.worlds h) || s.marked h)) e) ∙ sym (marks h under) ∙ on)) [
-        | inl at ↦ host_is (s.worlds h) (and_parts (nat_lt h harts) (is_host (s.worlds h)) at).1
-        | inr was ↦ w.marked h under was
-      ]);
-}) w
-  where
-    host_is : (world : World) → is_host world ≡ true → world ≡ Host
-    host_is Host e = refl
-    host_is (InEnclave k) e = absurd (let z : false ≡ true = e in cc)
-
--- a hart that is not marked went from the host to an enclave, or back
-moved : (s n : State) (hart id : ℕ) (e : Enclave) (stage : Stage) (to : World) → hart < s.table.layout.harts → Live s.table id e → s.marked hart ≡ false
-    → ((h : ℕ) → h < s.table.layout.harts → h ≢ hart → s.worlds h ≢ InEnclave id)
-    → n.table ≡ with_enclave s.table id (Some (record e { state = stage }))
-    → ((h : ℕ) → h < s.table.layout.harts → n.worlds h ≡ (if h == hart then to else s.worlds h))
-    → ((h : ℕ) → h < s.table.layout.harts → n.marked h ≡ s.marked h)
-    → IsCurrent n.table to → ((k : ℕ) → to ≡ InEnclave k → k ≡ id) → (stage ≡ Running → to ≡ InEnclave id) → ((k : ℕ) → s.worlds hart ≡ InEnclave k → k ≡ id)
-    → AreWorlds s → AreWorlds n
-moved s n hart id e stage to low live awake free table worlds marks current alone runs left w = worlds_changed s n hart id (Some (record e { state = stage })) to (record {
-  low = low;
-  above = live_above s.table.enclaves id e live;
-  table = table;
-  worlds = worlds;
-  free = free;
-  now_current = current;
-  now_alone = alone;
-  now_held = λ f put is. let same : record e { state = stage } ≡ f = same_Some (record e { state = stage }) f put in runs (ap (λ g. g.state) same ∙ is);
-  left = left;
-  marks = λ h under on. both (h == hart)
-      (λ is. let z : false ≡ true = sym awake ∙ ap s.marked (sym (eqb-true h hart is)) ∙ sym (marks h under) ∙ on in absurd cc)
-      (λ is. worlds h under ∙ ap (λ t. if t then to else s.worlds h) is ∙ w.marked h under (sym (marks h under) ∙ on));
-}) w
-
--- which harts run the enclave that a hart enters: none
-entered_free : (s : State) (id : ℕ) (world : World) (entering : Entering) (table : EnclaveTable) → AreWorlds s → Enters s.table world id entering table → (h : ℕ) → h < s.table.layout.harts → s.worlds h ≢ InEnclave id
-entered_free s id world entering table w en h low is =
-    let now : IsCurrent s.table (InEnclave id) = subst (IsCurrent s.table) is (w.current h low) in
-    never entering (sym (en.passes.1.1.0 now.0 now.1) ∙ now.2)
-  where
-    never : (entering : Entering) → state_before entering ≡ Running → ⊥
-    never FirstRun e = let z : Fresh ≡ Running = e in cc
-    never Resume e = let z : Stopped ≡ Running = e in cc
-
-entered : (s n : State) (hart id : ℕ) (entering : Entering) (table : EnclaveTable) → hart < s.table.layout.harts → s.marked hart ≡ false → Enters s.table (s.worlds hart) id entering table
-    → n.table ≡ table → ((h : ℕ) → h < s.table.layout.harts → n.worlds h ≡ (if h == hart then InEnclave id else s.worlds h)) → ((h : ℕ) → h < s.table.layout.harts → n.marked h ≡ s.marked h) → AreWorlds s → AreWorlds n
-entered s n hart id entering table low awake en is worlds marks w =
-    let e = en.turned.0 in
-    let made : n.table ≡ with_enclave s.table id (Some (record e { state = Running })) = is ∙ en.turned.2 in
-    let free = entered_free s id (s.worlds hart) entering table w en in
-    let there : enclave_at n.table.enclaves id ≡ Some (record e { state = Running }) = ap (λ t. enclave_at t.enclaves id) made ∙ set_same s.table.enclaves id (Some (record e { state = Running })) (live_above s.table.enclaves id e en.turned.1) (live_inside s.table.enclaves id e en.turned.1) in
-    moved s n hart id e Running (InEnclave id) low en.turned.1 awake (λ h under other. free h under) made worlds marks (record e { state = Running }, there, refl)
-    (λ k to. let z : id ≡ k = cc in sym z) (λ runs. refl) (λ k at. let z : Host ≡ InEnclave k = sym en.passes.0 ∙ at in absurd cc) w
-
-left_behind : (s n : State) (hart id : ℕ) (leaving : Leaving) (table : EnclaveTable) → hart < s.table.layout.harts → s.marked hart ≡ false → Leaves s.table (s.worlds hart) leaving id table
-    → n.table ≡ table → ((h : ℕ) → h < s.table.layout.harts → n.worlds h ≡ (if h == hart then Host else s.worlds h)) → ((h : ℕ) → h < s.table.layout.harts → n.marked h ≡ s.marked h) → AreWorlds s → AreWorlds n
-left_behind s n hart id leaving table low awake l is worlds marks w =
-    moved s n hart id l.turned.0 (state_after leaving) Host low l.turned.1 awake
-    (λ h under other at. other (w.alone h hart id under low at l.left)) (is ∙ l.turned.2) worlds marks tt
-    (λ k to. let z : Host ≡ InEnclave k = to in absurd cc) (λ runs. absurd (never leaving runs)) (λ k at. let z : id ≡ k = same id k (sym l.left ∙ at) in sym z) w
-  where
-    never : (leaving : Leaving) → state_after leaving ≡ Running → ⊥
-    never Stop e = let z : Stopped ≡ Running = e in cc
-    never Exit e = let z : Exited ≡ Running = e in cc
-
-    same : (a b : ℕ) → InEnclave a ≡ InEnclave b → a ≡ b
-    same a b e = cc
-
--- table, worlds and marks stayed
-refused : (s n m : State) → n ≡ m → m.table ≡ s.table → m.worlds ≡ s.worlds → m.marked ≡ s.marked → AreWorlds s → AreWorlds n
-refused s n m is table worlds marked w =
-    worlds_stay s n (ap (λ y. y.table) is ∙ table) (λ h low. ap (λ y. y.worlds h) is ∙ ap (λ f. f h) worlds) (λ h low on. sym (ap (λ y. y.marked h) is ∙ ap (λ f. f h) marked) ∙ on) w
-
-effect : (kind : Kind) (s : State) (a : Access) (value : ℕ) (reply : Reply) (n : State) → TakesEffect kind s a value reply n → AreWorlds s → AreWorlds n
-effect Fetch s a value reply n x w = worlds_same s n x.1 w
-effect Load s a value reply n x w = worlds_same s n x.1 w
-effect Store s a value reply n (inl x) w = refused s n _ x.1 refl refl refl w
-effect Store s a value reply n (inr x) w = worlds_same s n x.2 w
-
-accessed : (said : Result (Unit {0}) Cause) (s : State) (a : Access) (value : ℕ) (reply : Reply) (n : State) → Accesses said s a value reply n → AreWorlds s → AreWorlds n
-accessed (Err cause) s a value reply n x w = worlds_same s n x.1 w
-accessed (Ok done) s a value reply n x w = effect a.kind s a value reply n x w
-
-enters : (entering : Entering) (s : State) (hart id : ℕ) (reply : Reply) (n : State) → hart < s.table.layout.harts → s.marked hart ≡ false → DoesEnter entering id s hart reply n → AreWorlds s → AreWorlds n
-enters entering s hart id reply n low awake (inr x) w = refused s n _ x.2.0 refl refl refl w
-enters FirstRun s hart id reply n low awake (inl x) w =
-    entered s n hart id FirstRun x.1 low awake x.3 (ap (λ y. y.table) x.4) (λ h under. ap (λ y. y.worlds h) x.4) (λ h under. ap (λ y. y.marked h) x.4) w
-enters Resume s hart id reply n low awake (inl x) w =
-    entered s n hart id Resume x.1 low awake x.3 (ap (λ y. y.table) x.4) (λ h under. ap (λ y. y.worlds h) x.4) (λ h under. ap (λ y. y.marked h) x.4) w
-
-called : (call : Option Call) (s : State) (hart : ℕ) (reply : Reply) (n : State) → hart < s.table.layout.harts → s.marked hart ≡ false → DoesCall call s hart reply n → AreWorlds s → AreWorlds n
-called None s hart reply n low awake x w = refused s n _ x.0 refl refl refl w
-called (Some (calls.Create base text_pages data_pages shared_base shared_count entry_offset)) s hart reply n low awake (inl x) w =
-    let asked : Create = record { base = base; text_pages = text_pages; data_pages = data_pages; shared_base = shared_base; shared_count = shared_count; entry_offset = entry_offset } in
-    let made = fresh (page_bytes s) (parts_of asked) in
-    owned s n hart x.0 (Some made) x.1.layout.harts low x.2.next.free.0 x.2.passes.0
-    (λ e live runs. let z : None ≡ Some e = sym x.2.next.free.2 ∙ live in absurd cc)
-    (λ e put runs. let same = same_Some made e put in let z : Fresh ≡ Running = ap (λ g. g.state) same ∙ runs in absurd cc)
-    (ap (λ y. y.table) x.3 ∙ x.2.added) (λ h under. ap (λ y. y.worlds h) x.3) (λ h under. ap (λ y. y.marked h) x.3) w
-called (Some (calls.Create base text_pages data_pages shared_base shared_count entry_offset)) s hart reply n low awake (inr x) w = refused s n _ x.2.0 refl refl refl w
-called (Some (calls.Destroy id)) s hart reply n low awake (inl x) w =
-    let g = x.2.passes.1.0 in
-    owned s n hart id None x.1.layout.harts low (live_above s.table.enclaves id g.0 g.1) x.2.passes.0
-    (λ e live runs. x.2.passes.1.1.0 e live runs)
-    (λ e put runs. let z : None ≡ Some e = put in absurd cc)
-    (ap (λ y. y.table) x.3 ∙ x.2.removed) (λ h under. ap (λ y. y.worlds h) x.3) (λ h under. ap (λ y. y.marked h) x.3) w
-called (Some (calls.Destroy id)) s hart reply n low awake (inr x) w = refused s n _ x.2.0 refl refl refl w
-called (Some (calls.Run id)) s hart reply n low awake x w = enters FirstRun s hart id reply n low awake x w
-called (Some calls.Stop) s hart reply n low awake (inl x) w =
-    left_behind s n hart x.0 Stop x.1 low awake x.2 (ap (λ y. y.table) x.3) (λ h under. ap (λ y. y.worlds h) x.3) (λ h under. ap (λ y. y.marked h) x.3) w
-called (Some calls.Stop) s hart reply n low awake (inr x) w = refused s n _ x.2.0 refl refl refl w
-called (Some (calls.Resume id)) s hart reply n low awake x w = enters Resume s hart id reply n low awake x w
-called (Some (calls.Exit value)) s hart reply n low awake (inl x) w =
-    left_behind s n hart x.0 Exit x.1 low awake x.2 (ap (λ y. y.table) x.3) (λ h under. ap (λ y. y.worlds h) x.3) (λ h under. ap (λ y. y.marked h) x.3) w
-called (Some (calls.Exit value)) s hart reply n low awake (inr x) w = refused s n _ x.2.0 refl refl refl w
-called (Some (calls.Measure id k)) s hart reply n low awake (inl x) w = refused s n _ x.2 refl refl refl w
-called (Some (calls.Measure id k)) s hart reply n low awake (inr x) w = refused s n _ x.2.0 refl refl refl w
-
-interrupted : (world : World) (s : State) (hart : ℕ) (reply : Reply) (n : State) → s.worlds hart ≡ world → hart < s.table.layout.harts → s.marked hart ≡ false → Interrupts world s hart reply n → AreWorlds s → AreWorlds n
-interrupted Host s hart reply n at low awake x w = worlds_same s n x.0 w
-interrupted (InEnclave id) s hart reply n at low awake x w =
-    left_behind s n hart id Stop x.0 low awake (subst (λ v. Leaves s.table v Stop id x.0) (sym at) x.1) (ap (λ y. y.table) x.2) (λ h under. ap (λ y. y.worlds h) x.2) (λ h under. ap (λ y. y.marked h) x.2) w
+above : (s : State) (core : Core) → core_of s ≡ core → InCore core → AreWorlds s
+above s core is w = let v = subst InCore (sym is) w in record { current = v.current; alone = v.alone; held = v.held; marked = v.marked }
 
 pub worlds_step : (s : State) (hart : ℕ) (event : Event) (reply : Reply) (n : State) → hart < s.table.layout.harts → Step s hart event reply n → AreWorlds s → AreWorlds n
 worlds_step s hart event reply n low x w = by_event event x
   where
-    first : AreWorlds (without_mark s hart)
-    first = worlds_stay s (without_mark s hart) refl (λ h under. refl) (λ h under on. was (h == hart) (s.marked h) on) w
-      where
-        was : (b m : Bool) → (if b then false else m) ≡ true → m ≡ true
-        was true m e = absurd (let z : false ≡ true = e in cc)
-        was false m e = e
-
-    off : (without_mark s hart).marked hart ≡ false
-    off = ap (λ t. if t then false else s.marked hart) (eq-eqb hart hart refl)
+    first : InCore (core_of (awoken s hart))
+    first = waking_keeps_worlds (core_of s) hart (below s w)
 
     by_event : (event : Event) → Step s hart event reply n → AreWorlds n
-    by_event (events.Access a value) x = accessed (verdict (current_view s hart) a) (without_mark s hart) a value reply n x first
-    by_event (events.Reg k value) x = refused (without_mark s hart) n _ x.1 refl refl refl first
-    by_event (events.Ecall words) x =
-        called (call_of (running_registers (calling (without_mark s hart) hart words.items) hart)) (calling (without_mark s hart) hart words.items) hart reply n low off x
-        (refused (without_mark s hart) (calling (without_mark s hart) hart words.items) (calling (without_mark s hart) hart words.items) refl refl refl refl first)
-    by_event events.Irq x = interrupted (s.worlds hart) (without_mark s hart) hart reply n refl low off x first
-
-opened : (layout : Layout) → AreWorlds (opening layout)
-opened layout = record {
-  current = λ h low. tt;
-  alone = λ h o k low also at there. let z : Host ≡ InEnclave k = at in absurd cc;
-  held = λ k e live runs. absurd (none_live layout k e live);
-  marked = λ h low on. refl;
-}
+    by_event (events.Access a value) x = above n (core_of (awoken s hart)) (core_access (verdict (current_view s hart) a) (awoken s hart) a value reply n x) first
+    by_event (events.Reg k value) x = above n _ (ap core_of x.1) (putting_keeps_worlds (core_of (awoken s hart)) hart _ first)
+    by_event (events.Ecall words) x = above n x.2 (ap core_of x.4)
+        (call_keeps_worlds (named s hart words.items) (lent s) (asked s hart words.items) hart x.0 x.1 x.2 low (off s hart) x.3
+        (putting_keeps_worlds (core_of (awoken s hart)) hart _ first))
+    by_event events.Irq x = above n x.0 (ap core_of x.2) (interrupt_keeps_worlds (s.worlds hart) (core_of (awoken s hart)) hart x.0 refl low (off s hart) x.1 first)
 
 pub run_keeps_worlds : (old s : State) (events : List (ℕ × Event)) (replies : List Reply) → AreWorlds old → Run old events replies s → AreWorlds s
 run_keeps_worlds old _ _ _ w still = w
 run_keeps_worlds old s _ _ w (step {events} {replies} {mid} run hart event reply low possible happened) = worlds_step mid hart event reply s low happened (run_keeps_worlds old mid events replies w run)
 
 pub worlds_kept : RunsKeepWorlds
-worlds_kept layout events replies s run = run_keeps_worlds (opening layout) s events replies (opened layout) run
+worlds_kept layout events replies s run = run_keeps_worlds (opening layout) s events replies (above (opening layout) (opening_core layout) refl (opened layout)) run

@@ -6,7 +6,7 @@ use Rattle.std.specs.Ordering.{nat_cmp, is_gt}
 use Rattle.std.specs.BTreeMap.{BTreeMap, get}
 use Rattle.std.specs.BTreeMap.Range.{IsRangeOf}
 use Rattle.std.specs.declared.ops.Bound.TheVariants.{Included, Excluded}
-use Rattle.hart_sim.proofs.Shown.{both}
+use Rattle.monitor_core.proofs.Cases.{both}
 
 no_more : (a b : ℕ) → is_gt (nat_cmp a b) ≡ false → a ≤ b
 no_more a b h = grind (arith, nat_tests, common_steps)

@@ -6,14 +6,14 @@ use Rattle.pmp_match.specs.declared.access.Access.{Access}
 use Rattle.pmp_match.specs.declared.cause.Cause.{Cause}
 use Rattle.pmp_match.specs.Judgement.{Judges}
 use Rattle.enclave_table.specs.Tables.{Kept}
+use Rattle.monitor_core.specs.Monitors.{kept_of as kept_in}
 use Rattle.hart_trace.specs.declared.event.Event.{Event}
 use Rattle.hart_trace.specs.declared.event.Event.TheVariants as events
 use Rattle.hart_sim.specs.declared.machine.Machine.{Machine}
 use Rattle.hart_sim.specs.declared.reply.Reply.{Reply}
 use Rattle.hart_sim.specs.declared.reply.Reply.TheVariants as replies
 use Rattle.hart_sim.specs.Banks.{AreBanksRight, MeetsList}
-use Rattle.hart_sim.specs.Frames.{state_in}
-use Rattle.hart_sim.specs.Hardware.{bank_in}
+use Rattle.hart_sim.specs.Parts.{state_in, bank_in}
 use Rattle.hart_sim.specs.States.{State}
 
 -- the state of the machine. What it is, its observers show: its table, the world and the registers on each hart, the marks, and the
@@ -23,11 +23,11 @@ state_of machine = state_in machine.parts
 
 -- its table of enclaves, with the list of entries that is kept for each view, which `table` shows
 unfoldable pub kept_of : Machine → Kept
-kept_of machine = machine.parts.table
+kept_of machine = kept_in machine.parts.monitor
 
 -- the PMP registers that are loaded on a hart, which `bank` shows
 unfoldable pub bank_on : Machine → ℕ → Option Bank
-bank_on machine = bank_in machine.parts.hardware
+bank_on machine = bank_in machine.parts
 
 -- an access is a fault exactly where the list that it meets says so, and with the cause that it says
 abbrev pub IsJudged : Machine → ℕ → Event → Reply → Type 0

@@ -9,6 +9,7 @@ use Rattle.worlds.specs.declared.world.World.{World}
 use Rattle.worlds.specs.declared.world.World.TheVariants.{Host}
 use Rattle.sbi_decode.specs.Registers.{RegisterFile, zeros}
 use Rattle.worlds.specs.Runners.{Runner, runner_of}
+use Rattle.monitor_core.specs.States.{State as Core}
 use Rattle.hart_sim.specs.Memory.{bytes_at}
 
 -- the enclaves, the world that runs on each hart, the registers of each host and enclave, the byte at each address, the pages
@@ -21,6 +22,13 @@ pub record State : Type 0 where
   pub bytes : ℕ → ℕ
   pub written : ℕ → Bool
   pub marked : ℕ → Bool
+
+-- the monitor's part of a state, and a state with another one
+abbrev pub core_of : State → Core
+core_of s = record { table = s.table; worlds = s.worlds; registers = s.registers; marked = s.marked }
+
+abbrev pub with_core : State → Core → State
+with_core s core = record s { table = core.table; worlds = core.worlds; registers = core.registers; marked = core.marked }
 
 -- the opening state of a platform: no enclave, each hart in the host's world, all registers and bytes zero, no page written
 abbrev pub opening : Layout → State

@@ -1,30 +1,16 @@
 //! An access: judged by the bank that is loaded, then done in memory.
 
-ghost use Rattle.std.specs.Prelude.{◌≡◌, ◌%◌, ◌≢◌, ◌<◌, ◌↔◌, List, false, Err, Some};
-ghost use Rattle.pmp_encoding.specs.declared.bank.Bank.{Bank};
-ghost use Rattle.pmp_encoding.specs.declared.region.Entry.{Entry};
-ghost use Rattle.pmp_encoding.specs.Banks.{HasList};
-ghost use Rattle.pmp_match.specs.declared.cause.Cause.{Cause};
-ghost use Rattle.pmp_match.specs.Judgement.{Judges};
-ghost use Rattle.hart_sim.specs.States.{current_view};
-ghost use Rattle.pmp_match.specs.declared.access.Mode.TheVariants.{Machine as MachineMode};
+ghost use Rattle.std.specs.Prelude.{◌≡◌, ◌%◌};
 ghost use Rattle.hart_sim.specs.Effects.{ReachesMemory};
-ghost use Rattle.hart_sim.specs.Steps.{Accesses, verdict};
-ghost use Rattle.hart_sim.specs.declared.reply.Reply.{Reply};
-ghost use Rattle.pmp_match.specs.declared.access.Access.{Access};
-ghost use Rattle.hart_sim.specs.Hardware.{bank_in};
-ghost use Rattle.hart_sim.specs.Frames.{state_in, IsOn, KeepsFrame};
-ghost use Rattle.hart_sim.specs.Banks.{AreBanksRight, KeepsOtherBanks, MeetsList};
 
 use crate::memory::Memory;
 use crate::parts::Parts;
 use crate::reply::Reply;
-use pmp_encoding::Bank;
-use pmp_match::{Access, Kind};
+use pmp_match::{Access, Kind, judge};
 use std::alloc::Global;
 
 /// An access that is allowed. It takes memory only for a store to a page that was not written.
-pub(crate) fn reach(memory: &mut Memory, alloc: Global, access: &Access, value: u64) -> Reply
+fn reach(memory: &mut Memory, alloc: Global, access: &Access, value: u64) -> Reply
     requires { access.now.address % access.now.size ≡ 0 }
     ensures { ReachesMemory access.now.kind memory.old access.now value result memory.new }
 {
@@ -41,24 +27,41 @@ pub(crate) fn reach(memory: &mut Memory, alloc: Global, access: &Access, value: 
 }
 
 impl Parts {
+    ghost use Rattle.std.specs.Prelude.{◌≡◌, ◌≢◌, ◌↔◌, ◌<◌, List, false, Err, Some};
+    ghost use Rattle.pmp_encoding.specs.declared.bank.Bank.{Bank};
+    ghost use Rattle.pmp_encoding.specs.declared.region.Entry.{Entry};
+    ghost use Rattle.pmp_encoding.specs.Banks.{HasList};
+    ghost use Rattle.pmp_match.specs.declared.cause.Cause.{Cause};
+    ghost use Rattle.pmp_match.specs.Judgement.{Judges};
+    ghost use Rattle.pmp_match.specs.declared.access.Mode.TheVariants.{Machine};
+    ghost use Rattle.hart_sim.specs.Banks.{AreBanksRight};
+    ghost use Rattle.hart_sim.specs.Frames.{IsOn, KeepsFrame};
+    ghost use Rattle.hart_sim.specs.Parts.{state_in, bank_in};
+    ghost use Rattle.hart_sim.specs.States.{current_view};
+    ghost use Rattle.hart_sim.specs.Steps.{Accesses, verdict};
+
     /// An access on a hart that is not marked. By the bank that is loaded there it is a fault or not, on every machine;
     /// where the banks are right, it is what the view of the hart's world says.
     pub(crate) fn access(&mut self, hart: u8, access: &Access, value: u64) -> Reply
         requires on { IsOn self.old hart }
+        requires few { hart < 4 }
         requires awake { (state_in self.old).marked hart ≡ false }
-        requires event { access.now.mode ≢ MachineMode }
+        requires event { access.now.mode ≢ Machine }
         ensures frame { KeepsFrame self.old self.new hart }
         ensures judged { (bank : Bank) (list : List Entry) (cause : Cause)
-            → bank_in self.old.hardware hart ≡ Some bank
+            → bank_in self.old hart ≡ Some bank
             → HasList bank list
             → (result ≡ Reply.Fault cause) ↔ Judges list access.now (Err cause) }
-        ensures step { AreBanksRight (state_in self.old) (bank_in self.old.hardware)
+        ensures step { AreBanksRight (state_in self.old) (bank_in self.old)
             → (let s = state_in self.old in
             Accesses (verdict (current_view s hart) access.now) s access.now value result
             (state_in self.new)) }
-        ensures table { self.new.table ≡ self.old.table }
-        ensures harts { self.new.hardware.harts ≡ self.old.hardware.harts }
+        ensures monitor { self.new.monitor ≡ self.old.monitor }
+        ensures banks { self.new.banks ≡ self.old.banks }
     {
-        self.hardware.access(self.alloc, hart, access, value)
+        match judge(self.bank(hart), access) {
+            Ok(()) => reach(&mut self.memory, self.alloc, access, value),
+            Err(cause) => Reply::Fault(cause),
+        }
     }
 }

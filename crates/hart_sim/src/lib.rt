@@ -24,22 +24,18 @@
 
 mod access;
 mod answers;
+mod banks;
 mod boot;
 mod call_registers;
-mod crossings;
 mod ecall;
-mod hardware;
 mod laws;
 mod machine;
 mod memory;
-mod ownership;
 mod parts;
-mod reload;
 mod reply;
 mod report;
 mod step;
 mod trace_run;
-mod world_change;
 
 pub use byte_streams::{Counted, DeviceFault, Sink, Source, fakes, write_whole};
 pub use hart_trace::{Event, parse_line};

@@ -1,11 +1,12 @@
-//! The machine: a table of enclaves, harts and memory, to which events happen.
+//! The machine: the monitor, the banks of the harts, and memory, to which events happen.
 
-ghost use Rattle.hart_sim.specs.Parts.{HoldsTogether};
+ghost use Rattle.monitor_core.specs.Monitors.{state_of as core_state};
+ghost use Rattle.hart_sim.specs.Parts.{AreBanks};
 
 use crate::parts::Parts;
 use crate::reply::Reply;
-use enclave_table::{BootFault, Platform, Table, World};
 use hart_trace::Event;
+use monitor_core::{BootFault, Platform, Table, World};
 use pmp_encoding::Bank;
 use sbi_decode::Registers;
 use std::alloc::Global;
@@ -14,7 +15,7 @@ use std::alloc::Global;
 #[derive(Drop)]
 pub struct Machine {
     pub(crate) parts: Parts,
-    pub ghost whole: { HoldsTogether parts.table parts.hardware },
+    pub ghost limited: { AreBanks parts.banks (core_state parts.monitor).table.layout.limit },
 }
 
 impl Machine {
@@ -46,7 +47,7 @@ impl Machine {
         ensures limit { limit_number (limit_of result.now)
             ≡ limit_number (state_of self.now).table.layout.limit }
     {
-        self.parts.hardware.hart(hart).bank()
+        self.parts.bank(hart)
     }
 
     /// The world that runs on a hart.
@@ -55,7 +56,7 @@ impl Machine {
         requires { hart < 4 }
         ensures { result ≡ (state_of self.now).worlds hart }
     {
-        self.parts.hardware.hart(hart).world()
+        self.parts.monitor.world(hart)
     }
 
     /// The registers of the world that runs on a hart.
@@ -63,7 +64,7 @@ impl Machine {
         requires { hart < 4 }
         ensures { result.now ≡ running_registers (state_of self.now) hart }
     {
-        self.parts.hardware.hart(hart).registers()
+        self.parts.monitor.registers(hart)
     }
 
     /// Whether a hart is marked: it loads the host's entries before its next event.
@@ -71,7 +72,7 @@ impl Machine {
         requires { hart < 4 }
         ensures { result ≡ (state_of self.now).marked hart }
     {
-        self.parts.hardware.is_marked(hart)
+        self.parts.monitor.is_marked(hart)
     }
 
     /// The byte at an address.
@@ -80,7 +81,7 @@ impl Machine {
         requires { address < 2 ^ 56 }
         ensures { result ≡ (state_of self.now).bytes address }
     {
-        self.parts.hardware.byte(address)
+        self.parts.memory.byte(address)
     }
 
     /// The table of enclaves.
@@ -89,7 +90,7 @@ impl Machine {
         ensures kept { result.now ≡ kept_of self.now }
         ensures state { result.now.table ≡ (state_of self.now).table }
     {
-        &self.parts.table
+        self.parts.monitor.table()
     }
 
     /// How many harts there are.
@@ -99,7 +100,7 @@ impl Machine {
         ensures some { 0 < result }
         ensures most { result ≤ 4 }
     {
-        self.parts.table.platform().harts()
+        self.parts.monitor.harts()
     }
 
     /// Puts another bank in place on a hart, as faulty hardware might. Nothing else changes. What boot promises of the
@@ -114,7 +115,7 @@ impl Machine {
         ensures state { state_of self.new ≡ state_of self.old }
         ensures table { kept_of self.new ≡ kept_of self.old }
     {
-        self.parts.hardware.put_bank(hart, bank);
+        self.parts.put_bank(hart, bank);
     }
 
     /// The machine of a platform: no enclave, each hart in the host's world with the fewest entries of its view. It is
@@ -129,10 +130,7 @@ impl Machine {
         ensures fault { IfErr result (λ fault. IsBootFault platform fault) }
     {
         match Parts::boot(alloc, platform) {
-            Ok(parts) => {
-                parts.table.cite_invariant();
-                Ok(Machine { parts })
-            }
+            Ok(parts) => Ok(Machine { parts }),
             Err(fault) => Err(fault),
         }
     }
@@ -171,7 +169,7 @@ impl Machine {
             → After platform events replies self.old
             → After platform (events ++ (hart, event) ∷ []) (replies ++ result ∷ []) self.new }
     {
-        self.parts.table.cite_invariant();
+        self.parts.monitor.cite_invariant();
         self.parts.step(hart, event)
     }
 }

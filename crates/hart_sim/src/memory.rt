@@ -5,7 +5,7 @@ ghost use Rattle.std.specs.Prelude.{◌≡◌, ℕ, ◌+◌, ◌-◌, ◌*◌, �
 ghost use Rattle.pmp_encoding.specs.Registers.{byte_of};
 ghost use Rattle.hart_sim.specs.Memory.{bytes_at, number_of, in_range, stored, zeroed, byte_at, is_written};
 
-use enclave_table::Pages;
+use monitor_core::Pages;
 use std::alloc::{AllocError, Global};
 use std::collections::BTreeMap;
 

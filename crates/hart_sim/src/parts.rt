@@ -1,13 +1,15 @@
-//! The parts of the machine: the table of enclaves, and the harts with memory.
+//! The parts of the machine: the monitor, memory, and the banks that are loaded.
 
-use crate::hardware::Hardware;
-use enclave_table::Table;
+use crate::memory::Memory;
+use monitor_core::Monitor;
+use pmp_encoding::Bank;
 use std::alloc::Global;
 
-/// A table of enclaves, the harts, and memory.
+/// The monitor, memory, and the bank of each of four harts, of which a platform may have fewer.
 #[derive(Drop)]
 pub(crate) struct Parts {
     pub(crate) alloc: Global,
-    pub(crate) table: Table,
-    pub(crate) hardware: Hardware,
+    pub(crate) monitor: Monitor,
+    pub(crate) memory: Memory,
+    pub(crate) banks: [Bank; 4],
 }

@@ -1,54 +1,52 @@
 //! An event on a hart: it loads what it has to, and then the event happens.
 
-ghost use Rattle.std.specs.Prelude.{◌≡◌, ℕ, ◌<◌, ◌↔◌, List, false, Err, Some};
-ghost use Rattle.pmp_encoding.specs.declared.bank.Bank.{Bank};
-ghost use Rattle.pmp_encoding.specs.declared.region.Entry.{Entry};
-ghost use Rattle.pmp_encoding.specs.Banks.{HasList};
-ghost use Rattle.pmp_match.specs.declared.cause.Cause.{Cause};
-ghost use Rattle.pmp_match.specs.Judgement.{Judges};
-ghost use Rattle.hart_sim.specs.Steps.{Does, IsEvent, Step};
-ghost use Rattle.hart_trace.specs.declared.event.Event.{Event};
-ghost use Rattle.hart_sim.specs.declared.reply.Reply.{Reply};
-ghost use Rattle.pmp_match.specs.declared.access.Access.{Access};
-ghost use Rattle.hart_sim.specs.Hardware.{bank_in};
-ghost use Rattle.hart_sim.specs.Frames.{state_in, IsOn, KeepsFrame};
-ghost use Rattle.hart_sim.specs.Banks.{AreBanksRight, KeepsOtherBanks, MeetsList};
-
 use crate::parts::Parts;
 use crate::reply::Reply;
 use hart_trace::Event;
-use pmp_encoding::Bank;
-use pmp_match::Access;
 
 impl Parts {
+    ghost use Rattle.std.specs.Prelude.{◌≡◌, ℕ, ◌<◌, ◌↔◌, List, false, Err, Some};
+    ghost use Rattle.pmp_encoding.specs.declared.bank.Bank.{Bank};
+    ghost use Rattle.pmp_encoding.specs.declared.region.Entry.{Entry};
+    ghost use Rattle.pmp_encoding.specs.Banks.{HasList};
+    ghost use Rattle.pmp_match.specs.declared.access.Access.{Access};
+    ghost use Rattle.pmp_match.specs.declared.cause.Cause.{Cause};
+    ghost use Rattle.pmp_match.specs.Judgement.{Judges};
+    ghost use Rattle.monitor_core.specs.Monitors.{kept_of};
+    ghost use Rattle.hart_trace.specs.declared.event.Event.{Event};
+    ghost use Rattle.hart_sim.specs.Banks.{AreBanksRight, MeetsList};
+    ghost use Rattle.hart_sim.specs.Frames.{IsOn, KeepsFrame};
+    ghost use Rattle.hart_sim.specs.Parts.{state_in, bank_in};
+    ghost use Rattle.hart_sim.specs.Steps.{Does, IsEvent, Step};
+
     /// A register of the world that runs on a hart is set.
-    pub(crate) fn set_register(&mut self, hart: u8, n: u8, value: u64) -> Reply
+    fn set_register(&mut self, hart: u8, n: u8, value: u64) -> Reply
         requires on { IsOn self.old hart }
+        requires few { hart < 4 }
         requires register { n < 32 }
         ensures frame { KeepsFrame self.old self.new hart }
-        ensures step { let s = state_in self.old in
-            Does (Event.Reg n value) s hart result
+        ensures step { Does (Event.Reg n value) (state_in self.old) hart result
             (state_in self.new) }
     {
-        self.hardware.set_register(hart, n, value);
+        self.monitor.set_register(hart, n, value);
         Reply::Done
     }
 
     /// An event on a hart that is not marked.
-    pub(crate) fn happen(&mut self, hart: u8, event: Event) -> Reply
+    fn happen(&mut self, hart: u8, event: Event) -> Reply
         requires on { IsOn self.old hart }
+        requires few { hart < 4 }
         requires event { IsEvent event }
         requires awake { (state_in self.old).marked hart ≡ false }
         ensures frame { KeepsFrame self.old self.new hart }
         ensures judged { (access : Access) (value : ℕ) → event ≡ Event.Access access value
             → (bank : Bank) (list : List Entry) (cause : Cause)
-            → bank_in self.old.hardware hart ≡ Some bank → HasList bank list
+            → bank_in self.old hart ≡ Some bank → HasList bank list
             → (result ≡ Reply.Fault cause) ↔ Judges list access (Err cause) }
         ensures loaded { (access : Access) (value : ℕ) → event ≡ Event.Access access value
-            → self.new.hardware.harts ≡ self.old.hardware.harts }
-        ensures step { AreBanksRight (state_in self.old) (bank_in self.old.hardware)
-            → Does event (state_in self.old)
-            hart result (state_in self.new) }
+            → self.new.banks ≡ self.old.banks }
+        ensures step { AreBanksRight (state_in self.old) (bank_in self.old)
+            → Does event (state_in self.old) hart result (state_in self.new) }
     {
         match event {
             Event::Access(access, value) => self.access(hart, &access, value),
@@ -61,19 +59,21 @@ impl Parts {
     /// An event on a hart, which loads the host's entries first where it is marked.
     pub(crate) fn step(&mut self, hart: u8, event: Event) -> Reply
         requires on { IsOn self.old hart }
+        requires few { hart < 4 }
         requires event { IsEvent event }
         ensures frame { KeepsFrame self.old self.new hart }
         ensures judged { (access : Access) (value : ℕ) (list : List Entry) (cause : Cause)
             → event ≡ Event.Access access value
-            → MeetsList (state_in self.old) self.old.table (bank_in self.old.hardware) hart list
+            → MeetsList (state_in self.old) (kept_of self.old.monitor) (bank_in self.old) hart
+            list
             → (result ≡ Reply.Fault cause) ↔ Judges list access (Err cause) }
         ensures loaded { (access : Access) (value : ℕ) (list : List Entry) (bank : Bank)
             → event ≡ Event.Access access value
-            → MeetsList (state_in self.old) self.old.table (bank_in self.old.hardware) hart list
-            → bank_in self.new.hardware hart ≡ Some bank → HasList bank list }
-        ensures step { AreBanksRight (state_in self.old) (bank_in self.old.hardware)
-            → Step (state_in self.old)
-            hart event result (state_in self.new) }
+            → MeetsList (state_in self.old) (kept_of self.old.monitor) (bank_in self.old) hart
+            list
+            → bank_in self.new hart ≡ Some bank → HasList bank list }
+        ensures step { AreBanksRight (state_in self.old) (bank_in self.old)
+            → Step (state_in self.old) hart event result (state_in self.new) }
     {
         self.wake(hart);
         self.happen(hart, event)

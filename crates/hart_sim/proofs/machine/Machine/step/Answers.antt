@@ -1,8 +1,8 @@
+use Rattle.std.proofs.Common.{arith}
 use Rattle.hart_sim.specs.After.{happened}
-use Rattle.hart_sim.specs.Frames.{state_in}
+use Rattle.hart_sim.specs.Parts.{state_in}
 use Rattle.hart_sim.specs.Machines.{state_of, kept_of, bank_on}
 use Rattle.hart_sim.proofs.Headlined.{banks_of}
-use Rattle.hart_sim.proofs.Opened.{whole_from}
 use Rattle.hart_sim.proofs.PrivateBytes.{keeps_private}
 use Rattle.hart_sim.proofs.Promised.{denies_others, zeroes_destroyed}
 use Rattle.hart_sim.proofs.Promises.{answers_by_view}
@@ -11,7 +11,11 @@ use Rattle.hart_sim.proofs.machine.Machine.step.Goals as goal
 
 pub step-requires-clause-on : goal.step-requires-clause-on
 unfolding state_of
-step-requires-clause-on c = record { known = c.requires.hart; whole = whole_from c.args.self.now.parts.table c.args.self.now.parts.hardware c.args.self.now.whole }
+step-requires-clause-on c = record { known = c.requires.hart; limited = c.args.self.now.limited }
+
+pub step-requires-clause-few : goal.step-requires-clause-few
+unfolding state_of
+step-requires-clause-few c = omega (arith, c.requires.hart, c.cite_invariant.ensures.table.layout.four_harts)
 
 pub returns-clause-judged : goal.returns-clause-judged
 unfolding state_of kept_of bank_on

@@ -1,18 +1,32 @@
-use Rattle.std.proofs.Common.{arith, refl, ap, slice_get, option_map}
-use Rattle.context_switch.specs.Harts.{bank_of}
-use Rattle.hart_sim.specs.Hardware.{world_in}
-use Rattle.hart_sim.proofs.Framed.{frame_still}
-use Rattle.hart_sim.proofs.Banks.{some_bank_in}
+use Rattle.std.proofs.Common.{◌≡◌, ◌∙◌, sym, subst}
+use Rattle.std.proofs.lemmas.Option.{same_Some}
+use Rattle.pmp_encoding.specs.Banks.{HasList}
+use Rattle.monitor_core.specs.Monitors.{state_of}
+use Rattle.hart_sim.specs.Parts.{state_in}
+use Rattle.hart_sim.specs.States.{current_view}
+use Rattle.hart_sim.proofs.Accessed.{no_cause, that_cause, accesses_ok, accesses_err}
 use Rattle.hart_sim.proofs.parts.Parts.access.Goals as goal
 
-pub returns-clause-step : goal.returns-clause-step
-returns-clause-step c = λ right.
-    let h = c.args.self.now.hardware in
-    let has = some_bank_in h c.args.hart (omega (arith, c.requires.on.known, c.requires.on.whole.few)) in
-    let loads = right c.args.hart has.0 c.requires.on.known c.requires.awake has.1 in
-    c.access.ensures.done c.args.self.now.table.table has.0 loads.list has.1 loads.loaded loads.fewest.means c.requires.event
+pub returns-in-Ok-clause-judged : goal.returns-in-Ok-clause-judged
+returns-in-Ok-clause-judged c = λ bank list cause has lists.
+    let same : c.bank.result.now ≡ bank = same_Some _ _ (sym c.bank.ensures ∙ has) in
+    let loaded = subst (λ b. HasList b list) (sym same) lists in
+    no_cause list _ _ c.args.access.now c.args.value c.reach.result cause (c.in-Ok.ensures.by_no_other list loaded) c.reach.ensures
 
-pub returns-clause-frame : goal.returns-clause-frame
-returns-clause-frame c =
+pub returns-in-Ok-clause-step : goal.returns-in-Ok-clause-step
+returns-in-Ok-clause-step c = λ right.
     let old = c.args.self.now in
-    frame_still old (record old { hardware = c.access.new.self }) c.args.hart c.requires.on refl c.access.ensures.limit (λ i. ap (λ hs. option_map bank_of (slice_get hs i)) c.access.ensures.banks) (λ i. ap (λ hs. world_in (slice_get hs i)) c.access.ensures.banks) c.access.ensures.marks
+    let loads = right c.args.hart c.bank.result.now c.requires.on.known c.requires.awake c.bank.ensures in
+    accesses_ok (current_view (state_in old) c.args.hart) loads.list (state_of old.monitor) old.memory c.reach.new.memory c.args.access.now c.args.value c.reach.result loads.fewest.means c.requires.event (c.in-Ok.ensures.by_no_other loads.list loads.loaded) c.reach.ensures
+
+pub returns-in-Err-clause-judged : goal.returns-in-Err-clause-judged
+returns-in-Err-clause-judged c = λ bank list cause has lists.
+    let same : c.bank.result.now ≡ bank = same_Some _ _ (sym c.bank.ensures ∙ has) in
+    let loaded = subst (λ b. HasList b list) (sym same) lists in
+    that_cause list c.args.access.now c.in-Err.cause cause (c.in-Err.ensures.by_no_other list loaded)
+
+pub returns-in-Err-clause-step : goal.returns-in-Err-clause-step
+returns-in-Err-clause-step c = λ right.
+    let old = c.args.self.now in
+    let loads = right c.args.hart c.bank.result.now c.requires.on.known c.requires.awake c.bank.ensures in
+    accesses_err (current_view (state_in old) c.args.hart) loads.list (state_of old.monitor) old.memory c.args.access.now c.args.value c.in-Err.cause loads.fewest.means c.requires.event (c.in-Err.ensures.by_no_other loads.list loads.loaded)

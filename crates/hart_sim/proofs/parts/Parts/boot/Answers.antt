@@ -1,22 +1,25 @@
-use Rattle.std.proofs.Common.{sym, subst}
-use Rattle.enclave_table.specs.Views.{host_view}
-use Rattle.hart_sim.specs.States.{view_of}
+use Rattle.std.proofs.Common.{◌≡◌, ◌∙◌, ℕ, zero, suc, [], ◌∷◌, None, Some, slice_get, ap, sym, subst}
+use Rattle.std.proofs.lemmas.Option.{same_Some}
+use Rattle.pmp_encoding.specs.declared.bank.Bank.{Bank}
+use Rattle.monitor_core.specs.Monitors.{state_of}
+use Rattle.monitor_core.specs.States.{view_of, current_view}
 use Rattle.hart_sim.specs.Banks.{LoadsFewest}
-use Rattle.hart_sim.proofs.Equal.{equal}
-use Rattle.hart_sim.proofs.Moved.{fewest_of}
+use Rattle.hart_sim.proofs.BankPlaces.{loads_same}
 use Rattle.hart_sim.proofs.parts.Parts.boot.Goals as goal
 
-pub returns-clause-state : goal.returns-clause-state
-returns-clause-state c = equal (record {
-  table = c.in-Ok.ensures.opening;
-  worlds = c.new-hardware.ensures.worlds;
-  registers = c.new-hardware.ensures.registers;
-  bytes = c.new-hardware.ensures.bytes;
-  written = c.new-hardware.ensures.written;
-  marked = c.new-hardware.ensures.marks;
-})
+-- each of four is that one
+each_is : (bank : Bank) (i : ℕ) (other : Bank) → slice_get (bank ∷ (bank ∷ (bank ∷ (bank ∷ [])))) i ≡ Some other → other ≡ bank
+each_is bank zero other at = sym (same_Some bank other at)
+each_is bank (suc zero) other at = sym (same_Some bank other at)
+each_is bank (suc (suc zero)) other at = sym (same_Some bank other at)
+each_is bank (suc (suc (suc zero))) other at = sym (same_Some bank other at)
+each_is bank (suc (suc (suc (suc i)))) other at = absurd (let h : None ≡ Some other = at in cc)
 
 pub returns-clause-banks : goal.returns-clause-banks
 returns-clause-banks c = λ hart bank low off has.
-    let table = c.in-Ok.table in
-    subst (λ w. LoadsFewest bank (view_of table.table w)) (sym (c.new-hardware.ensures.worlds hart)) (fewest_of bank table.table.layout.limit (host_view table.table) c.host_entries.result.now (c.new-hardware.ensures.banks hart bank has) c.host_entries.ensures.list)
+    let s = state_of c.in-Ok.monitor in
+    let is = c.in-Ok.ensures.state in
+    let world : s.worlds 0 ≡ s.worlds hart = ap (λ x. x.worlds 0) is ∙ sym (ap (λ x. x.worlds hart) is) in
+    let loaded : LoadsFewest c.of-bank.result (current_view s 0) = record { list = c.entries.result.now; loaded = c.of-bank.ensures.list; fewest = c.entries.ensures.fewest } in
+    subst (λ b. LoadsFewest b (current_view s hart)) (sym (each_is c.of-bank.result hart bank has))
+    (loads_same c.of-bank.result (current_view s 0) (current_view s hart) (λ page small. ap (λ w. view_of s.table w page) world) loaded)

@@ -1,15 +1,16 @@
-use Rattle.std.proofs.Common.{◌≡◌, ◌∙◌, ◌↔◌, ap, sym, subst, Err}
-use Rattle.std.proofs.lemmas.Option.{same_Some}
-use Rattle.pmp_match.specs.Judgement.{Judges}
-use Rattle.hart_sim.specs.declared.reply.Reply.TheVariants.{Fault}
-use Rattle.hart_sim.proofs.Moved.{access_of}
+use Rattle.std.proofs.Common.{sym, subst}
+use Rattle.sbi_decode.specs.Calls.{call_of}
+use Rattle.monitor_core.specs.Changes.{with_running}
+use Rattle.monitor_core.specs.Steps.{DoesCall}
+use Rattle.hart_sim.specs.Changes.{calling}
+use Rattle.hart_sim.specs.Parts.{state_in}
+use Rattle.hart_sim.specs.States.{core_of, page_bytes}
+use Rattle.hart_sim.specs.Steps.{Serves, Does}
 use Rattle.hart_sim.proofs.parts.Parts.happen.Goals as goal
 
-pub returns-in-Access-clause-judged : goal.returns-in-Access-clause-judged
-returns-in-Access-clause-judged c = λ a value is bank list cause has loaded.
-    let same = same_Some c.in-Access.access a (ap access_of (sym c.in-Access.is ∙ is)) in
-    subst (λ x. (c.access.result ≡ Fault cause) ↔ Judges list x (Err cause)) same
-    (c.access.ensures.judged bank list cause has loaded)
-
-pub returns-in-Access-clause-loaded : goal.returns-in-Access-clause-loaded
-returns-in-Access-clause-loaded c = λ a value is. c.access.ensures.harts
+pub returns-in-Ecall-clause-step : goal.returns-in-Ecall-clause-step
+returns-in-Ecall-clause-step c = λ right.
+    let s = state_in c.args.self.now in
+    let new = state_in c.ecall.new.self in
+    subst (λ e. Does e s c.args.hart c.ecall.result new) (sym c.in-Ecall.is)
+    (subst (λ words. Serves (DoesCall (call_of (calling s c.args.hart words)) (page_bytes s) (with_running (core_of s) c.args.hart (calling s c.args.hart words)) c.args.hart) s c.args.hart c.ecall.result new) c.as_slice.ensures.value c.ecall.ensures.step)

@@ -1,31 +1,27 @@
-use Rattle.std.proofs.Common.{◌≡◌, ◌∙◌, false, refl, sym}
-use Rattle.std.proofs.lemmas.Bool.{both_ways}
-use Rattle.hart_sim.specs.Hardware.{state_on}
-use Rattle.hart_sim.proofs.Equal.{equal}
-use Rattle.hart_sim.proofs.Alike.{unmarked}
-use Rattle.hart_sim.proofs.Framed.{frame_same}
+use Rattle.std.proofs.Common.{◌≡◌, ◌∙◌, false, Bool, if◌then◌else◌, ap, sym, subst}
+use Rattle.std.proofs.lemmas.Bool.{ne_eqb}
+use Rattle.worlds.specs.declared.world.World.TheVariants.{Host}
+use Rattle.pmp_encoding.specs.Banks.{HasList}
+use Rattle.monitor_core.specs.Monitors.{state_of, kept_of, list_of}
+use Rattle.hart_sim.proofs.Framed.{frame_woken}
 use Rattle.hart_sim.proofs.parts.Parts.wake.Goals as goal
 
-pub load_host-requires-clause-marked : goal.load_host-requires-clause-marked
-load_host-requires-clause-marked c = sym (c.is_marked.ensures c.args.self.now.table.table) ∙ c.if-not-is_marked.false
-
-pub returns-then-not-is_marked-clause-state : goal.returns-then-not-is_marked-clause-state
-returns-then-not-is_marked-clause-state c = λ table.
-    let s = state_on table c.args.self.now.hardware in
-    let off : s.marked c.args.hart ≡ false = sym (c.is_marked.ensures table) ∙ c.if-not-is_marked.true in
-    equal (record { table = refl; worlds = λ h. refl; registers = λ who. refl; bytes = λ a. refl; written = λ p. refl; marked = λ h. sym (unmarked s c.args.hart h off) })
-
-pub returns-clause-asleep : goal.returns-clause-asleep
-returns-clause-asleep c = λ off.
-    let kept = c.args.self.now.table in
-    absurd (both_ways c.is_marked.result (c.is_marked.ensures kept.table ∙ off) c.if-not-is_marked.false)
-
-pub returns-then-not-is_marked-clause-woken : goal.returns-then-not-is_marked-clause-woken
-returns-then-not-is_marked-clause-woken c = λ on.
-    absurd (both_ways c.is_marked.result c.if-not-is_marked.true (c.is_marked.ensures c.args.self.now.table.table ∙ on))
-
 pub returns-clause-woken : goal.returns-clause-woken
-returns-clause-woken c = λ on. c.load_host.ensures.loaded
+returns-clause-woken c = λ on.
+    let old = c.args.self.now in
+    let l = c.load.ensures.list in
+    let host : (state_of old.monitor).worlds c.args.hart ≡ Host = c.cite_invariant.ensures.worlds.marked c.args.hart c.requires.on.known on in
+    (l.0, l.1, subst (λ w. HasList l.0 (list_of (kept_of old.monitor) w)) host l.2)
 
-pub returns-then-not-is_marked-clause-frame : goal.returns-then-not-is_marked-clause-frame
-returns-then-not-is_marked-clause-frame c = frame_same c.args.self.now c.args.hart c.requires.on
+pub returns-clause-frame : goal.returns-clause-frame
+returns-clause-frame c =
+    let old = c.args.self.now in
+    let mid = c.load.new.self in
+    let new = record mid { monitor = c.wake.new.self } in
+    let same = c.load.ensures.monitor in
+    let was = (state_of mid.monitor).marked in
+    frame_woken old new c.args.hart (sym c.is_marked.ensures ∙ c.if-not-is_marked.false) c.load.ensures.limited
+    (ap (λ s. s.table) c.wake.ensures.state ∙ ap (λ m. (state_of m).table) same)
+    (λ i. ap (λ s. s.worlds i) c.wake.ensures.state ∙ ap (λ m. (state_of m).worlds i) same)
+    (λ i other. ap (λ s. s.marked i) c.wake.ensures.state ∙ ap (λ (b : Bool). if b then false else was i) (ne_eqb i c.args.hart other) ∙ ap (λ m. (state_of m).marked i) same)
+    (c.wake.ensures.kept ∙ ap kept_of same) c.load.ensures.others c.load.ensures.fewest

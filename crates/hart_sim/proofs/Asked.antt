@@ -1,0 +1,40 @@
+-- What an event asks of the monitor, and what it leaves of the monitor's part of the state.
+use Rattle.std.proofs.Common.{◌≡◌, inl, inr, ℕ, List, Option, Result, Ok, Err, ap}
+use Rattle.pmp_match.specs.declared.access.Access.{Access}
+use Rattle.pmp_match.specs.declared.access.Kind.{Kind}
+use Rattle.pmp_match.specs.declared.access.Kind.TheVariants.{Fetch, Load, Store}
+use Rattle.pmp_match.specs.declared.cause.Cause.{Cause}
+use Rattle.sbi_decode.specs.Calls.{call_of}
+use Rattle.sbi_decode.specs.declared.calls.Call.{Call}
+use Rattle.monitor_core.specs.States.{State as Core}
+use Rattle.monitor_core.specs.Changes.{with_running, without_mark}
+use Rattle.hart_sim.specs.declared.reply.Reply.{Reply}
+use Rattle.hart_sim.specs.States.{State, core_of, with_core, page_bytes}
+use Rattle.hart_sim.specs.Changes.{calling}
+use Rattle.hart_sim.specs.Steps.{Accesses, TakesEffect}
+
+-- the state that an event on a hart meets: the hart is not marked
+abbrev pub awoken : State → ℕ → State
+awoken s hart = with_core s (without_mark (core_of s) hart)
+
+-- the call that words name there, and the monitor's state with them in its registers
+abbrev pub named : State → ℕ → List ℕ → Option Call
+named s hart words = call_of (calling (awoken s hart) hart words)
+
+abbrev pub asked : State → ℕ → List ℕ → Core
+asked s hart words = with_running (core_of (awoken s hart)) hart (calling (awoken s hart) hart words)
+
+-- the pages that a call may measure
+abbrev pub lent : State → ℕ → List ℕ
+lent s page = page_bytes s page
+
+-- an access leaves the monitor's part
+pub core_effect : (kind : Kind) (s : State) (a : Access) (value : ℕ) (reply : Reply) (new : State) → TakesEffect kind s a value reply new → core_of new ≡ core_of s
+core_effect Fetch s a value reply new x = ap core_of x.1
+core_effect Load s a value reply new x = ap core_of x.1
+core_effect Store s a value reply new (inl x) = ap core_of x.1
+core_effect Store s a value reply new (inr x) = ap core_of x.2
+
+pub core_access : (said : Result (Unit {0}) Cause) (s : State) (a : Access) (value : ℕ) (reply : Reply) (new : State) → Accesses said s a value reply new → core_of new ≡ core_of s
+core_access (Err cause) s a value reply new x = ap core_of x.1
+core_access (Ok done) s a value reply new x = core_effect a.kind s a value reply new x
