@@ -1,13 +1,14 @@
 -- The program as `clap` sees it is one whose parses it tells.
 use Rattle.std.proofs.Common.{List, [], ◌≡◌, ◌⊎◌, inl, inr, true, refl, subst, ⊎_elim}
 use Rattle.clap.specs.Kinds.{IsAmong}
-use Rattle.clap.specs.Words.{App, HasMatchesOf, Text, fault_of, is_simple, is_simple_and_free, subcommand_rows_of}
+use Rattle.clap.specs.Words.{App, HasMatchesOf, Text, fault_of, is_simple, is_simple_and_free, subcommand_of, subcommand_rows_of}
 use Rattle.clap.specs.declared.error.kind.ErrorKind.{ErrorKind}
 use Rattle.clap.specs.declared.error.kind.ErrorKind.TheVariants.{OutOfMemory}
 use Rattle.clap.specs.declared.parser.matches.ArgMatches.{ArgMatches}
-use Rattle.command_line.specs.CommandLine.{program_app, AreNone, IsFaultIn, Refuses}
+use Rattle.command_line.specs.CommandLine.{program_app, AreNone, IsFaultIn, IsTask, Refuses}
 use Rattle.command_line.specs.Faults.{fault_kind}
 use Rattle.program_tasks.specs.declared.fault.Fault.{Fault}
+use Rattle.program_tasks.specs.declared.task.Task.{Task}
 
 program_told : is_simple_and_free program_app ≡ true
 program_told = refl
@@ -24,6 +25,11 @@ pub some_kind :
 some_kind app words kind e h =
     let told = subst (λ a. is_simple_and_free a ≡ true → (kind ≡ OutOfMemory) ⊎ IsAmong kind (fault_of a words)) e h program_told in
     ⊎_elim (λ m. inl m) (λ k. inr (inl k)) told
+
+pub some_task :
+    (app : App) (words : List Text) (m : ArgMatches) (task : Task) → app ≡ program_app → HasMatchesOf app words m → IsTask (subcommand_rows_of m) task
+    → IsTask (subcommand_of program_app words) task
+some_task app words m task e h is = subst (λ found. IsTask found task) (subst (λ a. HasMatchesOf a words m) e h program_simple).1 is
 
 pub no_task :
     (app : App) (words : List Text) (m : ArgMatches) (kind : ErrorKind) (fault : Fault) → app ≡ program_app → HasMatchesOf app words m → AreNone (subcommand_rows_of m)

@@ -42,6 +42,10 @@ format_rule = option_rule (codes "format") (codes "text" ∷ [])
 abbrev pub measure_rule : Rule
 measure_rule = record (new_rule (codes "measure")) { long = Some (codes "measure"); action = Some SetTrue }
 
+-- `--registers`, which takes no value
+abbrev pub registers_rule : Rule
+registers_rule = record (new_rule (codes "registers")) { long = Some (codes "registers"); action = Some SetTrue }
+
 abbrev pub run_app : App
 run_app = with_rule
     (with_rule (with_rule (new_app (codes "run")) (file_rule (codes "PLATFORM") true)) (file_rule (codes "TRACE") true))
@@ -65,7 +69,9 @@ abbrev pub check_app : App
 check_app = with_rule (with_rule (new_app (codes "check")) (file_rule (codes "MAP") true)) (file_rule (codes "CERT") true)
 
 abbrev pub show_app : App
-show_app = with_rule (with_rule (with_rule (new_app (codes "show")) (file_rule (codes "MAP") true)) entries_rule) at_most_rule
+show_app = with_rule
+    (with_rule (with_rule (with_rule (new_app (codes "show")) (file_rule (codes "MAP") true)) entries_rule) at_most_rule)
+    registers_rule
 
 abbrev pub audit_app : App
 audit_app = with_rule (with_rule (new_app (codes "audit")) (file_rule (codes "MAP") true)) (file_rule (codes "REGISTERS") true)

@@ -2,7 +2,7 @@
 
 ghost use Rattle.std.specs.Prelude.{◌≡◌, false};
 ghost use Rattle.clap.specs.Words.{rule_of};
-ghost use Rattle.command_line.specs.CommandLine.{at_most_rule, entries_rule, file_rule, format_rule, measure_rule};
+ghost use Rattle.command_line.specs.CommandLine.{at_most_rule, entries_rule, file_rule, format_rule, measure_rule, registers_rule};
 ghost use Rattle.command_line.specs.Building.{rule_by};
 
 use clap::{Arg, ArgAction};
@@ -23,6 +23,8 @@ pub enum Argument<'a> {
     Format,
     /// `--measure`, whether measurements are asked for.
     Measure,
+    /// `--registers`, whether a file has registers in place of a map.
+    Registers,
 }
 
 impl<'a> Argument<'a> {
@@ -38,6 +40,7 @@ impl<'a> Argument<'a> {
             Argument::AtMost => at_most_arg(alloc),
             Argument::Format => format_arg(alloc),
             Argument::Measure => measure_arg(alloc),
+            Argument::Registers => registers_arg(alloc),
         }
     }
 }
@@ -99,5 +102,16 @@ fn measure_arg<'a>(alloc: Global) -> Arg<'a>
     Arg::new(alloc, "measure")
         .long("measure")
         .help("Print the measurement of each live enclave after the report")
+        .action(ArgAction::SetTrue)
+}
+
+/// The flag that says that a file has registers.
+fn registers_arg<'a>(alloc: Global) -> Arg<'a>
+    ensures rule { rule_of result ≡ registers_rule }
+    ensures local { result.global ≡ false }
+{
+    Arg::new(alloc, "registers")
+        .long("registers")
+        .help("Read MAP as a listing of registers, and say what they mean")
         .action(ArgAction::SetTrue)
 }

@@ -131,11 +131,13 @@ fn check_command<'a>(alloc: Global) -> Result<Command<'a>, AllocError>
 fn show_command<'a>(alloc: Global) -> Result<Command<'a>, AllocError>
     ensures { IfOk result (IsCommandOf (app_by Subcommand.Show)) }
 {
-    let about = "Print a map as a table, each stretch with the entry that decides it";
+    let about =
+        "Print a map, or what registers mean, as a table, each stretch with the entry that decides it";
     let arguments = [
-        Argument::File("MAP", "The map file"),
+        Argument::File("MAP", "The map file, or with --registers the listing of registers"),
         Argument::Entries,
         Argument::AtMost,
+        Argument::Registers,
     ];
     command(alloc, Subcommand::Show.name(), about, SHOW_HELP, &arguments)
 }

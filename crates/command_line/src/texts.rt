@@ -30,7 +30,7 @@ pub const LINT_HELP: &str =
 
 /// After those of `show`.
 pub const SHOW_HELP: &str =
-    "Prints the map as a table: each stretch of bytes with one permission that one entry decides, its size, its\npermission (r, w, x, a hyphen for each that it lacks), the entry, and the entries that it overrides there; then all\nelse; then how many entries the map needs, and whether a hart of --entries has as many.\n\nExample:\n  pmpmon show map.txt --entries 64";
+    "Prints the map as a table: each stretch of bytes with one permission that one entry decides, its size, its\npermission (r, w, x, a hyphen for each that it lacks), the entry, and the entries that it overrides there; then all\nelse; then how many entries the map needs, and whether a hart of --entries has as many.\n\nWith --registers the file is a listing of registers, as audit takes it, and the table says what they give: OFF, TOR, NA4\nand NAPOT, locked or not. --entries and --at-most say nothing then. Registers with reserved values, or beside an mseccfg\nthat is not zero, have no table: one line says why, with status 1.\n\nExamples:\n  pmpmon show map.txt --entries 64\n  pmpmon show --registers board.txt";
 
 /// After those of `judge`.
 pub const JUDGE_HELP: &str =

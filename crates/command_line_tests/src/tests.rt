@@ -259,18 +259,26 @@ fn plan_and_show_take_options(rt: HostRuntime) -> Result<(), Fail> {
         Task::Show {
             map: "map.txt",
             limit: Limit::SixtyFour,
-            at_most: Some(16)
+            at_most: Some(16),
+            registers: false
         }
     );
-    let plain = command_of(rt.alloc(), &["pmpmon", "show", "-"])?;
-    assert_eq!(rt;
-        plain,
-        Task::Show {
-            map: "-",
-            limit: Limit::Sixteen,
-            at_most: None
-        }
-    );
+    let lines: [&[&str]; 2] = [
+        &["pmpmon", "show", "--registers", "-"],
+        &["pmpmon", "show", "-", "--registers"],
+    ];
+    for words in lines {
+        let plain = command_of(rt.alloc(), words)?;
+        assert_eq!(rt;
+            plain,
+            Task::Show {
+                map: "-",
+                limit: Limit::Sixteen,
+                at_most: None,
+                registers: true
+            }
+        );
+    }
     Ok(())
 }
 

@@ -37,6 +37,7 @@ use Rattle.register_formats.specs.AsmTexts.{IsAsmText}
 use Rattle.register_formats.specs.CTexts.{IsCText}
 use Rattle.register_formats.specs.JsonTexts.{IsJsonText}
 use Rattle.register_audit.specs.Audits.{IsAudit}
+use Rattle.register_table.specs.Tables.{IsRegisterTable}
 use Rattle.register_text.specs.Listings.{IsFirstUnknown}
 use Rattle.program_tasks.specs.declared.task.Format.{Format}
 use Rattle.program_tasks.specs.declared.task.Format.TheVariants as formats
@@ -208,6 +209,28 @@ pub data Shows {R W : Type 0} (map : Bor (List ℕ)) (limit : Limit) (at_most : 
       (runs : List Run) (entries : List Entry) (text : List ℕ) → HasMap first runs → IsPlanned (view_of_runs runs) at_most entries → IsTable (view_of_runs runs) entries limit text
       → Breaks text out → Shows map limit at_most first out (Err Output)
 
+-- the status of an answer: 0 for a yes, and 1 for a no
+abbrev pub answer_status : Bool → ℕ
+answer_status true = 0
+answer_status false = 1
+
+-- `show --registers`: the listing of registers is read, and the table of what they give is printed, or why they mean nothing
+pub data ShowsRegisters {R W : Type 0} (registers : Bor (List ℕ)) (first : Reading R) (out : Writing W) : Result ℕ Trouble → Type 0 where
+  told :
+      (listing text : List ℕ) (meant : Bool) → HasBytes (2 ^ 20) first listing → IsRegisterTable listing text meant → TakesAll text out
+      → ShowsRegisters registers first out (Ok (answer_status meant))
+  no_bytes : (trouble : Trouble) → HasNoBytes (2 ^ 20) registers first trouble → IsUnwritten out → ShowsRegisters registers first out (Err trouble)
+  no_memory : (listing : List ℕ) → HasBytes (2 ^ 20) first listing → IsUnwritten out → ShowsRegisters registers first out (Err Memory)
+  not_understood :
+      (listing : List ℕ) (n : ℕ) → HasBytes (2 ^ 20) first listing → IsFirstUnknown listing n → IsUnwritten out → ShowsRegisters registers first out (Err (NotUnderstood registers n))
+  no_output :
+      (listing text : List ℕ) (meant : Bool) → HasBytes (2 ^ 20) first listing → IsRegisterTable listing text meant → Breaks text out → ShowsRegisters registers first out (Err Output)
+
+-- `show`, with `--registers` or without
+abbrev pub ShowsAs : {R W : Type 0} → Bool → Bor (List ℕ) → Limit → Option ℕ → Reading R → Writing W → Result ℕ Trouble → Type 0
+ShowsAs true file limit at_most first out done = ShowsRegisters file first out done
+ShowsAs false file limit at_most first out done = Shows file limit at_most first out done
+
 -- `judge`: the map is read and its entries are loaded, and then the trace is judged line by line
 pub data Judges {R W : Type 0} (map trace : Bor (List ℕ)) (limit : Limit) (first second : Reading R) (out : Writing W) : Result ℕ Trouble → Type 0 where
   judged :
@@ -234,11 +257,6 @@ pub data Checks {R W : Type 0} (map cert : Bor (List ℕ)) (first second : Readi
   no_output :
       (runs : List Run) (bytes line : List ℕ) (status : ℕ) → HasMap first runs → HasBytes (2 ^ 26) second bytes → IsVerdict (view_of_runs runs) bytes line status
       → Breaks line out → Checks map cert first second out (Err Output)
-
--- the status of an answer: 0 for a yes, and 1 for a no
-abbrev pub answer_status : Bool → ℕ
-answer_status true = 0
-answer_status false = 1
 
 -- what an audit is made of: the map of the first file, the listing in the second, and how many entries are enough
 pub record IsAudited {R : Type 0} (first second : Reading R) (view : View) (listing : List ℕ) (fewest : ℕ) : Type 0 where

@@ -16,7 +16,7 @@ pub use check::do_check;
 pub use judge::do_judge;
 pub use lint::do_lint;
 pub use plan::{Asked, do_plan};
-pub use show::do_show;
+pub use show::do_show_as;
 pub use verdicts::verdict;
 
 /// The status of an answer: 0 for a yes, and 1 for a no.

@@ -1,31 +1,31 @@
 -- The rows of a table.
-use Rattle.std.specs.Prelude.{ℕ, ◌+◌, ◌-◌, ◌^◌, ◌<◌, ◌==◌, ◌&&◌, nat_le, nat_lt, Bool, true, false, if◌then◌else◌, List, [], ◌∷◌, ◌++◌, codes, decimal, drop, length, Option, None, Some, IfSome}
+use Rattle.std.specs.Prelude.{ℕ, ◌+◌, ◌-◌, ◌<◌, ◌==◌, ◌&&◌, nat_le, nat_lt, Bool, true, false, if◌then◌else◌, List, [], ◌∷◌, ◌++◌, codes, decimal, drop, length, Option, None, Some, IfSome}
 use Rattle.pmp_encoding.specs.declared.limit.Limit.{Limit}
-use Rattle.pmp_encoding.specs.declared.region.Entry.{Entry}
+use Rattle.pmp_encoding.specs.declared.extent.Extent.{Extent}
 use Rattle.pmp_encoding.specs.Limits.{limit_number}
 use Rattle.text_lines.specs.Written.{hex}
 use Rattle.stretches.specs.declared.stretch.Stretch.{Stretch}
 use Rattle.printed_lines.specs.Fields.{letters_of, size_text}
 use Rattle.map_table.specs.Fields.{column}
 
--- a stretch with a byte, and with the number of an entry of the list or of none
-pub record IsRow (entries : List Entry) (s : Stretch) : Type 0 where
+-- a stretch with a byte, and with the number of an extent of the list or of none
+pub record IsRow (extents : List Extent) (s : Stretch) : Type 0 where
   pub some : s.first < s.end
-  pub number : IfSome s.entry (λ i. i < length entries)
+  pub number : IfSome s.entry (λ i. i < length extents)
 
 -- `0xFIRST 0xLAST SIZE  PERM  `
 abbrev pub range_text : Stretch → List ℕ
 range_text s =
     codes "0x" ++ hex 16 s.first ++ codes " 0x" ++ hex 16 (s.end - 1) ++ codes " " ++ column (size_text (s.end - s.first)) ++ codes "  " ++ letters_of s.wanted ++ codes "  "
 
--- whether the entry has some byte of the stretch
-abbrev pub meets : Entry → Stretch → Bool
-meets e s = nat_lt e.region.base s.end && nat_lt s.first (e.region.base + 2 ^ e.region.log2)
+-- whether the extent has some byte of the stretch
+abbrev pub meets : Extent → Stretch → Bool
+meets x s = nat_lt x.base s.end && nat_lt s.first x.end
 
--- the numbers of the entries that have some byte of the stretch, where the first of the list has the number n
-abbrev pub overridden_from : ℕ → List Entry → Stretch → List ℕ
+-- the numbers of the extents that have some byte of the stretch, where the first of the list has the number n
+abbrev pub overridden_from : ℕ → List Extent → Stretch → List ℕ
 overridden_from n [] s = []
-overridden_from n (e ∷ entries) s = if meets e s then n ∷ overridden_from (n + 1) entries s else overridden_from (n + 1) entries s
+overridden_from n (x ∷ extents) s = if meets x s then n ∷ overridden_from (n + 1) extents s else overridden_from (n + 1) extents s
 
 -- the first two of the entries that are overridden, and two points for the others
 abbrev pub before_text : List ℕ → List ℕ
@@ -39,13 +39,17 @@ abbrev pub number_text : ℕ → List ℕ → List ℕ
 number_text i overridden = decimal i ++ before_text overridden ++ codes "\n"
 
 -- the row of a stretch that an entry decides; another has none
-abbrev pub row_by : List Entry → Stretch → Option ℕ → List ℕ
-row_by entries s None = []
-row_by entries s (Some i) = range_text s ++ number_text i (overridden_from (i + 1) (drop (i + 1) entries) s)
+abbrev pub row_by : List Extent → Stretch → Option ℕ → List ℕ
+row_by extents s None = []
+row_by extents s (Some i) = range_text s ++ number_text i (overridden_from (i + 1) (drop (i + 1) extents) s)
 
-abbrev pub rows_text : List Entry → List Stretch → List ℕ
-rows_text entries [] = []
-rows_text entries (s ∷ stretches) = row_by entries s s.entry ++ rows_text entries stretches
+abbrev pub rows_text : List Extent → List Stretch → List ℕ
+rows_text extents [] = []
+rows_text extents (s ∷ stretches) = row_by extents s s.entry ++ rows_text extents stretches
+
+-- a stretch with the permission that its extent gives it, in place of a map's
+abbrev pub as_given : Stretch → Stretch
+as_given s = record { first = s.first; end = s.end; wanted = s.given; given = s.given; entry = s.entry }
 
 -- whether no entry decides some stretch
 abbrev pub is_rest : Option ℕ → Bool
@@ -72,3 +76,10 @@ fitting_text n limit = if nat_le n (limit_number limit) then codes "fits " else 
 -- `N entries: fewest possible; fits LIMIT`
 abbrev pub count_text : ℕ → Limit → List ℕ
 count_text n limit = decimal n ++ named_text n ++ fitting_text n limit ++ decimal (limit_number limit) ++ codes "\n"
+
+abbrev pub on_named : ℕ → List ℕ
+on_named n = if n == 1 then codes " entry is not OFF\n" else codes " entries are not OFF\n"
+
+-- `N entries are not OFF`
+abbrev pub on_text : ℕ → List ℕ
+on_text n = decimal n ++ on_named n

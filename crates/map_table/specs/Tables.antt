@@ -1,12 +1,14 @@
 -- The table of a map.
-use Rattle.std.specs.Prelude.{◌≡◌, ℕ, ◌^◌, List, ◌++◌, codes, length}
+use Rattle.std.specs.Prelude.{◌≡◌, ℕ, ◌^◌, List, [], ◌++◌, codes, length, map}
+use Rattle.pmp_encoding.specs.declared.extent.Extent.{Extent}
 use Rattle.pmp_encoding.specs.declared.limit.Limit.{Limit}
 use Rattle.pmp_encoding.specs.declared.region.Entry.{Entry}
 use Rattle.page_views.specs.Views.{View}
+use Rattle.permission_map.specs.Runs.{view_of_runs}
 use Rattle.pmp_registers.specs.Lists.{matched_by}
 use Rattle.stretches.specs.declared.stretch.Stretch.{Stretch}
 use Rattle.stretches.specs.Stretches.{AreStretches}
-use Rattle.map_table.specs.Rows.{count_text, rest_of, rows_text}
+use Rattle.map_table.specs.Rows.{as_given, count_text, on_text, rest_of, rows_text}
 
 -- the names of the columns
 abbrev pub head_text : List ℕ
@@ -16,4 +18,11 @@ head_text = codes "from               to                 size    perm by\n"
 pub record IsTable (view : View) (entries : List Entry) (limit : Limit) (text : List ℕ) : Type 0 where
   pub stretches : List Stretch
   pub are_stretches : AreStretches view (matched_by entries) 0 stretches (2 ^ 56)
-  pub lines : text ≡ head_text ++ rows_text entries stretches ++ rest_of stretches ++ count_text (length entries) limit
+  pub lines : text ≡ head_text ++ rows_text (matched_by entries) stretches ++ rest_of stretches ++ count_text (length entries) limit
+
+-- the table of what extents give by themselves, so many of them of entries that are not OFF: the same rows of their stretches over
+-- the map of no pages, with the permission that each extent gives
+pub record IsExtentTable (extents : List Extent) (on : ℕ) (text : List ℕ) : Type 0 where
+  pub stretches : List Stretch
+  pub are_stretches : AreStretches (view_of_runs []) extents 0 stretches (2 ^ 56)
+  pub lines : text ≡ head_text ++ rows_text extents (map as_given stretches) ++ rest_of (map as_given stretches) ++ on_text on

@@ -1,6 +1,7 @@
 //! The table of a map as people look at it: its stretches, and which entry decides each.
 //!
-//! For the layer above: [`print_map`] writes the table of a map and its fewest entries.
+//! For the layer above: [`print_map`] writes the table of a map and its fewest entries, and [`extent_table`] answers that of what
+//! extents give by themselves.
 //!
 //! ```text
 //! from               to                 size    perm by
@@ -19,4 +20,4 @@ mod table;
 #[cfg(test)]
 mod tests;
 
-pub use table::{TableFault, print_map};
+pub use table::{TableFault, extent_table, print_map};

@@ -1,30 +1,29 @@
-//! The entries that a deciding entry overrides.
+//! The entries that a deciding entry overrides, by what they match.
 
 ghost use Rattle.std.specs.Prelude.{◌≡◌, ◌+◌, ◌<◌, drop, length, take};
 ghost use Rattle.map_table.specs.Rows.{meets, overridden_from};
 
 use arrayvec::ArrayVec;
-use pmp_encoding::Entry;
+use pmp_registers::Extent;
 use stretches::Stretch;
 
-/// Whether the entry has some byte of the stretch.
-fn meets(entry: &Entry, stretch: &Stretch) -> bool
-    ensures { result ≡ meets entry.now stretch.now }
+/// Whether the extent has some byte of the stretch.
+fn meets(extent: &Extent, stretch: &Stretch) -> bool
+    ensures { result ≡ meets extent.now stretch.now }
 {
-    let end = entry.region.base + (1 << entry.region.log2);
-    entry.region.base < stretch.end && stretch.first < end
+    extent.base < stretch.end && stretch.first < extent.end
 }
 
-/// The first entries after number i that have a byte of the stretch, at most three, by their numbers.
-pub(crate) fn overridden(entries: &[Entry], i: usize, stretch: &Stretch) -> ArrayVec<usize, 3>
-    requires { i < length entries.now }
+/// The first extents after number i that have a byte of the stretch, at most three, by their numbers.
+pub(crate) fn overridden(extents: &[Extent], i: usize, stretch: &Stretch) -> ArrayVec<usize, 3>
+    requires { i < length extents.now }
     ensures { result.items ≡ take 3 (overridden_from (i + 1)
-        (drop (i + 1) entries.now) stretch.now) }
+        (drop (i + 1) extents.now) stretch.now) }
 {
     let mut found = ArrayVec::new();
     let mut j = i + 1;
-    while j < entries.len() && !found.is_full() {
-        if meets(&entries[j], stretch) {
+    while j < extents.len() && !found.is_full() {
+        if meets(&extents[j], stretch) {
             found.push(j);
         }
         j += 1;

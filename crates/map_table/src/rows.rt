@@ -2,13 +2,14 @@
 
 ghost use Rattle.std.specs.Prelude.{◌≡◌, ◌+◌, ◌++◌, ◌<◌, ◌≤◌, All, OnOk, drop, length};
 ghost use Rattle.arrayvec.specs.ArrayVec.{array_vec_len};
-ghost use Rattle.map_table.specs.Rows.{IsRow, before_text, count_text, fitting_text, has_rest, named_text, number_text, overridden_from, range_text, rest_of, row_by, rows_text};
+ghost use Rattle.map_table.specs.Rows.{IsRow, before_text, count_text, fitting_text, has_rest, named_text, number_text, on_named, on_text, overridden_from, range_text, rest_of, row_by, rows_text};
 
 use crate::fields::push_column;
 use crate::overridden::overridden;
 use arrayvec::ArrayVec;
 use permission_map::Memory;
-use pmp_encoding::{Entry, Limit};
+use pmp_encoding::Limit;
+use pmp_registers::Extent;
 use printed_lines::letters;
 use stretches::Stretch;
 use text_lines::{Line, push_decimal, push_hex, push_text};
@@ -64,12 +65,12 @@ fn push_before(line: &mut Line, behind: &[usize])
 }
 
 /// Which entry decides, and which it comes before.
-fn number_line(entries: &[Entry], i: usize, stretch: &Stretch) -> Line
-    requires { i < length entries.now }
+fn number_line(extents: &[Extent], i: usize, stretch: &Stretch) -> Line
+    requires { i < length extents.now }
     ensures { result.items ≡ number_text i
-        (overridden_from (i + 1) (drop (i + 1) entries.now) stretch.now) }
+        (overridden_from (i + 1) (drop (i + 1) extents.now) stretch.now) }
 {
-    let behind = overridden(entries, i, stretch);
+    let behind = overridden(extents, i, stretch);
     let mut line = ArrayVec::new();
     push_decimal(&mut line, i as u64);
     push_before(&mut line, behind.as_slice());
@@ -78,17 +79,17 @@ fn number_line(entries: &[Entry], i: usize, stretch: &Stretch) -> Line
 }
 
 /// Appends the row of a stretch that an entry decides.
-fn push_row(text: &mut Vec<u8>, entries: &[Entry], stretch: &Stretch) -> Result<(), Memory>
-    requires { IsRow entries.now stretch.now }
+fn push_row(text: &mut Vec<u8>, extents: &[Extent], stretch: &Stretch) -> Result<(), Memory>
+    requires { IsRow extents.now stretch.now }
     ensures { OnOk result
-        (text.new.items ≡ text.old.items ++ row_by entries.now stretch.now stretch.now.entry) }
+        (text.new.items ≡ text.old.items ++ row_by extents.now stretch.now stretch.now.entry) }
 {
     let Some(i) = stretch.entry else {
         return Ok(());
     };
     let range = range_line(stretch);
     text.extend_from_slice(range.as_slice())?;
-    let number = number_line(entries, i, stretch);
+    let number = number_line(extents, i, stretch);
     text.extend_from_slice(number.as_slice())?;
     Ok(())
 }
@@ -96,14 +97,14 @@ fn push_row(text: &mut Vec<u8>, entries: &[Entry], stretch: &Stretch) -> Result<
 /// Appends a row for each stretch that an entry decides.
 pub(crate) fn push_rows(
     text: &mut Vec<u8>,
-    entries: &[Entry],
+    extents: &[Extent],
     all: &[Stretch],
 ) -> Result<(), Memory>
-    requires { All (IsRow entries.now) all.now }
-    ensures { OnOk result (text.new.items ≡ text.old.items ++ rows_text entries.now all.now) }
+    requires { All (IsRow extents.now) all.now }
+    ensures { OnOk result (text.new.items ≡ text.old.items ++ rows_text extents.now all.now) }
 {
     for stretch in all {
-        push_row(text, entries, stretch)?;
+        push_row(text, extents, stretch)?;
     }
     Ok(())
 }
@@ -163,5 +164,26 @@ pub(crate) fn count_line(count: usize, limit: Limit) -> Line
     push_text(&mut line, fitting(count, limit).as_bytes());
     push_decimal(&mut line, u64::from(limit.number()));
     line.push(b'\n');
+    line
+}
+
+fn on_named(on: usize) -> &'static str
+    ensures value { result.now ≡ on_named on }
+    ensures length { length result.now ≤ 32 }
+{
+    if on == 1 {
+        " entry is not OFF\n"
+    } else {
+        " entries are not OFF\n"
+    }
+}
+
+/// How many entries are not OFF.
+pub(crate) fn on_line(on: usize) -> Line
+    ensures { result.items ≡ on_text on }
+{
+    let mut line = ArrayVec::new();
+    push_decimal(&mut line, on as u64);
+    push_text(&mut line, on_named(on).as_bytes());
     line
 }

@@ -1,18 +1,21 @@
 //! The whole table.
 
-ghost use Rattle.std.specs.Prelude.{◌≡◌, ◌-◌, ◌^◌, ◌<◌, ◌≤◌, ℕ, Err, IfOk, List, OnOk, length};
+ghost use Rattle.std.specs.Prelude.{◌≡◌, ◌-◌, ◌^◌, ◌<◌, ◌≤◌, ℕ, All, Err, IfOk, List, OnOk, length, map};
 ghost use Rattle.byte_streams.specs.Writings.{writing, Breaks, TakesAll};
 ghost use Rattle.pmp_encoding.specs.declared.region.Entry.{Entry};
 ghost use Rattle.pmp_match.specs.Meaning.{IsFewest};
 ghost use Rattle.permission_map.specs.Runs.{view_of_runs};
-ghost use Rattle.map_table.specs.Tables.{IsTable};
+ghost use Rattle.pmp_registers.specs.Decision.{IsWords};
+ghost use Rattle.map_table.specs.Rows.{as_given};
+ghost use Rattle.map_table.specs.Tables.{IsExtentTable, IsTable};
 
-use crate::rows::{count_line, push_rest, push_rows};
+use crate::rows::{count_line, on_line, push_rest, push_rows};
 use byte_streams::{Sink, write_whole};
 use permission_map::{Memory, PermissionMap};
 use pmp_encoding::{Entry, Limit};
+use pmp_registers::Extent;
 use std::alloc::{AllocError, Global};
-use stretches::stretches_by_entries;
+use stretches::{Stretch, extents_of, stretches, stretches_by_entries};
 
 /// Why a table was not written.
 #[derive(Clone, Copy, PartialEq, Eq, Debug)]
@@ -45,12 +48,54 @@ pub(crate) fn table_of(
 ) -> Result<Vec<u8>, Memory>
     ensures { IfOk result (λ text. IsTable (view_of_runs map.now) entries.now limit text.items) }
 {
+    let extents = extents_of(alloc, entries)?;
     let all = stretches_by_entries(alloc, map, entries)?;
     let mut text = Vec::new(alloc);
     text.extend_from_slice(HEAD)?;
-    push_rows(&mut text, entries, all.as_slice())?;
+    push_rows(&mut text, extents.as_slice(), all.as_slice())?;
     push_rest(&mut text, all.as_slice())?;
     let count = count_line(entries.len(), limit);
+    text.extend_from_slice(count.as_slice())?;
+    Ok(text)
+}
+
+/// A stretch with the permission that its extent gives it.
+fn as_given(stretch: &Stretch) -> Stretch
+    ensures { result ≡ as_given stretch.now }
+{
+    Stretch {
+        first: stretch.first,
+        end: stretch.end,
+        wanted: stretch.given,
+        given: stretch.given,
+        entry: stretch.entry,
+    }
+}
+
+/// The same of each. The only error is out of memory.
+fn all_as_given(alloc: Global, all: &[Stretch]) -> Result<Vec<Stretch>, Memory>
+    ensures { IfOk result (λ rows. rows.items ≡ map as_given all.now) }
+{
+    let mut rows = Vec::new(alloc);
+    for stretch in all {
+        rows.push(as_given(stretch))?;
+    }
+    Ok(rows)
+}
+
+/// The table of what extents give by themselves, where so many are of entries that are not OFF. The only error is out of memory.
+pub fn extent_table(alloc: Global, extents: &[Extent], on: usize) -> Result<Vec<u8>, Memory>
+    requires { All IsWords extents.now }
+    ensures { IfOk result (λ text. IsExtentTable extents.now on text.items) }
+{
+    let map = PermissionMap::new(alloc);
+    let all = stretches(alloc, &map, extents)?;
+    let rows = all_as_given(alloc, all.as_slice())?;
+    let mut text = Vec::new(alloc);
+    text.extend_from_slice(HEAD)?;
+    push_rows(&mut text, extents, rows.as_slice())?;
+    push_rest(&mut text, rows.as_slice())?;
+    let count = on_line(on);
     text.extend_from_slice(count.as_slice())?;
     Ok(text)
 }

@@ -8,7 +8,7 @@ ghost use Rattle.program_troubles.specs.Troubles.{status_of};
 
 use crate::commands::do_run;
 use byte_streams::{Sink, Source};
-use map_commands::{Asked, do_audit, do_check, do_judge, do_lint, do_plan, do_show};
+use map_commands::{Asked, do_audit, do_check, do_judge, do_lint, do_plan, do_show_as};
 use program_files::WholeSink;
 use program_tasks::Task;
 use program_troubles::Trouble;
@@ -73,7 +73,8 @@ fn run_task<'a, R: Source, C: WholeSink, W: Sink>(
             map,
             limit,
             at_most,
-        } => do_show(alloc, *map, *limit, *at_most, first, out),
+            registers,
+        } => do_show_as(alloc, *registers, *map, *limit, *at_most, first, out),
     }
 }
 

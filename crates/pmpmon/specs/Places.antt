@@ -32,7 +32,7 @@ first_of (tasks.Judge map trace limit) = place_of map
 first_of (tasks.Check map cert) = place_of map
 first_of (tasks.Audit map registers) = place_of map
 first_of (tasks.Lint map) = place_of map
-first_of (tasks.Show map limit at_most) = place_of map
+first_of (tasks.Show map limit at_most registers) = place_of map
 
 -- what it reads after that; a certificate is a file, whatever its name
 abbrev pub second_of : Task → Option Place

@@ -46,7 +46,7 @@ twice_audited value flag map registers m r mi ri (Run p t s) e v sound = differ 
 twice_audited value flag map registers m r mi ri (Plan p t s a f) e v sound = differ _ _ _ _ refl e
 twice_audited value flag map registers m r mi ri (Judge p t s) e v sound = differ _ _ _ _ refl e
 twice_audited value flag map registers m r mi ri (Check p t) e v sound = differ _ _ _ _ refl e
-twice_audited value flag map registers m r mi ri (Show p t s) e v sound = differ _ _ _ _ refl e
+twice_audited value flag map registers m r mi ri (Show p t s b) e v sound = differ _ _ _ _ refl e
 twice_audited value flag map registers m r mi ri (Lint p) e v sound = differ _ _ _ _ refl e
 
 pub unlisted : (value flag : Text → Option Text) → value (codes "REGISTERS") ≡ None → NamesNone (codes "audit") value flag
@@ -55,5 +55,5 @@ unlisted value flag none (Run p t s) e v sound = differ _ _ _ _ refl e
 unlisted value flag none (Plan p t s a f) e v sound = differ _ _ _ _ refl e
 unlisted value flag none (Judge p t s) e v sound = differ _ _ _ _ refl e
 unlisted value flag none (Check p t) e v sound = differ _ _ _ _ refl e
-unlisted value flag none (Show p t s) e v sound = differ _ _ _ _ refl e
+unlisted value flag none (Show p t s b) e v sound = differ _ _ _ _ refl e
 unlisted value flag none (Lint p) e v sound = differ _ _ _ _ refl e

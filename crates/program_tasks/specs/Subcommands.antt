@@ -25,7 +25,7 @@ subcommand_of (Run platform trace measure) = subcommands.Run
 subcommand_of (Plan map cert limit at_most format) = subcommands.Plan
 subcommand_of (Judge map trace limit) = subcommands.Judge
 subcommand_of (Check map cert) = subcommands.Check
-subcommand_of (Show map limit at_most) = subcommands.Show
+subcommand_of (Show map limit at_most registers) = subcommands.Show
 subcommand_of (Audit map registers) = subcommands.Audit
 subcommand_of (Lint map) = subcommands.Lint
 

@@ -47,10 +47,12 @@ HasValues value flag (Judge map trace limit) =
 HasValues value flag (Check map cert) =
     (value (codes "MAP") ≡ Some map.now)
     × (value (codes "CERT") ≡ Some cert.now)
-HasValues value flag (Show map limit at_most) =
+HasValues value flag (Show map limit at_most registers) =
     (value (codes "MAP") ≡ Some map.now)
     × (value (codes "entries") ≡ Some (limit_word limit))
     × Counts (value (codes "at-most")) at_most
+    × (flag (codes "registers") ≡ Some (codes "true") → registers ≡ true)
+    × (flag (codes "registers") ≡ Some (codes "false") → registers ≡ false)
 HasValues value flag (Audit map registers) =
     (value (codes "MAP") ≡ Some map.now)
     × (value (codes "REGISTERS") ≡ Some registers.now)

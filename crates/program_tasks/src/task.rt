@@ -68,13 +68,15 @@ pub enum Task<'a> {
         /// The map file.
         map: &'a str,
     },
-    /// Print a map as a table of its stretches, each with the entry that decides it.
+    /// Print a map, or what registers mean, as a table of its stretches, each with the entry that decides it.
     Show {
-        /// The map file.
+        /// The map file, or the listing of the registers.
         map: &'a str,
         /// How many entries the register file has.
         limit: Limit,
         /// How many entries the plan may have, where that is asked for.
         at_most: Option<u64>,
+        /// Whether the file is a listing of registers.
+        registers: bool,
     },
 }

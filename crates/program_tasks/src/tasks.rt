@@ -219,10 +219,12 @@ fn show_in<'a, V: Values<'a>>(given: &V) -> Result<Task<'a>, Fault<'a>>
     let map = value_in(given, "MAP")?;
     let limit = limit_in(given)?;
     let at_most = at_most_in(given)?;
+    let registers = given.is_given("registers");
     Ok(Task::Show {
         map,
         limit,
         at_most,
+        registers,
     })
 }
 

@@ -4,6 +4,7 @@ use Rattle.text_lines.specs.Written.{hex}
 use Rattle.printed_lines.specs.Fields.{letters_of}
 use Rattle.pmp_registers.specs.declared.registers.Registers.{Registers}
 use Rattle.pmp_registers.specs.declared.reserved.Reserved.{Reserved}
+use Rattle.pmp_registers.specs.declared.reserved.ReservedAt.{ReservedAt}
 use Rattle.pmp_registers.specs.declared.reserved.Reserved.TheVariants.{Permission, Bits}
 use Rattle.pmp_registers.specs.Registers.{address_at, cfg_at}
 use Rattle.register_audit.specs.declared.verdict.Verdict.{Verdict}
@@ -29,6 +30,11 @@ enough n = if n == 1 then codes " is enough" else codes " are enough"
 abbrev pub differs_text : ℕ → ℕ → List ℕ
 differs_text first last = codes "differs 0x" ++ hex 16 first ++ codes " 0x" ++ hex 16 last ++ codes ": "
 
+-- `pair N 0xCC 0xAAAAAAAAAAAAAAAA: NAME`, an entry that has a reserved value
+abbrev pub reserved_text : Registers → ReservedAt → List ℕ
+reserved_text registers f =
+    codes "pair " ++ decimal f.place ++ codes " 0x" ++ hex 2 (cfg_at registers f.place) ++ codes " 0x" ++ hex 16 (address_at registers f.place) ++ codes ": " ++ reserved_name f.value ++ codes "\n"
+
 -- the line of a verdict on registers, where `fewest` entries are enough for the map
 abbrev pub verdict_text : ℕ → Registers → Verdict → List ℕ
 verdict_text fewest registers (verdicts.Means count) =
@@ -37,8 +43,7 @@ verdict_text fewest registers (verdicts.Differs stretch) =
     differs_text stretch.first (stretch.end - 1) ++ codes "map " ++ letters_of stretch.wanted ++ codes ", " ++ sayer stretch.entry ++ codes " " ++ letters_of stretch.given ++ codes "\n"
 verdict_text fewest registers (verdicts.Cuts entry at) =
     differs_text at (at + 7) ++ sayer (Some entry) ++ codes " cuts an access of 8 bytes\n"
-verdict_text fewest registers (verdicts.NoMeaning f) =
-    codes "pair " ++ decimal f.place ++ codes " 0x" ++ hex 2 (cfg_at registers f.place) ++ codes " 0x" ++ hex 16 (address_at registers f.place) ++ codes ": " ++ reserved_name f.value ++ codes "\n"
+verdict_text fewest registers (verdicts.NoMeaning found) = reserved_text registers found
 
 -- what is said of registers beside an mseccfg that is not zero
 abbrev pub smepmp_text : ℕ → List ℕ

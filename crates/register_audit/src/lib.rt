@@ -3,7 +3,8 @@
 //! For the layer above: [`audit`] reads a listing of registers, and writes one line: that they mean the
 //! map and with how many entries, or the first stretch that differs, or the first access that an entry
 //! cuts, or the first entry that has a reserved value. [`compared`] asks the same of a list of extents,
-//! [`verdict_of`] of registers.
+//! [`verdict_of`] of registers. [`count_on`] counts the entries that are not OFF, and the lines on registers that mean nothing are
+//! texts of their own.
 //!
 //! ```rust
 //! let means = audit(alloc, &map, 3, listing, &mut out)?;
@@ -19,4 +20,5 @@ mod verdict;
 
 pub use auditing::{AuditFault, audit};
 pub use comparing::{Finding, compared};
-pub use verdict::{Verdict, verdict_of};
+pub use texts::{passed_line, reserved_line, smepmp_line};
+pub use verdict::{Verdict, count_on, verdict_of};

@@ -4,7 +4,7 @@ ghost use Rattle.std.specs.Prelude.{◌≡◌, ℕ, ◌+◌, ◌^◌, ◌++◌, 
 ghost use Rattle.pmp_registers.specs.declared.registers.Registers.{Registers};
 ghost use Rattle.register_audit.specs.declared.verdict.Verdict as Verdict;
 ghost use Rattle.arrayvec.specs.ArrayVec.{array_vec_len};
-ghost use Rattle.register_audit.specs.Texts.{differs_text, enough, entries_named, passed_text, reserved_name, sayer, smepmp_text, verdict_text};
+ghost use Rattle.register_audit.specs.Texts.{differs_text, enough, entries_named, passed_text, reserved_name, reserved_text, sayer, smepmp_text, verdict_text};
 ghost use Rattle.register_audit.specs.Verdicts.{IsWritable};
 
 use crate::verdict::Verdict;
@@ -109,10 +109,10 @@ fn cut_line(entry: usize, at: u64) -> Line
     line
 }
 
-fn reserved_line(registers: &Registers, found: &ReservedAt) -> Line
+/// The line on an entry that has a reserved value.
+pub fn reserved_line(registers: &Registers, found: &ReservedAt) -> Line
     requires { found.now.place < 64 }
-    ensures { (fewest : ℕ) → result.items
-        ≡ verdict_text fewest registers.now (Verdict.NoMeaning found.now) }
+    ensures { result.items ≡ reserved_text registers.now found.now }
 {
     let mut line = ArrayVec::new();
     push_text(&mut line, b"pair ");
@@ -141,7 +141,7 @@ pub(crate) fn verdict_line(fewest: u64, registers: &Registers, verdict: &Verdict
 }
 
 /// The line on an `mseccfg` that is not zero.
-pub(crate) fn smepmp_line(mseccfg: u64) -> Line
+pub fn smepmp_line(mseccfg: u64) -> Line
     ensures { result.items ≡ smepmp_text mseccfg }
 {
     let mut line = ArrayVec::new();
@@ -152,7 +152,7 @@ pub(crate) fn smepmp_line(mseccfg: u64) -> Line
 }
 
 /// The comment on lines that are passed over.
-pub(crate) fn passed_line(passed: Option<u64>) -> Line
+pub fn passed_line(passed: Option<u64>) -> Line
     ensures { result.items ≡ passed_text passed }
 {
     let mut line = ArrayVec::new();

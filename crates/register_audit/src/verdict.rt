@@ -41,7 +41,7 @@ fn one_on(cfg: u8) -> usize
 }
 
 /// How many entries are not OFF.
-fn count_on(registers: &Registers) -> usize
+pub fn count_on(registers: &Registers) -> usize
     ensures { result ≡ count_on registers.now.cfgs }
 {
     let mut count = 0;

@@ -2,7 +2,8 @@
 //!
 //! A [`Stretch`] is a maximal piece of the space on which the map has one permission and one entry, or
 //! none, is the first that has each byte. [`stretches`] answers all of them in order; they leave no byte
-//! out and have none twice. [`stretches_by_entries`] does so for a list of NA4 and NAPOT entries.
+//! out and have none twice. [`stretches_by_entries`] does so for a list of NA4 and NAPOT entries, and [`extents_of`]
+//! answers what each of them matches.
 //!
 //! ```rust
 //! for stretch in &stretches_by_entries(alloc, &map, plan.entries())? {
@@ -15,4 +16,4 @@ mod covering;
 mod standing;
 mod stretch;
 
-pub use stretch::{Stretch, stretches, stretches_by_entries};
+pub use stretch::{Stretch, extents_of, stretches, stretches_by_entries};

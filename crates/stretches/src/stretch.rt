@@ -71,7 +71,7 @@ pub fn stretches(
 }
 
 /// What each entry of a list matches. The only error is out of memory.
-fn extents_of(alloc: Global, entries: &[Entry]) -> Result<Vec<Extent>, Memory>
+pub fn extents_of(alloc: Global, entries: &[Entry]) -> Result<Vec<Extent>, Memory>
     ensures { IfOk result (λ all. all.items ≡ matched_by entries.now) }
 {
     let mut all = Vec::new(alloc);

@@ -17,4 +17,6 @@ mod platform_lints;
 #[cfg(test)]
 mod platforms;
 #[cfg(test)]
+mod tables;
+#[cfg(test)]
 mod words;

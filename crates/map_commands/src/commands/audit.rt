@@ -6,14 +6,11 @@ ghost use Rattle.map_commands.specs.Commands.{reading, Audits};
 
 use crate::certifying::fewest_in;
 use crate::commands::answer_status;
-use crate::inputs::{bytes_in, map_in};
+use crate::inputs::{REGISTER_BYTES, bytes_in, map_in};
 use byte_streams::{Sink, Source};
 use program_troubles::Trouble;
 use register_audit::{AuditFault, audit};
 use std::alloc::Global;
-
-/// How many bytes a listing of registers may have.
-const REGISTER_BYTES: usize = 1 << 20;
 
 /// Audits registers against a map, and answers the status 0 where they mean it and 1 where they don't.
 pub fn do_audit<'a, R: Source, W: Sink>(

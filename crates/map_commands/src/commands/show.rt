@@ -1,19 +1,21 @@
-//! `show`: a map as a table.
+//! `show`: a map, or what registers mean, as a table.
 
 ghost use Rattle.std.specs.Prelude.{◌-◌, ◌^◌, ◌<◌};
 ghost use Rattle.byte_streams.specs.Writings.{writing};
-ghost use Rattle.map_commands.specs.Commands.{reading, Shows};
+ghost use Rattle.map_commands.specs.Commands.{reading, Shows, ShowsAs, ShowsRegisters};
 
 use crate::certifying::planned_within;
-use crate::inputs::map_in;
+use crate::commands::answer_status;
+use crate::inputs::{REGISTER_BYTES, bytes_in, map_in};
 use byte_streams::{Sink, Source};
 use map_table::{TableFault, print_map};
 use pmp_encoding::Limit;
 use program_troubles::Trouble;
+use register_table::{ListingFault, print_registers};
 use std::alloc::Global;
 
 /// Prints a map as a table of its stretches, each with the entry that decides it.
-pub fn do_show<'a, R: Source, W: Sink>(
+fn do_show<'a, R: Source, W: Sink>(
     alloc: Global,
     map: &'a str,
     limit: Limit,
@@ -31,4 +33,46 @@ pub fn do_show<'a, R: Source, W: Sink>(
         Err(TableFault::Memory) => Err(Trouble::Memory),
         Err(TableFault::Device) => Err(Trouble::Output),
     }
+}
+
+/// Prints what registers mean as such a table, and answers the status 0, or 1 where they mean nothing.
+fn do_show_registers<'a, R: Source, W: Sink>(
+    alloc: Global,
+    registers: &'a str,
+    first: &mut R,
+    out: &mut W,
+) -> Result<u8, Trouble<'a>>
+    ensures { ShowsRegisters registers.entry (reading R.remaining R.failures first.old first.new)
+        (writing W.contents W.failures W.stalls out.old out.new) result }
+{
+    let listing = bytes_in(alloc, registers, first, REGISTER_BYTES)?;
+    match print_registers(alloc, listing.as_slice(), out) {
+        Ok(meant) => Ok(answer_status(meant)),
+        Err(ListingFault::Line(line)) => Err(Trouble::NotUnderstood {
+            file: registers,
+            line,
+        }),
+        Err(ListingFault::Memory) => Err(Trouble::Memory),
+        Err(ListingFault::Device) => Err(Trouble::Output),
+    }
+}
+
+/// Prints a map, or what registers mean, as a table.
+pub fn do_show_as<'a, R: Source, W: Sink>(
+    alloc: Global,
+    registers: bool,
+    file: &'a str,
+    limit: Limit,
+    at_most: Option<u64>,
+    first: &mut R,
+    out: &mut W,
+) -> Result<u8, Trouble<'a>>
+    ensures { ShowsAs registers file.entry limit at_most
+        (reading R.remaining R.failures first.old first.new)
+        (writing W.contents W.failures W.stalls out.old out.new) result }
+{
+    if registers {
+        return do_show_registers(alloc, file, first, out);
+    }
+    do_show(alloc, file, limit, at_most, first, out)
 }

@@ -5,7 +5,7 @@ use Rattle.map_table.proofs.rows.number_line.Goals as goal
 
 pub returns : goal.returns
 returns c =
-    let behind = overridden_from (c.args.i + 1) (drop (c.args.i + 1) c.args.entries.now) c.args.stretch.now in
+    let behind = overridden_from (c.args.i + 1) (drop (c.args.i + 1) c.args.extents.now) c.args.stretch.now in
     let said : before_text c.as_slice.result.now ≡ before_text behind = ap before_text (c.as_slice.ensures.value ∙ c.overridden-behind.ensures) ∙ before_three behind in
     let number : c.push_decimal.new.line.items ≡ decimal c.args.i = c.push_decimal.ensures.items ∙ ap (λ x. x ++ decimal c.args.i) c.new-line.ensures in
     c.push.ensures.items

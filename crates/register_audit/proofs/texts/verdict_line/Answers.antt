@@ -10,4 +10,4 @@ pub returns-in-Cuts : goal.returns-in-Cuts
 returns-in-Cuts c = rw c.in-Cuts.is (c.cut_line.ensures c.args.fewest c.args.registers.now)
 
 pub returns-in-NoMeaning : goal.returns-in-NoMeaning
-returns-in-NoMeaning c = rw c.in-NoMeaning.is (c.reserved_line.ensures c.args.fewest)
+returns-in-NoMeaning c = rw c.in-NoMeaning.is c.reserved_line.ensures
