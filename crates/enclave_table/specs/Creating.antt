@@ -37,3 +37,11 @@ abbrev pub RefusesCreate : (ℕ → List ℕ) → EnclaveTable → World → Cre
 RefusesCreate pages old world asked NoEntries = AllPass (create_checks old world (parts_of asked)) × OutgrowsByCreate pages old asked
 RefusesCreate pages old world asked NoMemory = AllPass (create_checks old world (parts_of asked))
 RefusesCreate pages old world asked refusal = FailsFirst (create_checks old world (parts_of asked)) refusal
+
+-- a digest is that of the private pages of a creation, where it passes its checks
+abbrev pub IsMeasured : EnclaveTable → World → Create → List ℕ → (ℕ → List ℕ) → Type 0
+IsMeasured table world asked digest pages = AllPass (create_checks table world (parts_of asked)) → digest ≡ measured pages (parts_of asked)
+
+-- the enclave as it is made, with that digest
+abbrev pub measured_as : List ℕ → Create → Enclave
+measured_as digest parts = record { parts = parts; state = Fresh; digest = digest }

@@ -6,6 +6,7 @@ pub mod RegisterSets
 pub mod Parts
 pub mod Frames
 pub mod Loading
+pub mod Measured
 pub mod Monitors
 pub mod Wants
 pub mod Worlds

@@ -59,7 +59,7 @@ impl Parts {
     }
 
     /// What goes on on a hart.
-    fn onward(&self, hart: u8, load: bool) -> Onward
+    pub(crate) fn onward(&self, hart: u8, load: bool) -> Onward
         requires hart { hart < 4 }
         requires whole { HoldsTogether self.now.table self.now.worlds self.now.marked }
         ensures registers { result.registers ≡ running_registers (state_in self.now) hart }

@@ -29,6 +29,7 @@ mod calls;
 mod crossings;
 mod current;
 mod laws;
+mod measured_calls;
 mod monitor;
 mod outcome;
 mod ownership;
@@ -37,7 +38,7 @@ mod refused;
 mod register_sets;
 
 pub use answer::{Answer, Onward, Served};
-pub use enclave_table::{BootFault, Pages, Platform, Table, World};
+pub use enclave_table::{BootFault, Create, Pages, Platform, Table, World};
 pub use laws::loading_law;
 pub use monitor::Monitor;
 pub use page_views::PageRange;

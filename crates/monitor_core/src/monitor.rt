@@ -4,9 +4,9 @@ ghost use Rattle.monitor_core.specs.Parts.{HoldsTogether};
 
 use crate::answer::{Onward, Served};
 use crate::parts::Parts;
-use enclave_table::{BootFault, Pages, Platform, Table, World};
+use enclave_table::{BootFault, Create, Pages, Platform, Table, World};
 use pmp_encoding::Entry;
-use sbi_decode::Registers;
+use sbi_decode::{Call, Registers, decode};
 use std::alloc::Global;
 
 /// The table of enclaves, the worlds on one to four harts with their registers, and the harts that are marked.
@@ -17,7 +17,10 @@ pub struct Monitor {
 }
 
 impl Monitor {
-    ghost use Rattle.std.specs.Prelude.{◌≡◌, ◌<◌, ◌≤◌, false, length, IfOk, IfErr, IfSome};
+    ghost use Rattle.std.specs.Prelude.{◌≡◌, ◌<◌, ◌≤◌, ℕ, List, false, length, IfOk, IfErr, IfSome, IfNone};
+    ghost use Rattle.enclave_table.specs.Requests.{HasCounts, HasPlaces};
+    ghost use Rattle.enclave_table.specs.declared.request.Create.{Create as CreateParts};
+    ghost use Rattle.monitor_core.specs.Measured.{IsMeasuredFor, Measures, asked_in};
     ghost use Rattle.pmp_encoding.specs.Limits.{limit_number};
     ghost use Rattle.pmp_match.specs.Meaning.{IsFewest, Needs};
     ghost use Rattle.enclave_table.specs.Booting.{IsBootFault, opening as opening_table};
@@ -184,6 +187,63 @@ impl Monitor {
     {
         self.parts.table.cite_invariant();
         self.parts.serve(hart, registers, pages)
+    }
+
+    /// The parts of the enclave that these registers ask for, as they are kept, where the call is a creation that passes each
+    /// check but those for entries and memory: its private pages are to be measured for [`Monitor::serve_measured`].
+    #[tactic(auto, unfolding(crate::specs::Monitors::state_of, crate::specs::Monitors::kept_of))]
+    pub fn measures(&self, hart: u8, registers: &Registers) -> Option<Create>
+        requires { hart < 4 }
+        ensures parts { let s = state_of self.now in IfSome result (λ parts.
+            Measures (asked_in (call_of registers.now)) s.table (s.worlds hart) parts) }
+        ensures counts { IfSome result (λ parts. HasCounts parts) }
+        ensures places { IfSome result (λ parts. HasPlaces parts) }
+        ensures none { let s = state_of self.now in IfNone result ((parts : CreateParts)
+            → Measures (asked_in (call_of registers.now)) s.table (s.worlds hart) parts → ⊥) }
+    {
+        let Ok(
+            Call::Create {
+                base,
+                text_pages,
+                data_pages,
+                shared_base,
+                shared_count,
+                entry_offset,
+            },
+        ) = decode(registers)
+        else {
+            return None;
+        };
+        self.parts.table.measures(
+            self.parts.world(hart),
+            Create {
+                base,
+                text_pages,
+                data_pages,
+                shared_base,
+                shared_count,
+                entry_offset,
+            },
+        )
+    }
+
+    /// The call that a hart with these registers made, as [`Monitor::serve`] serves it, where the pages were measured before.
+    /// The digest is looked at only where [`Monitor::measures`] gives parts.
+    pub fn serve_measured(&mut self, hart: u8, registers: &Registers, digest: &[u8; 32]) -> Served
+        requires hart { hart < (state_of self.old).table.layout.harts }
+        requires awake { (state_of self.old).marked hart ≡ false }
+        ensures step { let file = past_call registers.now in let s = state_of self.old in
+            (pages : ℕ → List ℕ)
+            → IsMeasuredFor (asked_in (call_of file)) s.table (s.worlds hart) digest.now pages
+            → DoesCall (call_of file) pages (with_running s hart file) hart
+            result.answer result.zero (state_of self.new) }
+        ensures registers { result.onward.registers
+            ≡ running_registers (state_of self.new) hart }
+        ensures load { LoadsAnew result.onward.load (state_of self.old) (state_of self.new) hart }
+        ensures platform { (state_of self.new).table.layout ≡ (state_of self.old).table.layout }
+    {
+        self.parts.table.cite_invariant();
+        self.parts.serve_measured(hart, registers, digest)
     }
 
     /// The timer's interrupt on a hart with these registers: an enclave is stopped, and the host goes on there. In the

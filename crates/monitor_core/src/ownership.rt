@@ -13,7 +13,7 @@ impl Parts {
     ghost use Rattle.monitor_core.specs.Steps.{DoesCreate, DoesDestroy, DoesMeasure};
 
     /// The host on a hart is answered, and every other hart in the host's world is marked.
-    fn answer_and_mark(&mut self, hart: u8, first: u64, second: u64)
+    pub(crate) fn answer_and_mark(&mut self, hart: u8, first: u64, second: u64)
         requires on { IsOn self.old hart }
         ensures whole { HoldsTogether self.new.table self.new.worlds self.new.marked }
         ensures state { state_in self.new

@@ -1,0 +1,106 @@
+use Rattle.std.proofs.Common.{ℕ, ◌≡◌, ◌∙◌, ◌+◌, ◌/◌, ap, sym, subst, Some, List}
+use Rattle.pmp_encoding.specs.declared.limit.Limit.{Limit}
+use Rattle.pmp_encoding.specs.declared.perm.Perm.TheVariants.{NoAccess}
+use Rattle.permission_map.specs.Views.{overwritten}
+use Rattle.enclave_table.specs.Enclaves.{EnclaveTable, with_enclave}
+use Rattle.enclave_table.specs.Views.{host_view, enclave_view}
+use Rattle.enclave_table.specs.Tables.{Kept}
+use Rattle.enclave_table.specs.Fewest.{IsListOf}
+use Rattle.enclave_table.specs.Creating.{fresh, RefusesCreate}
+use Rattle.enclave_table.specs.Digests.{measured}
+use Rattle.enclave_table.specs.Refusals.{AllPass, FailsFirst}
+use Rattle.enclave_table.specs.Checks.{create_checks}
+use Rattle.enclave_table.specs.declared.request.Create.{Create}
+use Rattle.enclave_table.specs.declared.enclave.Enclave.{Enclave}
+use Rattle.enclave_table.specs.declared.enclave.State.TheVariants.{Fresh}
+use Rattle.page_views.specs.declared.pages.PageRange.{PageRange}
+use Rattle.enclave_table.proofs.Placed.{free_place, host_added, added_kept}
+use Rattle.enclave_table.proofs.SameViews.{list_same, tree_same, fits_same}
+use Rattle.enclave_table.proofs.Created.{along, fits_from, sound_from, apart_from, host_want, enclave_want, creates}
+use Rattle.enclave_table.proofs.Refused.{create_fails, handed_on}
+use Rattle.enclave_table.proofs.table.Table.create_measured.Goals as goal
+
+abbrev private_range : Create → PageRange
+private_range parts = record { first = parts.base / 4096; count = parts.text_pages + parts.data_pages }
+
+pub returns-in_err-id-clause-refused : goal.returns-in_err-id-clause-refused
+returns-in_err-id-clause-refused c =
+    let old : EnclaveTable = c.args.self.now.table in
+    let P : Create → Type 0 = λ p. FailsFirst (create_checks old c.args.world p) c.in_err-id.field-0.0 in
+    handed_on c.from_residual.result c.in_err-id.field-0.0 (λ refusal. (pages : ℕ → List ℕ) → RefusesCreate pages old c.args.world c.args.asked refusal) c.from_residual.ensures.1
+    (λ pages. create_fails pages old c.args.world c.args.asked c.in_err-id.field-0.0 (subst P c.kept-parts.ensures c.in_err-id.ensures.fails))
+
+pub returns-in_err-host-clause-refused : goal.returns-in_err-host-clause-refused
+returns-in_err-host-clause-refused c =
+    let old : EnclaveTable = c.args.self.now.table in
+    let parts : Create = c.kept-parts.result in
+    let range : PageRange = c.private_pages.result in
+    let free = c.in_ok-id.ensures.next.free in
+    handed_on c.from_residual-in_err-host.result c.in_err-host.field-0.0 (λ refusal. (pages : ℕ → List ℕ) → RefusesCreate pages old c.args.world c.args.asked refusal) c.from_residual-in_err-host.ensures.1
+    (λ pages. host_want pages old c.args.world c.args.asked parts c.in_ok-id.id (overwritten (host_view old) range.first range.count NoAccess) c.in_err-host.field-0.0
+    c.kept-parts.ensures c.in_ok-id.ensures.passes c.in_ok-id.ensures.next
+    (along (host_view old) (host_view (with_enclave old c.in_ok-id.id (Some (fresh pages parts)))) range (private_range parts) NoAccess c.private_pages.ensures.value
+    (host_added old c.in_ok-id.id (fresh pages parts) (free_place old c.in_ok-id.id c.cite_invariant.ensures.table free.0 free.1) free.2))
+    c.in_err-host.ensures.want)
+
+pub returns-in_err-list-clause-refused : goal.returns-in_err-list-clause-refused
+returns-in_err-list-clause-refused c =
+    let old : EnclaveTable = c.args.self.now.table in
+    handed_on c.from_residual-in_err-list.result c.in_err-list.field-0.0 (λ refusal. (pages : ℕ → List ℕ) → RefusesCreate pages old c.args.world c.args.asked refusal) c.from_residual-in_err-list.ensures.1
+    (λ pages. enclave_want pages old c.args.world c.args.asked c.kept-parts.result c.limit.result c.in_err-list.field-0.0 c.kept-parts.ensures c.limit.ensures
+    c.in_ok-id.ensures.passes c.in_err-list.ensures.want)
+
+pub place-requires-clause-kept : goal.place-requires-clause-kept
+place-requires-clause-kept c =
+    let old : EnclaveTable = c.args.self.now.table in
+    let parts : Create = c.kept-parts.result in
+    let range : PageRange = c.private_pages.result in
+    let free = c.in_ok-id.ensures.next.free in
+    let e : Enclave = record { parts = parts; state = Fresh; digest = c.args.digest.now } in
+    let L : Limit → Type 0 = λ l. IsListOf l (enclave_view parts) c.in_ok-list.list in
+    (added_kept c.args.self.now c.in_ok-id.id e c.in_ok-host.host.list c.in_ok-list.list (free_place old c.in_ok-id.id c.cite_invariant.ensures.table free.0 free.1) c.cite_invariant.ensures.kept
+    (sound_from old c.args.world parts c.in_ok-id.ensures.passes) (apart_from old c.args.world parts c.in_ok-id.ensures.passes)
+    (list_same old.layout.limit (overwritten (host_view old) range.first range.count NoAccess) (host_view (with_enclave old c.in_ok-id.id (Some e))) c.in_ok-host.host.list
+    (along (host_view old) (host_view (with_enclave old c.in_ok-id.id (Some e))) range (private_range parts) NoAccess c.private_pages.ensures.value
+    (host_added old c.in_ok-id.id e (free_place old c.in_ok-id.id c.cite_invariant.ensures.table free.0 free.1) free.2))
+    c.in_ok-host.ensures.list)
+    (subst L c.limit.ensures c.in_ok-list.ensures.list))
+
+pub place-requires-clause-tree : goal.place-requires-clause-tree
+place-requires-clause-tree c =
+    let old : EnclaveTable = c.args.self.now.table in
+    let parts : Create = c.kept-parts.result in
+    let range : PageRange = c.private_pages.result in
+    let free = c.in_ok-id.ensures.next.free in
+    let e : Enclave = record { parts = parts; state = Fresh; digest = c.args.digest.now } in
+    (record {
+      means = tree_same (overwritten (host_view old) range.first range.count NoAccess) (host_view (with_enclave old c.in_ok-id.id (Some e))) c.in_ok-host.host.tree
+          (along (host_view old) (host_view (with_enclave old c.in_ok-id.id (Some e))) range (private_range parts) NoAccess c.private_pages.ensures.value
+          (host_added old c.in_ok-id.id e (free_place old c.in_ok-id.id c.cite_invariant.ensures.table free.0 free.1) free.2))
+          c.in_ok-host.ensures.means;
+      canonical = c.in_ok-host.ensures.canonical;
+    })
+
+pub returns-clause-done : goal.returns-clause-done
+returns-clause-done c = λ pages same.
+    let old : EnclaveTable = c.args.self.now.table in
+    let parts : Create = c.kept-parts.result in
+    let range : PageRange = c.private_pages.result in
+    let free = c.in_ok-id.ensures.next.free in
+    let e : Enclave = fresh pages parts in
+    let L : Limit → Type 0 = λ l. IsListOf l (enclave_view parts) c.in_ok-list.list in
+    let P : Create → Type 0 = λ p. AllPass (create_checks old c.args.world p) in
+    let taken : c.args.digest.now ≡ measured pages parts = same (subst P c.kept-parts.ensures c.in_ok-id.ensures.passes) ∙ ap (λ (p : Create). measured pages p) (sym c.kept-parts.ensures) in
+    let added : c.place.new.self.table ≡ with_enclave old c.in_ok-id.id (Some e) =
+    ap (λ (k : Kept). k.table) c.place.ensures ∙ ap (λ (d : List ℕ). with_enclave old c.in_ok-id.id (Some (record { parts = parts; state = Fresh; digest = d }))) taken in
+    creates pages old c.args.world c.args.asked parts c.in_ok-id.id c.place.new.self.table c.kept-parts.ensures c.in_ok-id.ensures.passes c.in_ok-id.ensures.next added
+    (fits_same old.layout.limit (overwritten (host_view old) range.first range.count NoAccess) (host_view (with_enclave old c.in_ok-id.id (Some e)))
+    (along (host_view old) (host_view (with_enclave old c.in_ok-id.id (Some e))) range (private_range parts) NoAccess c.private_pages.ensures.value
+    (host_added old c.in_ok-id.id e (free_place old c.in_ok-id.id c.cite_invariant.ensures.table free.0 free.1) free.2))
+    (fits_from old.layout.limit (overwritten (host_view old) range.first range.count NoAccess) c.in_ok-host.host.list c.in_ok-host.ensures.list))
+    (fits_from old.layout.limit (enclave_view parts) c.in_ok-list.list (subst L c.limit.ensures c.in_ok-list.ensures.list))
+
+pub returns-clause-added : goal.returns-clause-added
+returns-clause-added c =
+    let old : EnclaveTable = c.args.self.now.table in
+    ap (λ (k : Kept). k.table) c.place.ensures ∙ ap (λ (p : Create). with_enclave old c.in_ok-id.id (Some (record { parts = p; state = Fresh; digest = c.args.digest.now }))) c.kept-parts.ensures

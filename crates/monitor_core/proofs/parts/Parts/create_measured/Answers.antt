@@ -1,0 +1,55 @@
+use Rattle.std.proofs.Common.{◌∙◌, ◌<◌, inl, inr, refl, ap, sym, subst}
+use Rattle.enclave_table.specs.Creating.{Creates, IsMeasured, RefusesCreate}
+use Rattle.enclave_table.specs.Refusals.{refusal_number}
+use Rattle.monitor_core.specs.Parts.{state_in}
+use Rattle.monitor_core.specs.Steps.{Refuses}
+use Rattle.monitor_core.proofs.Framed.{frame_placed}
+use Rattle.monitor_core.proofs.Moved.{free_runs_nowhere, whole_placed}
+use Rattle.monitor_core.proofs.Stayed.{not_added}
+use Rattle.monitor_core.proofs.parts.Parts.create_measured.Goals as goal
+
+pub answer_and_mark-requires : goal.answer_and_mark-requires
+answer_and_mark-requires c =
+    let old = c.args.self.now in
+    let done = c.in-Ok.ensures in
+    record {
+      on = record {
+        known = subst (λ t. c.args.hart < t.layout.harts) (sym done.added) c.requires.on.known;
+        whole = whole_placed old.table c.create_measured.new.self old.worlds old.marked c.in-Ok.id _ c.requires.on.whole done.next.free.0 (free_runs_nowhere old.table old.worlds old.marked c.in-Ok.id c.requires.on.whole done.next.free.2) done.added;
+      };
+    }
+
+pub returns-in-Ok-clause-step : goal.returns-in-Ok-clause-step
+returns-in-Ok-clause-step c = λ pages measured.
+    let old = c.args.self.now in
+    let now = c.create_measured.new.self.table in
+    inl (
+      c.in-Ok.id,
+      now,
+      subst (λ w. IsMeasured old.table.table w c.args.asked c.args.digest.now pages → Creates pages old.table.table w c.args.asked c.in-Ok.id now) c.world-world.ensures (c.in-Ok.ensures.done pages) measured,
+      record { state = c.answer_and_mark.ensures.state; told = c.done.ensures; zeroes = refl },
+    )
+
+pub returns-in-Err-clause-step : goal.returns-in-Err-clause-step
+returns-in-Err-clause-step c = λ pages measured.
+    let old = c.args.self.now in
+    let said = c.refuse_for.result in
+    inr (
+      c.in-Err.refusal,
+      subst (λ w. RefusesCreate pages old.table.table w c.args.asked c.in-Err.refusal) c.world-world.ensures (c.in-Err.ensures.refused pages),
+      subst (λ k. Refuses (refusal_number c.in-Err.refusal) (state_in (record old { table = k })) c.args.hart said.answer said.zero (state_in c.refuse_for.new.self)) c.in-Err.ensures.kept c.refuse_for.ensures.step,
+    )
+
+pub returns-in-Ok-clause-frame : goal.returns-in-Ok-clause-frame
+returns-in-Ok-clause-frame c =
+    let old = c.args.self.now in
+    let now = c.create_measured.new.self in
+    let done = c.in-Ok.ensures in
+    frame_placed old c.answer_and_mark.new.self now c.in-Ok.id _ c.answer_and_mark.ensures.whole c.answer_and_mark.ensures.table done.added
+    (not_added old.table.table now.table c.in-Ok.id _ c.cite_invariant.ensures.table done.next done.added)
+
+pub returns-in-Ok-clause-load : goal.returns-in-Ok-clause-load
+returns-in-Ok-clause-load c = λ table world.
+    let old = c.args.self.now in
+    let done = c.in-Ok.ensures in
+    not_added old.table.table c.create_measured.new.self.table c.in-Ok.id _ c.cite_invariant.ensures.table done.next done.added (ap (λ k. k.table) (sym c.answer_and_mark.ensures.table) ∙ table)

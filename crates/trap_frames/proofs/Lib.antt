@@ -1,0 +1,4 @@
+mod Lengths
+mod Appended
+mod Filling
+mod Read

@@ -1,0 +1,48 @@
+-- The frame of a trap.
+use Rattle.std.specs.Prelude.{◌≡◌, ◌⊎◌, ℕ, ◌+◌, ◌<◌, ◌≤◌, List, [], length, Option, Some, None, Result, Ok, Err}
+use Rattle.std.specs.Io.KnownBytes.{Consumes, IsAtEnd}
+use Rattle.byte_streams.specs.Streams.{one_failure_more}
+use Rattle.sbi_decode.specs.Registers.{RegisterFile, x_of}
+use Rattle.trap_frames.specs.Words.{word_at, call_tag, stop_tag}
+use Rattle.trap_frames.specs.Reading.{Breaks}
+use Rattle.trap_frames.specs.declared.trap.Event.{Event}
+use Rattle.trap_frames.specs.declared.trap.Event.TheVariants.{Call, Stop}
+use Rattle.trap_frames.specs.declared.trap.Trap.{Trap}
+use Rattle.trap_frames.specs.declared.fault.FrameFault.{FrameFault}
+use Rattle.trap_frames.specs.declared.fault.FrameFault.TheVariants as faults
+
+-- the tag says what happened
+abbrev pub IsTagOf : Event → ℕ → Type 0
+IsTagOf Call tag = tag ≡ call_tag
+IsTagOf Stop tag = tag ≡ stop_tag
+
+-- the words from the third on are the program counter, and x1 to x31
+pub record HasRegisters (bytes : List ℕ) (file : RegisterFile) : Type 0 where
+  pub pc : file.pc ≡ word_at bytes 2
+  pub xs : (n : ℕ) → 1 ≤ n → n < 32 → x_of file n ≡ word_at bytes (n + 2)
+
+-- the bytes are the frame of a trap on one of so many harts
+pub record IsTrapFrame (bytes : List ℕ) (harts : ℕ) (trap : Trap) : Type 0 where
+  pub tag : IsTagOf trap.event (word_at bytes 0)
+  pub hart : word_at bytes 1 ≡ trap.hart
+  pub known : trap.hart < harts
+  pub registers : HasRegisters bytes trap.registers
+
+-- bytes that are no frame of a trap: they have its size and are none, or the input ends within it
+abbrev pub IsNoTrap : List ℕ → ℕ → Option (List ℕ) → Type 0
+IsNoTrap bytes harts after =
+    ((length bytes ≡ 272) × ((trap : Trap) → IsTrapFrame bytes harts trap → ⊥))
+    ⊎ ((0 < length bytes) × (length bytes < 272) × IsAtEnd after)
+
+-- what the next read of a trap answers, by what it consumed
+abbrev pub ReadsTrap : Result (Option Trap) FrameFault → ℕ → Option (List ℕ) → Option (List ℕ) → Type 0
+ReadsTrap (Ok (Some trap)) harts before after = (bytes : List ℕ) × (length bytes ≡ 272) × IsTrapFrame bytes harts trap × Consumes before after bytes
+ReadsTrap (Ok None) harts before after = Consumes before after [] × IsAtEnd after
+ReadsTrap (Err faults.NotUnderstood) harts before after = (bytes : List ℕ) × IsNoTrap bytes harts after × Consumes before after bytes
+ReadsTrap (Err faults.Read) harts before after = Breaks 272 before after
+ReadsTrap (Err faults.Write) harts before after = ⊥
+
+-- a read failed where that is the answer, and otherwise none did
+abbrev pub CountsRead : {X : Type 0} → Result X FrameFault → ℕ → ℕ → Type 0
+CountsRead (Err faults.Read) before after = after ≡ one_failure_more before
+CountsRead _ before after = after ≡ before

@@ -1,0 +1,103 @@
+//! The frame of a trap.
+
+ghost use Rattle.std.specs.Prelude.{◌≡◌, ℕ, ◌+◌, ◌≤◌, IfSome, IfNone, MatchOption, MatchResult};
+ghost use Rattle.sbi_decode.specs.Registers.{RegisterFile, x_of};
+ghost use Rattle.trap_frames.specs.declared.trap.Trap.{Trap as TrapOf};
+ghost use Rattle.trap_frames.specs.Words.{word_at};
+ghost use Rattle.trap_frames.specs.Traps.{HasRegisters, IsTrapFrame, ReadsTrap, CountsRead};
+
+use crate::fault::FrameFault;
+use crate::frame::{TAG_CALL, TAG_STOP, word};
+use crate::reading::read_whole;
+use byte_streams::Source;
+use sbi_decode::Registers;
+
+/// The bytes of its frame.
+const TRAP_BYTES: usize = 272;
+
+/// What happened to the world that runs on a hart.
+#[derive(Clone, Copy, Debug, PartialEq, Eq)]
+pub enum Event {
+    /// It made a call.
+    Call,
+    /// It was interrupted, or did what an enclave may not: an enclave stops.
+    Stop,
+}
+
+/// A trap of a hart, with the registers of the world that ran there; the program counter is that of the instruction that
+/// trapped.
+#[derive(Clone, Copy, Debug, PartialEq, Eq)]
+pub struct Trap {
+    /// What happened.
+    pub event: Event,
+    /// The hart on which it did, below the number of harts.
+    pub hart: u8,
+    /// The registers as they were.
+    pub registers: Registers,
+}
+
+/// The registers in a frame: the program counter, then x1 to x31.
+fn registers_in(bytes: &[u8; 272]) -> Registers
+    ensures { HasRegisters bytes.now result }
+{
+    let mut registers = Registers::new();
+    registers.set_pc(word(bytes, 2));
+    for n in 1..32 {
+        registers.set(n, word(bytes, n + 2));
+    }
+    registers
+}
+
+/// What happened, by the tag.
+fn event_in(tag: u64) -> Option<Event>
+    ensures some { IfSome result (λ event. IsTagOf event tag) }
+    ensures none { IfNone result ((event : EventOf) → IsTagOf event tag → ⊥) }
+{
+    match tag {
+        TAG_CALL => Some(Event::Call),
+        TAG_STOP => Some(Event::Stop),
+        _ => None,
+    }
+}
+
+/// The trap that a frame is of, on one of so many harts.
+fn trap_in(bytes: &[u8; 272], harts: u8) -> Option<Trap>
+    ensures trap { IfSome result (λ trap. IsTrapFrame bytes.now harts trap) }
+    ensures none { IfNone result ((trap : TrapOf) → IsTrapFrame bytes.now harts trap → ⊥) }
+{
+    let event = event_in(word(bytes, 0))?;
+    let hart = word(bytes, 1);
+    if hart >= u64::from(harts) {
+        return None;
+    }
+    Some(Trap {
+        event,
+        hart: hart as u8,
+        registers: registers_in(bytes),
+    })
+}
+
+/// Reads the next trap, on one of so many harts; none at the end of the input.
+#[inline(never)]
+pub fn read_trap<R: Source>(source: &mut R, harts: u8) -> Result<Option<Trap>, FrameFault>
+    ensures trap { ReadsTrap result harts (R.remaining source.old) (R.remaining source.new) }
+    ensures failures { CountsRead result (R.failures source.old) (R.failures source.new) }
+{
+    let mut frame = [0; TRAP_BYTES];
+    let Ok(n) = read_whole(source, &mut frame) else {
+        return Err(FrameFault::Read);
+    };
+    if n == 0 {
+        return Ok(None);
+    }
+    if n < TRAP_BYTES {
+        return Err(FrameFault::NotUnderstood);
+    }
+    match trap_in(&frame, harts) {
+        Some(trap) => Ok(Some(trap)),
+        None => Err(FrameFault::NotUnderstood),
+    }
+}
+
+ghost use Rattle.trap_frames.specs.Traps.{IsTagOf};
+ghost use Rattle.trap_frames.specs.declared.trap.Event.{Event as EventOf};

@@ -1,0 +1,3 @@
+mod Waking
+mod Served
+mod Looped

@@ -1,0 +1,95 @@
+-- A trap that was served, from what was asked, read and written.
+use Rattle.std.proofs.Common.{◌≡◌, ◌∙◌, inl, inr, ℕ, zero, suc, ◌+◌, ◌-◌, ◌<◌, ◌≤◌, Bool, true, false, List, [], ◌∷◌, ◌++◌, length, take, Option, None, Some, Result, Ok, Err, ap, sym, subst, refl, arith, take_all, length-append}
+use Rattle.std.proofs.Math.Seq.{take-suc}
+use Rattle.std.proofs.lemmas.Bool.{true≢false}
+use Rattle.std.specs.Prelude.{get_or, slice_index_or}
+use Rattle.std.specs.Io.KnownBytes.{Appends, Consumes}
+use Rattle.std.proofs.KnownBytes.{Appends-trans}
+use Rattle.page_views.specs.declared.pages.PageRange.{PageRange}
+use Rattle.enclave_table.specs.Digests.{measured, pages_from}
+use Rattle.enclave_table.specs.Enclaves.{EnclaveTable}
+use Rattle.enclave_table.specs.Requests.{parts_of}
+use Rattle.enclave_table.specs.declared.request.Create.{Create}
+use Rattle.worlds.specs.declared.world.World.{World}
+use Rattle.worlds.specs.declared.world.World.TheVariants.{Host}
+use Rattle.monitor_core.specs.Measured.{IsMeasuredFor, Measures}
+use Rattle.trap_frames.specs.Measuring.{ArePages}
+use Rattle.trap_frames.specs.Measuring.{next_page, no_page}
+use Rattle.monitor_core.specs.declared.answer.Answer.{Answer}
+use Rattle.monitor_core.specs.States.{State}
+use Rattle.monitor_core.specs.Changes.{without_mark}
+use Rattle.trap_frames.specs.declared.trap.Trap.{Trap}
+use Rattle.trap_server.specs.declared.fault.ServeFault.{ServeFault}
+use Rattle.trap_server.specs.Answered.{AreAwake, IsAnswer, marks_of, unmarked}
+use Rattle.trap_server.specs.Ends.{Ends, LastIs}
+use Rattle.trap_server.specs.Serving.{ServesTrap}
+use Rattle.trap_server.specs.Steps.{MayWake, Serves, Writes}
+
+-- pages by their numbers, from a first one on
+abbrev pub numbered : List (List ℕ) → ℕ → ℕ → List ℕ
+numbered pages first page = get_or pages (page - first) []
+
+numbered_first : (pages : List (List ℕ)) (first k : ℕ) → k ≤ length pages → pages_from (numbered pages first) first k ≡ take k pages
+numbered_first pages first zero few = refl
+numbered_first pages first (suc k) few =
+    let at : (first + k) - first ≡ k = omega arith in
+    ap (λ xs. xs ++ (get_or pages ((first + k) - first) [] ∷ [])) (numbered_first pages first k (omega (arith, few)))
+    ∙ ap (λ n. take k pages ++ (get_or pages n [] ∷ [])) at ∙ sym (take-suc pages k [] (omega (arith, few)))
+
+-- they are these pages again
+pub numbered_all : (pages : List (List ℕ)) (first n : ℕ) → length pages ≡ n → pages_from (numbered pages first) first n ≡ pages
+numbered_all pages first n is = numbered_first pages first n (omega (arith, is)) ∙ take_all n pages (omega (arith, is))
+
+-- which of four harts are marked
+pub mark_at : (s : State) (hart : ℕ) → slice_index_or (marks_of s) hart false ≡ true → s.marked hart ≡ true
+mark_at s zero is = is
+mark_at s (suc zero) is = is
+mark_at s (suc (suc zero)) is = is
+mark_at s (suc (suc (suc zero))) is = is
+mark_at s (suc (suc (suc (suc n)))) is = absurd (true≢false (sym is))
+
+none_there : (n harts : ℕ) → harts ≤ 4 → suc (suc (suc (suc n))) < harts → ⊥
+none_there n harts most known = omega (arith, most, known)
+
+-- no hart of four is, once each was woken
+pub awake : (s : State) (harts hart : ℕ) → harts ≤ 4 → hart < harts → (unmarked 4 s).marked hart ≡ false
+awake s harts zero most known = refl
+awake s harts (suc zero) most known = refl
+awake s harts (suc (suc zero)) most known = refl
+awake s harts (suc (suc (suc zero))) most known = refl
+awake s harts (suc (suc (suc (suc n)))) most known = absurd (none_there n harts most known)
+
+-- a trap was served where its answer was written
+pub serves :
+    (result : Result (Unit {0}) ServeFault) (Are : List ℕ → Type 0) (trap : Trap) (old new : State) (before after held middle holds : Option (List ℕ)) (question read : List ℕ)
+    → ((bytes : List ℕ) → Are bytes → ServesTrap old trap read question bytes new) → AreAwake new → new.table.layout ≡ old.table.layout → Consumes before after read → Appends held middle question
+    → Writes result Are middle holds → Serves result trap old new before after held holds
+serves (Ok done) Are trap old new before after held middle holds question read served quiet layout consumed asked wrote =
+    (read, question, wrote.0, served wrote.0 wrote.1, quiet, layout, consumed, Appends-trans held middle holds question wrote.0 asked wrote.2)
+serves (Err fault) Are trap old new before after held middle holds question read served quiet layout consumed asked wrote =
+    (read, question, wrote.0, wrote.1, consumed, Appends-trans held middle holds question wrote.0 asked wrote.2)
+
+-- where no creation is to be measured, any digest will do
+pub unmeasured : (asked : Option Create) (table : EnclaveTable) (world : World) (digest : List ℕ) (pages : ℕ → List ℕ) → ((parts : Create) → Measures asked table world parts → ⊥) → IsMeasuredFor asked table world digest pages
+unmeasured None table world digest pages none = tt
+unmeasured (Some asked) table world digest pages none = λ passes. absurd (none (parts_of asked) (refl, passes))
+
+-- where one is, its own
+pub measured_for : (asked : Option Create) (table : EnclaveTable) (world : World) (parts : Create) (digest : List ℕ) (pages : ℕ → List ℕ) → Measures asked table world parts → digest ≡ measured pages parts → IsMeasuredFor asked table world digest pages
+measured_for None table world parts digest pages measures is = absurd measures
+measured_for (Some asked) table world parts digest pages measures is = λ passes. is ∙ ap (measured pages) measures.0
+
+-- as many pages as were counted
+pub pages_length : (first count : ℕ) (read : List ℕ) (pages : List (List ℕ)) → ArePages first count read pages → length pages ≡ count
+pages_length first count read pages no_page = refl
+pages_length first count read pages (next_page {count = n} {pages = ps} are frame bytes is) = length-append ps (bytes ∷ []) ∙ ap (λ k. k + 1) (pages_length first n _ ps are)
+
+-- who may be woken after a step, from its marks
+pub may_wake :
+    (mid new : State) (hart : ℕ) (woken : List Bool) → new ≡ unmarked 4 mid → woken ≡ marks_of mid
+    → ((other : ℕ) → other < mid.table.layout.harts → mid.marked other ≡ true → (mid.worlds other ≡ Host) × (mid.worlds hart ≡ Host)) → MayWake new hart woken
+may_wake mid new hart woken n w hosts = rw (n, w) (λ other known is. hosts other known (mark_at mid other is))
+
+-- none is marked after the harts were woken
+pub quiet : (mid new : State) → new ≡ unmarked 4 mid → mid.table.layout.harts ≤ 4 → AreAwake new
+quiet mid new n most = rw n (λ hart known. awake mid mid.table.layout.harts hart most known)

@@ -1,0 +1,42 @@
+use Rattle.std.proofs.Common.{◌≡◌, ◌∙◌, ◌+◌, ◌/◌, inl, inr, ℕ, List, [], refl, ap, sym, subst}
+use Rattle.std.proofs.KnownBytes.{Appends-nil, Appends-trans, Consumes-nil}
+use Rattle.measurement.specs.Measured.{digest_of}
+use Rattle.sbi_decode.specs.Calls.{call_of}
+use Rattle.monitor_core.specs.Monitors.{state_of}
+use Rattle.monitor_core.specs.Measured.{asked_in}
+use Rattle.trap_frames.specs.Measuring.{ArePages, layout_of, question_bytes}
+use Rattle.trap_server.proofs.Served.{measured_for, numbered, numbered_all, pages_length, unmeasured}
+use Rattle.trap_server.proofs.serving.measured.Goals as goal
+
+pub returns-in_default : goal.returns-in_default
+returns-in_default g c =
+    let s = state_of c.args.monitor.now in
+    let asked = asked_in (call_of c.args.trap.now.registers) in
+    ([], [], (λ page. []), inl (refl, refl, c.in_default.ensures.none), unmeasured asked s.table (s.worlds c.args.trap.now.hart) _ _ c.in_default.ensures.none, Consumes-nil _, Appends-nil _)
+
+pub returns-in-Ok : goal.returns-in-Ok
+returns-in-Ok g c =
+    let s = state_of c.args.monitor.now in
+    let asked = asked_in (call_of c.args.trap.now.registers) in
+    let parts = c.in-Some.parts in
+    let first = parts.base / 4096 in
+    let count = parts.text_pages + parts.data_pages in
+    let r = c.in-Ok.ensures.read in
+    let same = numbered_all r.1 first count (pages_length first count r.0 r.1 r.2) in
+    let are = subst (λ (pages : List (List ℕ)). ArePages first count r.0 pages) (sym same) r.2 in
+    let own = r.4 ∙ ap (λ (pages : List (List ℕ)). digest_of (layout_of parts) pages) (sym same) in (
+      question_bytes first count,
+      r.0,
+      numbered r.1 first,
+      inr (parts, c.in-Some.ensures.parts, refl, are),
+      measured_for asked s.table (s.worlds c.args.trap.now.hart) parts c.in-Ok.digest (numbered r.1 first) c.in-Some.ensures.parts own,
+      r.3,
+      c.in-Ok.ensures.asked,
+    )
+
+pub returns-in-Err : goal.returns-in-Err
+returns-in-Err g c =
+    let r = c.in-Err.ensures.read in
+    let a = c.in-Err.ensures.asked in
+    let e = c.end.ensures in
+    (r.0, a.0, e.0, e.1, r.1, Appends-trans _ _ _ _ _ a.1 e.2)

@@ -1,0 +1,46 @@
+-- With what harts go on.
+use Rattle.std.specs.Prelude.{◌≡◌, ◌<◌, ◌+◌, ◌-◌, ◌^◌, ℕ, ℤ, negsuc, zero, suc, Bool, true, false, List, [], ◌∷◌, slice_index_or, Option, pos}
+use Rattle.page_views.specs.declared.pages.PageRange.{PageRange}
+use Rattle.pmp_encoding.specs.declared.region.Entry.{Entry}
+use Rattle.pmp_match.specs.Meaning.{IsFewest}
+use Rattle.monitor_core.specs.declared.answer.Answer.{Answer}
+use Rattle.monitor_core.specs.States.{State, current_view, running_registers}
+use Rattle.monitor_core.specs.Changes.{without_mark}
+use Rattle.trap_frames.specs.declared.answer.Head.{Head}
+use Rattle.trap_frames.specs.Answers.{answer_bytes}
+
+-- the marks of the harts below n taken away
+abbrev pub unmarked : ℕ → State → State
+unmarked zero s = s
+unmarked (suc n) s = without_mark (unmarked n s) n
+
+-- the harts that are marked, of four
+abbrev pub marks_of : State → List Bool
+marks_of s = s.marked 0 ∷ (s.marked 1 ∷ (s.marked 2 ∷ (s.marked 3 ∷ [])))
+
+-- these entries are those of a hart, and of each other that loads them with it: they mean what the world there may do, and no list that does is shorter
+pub record AreEntries (s : State) (hart : ℕ) (woken : List Bool) (entries : List Entry) : Type 0 where
+  pub here : IsFewest (current_view s hart) entries
+  pub there : (other : ℕ) → other < s.table.layout.harts → slice_index_or woken other false ≡ true → IsFewest (current_view s other) entries
+
+-- a status as a word of 64 bits, in two's complement
+abbrev pub status_word : ℤ → ℕ
+status_word (pos n) = n
+status_word (negsuc n) = 2 ^ 64 - (n + 1)
+
+-- the front of an answer on a hart
+abbrev pub head_of : State → ℕ → Answer → Option PageRange → List Bool → Head
+head_of s hart answer cleared woken = record { hart = hart; world = s.worlds hart; status = status_word answer.status; value = answer.value; zero = cleared; woken = woken }
+
+-- an answer is written with which a hart goes on: the registers of the world that runs there, and its entries
+abbrev pub IsAnswer : State → ℕ → Answer → Option PageRange → List Bool → List ℕ → Type 0
+IsAnswer s hart answer cleared woken bytes =
+    (entries : List Entry) × AreEntries s hart woken entries × (bytes ≡ answer_bytes (head_of s hart answer cleared woken) (running_registers s hart) entries)
+
+-- what stands for the answer where there was no call
+abbrev pub no_answer : Answer
+no_answer = record { status = pos 0; value = 0 }
+
+-- no hart of the platform is marked
+abbrev pub AreAwake : State → Type 0
+AreAwake s = (hart : ℕ) → hart < s.table.layout.harts → s.marked hart ≡ false

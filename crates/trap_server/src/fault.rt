@@ -1,0 +1,38 @@
+//! Why the loop ended before its input did.
+
+ghost use Rattle.trap_server.specs.Ends.{Ends};
+
+use byte_streams::{Sink, write_whole};
+use trap_frames::{FrameFault, Refusal, end_frame};
+
+/// Why the loop ended before its input did.
+#[derive(Clone, Copy, Debug, PartialEq, Eq)]
+pub enum ServeFault {
+    /// The last frame that was written says why.
+    Refused(Refusal),
+    /// The source failed.
+    Read,
+    /// The sink failed, or took none of some bytes.
+    Write,
+}
+
+/// Writes the last frame, and gives the fault that the loop ends with.
+pub(crate) fn refuse<W: Sink>(sink: &mut W, refusal: Refusal) -> ServeFault
+    ensures { Ends result (W.contents sink.old) (W.contents sink.new) }
+{
+    match write_whole(sink, end_frame(refusal).as_slice()) {
+        Ok(()) => ServeFault::Refused(refusal),
+        Err(_) => ServeFault::Write,
+    }
+}
+
+/// The fault that the loop ends with, where a frame was not read or not written. What is not understood is answered.
+pub(crate) fn end<W: Sink>(sink: &mut W, fault: FrameFault) -> ServeFault
+    ensures { Ends result (W.contents sink.old) (W.contents sink.new) }
+{
+    match fault {
+        FrameFault::Read => ServeFault::Read,
+        FrameFault::Write => ServeFault::Write,
+        FrameFault::NotUnderstood => refuse(sink, Refusal::NotUnderstood),
+    }
+}

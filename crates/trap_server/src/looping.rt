@@ -1,0 +1,85 @@
+//! The loop: a trap is read and served, and its answer written, before the next is read.
+
+ghost use Rattle.std.specs.Prelude.{◌≡◌, ◌+◌, ◌≤◌, ◌<◌, ℕ, List, [], IfErr, IfOk};
+ghost use Rattle.std.specs.Io.KnownBytes.{IsAtEnd};
+ghost use Rattle.monitor_core.specs.Monitors.{state_of};
+ghost use Rattle.trap_server.specs.Booting.{Boots};
+ghost use Rattle.trap_server.specs.Answered.{AreAwake};
+ghost use Rattle.trap_server.specs.Runs.{EndsEarly, Ran, others};
+
+use crate::fault::{ServeFault, end, refuse};
+use crate::serving::{NOTHING, serve_trap, write_answer};
+use byte_streams::{Sink, Source};
+use enclave_table::BootFault;
+use monitor_core::Monitor;
+use std::alloc::Global;
+use trap_frames::{Refusal, read_platform, read_trap};
+
+/// Boots the monitor on the platform that comes first.
+#[inline(never)]
+fn boot<R: Source, W: Sink>(
+    alloc: Global,
+    source: &mut R,
+    sink: &mut W,
+) -> Result<Monitor, ServeFault>
+    ensures { Boots result (R.remaining source.old) (R.remaining source.new)
+        (W.contents sink.old) (W.contents sink.new) }
+{
+    let platform = match read_platform(source) {
+        Ok(Ok(platform)) => platform,
+        Ok(Err(refusal)) => return Err(refuse(sink, refusal)),
+        Err(fault) => return Err(end(sink, fault)),
+    };
+    match Monitor::boot(alloc, platform) {
+        Ok(monitor) => Ok(monitor),
+        Err(BootFault::NeedsMoreEntries(count)) => {
+            Err(refuse(sink, Refusal::NeedsEntries(count)))
+        }
+        Err(BootFault::Memory) => Err(refuse(sink, Refusal::Memory)),
+    }
+}
+
+/// The harts but hart 0.
+fn others(harts: u8) -> [bool; 4]
+    ensures { result ≡ others harts }
+{
+    [false, harts > 1, harts > 2, harts > 3]
+}
+
+/// Boots the monitor on the platform that the source gives first, and says with which entries its harts begin. Then serves
+/// the traps that come after it, until the input ends. A frame that is not understood, a platform that is none, a device
+/// that fails and a refusal of memory at boot end it; so would 2^64 - 1 traps.
+pub fn serve_traps<R: Source, W: Sink>(
+    alloc: Global,
+    source: &mut R,
+    sink: &mut W,
+) -> Result<(), ServeFault>
+    ensures all { IfOk result (λ _. Ran (R.remaining source.old) (R.remaining source.new)
+        (W.contents sink.old) (W.contents sink.new) [] []) }
+    ensures at_end { IfOk result (λ _. IsAtEnd (R.remaining source.new)) }
+    ensures early { IfErr result (λ fault.
+        EndsEarly fault (R.remaining source.old) (R.remaining source.new)
+        (W.contents sink.old) (W.contents sink.new)) }
+{
+    let mut monitor = match boot(alloc, source, sink) {
+        Ok(monitor) => monitor,
+        Err(fault) => return Err(fault),
+    };
+    let harts = monitor.harts();
+    match write_answer(&monitor, 0, NOTHING, None, others(harts), sink) {
+        Ok(()) => {}
+        Err(fault) => return Err(fault),
+    }
+    for _ in 0..u64::MAX {
+        let trap = match read_trap(source, harts) {
+            Ok(Some(trap)) => trap,
+            Ok(None) => return Ok(()),
+            Err(fault) => return Err(end(sink, fault)),
+        };
+        match serve_trap(&mut monitor, &trap, source, sink) {
+            Ok(()) => {}
+            Err(fault) => return Err(fault),
+        }
+    }
+    Err(refuse(sink, Refusal::NotUnderstood))
+}

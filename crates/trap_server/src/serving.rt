@@ -1,0 +1,180 @@
+//! How a trap is served, and its answer written.
+
+ghost use Rattle.std.specs.Prelude.{◌≡◌, ◌<◌, ℕ, List, Option};
+ghost use Rattle.monitor_core.specs.Monitors.{state_of};
+ghost use Rattle.monitor_core.specs.Changes.{without_mark};
+ghost use Rattle.trap_server.specs.Answered.{AreAwake, IsAnswer, marks_of, status_word, unmarked};
+ghost use Rattle.trap_server.specs.Steps.{MayWake, Serves, TakesDigest, Writes};
+
+use crate::fault::{ServeFault, end};
+use byte_streams::{Sink, Source, write_whole};
+use monitor_core::{Answer, Monitor};
+use page_views::PageRange;
+use trap_frames::{Event, Frame, Head, Trap, answer_frame, digest_of};
+
+/// What stands for the answer where there was no call.
+pub(crate) const NOTHING: Answer = Answer {
+    status: 0,
+    value: 0,
+};
+
+/// Wakes a hart, and says whether it was marked.
+fn take_mark(monitor: &mut Monitor, hart: u8) -> bool
+    requires { hart < 4 }
+    ensures mark { result ≡ (state_of monitor.old).marked hart }
+    ensures state { state_of monitor.new ≡ without_mark (state_of monitor.old) hart }
+{
+    let is_marked = monitor.is_marked(hart);
+    monitor.wake(hart);
+    is_marked
+}
+
+/// Each hart that is marked is woken: it is to load the host's entries.
+fn wake_all(monitor: &mut Monitor) -> [bool; 4]
+    ensures marks { result ≡ marks_of (state_of monitor.old) }
+    ensures state { state_of monitor.new ≡ unmarked 4 (state_of monitor.old) }
+{
+    let first = take_mark(monitor, 0);
+    let second = take_mark(monitor, 1);
+    let third = take_mark(monitor, 2);
+    let fourth = take_mark(monitor, 3);
+    [first, second, third, fourth]
+}
+
+/// The status of an answer as a word, in two's complement.
+fn status_word(answer: &Answer) -> u64
+    ensures { result ≡ status_word answer.now.status }
+{
+    let status = answer.status;
+    if status >= 0 {
+        return status as u64;
+    }
+    u64::MAX - (-1 - status) as u64
+}
+
+/// The frame with which a hart goes on, and the harts that load the same entries with it.
+fn frame_of(
+    monitor: &Monitor,
+    hart: u8,
+    answer: &Answer,
+    zero: Option<PageRange>,
+    woken: [bool; 4],
+) -> Frame
+    requires hart { hart < 4 }
+    requires woken { MayWake (state_of monitor.now) hart woken }
+    ensures { IsAnswer (state_of monitor.now) hart answer.now zero woken result.items }
+{
+    let head = Head {
+        hart,
+        world: monitor.world(hart),
+        status: status_word(answer),
+        value: answer.value,
+        zero,
+        woken,
+    };
+    answer_frame(&head, monitor.registers(hart), monitor.entries(hart))
+}
+
+/// Writes with what a hart goes on.
+#[inline(never)]
+pub(crate) fn write_answer<W: Sink>(
+    monitor: &Monitor,
+    hart: u8,
+    answer: Answer,
+    zero: Option<PageRange>,
+    woken: [bool; 4],
+    sink: &mut W,
+) -> Result<(), ServeFault>
+    requires hart { hart < 4 }
+    requires woken { MayWake (state_of monitor.now) hart woken }
+    ensures { Writes result (IsAnswer (state_of monitor.now) hart answer zero woken)
+        (W.contents sink.old) (W.contents sink.new) }
+{
+    let frame = frame_of(monitor, hart, &answer, zero, woken);
+    match write_whole(sink, frame.as_slice()) {
+        Ok(()) => Ok(()),
+        Err(_) => Err(ServeFault::Write),
+    }
+}
+
+/// The digest of the pages of a creation that passes its checks, which are asked for and read; of another call there is none,
+/// and nothing is asked for.
+#[inline(never)]
+fn measured<R: Source, W: Sink>(
+    monitor: &Monitor,
+    trap: &Trap,
+    source: &mut R,
+    sink: &mut W,
+) -> Result<[u8; 32], ServeFault>
+    requires hart { trap.now.hart < 4 }
+    ensures { TakesDigest result (state_of monitor.now) trap.now (R.remaining source.old)
+        (R.remaining source.new) (W.contents sink.old) (W.contents sink.new) }
+{
+    let Some(parts) = monitor.measures(trap.hart, &trap.registers) else {
+        return Ok([0; 32]);
+    };
+    match digest_of(source, sink, &parts) {
+        Ok(digest) => Ok(digest),
+        Err(fault) => Err(end(sink, fault)),
+    }
+}
+
+/// Serves the call in the registers of a trap. Where it is a creation that passes its checks, its pages are measured before.
+fn serve_call<R: Source, W: Sink>(
+    monitor: &mut Monitor,
+    trap: &Trap,
+    source: &mut R,
+    sink: &mut W,
+) -> Result<(), ServeFault>
+    requires hart { trap.now.hart < (state_of monitor.old).table.layout.harts }
+    requires awake { AreAwake (state_of monitor.old) }
+    requires call { trap.now.event ≡ Event.Call }
+    ensures served { Serves result trap.now (state_of monitor.old) (state_of monitor.new)
+        (R.remaining source.old) (R.remaining source.new) (W.contents sink.old)
+        (W.contents sink.new) }
+{
+    let _most = monitor.harts();
+    let digest = match measured(monitor, trap, source, sink) {
+        Ok(digest) => digest,
+        Err(fault) => return Err(fault),
+    };
+    let served = monitor.serve_measured(trap.hart, &trap.registers, &digest);
+    monitor.cite_invariant();
+    let woken = wake_all(monitor);
+    write_answer(monitor, trap.hart, served.answer, served.zero, woken, sink)
+}
+
+/// Serves an interrupt: an enclave stops.
+#[inline(never)]
+fn serve_stop<W: Sink>(monitor: &mut Monitor, trap: &Trap, sink: &mut W) -> Result<(), ServeFault>
+    requires hart { trap.now.hart < (state_of monitor.old).table.layout.harts }
+    requires awake { AreAwake (state_of monitor.old) }
+    requires stop { trap.now.event ≡ Event.Stop }
+    ensures served { (before : Option (List ℕ))
+        → Serves result trap.now (state_of monitor.old) (state_of monitor.new) before before
+        (W.contents sink.old) (W.contents sink.new) }
+{
+    let _most = monitor.harts();
+    let _onward = monitor.interrupt(trap.hart, &trap.registers);
+    let woken = wake_all(monitor);
+    write_answer(monitor, trap.hart, NOTHING, None, woken, sink)
+}
+
+/// Serves a trap.
+pub(crate) fn serve_trap<R: Source, W: Sink>(
+    monitor: &mut Monitor,
+    trap: &Trap,
+    source: &mut R,
+    sink: &mut W,
+) -> Result<(), ServeFault>
+    requires hart { trap.now.hart < (state_of monitor.old).table.layout.harts }
+    requires awake { AreAwake (state_of monitor.old) }
+    ensures served { Serves result trap.now (state_of monitor.old) (state_of monitor.new)
+        (R.remaining source.old) (R.remaining source.new) (W.contents sink.old)
+        (W.contents sink.new) }
+{
+    match trap.event {
+        Event::Call => serve_call(monitor, trap, source, sink),
+        Event::Stop => serve_stop(monitor, trap, sink),
+    }
+}

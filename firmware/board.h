@@ -1,0 +1,93 @@
+/* What the files of the firmware have of one another. */
+#ifndef BOARD_H
+#define BOARD_H
+#include "frames.h"
+#include <stddef.h>
+#include <stdint.h>
+
+#define MOST_HARTS 4
+
+/* A world as trap.S enters and leaves it: its registers (x[0]'s place is free), where and in which mode it goes on, and
+   what the last trap told. mode has the bits of mstatus that mret takes. */
+struct world {
+    uint64_t x[32], pc, mode, cause, value;
+};
+_Static_assert(sizeof(struct world) == 36 * 8, "trap.S counts on it");
+
+/* trap.S: the hart that calls loads its entries, lets go of the monitor and runs the world until it traps; the monitor goes
+   on as this hart does then. `instructions` counts since the hart was reset. */
+void run_world(struct world *world);
+uint64_t instructions(void);
+extern volatile uint32_t halted[MOST_HARTS];
+
+/* pmp.S: the words of configuration and the addresses are loaded, then sfence.vma. */
+struct bank {
+    uint64_t cfg[8], addr[64];
+};
+void load_bank(const struct bank *bank);
+
+/* serve.c: the loop of the monitor, from its first frame on. It returns only where nothing can be served. */
+extern struct world worlds[MOST_HARTS];
+extern struct bank banks[MOST_HARTS];
+extern uint64_t world_number[MOST_HARTS];
+_Noreturn void serve(void);
+
+/* traps.c: runs the hart's world until the monitor has to know of a trap, and says which it is: TAG_CALL or TAG_STOP. */
+uint64_t next_trap(void);
+/* What is done with an answer, and with the end, beside loading it. */
+void answered(const struct answer_frame *answer);
+_Noreturn void ended(const struct end_frame *end);
+
+/* control.c: the registers of machine and supervisor mode that decide what a world can do. */
+void control_at_start(void);
+void control_switch(uint64_t from, uint64_t to);
+
+/* harts.c */
+static inline unsigned this_hart(void)
+{
+    uint64_t hart;
+    __asm__ volatile("csrr %0, mhartid" : "=r"(hart)::"memory");
+    return (unsigned)hart;
+}
+unsigned hart_count(void);
+void stop_others(void);
+void end_stop(void);
+void start_others(void);
+
+/* timer.c */
+void timer_off(void);
+void timer_at(uint64_t time);
+uint64_t timer_now(void);
+
+/* sbi.c: answers a call of the host that is none of the monitor's, where it is one. */
+int board_call(struct world *world);
+extern uint64_t stop_cause[MOST_HARTS], stop_value[MOST_HARTS];
+
+/* uart.c, memory.c */
+void put(const char *text);
+void put_hex(uint64_t number);
+void put_number(int64_t number);
+_Noreturn void power_off(uint64_t status);
+void *memcpy(void *to, const void *from, size_t n);
+void *memset(void *to, int value, size_t n);
+
+/* The platform that the build was made for, as a frame. */
+extern const struct platform_frame *platform;
+
+#define READ(csr)                                                                                                      \
+    ({                                                                                                                 \
+        uint64_t value_;                                                                                               \
+        __asm__ volatile("csrr %0, " #csr : "=r"(value_)::"memory");                                                   \
+        value_;                                                                                                        \
+    })
+#define WRITE(csr, value) __asm__ volatile("csrw " #csr ", %0" ::"r"((uint64_t)(value)) : "memory")
+#define SET(csr, bits) __asm__ volatile("csrs " #csr ", %0" ::"r"((uint64_t)(bits)) : "memory")
+#define CLEAR(csr, bits) __asm__ volatile("csrc " #csr ", %0" ::"r"((uint64_t)(bits)) : "memory")
+
+/* Causes of traps (Privileged Architecture, mcause). */
+#define INTERRUPT (1ul << 63)
+#define CAUSE_CALL_OF_USER 8
+#define CAUSE_CALL_OF_SUPERVISOR 9
+#define CAUSE_SOFTWARE (INTERRUPT | 3)
+#define CAUSE_TIMER (INTERRUPT | 7)
+#endif

@@ -1,0 +1,83 @@
+/*
+ * The registers of machine and supervisor mode that decide what a world can do beside the entries. A reader compares the
+ * table with "Control registers" in firmware/README.md.
+ *
+ * An enclave runs in user mode of 64 bits, little-endian, with floating point and vectors off; no table of pages is in force,
+ * nothing is delegated, and beside the monitor's interrupts those of the host's three that it wants reach machine mode. What the host had
+ * comes back with it.
+ */
+#include "board.h"
+
+#define MPP_SUPERVISOR (1ul << 11)
+/* Of mstatus: SIE, SPIE, UBE, SPP, VS, FS, XS, SUM, MXR, UXL. */
+#define HOSTS_STATUS                                                                                                   \
+    (1ul << 1 | 1ul << 5 | 1ul << 6 | 1ul << 8 | 3ul << 9 | 3ul << 13 | 3ul << 15 | 1ul << 18 | 1ul << 19 | 3ul << 32)
+#define WIDTH_64 (2ul << 32)
+/* Machine mode's interrupts: software and timer. */
+#define MONITORS_INTERRUPTS (1ul << 3 | 1ul << 7)
+/* Supervisor mode's: software, timer, external. */
+#define HOSTS_INTERRUPTS (1ul << 1 | 1ul << 5 | 1ul << 9)
+/* The host's own handler gets every exception of the host but its calls. */
+#define HOSTS_EXCEPTIONS 0xf0b5fful
+
+#define ALL (~0ul)
+/* A register, the bits of it that are the host's; which of these stay while an enclave runs, and which are set then. */
+#define CONTROL_REGISTERS(X)                                                                                           \
+    X(mstatus, HOSTS_STATUS, 0, WIDTH_64)                                                                              \
+    X(satp, ALL, 0, 0)                                                                                                 \
+    X(mie, ~MONITORS_INTERRUPTS, HOSTS_INTERRUPTS, 0)                                                                  \
+    X(scounteren, ALL, 0, 0)                                                                                           \
+    X(medeleg, ALL, 0, 0)                                                                                              \
+    X(mideleg, ALL, 0, 0)
+
+enum {
+#define NAME(csr, bits, stay, set) NUMBER_##csr,
+    CONTROL_REGISTERS(NAME)
+#undef NAME
+        COUNT
+};
+/* What the host had, for each hart, and its mode, while an enclave runs there. */
+static uint64_t kept[MOST_HARTS][COUNT], kept_mode[MOST_HARTS];
+
+static void into_enclave(unsigned hart)
+{
+#define TAKE(csr, bits, stay, set)                                                                                     \
+    kept[hart][NUMBER_##csr] = READ(csr) & (bits);                                                                     \
+    WRITE(csr, (READ(csr) & (~(bits) | (stay))) | (set));
+    CONTROL_REGISTERS(TAKE)
+#undef TAKE
+    kept_mode[hart] = worlds[hart].mode;
+    worlds[hart].mode = 0;
+}
+
+static void back_to_host(unsigned hart)
+{
+#define GIVE(csr, bits, stay, set) WRITE(csr, (READ(csr) & ~(bits)) | kept[hart][NUMBER_##csr]);
+    CONTROL_REGISTERS(GIVE)
+#undef GIVE
+    worlds[hart].mode = kept_mode[hart];
+}
+
+/* The world on this hart was one and is another, by their numbers: 0 is the host. */
+void control_switch(uint64_t from, uint64_t to)
+{
+    unsigned hart = this_hart();
+    if (!from && to)
+        into_enclave(hart);
+    if (from && !to)
+        back_to_host(hart);
+}
+
+/* The hart has run no world: the host will be the first, in supervisor mode. */
+void control_at_start(void)
+{
+    worlds[this_hart()].mode = MPP_SUPERVISOR;
+    WRITE(mstatus, WIDTH_64);
+    WRITE(satp, 0);
+    WRITE(mie, MONITORS_INTERRUPTS);
+    WRITE(medeleg, HOSTS_EXCEPTIONS);
+    WRITE(mideleg, HOSTS_INTERRUPTS);
+    WRITE(scounteren, 0);
+    WRITE(mcounteren, 7);
+    timer_off();
+}

@@ -1,0 +1,13 @@
+/* The monitor and its firmware stand at the start of the range that the platform gives the monitor. */
+ENTRY(_start)
+SECTIONS
+{
+    . = MONITOR_BASE;
+    .text : { *(.text.start) *(.text .text.*) }
+    .rodata : ALIGN(16) { *(.rodata .rodata.*) *(.srodata .srodata.*) }
+    .data : ALIGN(16) { *(.data .data.*) *(.sdata .sdata.*) }
+    .bss (NOLOAD) : ALIGN(16) { bss_start = .; *(.sbss .sbss.*) *(.bss .bss.*) *(COMMON) . = ALIGN(8); bss_end = .; }
+    .stack (NOLOAD) : ALIGN(16) { *(.stack) }
+    ASSERT(. <= MONITOR_BASE + MONITOR_SIZE, "the monitor has no room in the range that the platform gives it")
+    /DISCARD/ : { *(.comment) *(.eh_frame) *(.riscv.attributes) }
+}

@@ -1,0 +1,66 @@
+/* The frames between the board and the proved monitor: 64-bit words, the lowest byte first (docs/FORMATS.md, "Frames"). */
+#ifndef FRAMES_H
+#define FRAMES_H
+#include <stdint.h>
+
+/* A tag is its eight letters, zero after the last. */
+#define TAG(a, b, c, d, e, f, g, h)                                                                                    \
+    ((uint64_t)(a) | (uint64_t)(b) << 8 | (uint64_t)(c) << 16 | (uint64_t)(d) << 24 | (uint64_t)(e) << 32 |            \
+     (uint64_t)(f) << 40 | (uint64_t)(g) << 48 | (uint64_t)(h) << 56)
+#define TAG_PLATFORM TAG('p', 'l', 'a', 't', 'f', 'o', 'r', 'm')
+#define TAG_CALL TAG('c', 'a', 'l', 'l', 0, 0, 0, 0)
+#define TAG_STOP TAG('s', 't', 'o', 'p', 0, 0, 0, 0)
+#define TAG_PAGE TAG('p', 'a', 'g', 'e', 0, 0, 0, 0)
+#define TAG_ANSWER TAG('a', 'n', 's', 'w', 'e', 'r', 0, 0)
+#define TAG_MEASURE TAG('m', 'e', 'a', 's', 'u', 'r', 'e', 0)
+#define TAG_END TAG('e', 'n', 'd', 0, 0, 0, 0, 0)
+
+#define PAGE 4096ul
+#define MOST_RANGES 32
+
+/* Read first: the platform. */
+struct platform_frame {
+    uint64_t tag, harts, entries, monitor_base, monitor_size, ram_count, device_count;
+    struct {
+        uint64_t base, size;
+    } ram[MOST_RANGES];
+    struct {
+        uint64_t base, size, perm;
+    } device[MOST_RANGES];
+};
+
+/* Read for each trap: a call, or an interrupt that stops an enclave. */
+struct trap_frame {
+    uint64_t tag, hart, pc, x[31];
+};
+
+/* Read after each page that is asked for. */
+struct page_frame {
+    uint64_t tag, page;
+    uint8_t bytes[PAGE];
+};
+
+/* Written: with what a hart goes on. x[0] is x1. */
+struct answer_frame {
+    uint64_t tag, hart, world, status, value, used, zero_first, zero_count, wake, pc, x[31], cfg[8], addr[64];
+};
+
+/* Written: pages to be read, one after another. */
+struct measure_frame {
+    uint64_t tag, first, count;
+};
+
+/* Written last: why nothing is served any more. */
+struct end_frame {
+    uint64_t tag, reason, detail;
+};
+#define END_NOT_UNDERSTOOD 1
+#define END_PLATFORM 2
+#define END_NEEDS 3
+#define END_MEMORY 4
+
+_Static_assert(sizeof(struct platform_frame) == 1336, "167 words");
+_Static_assert(sizeof(struct trap_frame) == 272, "34 words");
+_Static_assert(sizeof(struct page_frame) == 4112, "514 words");
+_Static_assert(sizeof(struct answer_frame) == 904, "113 words");
+#endif

@@ -1,0 +1,141 @@
+/*
+ * What the proved loop has of the board, in the shape of the C library: it reads frames from standard input and writes
+ * frames to standard output. Reading the next trap lets the hart run; writing an answer loads it.
+ */
+#include "board.h"
+
+/* The proved loop (crates/pmpmon_monitor). */
+int64_t pmpmon_serve(void);
+
+struct world worlds[MOST_HARTS];
+struct bank banks[MOST_HARTS];
+uint64_t world_number[MOST_HARTS];
+
+static enum { PLATFORM, TRAP, PAGES } next = PLATFORM;
+static uint64_t next_page, pages_left;
+
+static int is_ram(uint64_t page)
+{
+    for (uint64_t i = 0; i < platform->ram_count; i++)
+        if (page - platform->ram[i].base / PAGE < platform->ram[i].size / PAGE)
+            return 1;
+    return 0;
+}
+
+/* Whether machine mode may read or write a page for the monitor: it is memory, and not the monitor's. */
+static int is_worlds(uint64_t page)
+{
+    return is_ram(page) && page - platform->monitor_base / PAGE >= platform->monitor_size / PAGE;
+}
+
+static int64_t read_trap(struct trap_frame *frame)
+{
+    unsigned hart;
+    frame->tag = next_trap();
+    hart = this_hart();
+    frame->hart = hart;
+    frame->pc = worlds[hart].pc;
+    memcpy(frame->x, worlds[hart].x + 1, sizeof frame->x);
+    return sizeof *frame;
+}
+
+static int64_t read_page(struct page_frame *frame)
+{
+    frame->tag = TAG_PAGE;
+    frame->page = next_page;
+    if (!is_worlds(next_page))
+        return -1;
+    memcpy(frame->bytes, (const void *)(next_page * PAGE), PAGE);
+    next_page++;
+    if (--pages_left == 0)
+        next = TRAP;
+    return sizeof *frame;
+}
+
+/* Arguments that C has as int come in registers of 64 bits whose upper half says nothing. A read is for one whole frame. */
+int64_t read(uint64_t descriptor, void *to, uint64_t n)
+{
+    if ((int)descriptor != 0)
+        return -1;
+    if (next == PLATFORM && n == sizeof *platform) {
+        memcpy(to, platform, n);
+        next = TRAP;
+        return (int64_t)n;
+    }
+    if (next == TRAP && n == sizeof(struct trap_frame))
+        return read_trap(to);
+    if (next == PAGES && n == sizeof(struct page_frame))
+        return read_page(to);
+    return -1;
+}
+
+static int64_t written_answer(const struct answer_frame *answer)
+{
+    uint64_t hart = answer->hart, last = answer->zero_first + answer->zero_count;
+    struct world *world = &worlds[hart];
+    for (uint64_t page = answer->zero_first; page < last; page++)
+        if (is_worlds(page))
+            memset((void *)(page * PAGE), 0, PAGE);
+    for (unsigned other = 0; other < hart_count(); other++)
+        if (other == hart || (answer->wake >> other & 1)) {
+            memcpy(banks[other].cfg, answer->cfg, sizeof answer->cfg);
+            memcpy(banks[other].addr, answer->addr, sizeof answer->addr);
+        }
+    world->pc = answer->pc;
+    memcpy(world->x + 1, answer->x, sizeof answer->x);
+    control_switch(world_number[hart], answer->world);
+    world_number[hart] = answer->world;
+    answered(answer);
+    end_stop();
+    return sizeof *answer;
+}
+
+static int64_t written_measure(const struct measure_frame *asked)
+{
+    next = PAGES;
+    next_page = asked->first;
+    pages_left = asked->count;
+    return sizeof *asked;
+}
+
+int64_t write(uint64_t descriptor, const void *from, uint64_t n)
+{
+    uint64_t tag = *(const uint64_t *)from;
+    if ((int)descriptor != 1)
+        return -1;
+    if (tag == TAG_ANSWER && n == sizeof(struct answer_frame))
+        return written_answer(from);
+    if (tag == TAG_MEASURE && n == sizeof(struct measure_frame))
+        return written_measure(from);
+    if (tag == TAG_END && n == sizeof(struct end_frame))
+        ended(from);
+    return -1;
+}
+
+/* The error that standard input or output had: EIO. */
+int rattle_errno(void)
+{
+    return 5;
+}
+
+/* Where the monitor itself traps, nothing is left to go on with. */
+_Noreturn void trapped(uint64_t cause, uint64_t pc, uint64_t value)
+{
+    put("monitor: trapped ");
+    put_hex(cause);
+    put(" ");
+    put_hex(pc);
+    put(" ");
+    put_hex(value);
+    put("\n");
+    power_off(1);
+}
+
+_Noreturn void serve(void)
+{
+    int64_t told = pmpmon_serve();
+    put("monitor: the loop ended with ");
+    put_number(told);
+    put("\n");
+    power_off(1);
+}

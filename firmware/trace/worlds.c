@@ -1,0 +1,193 @@
+/*
+ * What a trace says, done by the world that runs on the hart: its own mode, its registers, its entries, and an instruction
+ * that is put into memory which it may execute, as a debugger does, and taken out again.
+ */
+#include "trace.h"
+
+#define EBREAK 0x00100073u
+#define EBREAK_SHORT 0x9002u
+#define ECALL_WORD 0x00000073u
+#define JUMP_TO_SELF 0x0000006fu
+#define VALUE 30 /* the registers of a load or store that is done for a trace */
+#define ADDRESS 31
+#define CAUSE_BREAKPOINT 3
+#define SUPERVISOR (1ul << 11)
+#define MOST_ENCLAVES 65
+
+static struct {
+    uint64_t base, pages;
+} enclaves[MOST_ENCLAVES];
+
+void enclave_made(uint64_t id, uint64_t base, uint64_t pages)
+{
+    enclaves[id].base = base;
+    enclaves[id].pages = pages;
+}
+
+void enclave_gone(uint64_t id)
+{
+    enclaves[id].pages = 0;
+}
+
+static _Noreturn void wrong(const char *what, uint64_t number)
+{
+    put("trace: ");
+    put(what);
+    put(" ");
+    put_hex(number);
+    put("\n");
+    power_off(1);
+}
+
+static int is_in_range(uint64_t address, uint64_t base, uint64_t size)
+{
+    return address - base < size;
+}
+
+static int is_owned(uint64_t address)
+{
+    for (unsigned id = 1; id < MOST_ENCLAVES; id++)
+        if (is_in_range(address, enclaves[id].base, enclaves[id].pages * PAGE))
+            return 1;
+    return is_in_range(address, platform->monitor_base, platform->monitor_size);
+}
+
+static int is_in_ram(uint64_t address, uint64_t size)
+{
+    for (uint64_t i = 0; i < platform->ram_count; i++)
+        if (is_in_range(address, platform->ram[i].base, platform->ram[i].size) &&
+            is_in_range(address + size - 1, platform->ram[i].base, platform->ram[i].size))
+            return 1;
+    return 0;
+}
+
+/* The last page of memory that is the host's alone. */
+static uint64_t page_of_host(void)
+{
+    for (uint64_t i = platform->ram_count; i-- > 0;)
+        for (uint64_t n = platform->ram[i].size / PAGE; n-- > 0;)
+            if (!is_owned(platform->ram[i].base + n * PAGE))
+                return platform->ram[i].base + n * PAGE;
+    wrong("the host has no page to execute from", 0);
+}
+
+/* A place for two instructions that the world on this hart may execute, apart from what it accesses. */
+static uint64_t place_apart(uint64_t address, uint64_t size)
+{
+    uint64_t id = world_number[this_hart()], place = id ? enclaves[id].base : page_of_host();
+    while (address < place + 8 && place < address + size)
+        place += 8;
+    return place;
+}
+
+/* The world of this hart executes at a place in some mode until it traps; what trapped is left in *world. */
+static void execute(struct world *world, uint64_t place, uint64_t mode)
+{
+    world->pc = place;
+    world->mode = mode;
+    run_world(world);
+}
+
+/* Every register that the instruction does not name is as it was handed out. */
+static void same_registers(const struct world *world, int all)
+{
+    for (unsigned n = 1; n < 32; n++)
+        if ((all || (n != VALUE && n != ADDRESS)) && world->x[n] != worlds[this_hart()].x[n])
+            wrong("a register is not as it was:", n);
+}
+
+static uint32_t instruction_for(const struct event *event)
+{
+    uint32_t width = event->size == 8 ? 3 : event->size == 4 ? 2 : event->size == 2 ? 1 : 0;
+    if (event->kind == LOAD)
+        return 0x03u | VALUE << 7 | (event->size == 8 ? 3 : 4 + width) << 12 | ADDRESS << 15;
+    return 0x23u | width << 12 | ADDRESS << 15 | VALUE << 20;
+}
+
+static int64_t load_or_store(const struct event *event, uint64_t *loaded)
+{
+    uint64_t place = place_apart(event->address, event->size);
+    volatile uint32_t *code = (volatile uint32_t *)place;
+    uint32_t first = code[0], second = code[1];
+    struct world world = worlds[this_hart()];
+    world.x[VALUE] = event->value;
+    world.x[ADDRESS] = event->address;
+    code[0] = instruction_for(event);
+    code[1] = EBREAK;
+    execute(&world, place, event->mode ? SUPERVISOR : 0);
+    code[0] = first;
+    code[1] = second;
+    same_registers(&world, 0);
+    *loaded = world.x[VALUE];
+    if (world.cause == CAUSE_BREAKPOINT && world.pc == place + 4)
+        return -1;
+    if (world.pc != place || world.value != event->address)
+        wrong("an access trapped otherwise:", world.cause);
+    return (int64_t)world.cause;
+}
+
+/* A fetch: where there is memory that is not the monitor's a breakpoint stands there, and elsewhere what is there. */
+static int64_t fetch(const struct event *event)
+{
+    uint64_t address = event->address;
+    int is_planted = is_in_ram(address, event->size) && !is_in_range(address, platform->monitor_base, platform->monitor_size);
+    volatile uint16_t *code = (volatile uint16_t *)address;
+    uint16_t first = is_planted ? code[0] : 0, second = is_planted && event->size == 4 ? code[1] : 0;
+    struct world world = worlds[this_hart()];
+    if (is_planted) {
+        code[0] = event->size == 4 ? (uint16_t)EBREAK : EBREAK_SHORT;
+        if (event->size == 4)
+            code[1] = (uint16_t)(EBREAK >> 16);
+    }
+    execute(&world, address, event->mode ? SUPERVISOR : 0);
+    if (is_planted) {
+        code[0] = first;
+        if (event->size == 4)
+            code[1] = second;
+    }
+    same_registers(&world, 1);
+    if (world.cause == CAUSE_BREAKPOINT && world.pc == address)
+        return -1;
+    return (int64_t)world.cause;
+}
+
+/* A hart may do an access that is off a multiple of its size; the model says that it is misaligned, before all else. */
+int64_t do_access(const struct event *event, uint64_t *loaded)
+{
+    static const int64_t misaligned[] = {0, 4, 6};
+    if (event->address % event->size)
+        return misaligned[event->kind];
+    return event->kind == FETCH ? fetch(event) : load_or_store(event, loaded);
+}
+
+/* One instruction of the world in its own mode, with its registers as they are. */
+static uint64_t one_instruction(uint32_t instruction)
+{
+    uint64_t place = place_apart(0, 0);
+    volatile uint32_t *code = (volatile uint32_t *)place;
+    uint32_t first = code[0];
+    struct world world = worlds[this_hart()];
+    code[0] = instruction;
+    execute(&world, place, worlds[this_hart()].mode);
+    code[0] = first;
+    same_registers(&world, 1);
+    if (world.pc != place)
+        wrong("an instruction trapped elsewhere:", world.pc);
+    return world.cause;
+}
+
+void do_ecall(void)
+{
+    uint64_t cause = one_instruction(ECALL_WORD);
+    if (cause != (world_number[this_hart()] ? CAUSE_CALL_OF_USER : CAUSE_CALL_OF_SUPERVISOR))
+        wrong("a call trapped otherwise:", cause);
+}
+
+void do_interrupt(void)
+{
+    timer_at(timer_now() + 1);
+    uint64_t cause = one_instruction(JUMP_TO_SELF);
+    timer_off();
+    if (cause != CAUSE_TIMER)
+        wrong("the timer trapped otherwise:", cause);
+}

@@ -1,0 +1,123 @@
+/*
+ * From the monitor into a world, and back by a trap.
+ *
+ * The monitor is one thread of control with one stack. A hart that runs it has the lock, and lets go of it in run_world,
+ * once its registers of protection are loaded. The hart whose world traps next, or the next to come by the lock, goes on
+ * with the monitor where the last one left it: it returns from that call of run_world.
+ */
+    .equ    WORLD, 36 * 8       # the bytes of a struct world
+    .equ    BANK, 72 * 8        # and of a struct bank
+    .equ    SAVED, 14 * 8
+
+/* Registers x1 to x31 but the one that points to the world. */
+    .macro  all what, pointer
+    .irp    n, 1, 2, 3, 4, 5, 6, 7, 8, 9, 10, 11, 12, 13, 14, 15, 16, 17, 18, 19, 20, 21, 22, 23, 24, 25, 26, 27, 28, 29, 30
+    \what   x\n, 8 * \n(\pointer)
+    .endr
+    .endm
+    .macro  callee_saved what
+    \what   ra, 0(sp)
+    .irp    n, 0, 1, 2, 3, 4, 5, 6, 7, 8, 9, 10, 11
+    \what   s\n, 8 + 8 * \n(sp)
+    .endr
+    .endm
+
+    .text
+    .globl  instructions
+instructions:
+    csrr    a0, minstret
+    ret
+
+    .globl  run_world
+run_world:
+    addi    sp, sp, -SAVED
+    callee_saved sd
+    la      t0, monitor_sp
+    sd      sp, (t0)
+    mv      s0, a0
+    csrr    t1, mhartid
+    li      t2, BANK
+    mul     t1, t1, t2
+    la      a0, banks
+    add     a0, a0, t1
+    call    load_bank
+/* From here on nothing of the monitor's is used but this hart's own: another hart may go on with it. */
+    la      t0, lock
+    amoswap.w.rl zero, zero, (t0)
+    fence.i                     # pages may have other bytes than when this hart last ran a world
+    la      t0, trap
+    csrw    mtvec, t0
+    csrw    mscratch, s0
+    ld      t0, 32 * 8(s0)
+    csrw    mepc, t0
+    li      t1, MODE_BITS
+    csrc    mstatus, t1
+    ld      t0, 33 * 8(s0)
+    csrs    mstatus, t0
+    mv      x31, s0
+    all     ld, x31
+    ld      x31, 8 * 31(x31)
+    mret
+
+/* A hart that has run no world yet comes in as one that was stopped. */
+    .weak   enter_as_trapped
+enter_as_trapped:
+    csrr    t0, mhartid
+    li      t1, WORLD
+    mul     t0, t0, t1
+    la      x31, worlds
+    add     x31, x31, t0
+    li      t0, 1 << 63 | 3
+    sd      t0, 34 * 8(x31)
+    j       take_monitor
+
+    .balign 4
+trap:
+    csrrw   x31, mscratch, x31
+    all     sd, x31
+    csrr    t0, mscratch
+    sd      t0, 31 * 8(x31)
+    csrr    t0, mepc
+    sd      t0, 32 * 8(x31)
+    csrr    t0, mstatus
+    li      t1, MODE_BITS
+    and     t0, t0, t1
+    sd      t0, 33 * 8(x31)
+    csrr    t0, mcause
+    sd      t0, 34 * 8(x31)
+    csrr    t0, mtval
+    sd      t0, 35 * 8(x31)
+    la      t0, died
+    csrw    mtvec, t0
+take_monitor:
+    csrr    t1, mhartid
+    slli    t1, t1, 2
+    la      t2, halted
+    add     t2, t2, t1
+    li      t1, 1
+    fence   rw, rw
+    sw      t1, (t2)
+    la      t0, lock
+1:  li      t1, 1
+    amoswap.w.aq t1, t1, (t0)
+    bnez    t1, 1b
+    sw      zero, (t2)
+    fence   rw, rw
+    la      t0, monitor_sp
+    ld      sp, (t0)
+    callee_saved ld
+    addi    sp, sp, SAVED
+    ret
+
+    .section .sdata, "aw"
+    .balign 8
+/* Hart 0 has the monitor first. */
+lock:
+    .word   1
+    .section .sbss, "aw", @nobits
+    .balign 8
+monitor_sp:
+    .skip   8
+    .globl  halted
+halted:
+    .skip   16

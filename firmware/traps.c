@@ -1,0 +1,106 @@
+/*
+ * Which trap is whose business. The monitor has every call of its extension, every call of an enclave, and whatever stops an
+ * enclave. The board has the host's other calls, its timer and the stop of a hart.
+ */
+#include "board.h"
+#include "pmpmon_calls.h"
+
+#define TIMER_OF_SUPERVISOR (1ul << 5)
+#define CREATE 0
+#define DESTROY 1
+
+/* Where the host begins, as OpenSBI's fw_jump has it: a0 is the hart, a1 the device tree. */
+#define HOST_ENTRY 0x80200000ul
+static uint64_t device_tree;
+
+/* A hart that comes for the first time has its registers set, and begins with the host. */
+static void begin(unsigned hart)
+{
+    static uint8_t has_begun[MOST_HARTS];
+    if (has_begun[hart])
+        return;
+    has_begun[hart] = 1;
+    control_at_start();
+    worlds[hart].pc = HOST_ENTRY;
+    worlds[hart].x[10] = hart;
+    worlds[hart].x[11] = device_tree;
+}
+
+static int is_call(const struct world *world)
+{
+    return world->cause == CAUSE_CALL_OF_USER || world->cause == CAUSE_CALL_OF_SUPERVISOR;
+}
+
+/* A call that may change the host's view is served while no other hart runs a world. */
+static uint64_t call_of_monitor(const struct world *world)
+{
+    if (world->x[17] == PMPMON_EXTENSION && (world->x[16] == CREATE || world->x[16] == DESTROY))
+        stop_others();
+    return TAG_CALL;
+}
+
+/* The host will find its own interrupt when it goes on. */
+static void timer_came(void)
+{
+    timer_off();
+    SET(mip, TIMER_OF_SUPERVISOR);
+}
+
+uint64_t next_trap(void)
+{
+    for (;;) {
+        struct world *world = &worlds[this_hart()];
+        run_world(world);
+        unsigned hart = this_hart();
+        world = &worlds[hart];
+        begin(hart);
+        if (world->cause == CAUSE_SOFTWARE) {
+            end_stop();
+        } else if (world->cause == CAUSE_TIMER) {
+            timer_came();
+            stop_cause[hart] = world->cause;
+            return TAG_STOP;
+        } else if (is_call(world)) {
+            if (world_number[hart] || !board_call(world))
+                return call_of_monitor(world);
+        } else if (world_number[hart]) {
+            stop_cause[hart] = world->cause;
+            stop_value[hart] = world->value;
+            return TAG_STOP;
+        } else {
+            put("monitor: a trap of the host that nobody handles, cause ");
+            put_hex(world->cause);
+            put(" at ");
+            put_hex(world->pc);
+            put("\n");
+            power_off(1);
+        }
+    }
+}
+
+void answered(const struct answer_frame *answer)
+{
+    static int is_booted;
+    if (is_booted)
+        return;
+    is_booted = 1;
+    begin((unsigned)answer->hart);
+    start_others();
+}
+
+_Noreturn void ended(const struct end_frame *end)
+{
+    put("monitor: ended, reason ");
+    put_number((int64_t)end->reason);
+    put(", ");
+    put_number((int64_t)end->detail);
+    put("\n");
+    power_off(1);
+}
+
+_Noreturn void boot(uint64_t hart, uint64_t tree)
+{
+    (void)hart;
+    device_tree = tree;
+    serve();
+}

@@ -1,0 +1,47 @@
+/* The serial port (a 16550) and the end of QEMU's virt board. */
+#include "board.h"
+
+static volatile uint8_t *const serial = (volatile uint8_t *)0x10000000;
+static volatile uint32_t *const finisher = (volatile uint32_t *)0x100000;
+
+static void put_char(char c)
+{
+    while (!(serial[5] & 0x20))
+        ;
+    serial[0] = (uint8_t)c;
+}
+
+void put(const char *text)
+{
+    for (; *text; text++)
+        put_char(*text);
+}
+
+void put_hex(uint64_t number)
+{
+    put("0x");
+    for (int shift = 60; shift >= 0; shift -= 4)
+        put_char("0123456789abcdef"[number >> shift & 15]);
+}
+
+static void put_digits(uint64_t number)
+{
+    if (number > 9)
+        put_digits(number / 10);
+    put_char((char)('0' + number % 10));
+}
+
+void put_number(int64_t number)
+{
+    if (number < 0)
+        put_char('-');
+    put_digits(number < 0 ? 0 - (uint64_t)number : (uint64_t)number);
+}
+
+/* The board ends: well with 0, and otherwise so that QEMU's status is 1. */
+_Noreturn void power_off(uint64_t status)
+{
+    *finisher = status ? 0x13333 : 0x5555;
+    for (;;)
+        ;
+}

@@ -1,0 +1,172 @@
+"""The proved monitor on a hart of QEMU: what tests/on_hart/run tries of firmware/."""
+import importlib.machinery
+import importlib.util
+import os
+import subprocess
+import sys
+import tempfile
+from concurrent.futures import ThreadPoolExecutor
+from pathlib import Path
+
+from lives import Life
+
+TOP = Path(__file__).resolve().parents[2]
+HERE = Path(__file__).resolve().parent
+FIRMWARE = TOP / "firmware"
+GCC = "riscv64-unknown-elf-gcc"
+FLAGS = ["-march=rv64imac_zicsr_zifencei", "-mabi=lp64", "-mcmodel=medany", "-std=gnu11", "-O2", "-ffreestanding", "-fno-builtin", "-nostdlib", "-static"]
+LIVES, EVENTS = 20, 120
+# What the host of firmware/host prints.
+HOST = """host: a word of the monitor: fault 5
+host: create: 0 1
+host: its code: fault 5
+host: its data: fault 5
+host: run, and it stops itself: 1 0
+host: resume, and the timer stops it: 1 0
+host: the cause, below 2^63: 7
+host: the timer came: 1
+host: resume, and it exits: 0 42
+host: resume what has exited: -111 0
+host: destroy: 0 0
+host: its code: 0
+host: its data: 0
+host: create, entered elsewhere: 0 1
+host: run, and it loads what is the monitor's: 1 0
+host: the cause: 5
+host: the address is the monitor's: 1
+host: destroy: 0 0
+host: a call that there is not: -2 0
+"""
+LIFE = """ecall 0x08454E43 0 0x80200000 1 1 0x80500000 1 0
+ecall 0x08454E43 0 0x80204000 2 0 0 0 0
+ecall 0x08454E43 2 1
+irq
+ecall 0x08454E43 4 1
+ecall 0x08454E43 5 7
+ecall 0x08454E43 1 1
+ecall 0x08454E43 1 2
+load s 8 0x80200000
+"""
+
+
+def on_hart_module():
+    """./pmpmon-on-hart"""
+    sys.dont_write_bytecode = True
+    loader = importlib.machinery.SourceFileLoader("pmpmon_on_hart", str(TOP / "pmpmon-on-hart"))
+    module = importlib.util.module_from_spec(importlib.util.spec_from_loader("pmpmon_on_hart", loader))
+    loader.exec_module(module)
+    return module
+
+
+def platform_with(folder, harts):
+    """A platform of so many harts, without the serial port: what a trace's worlds store goes into memory alone."""
+    path = folder / f"platform-{harts}.toml"
+    path.write_text(f"harts = {harts}\n[monitor]\nbase = 0x80000000\nsize = 0x200000\n[[ram]]\nbase = 0x80000000\nsize = 0x8000000\n")
+    return path
+
+
+def differs(on_hart, program, platform, trace):
+    """How many lines a trace has, and where the hart's report is another, or ''."""
+    want = subprocess.run([program, "run", platform, trace], capture_output=True, text=True)
+    try:
+        got, said, _ = on_hart.report_of(platform, trace)
+    except subprocess.TimeoutExpired:
+        return 0, "the board did not end"
+    lines = want.stdout.splitlines()
+    if want.returncode or said:
+        return 0, want.stderr or said
+    if got == lines:
+        return len(lines), ""
+    first = next((i for i, (a, b) in enumerate(zip(got, lines)) if a != b), min(len(got), len(lines)))
+    return 0, f"line {first + 1}: `{trace.read_text().splitlines()[first]}`: the hart {got[first : first + 1]}, the program {lines[first : first + 1]}"
+
+
+def lives(on_hart, program, folder, told):
+    """Random lives on one, two and four harts."""
+    traces = []
+    for seed in range(LIVES):
+        harts = (1, 2, 4)[seed % 3]
+        trace = folder / f"life-{seed}.trace"
+        trace.write_text(Life(seed, harts).trace(EVENTS))
+        traces.append((seed, harts, platform_with(folder, harts), trace))
+    with ThreadPoolExecutor(max_workers=max(1, (os.cpu_count() or 1) // 2)) as boards:
+        for (seed, harts, _, _), (count, why) in zip(traces, boards.map(lambda it: differs(on_hart, program, it[2], it[3]), traces)):
+            told(f"life {seed} on {harts} hart{'s' if harts > 1 else ''}: {count} lines as the program has them", not why, why)
+
+
+def examples(on_hart, program, told):
+    for name, platform in (("life-cycle", "example-platform"), ("no-entries", "example-platform"), ("two-harts", "two-harts")):
+        count, why = differs(on_hart, program, TOP / f"examples/{platform}.toml", TOP / f"examples/{name}.trace")
+        told(f"examples/{name}.trace: {count} lines on the hart", not why, why)
+
+
+def after_refusal(line):
+    """Whether a line is that of a creation or destruction for which memory was refused."""
+    return " call -109 0x0000000000000000 " in line
+
+
+def refused_memory(on_hart, folder, told):
+    """Each allocation is refused in turn: boot says so, or a creation or destruction is answered -109, or nothing differs."""
+    platform, trace = platform_with(folder, 1), folder / "refused.trace"
+    trace.write_text(LIFE)
+    want, notes, _ = on_hart.report_of(platform, trace, has_notes=True)
+    numbers = {it.split()[1]: int(it.split()[2]) for it in notes.splitlines()}
+    calls = range(1, numbers["allocations"] + 1)
+
+    def wrong(call):
+        got, said, _ = on_hart.report_of(platform, trace, refused_call=call)
+        if said == "end 4 0" and not got:
+            return "", "boot"
+        first = next((i for i, (a, b) in enumerate(zip(got, want)) if a != b), None)
+        if said or len(got) != len(want):
+            return f"allocation {call}: {said or got[-1:]}", ""
+        if first is None:
+            return "", "same"
+        return ("", "call") if after_refusal(got[first]) else (f"allocation {call}: {got[first]}", "")
+
+    with ThreadPoolExecutor(max_workers=max(1, (os.cpu_count() or 1) // 2)) as boards:
+        done = list(boards.map(wrong, calls))
+    faults, kinds = [it[0] for it in done if it[0]], [it[1] for it in done]
+    how = f"{kinds.count('boot')} at boot, {kinds.count('call')} answered -109, {kinds.count('same')} made up for"
+    told(f"each of {len(done)} allocations refused: {how}", not faults and kinds.count("boot") and kinds.count("call"), "; ".join(faults[:3]))
+    most = f"stack {numbers['stack']}, heap {numbers['heap']} bytes; instructions {numbers['other']} of a switch, {numbers['owning']} of a creation"
+    told(f"the monitor's most: {most}", numbers["stack"] <= 65536 and numbers["heap"] <= 65536)
+
+
+def booted(image, payload, harts):
+    board = [on_hart_module().QEMU, "-machine", "virt", "-smp", str(harts), "-m", "128", "-display", "none", "-monitor", "none", "-serial", "stdio"]
+    board += ["-bios", str(image), "-device", f"loader,file={payload}"]
+    try:
+        return subprocess.run(board, stdin=subprocess.DEVNULL, capture_output=True, text=True, timeout=60).stdout.replace("\r", "")
+    except subprocess.TimeoutExpired:
+        return "the board did not end"
+
+
+def built(platform, out, flags=""):
+    subprocess.run([FIRMWARE / "build", platform, out], check=True, env={**os.environ, "CFLAGS": flags})
+
+
+def worlds(folder, told):
+    """The host of firmware/host, and two harts that race, with the stop of the others and without."""
+    said = booted(FIRMWARE / "out/pmpmon-virt.elf", FIRMWARE / "out/host.elf", 1)
+    told("a host in C makes, runs, interrupts and destroys an enclave", said == HOST, said if said != HOST else "")
+    two = folder / "two.toml"
+    two.write_text("harts = 2\n" + (FIRMWARE / "platform.toml").read_text().replace("harts = 1\n", ""))
+    race = folder / "race.elf"
+    subprocess.run([GCC, *FLAGS, f"-I{FIRMWARE}", f"-I{TOP}/include", f"-Wl,-T,{FIRMWARE}/host/host.ld", "-Wl,--no-relax", "-Wl,--build-id=none",
+                    "-Wl,--no-warn-rwx-segments", "-o", race, HERE / "race.S", FIRMWARE / "uart.c"], check=True)
+    for name, flags, want in (("with", "", "faults\n"), ("without", "-DNO_STOP", "reads on\n")):
+        built(two, folder / name, flags)
+        said = booted(folder / name / "pmpmon-virt.elf", race, 2)
+        told(f"{name} the stop of other harts, a page that became an enclave's {want.strip()}", said == want, said if said != want else "")
+
+
+def monitor(program, told):
+    on_hart = on_hart_module()
+    on_hart.built()
+    with tempfile.TemporaryDirectory() as place:
+        folder = Path(place)
+        examples(on_hart, program, told)
+        worlds(folder, told)
+        lives(on_hart, program, folder, told)
+        refused_memory(on_hart, folder, told)
