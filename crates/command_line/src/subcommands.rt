@@ -134,7 +134,10 @@ fn show_command<'a>(alloc: Global) -> Result<Command<'a>, AllocError>
     let about =
         "Print a map, or what registers mean, as a table, each stretch with the entry that decides it";
     let arguments = [
-        Argument::File("MAP", "The map file, or with --registers the listing of registers"),
+        Argument::File(
+            "MAP",
+            "The map file, or with --registers the listing of registers",
+        ),
         Argument::Entries,
         Argument::AtMost,
         Argument::Registers,

@@ -159,7 +159,10 @@ pub fn passed_line(passed: Option<u64>) -> Line
     let Some(first) = passed else {
         return line;
     };
-    push_text(&mut line, b"# lines of other registers are passed over, line ");
+    push_text(
+        &mut line,
+        b"# lines of other registers are passed over, line ",
+    );
     push_decimal(&mut line, first);
     push_text(&mut line, b" first\n");
     line

@@ -87,6 +87,7 @@ fn push_registers(frame: &mut Frame, registers: &Registers)
 }
 
 /// The configuration byte of entry i, and zero past the entries.
+#[inline(always)]
 fn cfg_at(entries: &[Entry], i: usize) -> u8
     ensures { result ≡ cfg_at entries.now i }
 {
@@ -98,6 +99,7 @@ fn cfg_at(entries: &[Entry], i: usize) -> u8
 }
 
 /// The address register of entry i, and zero past the entries.
+#[inline(always)]
 fn address_at(entries: &[Entry], i: usize) -> u64
     ensures { result ≡ address_at entries.now i }
 {

@@ -32,6 +32,7 @@ pub(crate) const TAG_END: u64 = 0x0064_6e65;
 pub type Frame = ArrayVec<u8, 904>;
 
 /// Word k of some bytes.
+#[inline(always)]
 pub(crate) fn word(bytes: &[u8], k: usize) -> u64
     requires { 8 * k + 8 ≤ length bytes.now }
     ensures { result ≡ word_at bytes.now k }
@@ -40,6 +41,7 @@ pub(crate) fn word(bytes: &[u8], k: usize) -> u64
 }
 
 /// Appends a word.
+#[inline(always)]
 pub(crate) fn push_word(frame: &mut Frame, value: u64)
     requires { length frame.old.items + 8 ≤ 904 }
     ensures { frame.new.items ≡ frame.old.items ++ little_bytes 8 value }

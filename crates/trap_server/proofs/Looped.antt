@@ -1,7 +1,7 @@
 -- How far the loop has come.
-use Rattle.std.proofs.Common.{◌≡◌, ◌∙◌, inl, inr, ℕ, ◌<◌, ◌≤◌, Bool, true, false, List, [], ◌∷◌, ◌++◌, length, Option, None, Some, Result, Ok, Err, ap, sym, subst, refl, append_assoc, append-nil}
-use Rattle.std.specs.Io.KnownBytes.{Appends, Consumes, IsAtEnd}
-use Rattle.std.proofs.KnownBytes.{Appends-nil, Appends-trans, Consumes-nil, Consumes-trans}
+use Rattle.std.proofs.Common.{◌≡◌, ◌∙◌, ℕ, Bool, List, [], ◌++◌, length, Option, None, Ok, Err, ap, sym, subst, refl, append_assoc, append-nil}
+use Rattle.std.specs.Io.KnownBytes.{Appends, Consumes}
+use Rattle.std.proofs.KnownBytes.{Appends-trans, Consumes-trans}
 use Rattle.enclave_table.specs.Platform.{Layout}
 use Rattle.monitor_core.specs.States.{State, opening}
 use Rattle.trap_frames.specs.declared.trap.Trap.{Trap}
@@ -9,10 +9,8 @@ use Rattle.trap_frames.specs.declared.fault.FrameFault.{FrameFault}
 use Rattle.trap_frames.specs.declared.fault.FrameFault.TheVariants as faults
 use Rattle.trap_frames.specs.Platforms.{IsPlatformFrame}
 use Rattle.trap_frames.specs.Traps.{IsTrapFrame, ReadsTrap}
-use Rattle.trap_server.specs.declared.fault.ServeFault.{ServeFault}
 use Rattle.trap_server.specs.Answered.{AreAwake, IsAnswer, no_answer}
-use Rattle.trap_server.specs.Ends.{Ends, LastIs}
-use Rattle.trap_server.specs.Runs.{EndsEarly, Ran, others}
+use Rattle.trap_server.specs.Runs.{Ran, others}
 use Rattle.trap_server.specs.Runs.{Serves as Served}
 use Rattle.trap_server.specs.Runs.{next_trap, no_trap}
 use Rattle.trap_server.specs.Steps.{Serves}

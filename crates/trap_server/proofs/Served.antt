@@ -1,11 +1,10 @@
 -- A trap that was served, from what was asked, read and written.
-use Rattle.std.proofs.Common.{◌≡◌, ◌∙◌, inl, inr, ℕ, zero, suc, ◌+◌, ◌-◌, ◌<◌, ◌≤◌, Bool, true, false, List, [], ◌∷◌, ◌++◌, length, take, Option, None, Some, Result, Ok, Err, ap, sym, subst, refl, arith, take_all, length-append}
+use Rattle.std.proofs.Common.{◌≡◌, ◌∙◌, ℕ, zero, suc, ◌+◌, ◌-◌, ◌<◌, ◌≤◌, Bool, true, false, List, [], ◌∷◌, ◌++◌, length, take, Option, None, Some, Result, Ok, Err, ap, sym, refl, arith, take_all, length-append}
 use Rattle.std.proofs.Math.Seq.{take-suc}
 use Rattle.std.proofs.lemmas.Bool.{true≢false}
 use Rattle.std.specs.Prelude.{get_or, slice_index_or}
 use Rattle.std.specs.Io.KnownBytes.{Appends, Consumes}
 use Rattle.std.proofs.KnownBytes.{Appends-trans}
-use Rattle.page_views.specs.declared.pages.PageRange.{PageRange}
 use Rattle.enclave_table.specs.Digests.{measured, pages_from}
 use Rattle.enclave_table.specs.Enclaves.{EnclaveTable}
 use Rattle.enclave_table.specs.Requests.{parts_of}
@@ -15,13 +14,10 @@ use Rattle.worlds.specs.declared.world.World.TheVariants.{Host}
 use Rattle.monitor_core.specs.Measured.{IsMeasuredFor, Measures}
 use Rattle.trap_frames.specs.Measuring.{ArePages}
 use Rattle.trap_frames.specs.Measuring.{next_page, no_page}
-use Rattle.monitor_core.specs.declared.answer.Answer.{Answer}
 use Rattle.monitor_core.specs.States.{State}
-use Rattle.monitor_core.specs.Changes.{without_mark}
 use Rattle.trap_frames.specs.declared.trap.Trap.{Trap}
 use Rattle.trap_server.specs.declared.fault.ServeFault.{ServeFault}
-use Rattle.trap_server.specs.Answered.{AreAwake, IsAnswer, marks_of, unmarked}
-use Rattle.trap_server.specs.Ends.{Ends, LastIs}
+use Rattle.trap_server.specs.Answered.{AreAwake, marks_of, unmarked}
 use Rattle.trap_server.specs.Serving.{ServesTrap}
 use Rattle.trap_server.specs.Steps.{MayWake, Serves, Writes}
 

@@ -1,5 +1,5 @@
 -- Where another hart is marked after a call, the host goes on on the hart that made it.
-use Rattle.std.proofs.Common.{◌≡◌, ◌∙◌, inl, inr, ℕ, ◌<◌, List, true, false, Option, Some, None, ap, sym, refl}
+use Rattle.std.proofs.Common.{◌≡◌, ◌∙◌, inl, inr, ℕ, List, true, false, Option, Some, None, ap, sym, refl}
 use Rattle.std.proofs.lemmas.Bool.{true≢false}
 use Rattle.page_views.specs.declared.pages.PageRange.{PageRange}
 use Rattle.worlds.specs.declared.world.World.{World}

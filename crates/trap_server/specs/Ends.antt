@@ -1,7 +1,6 @@
 -- What was written last, where the loop ends early.
-use Rattle.std.specs.Prelude.{◌≡◌, ℕ, List, ◌++◌, Option}
+use Rattle.std.specs.Prelude.{◌≡◌, ℕ, List, Option}
 use Rattle.std.specs.Io.KnownBytes.{Appends}
-use Rattle.trap_frames.specs.declared.end.Refusal.{Refusal}
 use Rattle.trap_frames.specs.Ends.{end_bytes}
 use Rattle.trap_server.specs.declared.fault.ServeFault.{ServeFault}
 use Rattle.trap_server.specs.declared.fault.ServeFault.TheVariants as faults

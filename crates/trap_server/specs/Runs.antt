@@ -1,6 +1,6 @@
 -- A run of the loop.
-use Rattle.std.specs.Prelude.{◌≡◌, ◌⊎◌, ℕ, Bool, true, false, nat_lt, List, [], ◌∷◌, ◌++◌, length, Option, None}
-use Rattle.std.specs.Io.KnownBytes.{Appends, Consumes, IsAtEnd}
+use Rattle.std.specs.Prelude.{◌≡◌, ◌⊎◌, ℕ, Bool, false, nat_lt, List, [], ◌∷◌, ◌++◌, length, Option, None}
+use Rattle.std.specs.Io.KnownBytes.{Appends, Consumes}
 use Rattle.enclave_table.specs.Platform.{Layout}
 use Rattle.monitor_core.specs.States.{State, opening}
 use Rattle.trap_frames.specs.declared.trap.Trap.{Trap}

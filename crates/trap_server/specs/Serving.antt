@@ -1,5 +1,5 @@
 -- How a trap is served.
-use Rattle.std.specs.Prelude.{◌≡◌, ◌⊎◌, ℕ, ◌+◌, ◌/◌, List, [], Option, None, Some}
+use Rattle.std.specs.Prelude.{◌≡◌, ◌⊎◌, ℕ, ◌+◌, ◌/◌, List, [], Option, None}
 use Rattle.page_views.specs.declared.pages.PageRange.{PageRange}
 use Rattle.enclave_table.specs.Digests.{pages_from}
 use Rattle.enclave_table.specs.declared.request.Create.{Create}

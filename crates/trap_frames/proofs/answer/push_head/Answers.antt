@@ -1,5 +1,5 @@
-use Rattle.std.proofs.Common.{◌≡◌, [], ◌∷◌, ◌++◌}
-use Rattle.trap_frames.specs.Words.{answer_tag, bytes_of}
+use Rattle.std.proofs.Common.{[], ◌∷◌}
+use Rattle.trap_frames.specs.Words.{answer_tag}
 use Rattle.trap_frames.proofs.Appended.{head_is, no_more, one_word}
 use Rattle.trap_frames.proofs.answer.push_head.Goals as goal
 

@@ -1,4 +1,4 @@
-use Rattle.std.proofs.Common.{◌≡◌, ◌∙◌, ◌+◌, ◌<◌, ap, arith}
+use Rattle.std.proofs.Common.{◌∙◌, ap, arith}
 use Rattle.trap_frames.specs.Platforms.{words_of}
 use Rattle.trap_frames.proofs.Lengths.{device_step, devices_room}
 use Rattle.trap_frames.proofs.platform_frame.devices_in.Goals as goal

@@ -1,4 +1,4 @@
-use Rattle.std.proofs.Common.{◌≡◌, rules, arith}
+use Rattle.std.proofs.Common.{arith}
 use Rattle.trap_frames.proofs.Read.{reads_platform, whole}
 use Rattle.trap_frames.proofs.platform_frame.read_platform.Goals as goal
 

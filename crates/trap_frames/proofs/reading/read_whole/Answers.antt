@@ -1,4 +1,4 @@
-use Rattle.std.proofs.Common.{◌≡◌, ◌∙◌, ◌+◌, ◌-◌, ◌≤◌, ◌++◌, arith, rules, length, take, subst}
+use Rattle.std.proofs.Common.{◌∙◌, ◌-◌, rules, length, subst}
 use Rattle.std.specs.Io.KnownBytes.{Consumes}
 use Rattle.std.proofs.KnownBytes.{Consumes-trans}
 use Rattle.trap_frames.proofs.Filling.{joined}

@@ -1,4 +1,4 @@
-use Rattle.std.proofs.Common.{◌≡◌, Ok, ap, subst}
+use Rattle.std.proofs.Common.{Ok, subst}
 use Rattle.std.proofs.KnownBytes.{Appends-nil}
 use Rattle.trap_frames.specs.Platforms.{ReadsPlatform}
 use Rattle.trap_server.proofs.looping.boot.Goals as goal

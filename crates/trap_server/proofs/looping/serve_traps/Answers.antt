@@ -1,4 +1,4 @@
-use Rattle.std.proofs.Common.{◌≡◌, ◌∙◌, inl, inr, ℕ, List, [], ◌++◌, Ok, Err, ap, sym, subst}
+use Rattle.std.proofs.Common.{◌∙◌, inl, inr, [], ◌++◌, Ok, ap, sym, subst}
 use Rattle.std.proofs.KnownBytes.{Appends-nil, Appends-trans, Consumes-nil, Consumes-trans}
 use Rattle.monitor_core.specs.Monitors.{state_of}
 use Rattle.trap_frames.specs.Traps.{ReadsTrap}

@@ -1,4 +1,4 @@
-use Rattle.std.proofs.Common.{◌≡◌, ◌∙◌, ℕ, ap, sym, subst}
+use Rattle.std.proofs.Common.{◌∙◌, ℕ, ap, sym, subst}
 use Rattle.pmp_match.specs.Meaning.{IsFewest}
 use Rattle.worlds.specs.declared.world.World.{World}
 use Rattle.sbi_decode.specs.Registers.{RegisterFile}

@@ -1,4 +1,4 @@
-use Rattle.std.proofs.Common.{◌≡◌, ◌∙◌, ◌+◌, ◌/◌, inl, inr, ℕ, List, [], refl, ap, sym, subst}
+use Rattle.std.proofs.Common.{◌∙◌, ◌+◌, ◌/◌, inl, inr, ℕ, List, [], refl, ap, sym, subst}
 use Rattle.std.proofs.KnownBytes.{Appends-nil, Appends-trans, Consumes-nil}
 use Rattle.measurement.specs.Measured.{digest_of}
 use Rattle.sbi_decode.specs.Calls.{call_of}

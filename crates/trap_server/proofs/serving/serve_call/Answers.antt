@@ -1,4 +1,4 @@
-use Rattle.std.proofs.Common.{◌≡◌, ◌∙◌, ◌<◌, ◌≤◌, ℕ, List, Bool, ap, sym, subst, arith}
+use Rattle.std.proofs.Common.{◌∙◌, ◌<◌, ◌≤◌, List, Bool, ap, sym, subst}
 use Rattle.sbi_decode.specs.Calls.{call_of}
 use Rattle.monitor_core.specs.Changes.{past_call, with_running}
 use Rattle.monitor_core.specs.Monitors.{state_of}

@@ -1,4 +1,4 @@
-use Rattle.std.proofs.Common.{◌≡◌, ◌∙◌, ◌≤◌, ℕ, List, [], Bool, None, refl, ap, sym, subst}
+use Rattle.std.proofs.Common.{◌∙◌, ◌≤◌, List, [], Bool, None, refl, ap, sym, subst}
 use Rattle.std.proofs.KnownBytes.{Appends-nil, Consumes-nil}
 use Rattle.monitor_core.specs.Monitors.{state_of}
 use Rattle.monitor_core.specs.States.{State}
