@@ -40,7 +40,7 @@ void end_stop(void)
 /* A platform that names a hart which the board has not would wait for it at the first stop. */
 static void wait_for(unsigned hart)
 {
-    uint64_t last = timer_now() + 10000000;
+    uint64_t last = timer_now() + 100000000; /* ten seconds */
     while (!arrived[hart])
         if (timer_now() > last) {
             put("monitor: the platform has a hart that does not come: ");

@@ -5,6 +5,9 @@
  * from a0 on; the error comes back in a0 and the value in a1, and no other register changes. docs/FORMATS.md, "Calls of the
  * monitor", says what each does and when it is refused.
  *
+ * The monitor's crates are proved. What firmware/build makes of them is a build for RV64 that is tested on QEMU, and that no
+ * verdict of a proof covers; firmware/README.md says what else is trusted.
+ *
  *   struct pmpmon_answer made = pmpmon_create(0x85000000, 1, 1, 0, 0, 0);
  *   if (made.error == 0) {
  *       struct pmpmon_answer back = pmpmon_run(made.value);

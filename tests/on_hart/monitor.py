@@ -2,6 +2,7 @@
 import importlib.machinery
 import importlib.util
 import os
+import shutil
 import subprocess
 import sys
 import tempfile
@@ -94,6 +95,16 @@ def lives(on_hart, program, folder, told):
             told(f"life {seed} on {harts} hart{'s' if harts > 1 else ''}: {count} lines as the program has them", not why, why)
 
 
+def header_is_read(told):
+    """Whether include/pmpmon_calls.h is strict C, and C++ where its compiler is there."""
+    compilers = [(GCC, "c99", "c"), (GCC, "c17", "c"), (GCC.replace("gcc", "g++"), "c++11", "c++")]
+    for compiler, standard, language in compilers:
+        if shutil.which(compiler):
+            words = [compiler, *FLAGS[:3], "-ffreestanding", f"-std={standard}", "-Wall", "-Wextra", "-Wpedantic", "-Werror", f"-I{TOP}/include", "-c", "-o", os.devnull, "-x", language, "-"]
+            done = subprocess.run(words, input='#include "pmpmon_calls.h"\n', capture_output=True, text=True)
+            told(f"include/pmpmon_calls.h is read as {standard}", done.returncode == 0, done.stderr)
+
+
 def examples(on_hart, program, told):
     for name, platform in (("life-cycle", "example-platform"), ("no-entries", "example-platform"), ("two-harts", "two-harts")):
         count, why = differs(on_hart, program, TOP / f"examples/{platform}.toml", TOP / f"examples/{name}.trace")
@@ -166,6 +177,7 @@ def monitor(program, told):
     on_hart.built()
     with tempfile.TemporaryDirectory() as place:
         folder = Path(place)
+        header_is_read(told)
         examples(on_hart, program, told)
         worlds(folder, told)
         lives(on_hart, program, folder, told)
