@@ -42,17 +42,17 @@ value_of document (Device n) = option_and_then (at (n - 1)) (get_member (codes "
 
 -- the table of a place breaks this: it has a key that it may not have, lacks one, or has a value that will not do
 abbrev pub Breaks : Members → Place → Breach → Type 0
-Breaks members place (Unknown spot key) = (spot ≡ place) × (has_only (keys_of place) members ≡ false) × (is_known key.now (keys_of place) ≡ false)
-Breaks members place (Missing spot key) = (spot ≡ place) × (get_member (key_name key) members ≡ None)
-Breaks members place (NoNumber spot key) = (spot ≡ place) × (value : Data) × (get_member (key_name key) members ≡ Some value) × (number value ≡ None)
-Breaks members place (NoPages spot) = (spot ≡ place) × (range : ℕ × ℕ) × (range_in members ≡ Some range) × (IsRange range → ⊥)
-Breaks members place (NoPerm spot) = (spot ≡ place) × (value : Data) × (get_member (codes "perm") members ≡ Some value) × (perm_of value ≡ None)
-Breaks members place _ = ⊥
+Breaks fields place (Unknown spot key) = (spot ≡ place) × (has_only (keys_of place) fields ≡ false) × (is_known key.now (keys_of place) ≡ false)
+Breaks fields place (Missing spot key) = (spot ≡ place) × (get_member (key_name key) fields ≡ None)
+Breaks fields place (NoNumber spot key) = (spot ≡ place) × (value : Data) × (get_member (key_name key) fields ≡ Some value) × (number value ≡ None)
+Breaks fields place (NoPages spot) = (spot ≡ place) × (range : ℕ × ℕ) × (range_in fields ≡ Some range) × (IsRange range → ⊥)
+Breaks fields place (NoPerm spot) = (spot ≡ place) × (value : Data) × (get_member (codes "perm") fields ≡ Some value) × (perm_of value ≡ None)
+Breaks fields place _ = ⊥
 
 -- what stands at a place breaks this: it is no table, or one that breaks it
 abbrev pub BreaksAt : Data → Place → Breach → Type 0
 BreaksAt value place breach =
-    ((as_table value ≡ None) × (breach ≡ NoTable place)) ⊎ ((members : Members) × (as_table value ≡ Some members) × Breaks members place breach)
+    ((as_table value ≡ None) × (breach ≡ NoTable place)) ⊎ ((fields : Members) × (as_table value ≡ Some fields) × Breaks fields place breach)
 
 -- an item of an array breaks this, at the place of its number, counted from 1
 abbrev pub BreaksItem : Items → (ℕ → Place) → Breach → Type 0
