@@ -330,7 +330,7 @@ fn the_version_names_the_kit(rt: HostRuntime) -> Result<(), Fail> {
             let text = format!(in rt.alloc(); "{error}")?;
             assert!(rt;
                 text.as_str()
-                    .contains("rattle-kit-13f logic dac8208d650f15bf")
+                    .contains("rattle-kit-13b logic dac8208d650f15bf")
             );
         }
     }
