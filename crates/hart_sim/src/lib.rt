@@ -19,7 +19,7 @@
 //! run(&mut machine, &mut trace, &mut report)?;
 //! ```
 //!
-//! The streams, the lines and the events of traces are handed on from the crates below.
+//! The streams and the events of traces are handed on from the crates below.
 #![tactic(auto)]
 
 mod access;
@@ -37,7 +37,7 @@ mod report;
 mod step;
 mod trace_run;
 
-pub use byte_streams::{Counted, DeviceFault, Sink, Source, fakes, write_whole};
+pub use byte_streams::{Counted, DeviceFault, Sink, Source, fakes};
 pub use hart_trace::{Event, parse_line};
 pub use laws::{
     creation_law, destruction_law, headline_law, platform_law, privacy_law, private_bytes_law,
@@ -45,8 +45,5 @@ pub use laws::{
 };
 pub use machine::Machine;
 pub use reply::Reply;
-pub use text_lines::{
-    Interpreter, Line, LineReader, NotUnderstood, ReadFault, Refusal, RunFault, Words,
-    interpret_lines, lines_law, number, push_decimal, push_hex, push_text, words_law,
-};
+pub use text_lines::RunFault;
 pub use trace_run::run;

@@ -15,6 +15,6 @@ mod laws;
 mod sending;
 mod writing;
 
-pub use certificate_format::{EntryBytes, Header, ReadFault, Reader, SixCosts, Tag, Version};
+pub use certificate_format::{Header, ReadFault, Reader, Tag, Version};
 pub use laws::certificate_law;
 pub use writing::{send_map, write, write_map};
