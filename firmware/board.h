@@ -68,6 +68,7 @@ void put(const char *text);
 void put_hex(uint64_t number);
 void put_number(int64_t number);
 _Noreturn void power_off(uint64_t status);
+_Noreturn void start_again(void);
 void *memcpy(void *to, const void *from, size_t n);
 void *memset(void *to, int value, size_t n);
 

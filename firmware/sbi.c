@@ -47,14 +47,21 @@ static struct answer time_call(uint64_t function, uint64_t time)
     return (struct answer){0, 0};
 }
 
-static struct answer reset_call(uint64_t function, uint64_t kind, uint64_t reason)
+/* Types and reasons have 32 bits. */
+#define LAST_TYPE 2u        /* 0 shutdown, 1 cold reboot, 2 warm reboot */
+#define LAST_REASON 1u      /* 0 none, 1 a failure of the system */
+#define VENDORS_TYPE 0xf0000000u
+
+static struct answer reset_call(uint64_t function, uint32_t type, uint32_t reason)
 {
     if (function != 0)
         return (struct answer){NOT_SUPPORTED, 0};
-    if ((uint32_t)kind > 0)
-        return (struct answer){NOT_SUPPORTED, 0};
-    if ((uint32_t)reason > 1)
+    if ((type > LAST_TYPE && type < VENDORS_TYPE) || reason > LAST_REASON)
         return (struct answer){INVALID_PARAMETER, 0};
+    if (type >= VENDORS_TYPE)
+        return (struct answer){NOT_SUPPORTED, 0};
+    if (type)
+        start_again();
     power_off(reason);
 }
 
@@ -79,7 +86,7 @@ int board_call(struct world *world)
         answer = time_call(function, first);
         break;
     case RESET:
-        answer = reset_call(function, first, world->x[11]);
+        answer = reset_call(function, (uint32_t)first, (uint32_t)world->x[11]);
         break;
     case PMPMON_STOPS:
         answer = stops_call(function);

@@ -61,8 +61,11 @@ uint64_t next_trap(void)
             stop_cause[hart] = world->cause;
             return TAG_STOP;
         } else if (is_call(world)) {
-            if (world_number[hart] || !board_call(world))
-                return call_of_monitor(world);
+            if (!world_number[hart] && board_call(world))
+                continue;
+            if (world_number[hart])
+                stop_cause[hart] = world->cause;
+            return call_of_monitor(world);
         } else if (world_number[hart]) {
             stop_cause[hart] = world->cause;
             stop_value[hart] = world->value;
