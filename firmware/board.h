@@ -70,6 +70,7 @@ void put_number(int64_t number);
 _Noreturn void power_off(uint64_t status);
 _Noreturn void start_again(void);
 void *memcpy(void *to, const void *from, size_t n);
+void *memmove(void *to, const void *from, size_t n);
 void *memset(void *to, int value, size_t n);
 
 /* The platform that the build was made for, as a frame. */

@@ -3,6 +3,7 @@
  * enclave. The board has the host's other calls, its timer and the stop of a hart.
  */
 #include "board.h"
+#include "device_tree.h"
 #include "pmpmon_calls.h"
 
 #define TIMER_OF_SUPERVISOR (1ul << 5)
@@ -101,9 +102,37 @@ _Noreturn void ended(const struct end_frame *end)
     power_off(1);
 }
 
+/* How many bytes from `at` on are memory of the host, one after another. */
+static uint64_t host_memory_at(uint64_t at)
+{
+    uint64_t monitor = platform->monitor_base;
+    for (uint64_t i = 0; i < platform->ram_count; i++) {
+        uint64_t base = platform->ram[i].base, end = base + platform->ram[i].size;
+        if (at - base >= platform->ram[i].size)
+            continue;
+        if (at - monitor < platform->monitor_size)
+            return 0;
+        return (at < monitor && monitor < end ? monitor : end) - at;
+    }
+    return 0;
+}
+
+/* An operating system keeps off the monitor's range: the tree says so. It may grow into the memory after it. */
+static void reserve_monitor(uint64_t tree)
+{
+    const char *why = reserve_in_tree((uint8_t *)tree, host_memory_at(tree), platform->monitor_base, platform->monitor_size);
+    if (!why)
+        return;
+    put("monitor: the device tree ");
+    put(why);
+    put("\n");
+    power_off(1);
+}
+
 _Noreturn void boot(uint64_t hart, uint64_t tree)
 {
     (void)hart;
     device_tree = tree;
+    reserve_monitor(tree);
     serve();
 }

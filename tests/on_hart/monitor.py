@@ -10,6 +10,7 @@ from concurrent.futures import ThreadPoolExecutor
 from pathlib import Path
 
 from lives import Life
+from trees import trees
 
 TOP = Path(__file__).resolve().parents[2]
 HERE = Path(__file__).resolve().parent
@@ -144,9 +145,9 @@ def refused_memory(on_hart, folder, told):
     told(f"the monitor's most: {most}", numbers["stack"] <= 65536 and numbers["heap"] <= 65536)
 
 
-def booted(image, payload, harts):
+def booted(image, payload, harts, *more):
     board = [on_hart_module().QEMU, "-machine", "virt", "-smp", str(harts), "-m", "128", "-display", "none", "-monitor", "none", "-serial", "stdio"]
-    board += ["-bios", str(image), "-device", f"loader,file={payload}"]
+    board += ["-bios", str(image), "-device", f"loader,file={payload}", *more]
     try:
         return subprocess.run(board, stdin=subprocess.DEVNULL, capture_output=True, text=True, timeout=60).stdout.replace("\r", "")
     except subprocess.TimeoutExpired:
@@ -161,6 +162,10 @@ def worlds(folder, told):
     """The host of firmware/host, and two harts that race, with the stop of the others and without."""
     said = booted(FIRMWARE / "out/pmpmon-virt.elf", FIRMWARE / "out/host.elf", 1)
     told("a host in C makes, runs, interrupts and destroys an enclave", said == HOST, said if said != HOST else "")
+    wrong = folder / "three.dtb"
+    if wrong.exists():
+        said = booted(FIRMWARE / "out/pmpmon-virt.elf", FIRMWARE / "out/host.elf", 1, "-dtb", str(wrong))
+        told("a board whose device tree can't be read stops, and says so", said == "monitor: the device tree cannot be read\n", said)
     two = folder / "two.toml"
     two.write_text("harts = 2\n" + (FIRMWARE / "platform.toml").read_text().replace("harts = 1\n", ""))
     race = folder / "race.elf"
@@ -179,6 +184,7 @@ def monitor(program, told):
         folder = Path(place)
         header_is_read(told)
         examples(on_hart, program, told)
+        trees(folder, told)
         worlds(folder, told)
         lives(on_hart, program, folder, told)
         refused_memory(on_hart, folder, told)
