@@ -79,5 +79,6 @@ void control_at_start(void)
     WRITE(mideleg, HOSTS_INTERRUPTS);
     WRITE(scounteren, 0);
     WRITE(mcounteren, 7);
+    CLEAR(mip, SOFTWARE_OF_SUPERVISOR | TIMER_OF_SUPERVISOR);
     timer_off();
 }

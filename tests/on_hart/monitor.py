@@ -168,13 +168,27 @@ def worlds(folder, told):
         told("a board whose device tree can't be read stops, and says so", said == "monitor: the device tree cannot be read\n", said)
     two = folder / "two.toml"
     two.write_text("harts = 2\n" + (FIRMWARE / "platform.toml").read_text().replace("harts = 1\n", ""))
-    race = folder / "race.elf"
-    subprocess.run([GCC, *FLAGS, f"-I{FIRMWARE}", f"-I{TOP}/include", f"-Wl,-T,{FIRMWARE}/host/host.ld", "-Wl,--no-relax", "-Wl,--build-id=none",
-                    "-Wl,--no-warn-rwx-segments", "-o", race, HERE / "race.S", FIRMWARE / "uart.c"], check=True)
+    race = host(folder / "race.elf", "race.S")
     for name, flags, want in (("with", "", "faults\n"), ("without", "-DNO_STOP", "reads on\n")):
         built(two, folder / name, flags)
         said = booted(folder / name / "pmpmon-virt.elf", race, 2)
         told(f"{name} the stop of other harts, a page that became an enclave's {want.strip()}", said == want, said if said != want else "")
+    sbi(folder / "with/pmpmon-virt.elf", folder, told)
+
+
+def host(path, *sources):
+    """A host of this folder's sources."""
+    subprocess.run([GCC, *FLAGS, "-Wall", "-Wextra", "-Werror", f"-I{FIRMWARE}", f"-I{TOP}/include", f"-Wl,-T,{FIRMWARE}/host/host.ld", "-Wl,--no-relax", "-Wl,--build-id=none",
+                    "-Wl,--no-warn-rwx-segments", "-o", path, *(HERE / it for it in sources), FIRMWARE / "uart.c", FIRMWARE / "memory.c"], check=True)
+    return path
+
+
+def sbi(image, folder, told):
+    """Each function and each error of the Supervisor Binary Interface, on two harts; sbi_host.txt has what its version 1.0 says."""
+    said = booted(image, host(folder / "sbi.elf", "sbi_host.S", "sbi_host.c"), 2).splitlines()
+    want = (HERE / "sbi_host.txt").read_text().splitlines()
+    wrong = [f"{got} in place of {line}" for got, line in zip(said, want) if got != line] + said[len(want) :] + want[len(said) :]
+    told(f"{len(want)} answers of the Supervisor Binary Interface", not wrong, "; ".join(wrong[:5]))
 
 
 def monitor(program, told):
