@@ -42,7 +42,9 @@ _Noreturn void ended(const struct end_frame *end);
 void control_at_start(void);
 void control_switch(uint64_t from, uint64_t to);
 
-/* harts.c */
+/* harts.c, with the states of a hart (SBI, chapter 9). */
+enum hart_state { STARTED = 0, STOPPED = 1, START_PENDING = 2 };
+extern volatile enum hart_state hart_state[MOST_HARTS];
 static inline unsigned this_hart(void)
 {
     uint64_t hart;
@@ -50,9 +52,17 @@ static inline unsigned this_hart(void)
     return (unsigned)hart;
 }
 unsigned hart_count(void);
-void stop_others(void);
-void end_stop(void);
+/* Stops each other hart of a set, hart h in bit h: none of them runs a world before this hart does. */
+void stop_harts(uint64_t harts);
+/* A started hart of the host will find its software interrupt. */
+void interrupt_supervisor(unsigned hart);
+/* What other harts asked this one for. */
+void take_requests(void);
 void start_others(void);
+
+/* trap.S: this hart lets go of the monitor, and comes back as one that was interrupted once another hart asks for it. */
+void park(void);
+void unpark(unsigned hart);
 
 /* timer.c */
 void timer_off(void);
@@ -68,7 +78,9 @@ void put(const char *text);
 void put_hex(uint64_t number);
 void put_number(int64_t number);
 _Noreturn void power_off(uint64_t status);
+_Noreturn void start_again(void);
 void *memcpy(void *to, const void *from, size_t n);
+void *memmove(void *to, const void *from, size_t n);
 void *memset(void *to, int value, size_t n);
 
 /* The platform that the build was made for, as a frame. */
@@ -83,6 +95,11 @@ extern const struct platform_frame *platform;
 #define WRITE(csr, value) __asm__ volatile("csrw " #csr ", %0" ::"r"((uint64_t)(value)) : "memory")
 #define SET(csr, bits) __asm__ volatile("csrs " #csr ", %0" ::"r"((uint64_t)(bits)) : "memory")
 #define CLEAR(csr, bits) __asm__ volatile("csrc " #csr ", %0" ::"r"((uint64_t)(bits)) : "memory")
+
+/* Bits of mip and mie. */
+#define SOFTWARE_OF_SUPERVISOR (1ul << 1)
+#define TIMER_OF_SUPERVISOR (1ul << 5)
+#define EXTERNAL_OF_SUPERVISOR (1ul << 9)
 
 /* Causes of traps (Privileged Architecture, mcause). */
 #define INTERRUPT (1ul << 63)

@@ -1,6 +1,6 @@
 /*
  * The registers of machine and supervisor mode that decide what a world can do beside the entries. A reader compares the
- * table with "Control registers" in firmware/README.md.
+ * table with the first one of "Control registers" in firmware/README.md.
  *
  * An enclave runs in user mode of 64 bits, little-endian, with floating point and vectors off; no table of pages is in force,
  * nothing is delegated, and beside the monitor's interrupts those of the host's three that it wants reach machine mode. What the host had
@@ -9,24 +9,45 @@
 #include "board.h"
 
 #define MPP_SUPERVISOR (1ul << 11)
+/* Three of the cures can be left out, so that tests/on_hart sees that each of them is missed. */
+#ifdef LEAVE_UXL
+#define UXL 0ul
+#else
+#define UXL (3ul << 32)
+#endif
+#ifdef LEAVE_GUESTS
+#define GUESTS_INTERRUPTS (1ul << 2 | 1ul << 6 | 1ul << 10)
+#else
+#define GUESTS_INTERRUPTS 0ul
+#endif
+#ifdef LEAVE_SATP
+#define OF_SATP 0ul
+#else
+#define OF_SATP ALL
+#endif
 /* Of mstatus: SIE, SPIE, UBE, SPP, VS, FS, XS, SUM, MXR, UXL. */
 #define HOSTS_STATUS                                                                                                   \
-    (1ul << 1 | 1ul << 5 | 1ul << 6 | 1ul << 8 | 3ul << 9 | 3ul << 13 | 3ul << 15 | 1ul << 18 | 1ul << 19 | 3ul << 32)
+    (1ul << 1 | 1ul << 5 | 1ul << 6 | 1ul << 8 | 3ul << 9 | 3ul << 13 | 3ul << 15 | 1ul << 18 | 1ul << 19 | UXL)
 #define WIDTH_64 (2ul << 32)
 /* Machine mode's interrupts: software and timer. */
 #define MONITORS_INTERRUPTS (1ul << 3 | 1ul << 7)
-/* Supervisor mode's: software, timer, external. */
-#define HOSTS_INTERRUPTS (1ul << 1 | 1ul << 5 | 1ul << 9)
+#define HOSTS_INTERRUPTS (SOFTWARE_OF_SUPERVISOR | TIMER_OF_SUPERVISOR | EXTERNAL_OF_SUPERVISOR)
 /* The host's own handler gets every exception of the host but its calls. */
 #define HOSTS_EXCEPTIONS 0xf0b5fful
+
+/* Registers that the assembler may not know by their names. */
+#define senvcfg 0x10a
+#define hstatus 0x600
 
 #define ALL (~0ul)
 /* A register, the bits of it that are the host's; which of these stay while an enclave runs, and which are set then. */
 #define CONTROL_REGISTERS(X)                                                                                           \
-    X(mstatus, HOSTS_STATUS, 0, WIDTH_64)                                                                              \
-    X(satp, ALL, 0, 0)                                                                                                 \
-    X(mie, ~MONITORS_INTERRUPTS, HOSTS_INTERRUPTS, 0)                                                                  \
+    X(mstatus, HOSTS_STATUS, 0, WIDTH_64 & UXL)                                                                        \
+    X(satp, OF_SATP, 0, 0)                                                                                             \
+    X(mie, ~MONITORS_INTERRUPTS, HOSTS_INTERRUPTS | GUESTS_INTERRUPTS, 0)                                              \
     X(scounteren, ALL, 0, 0)                                                                                           \
+    X(senvcfg, ALL, 0, 0)                                                                                              \
+    X(hstatus, ALL, 0, 0)                                                                                              \
     X(medeleg, ALL, 0, 0)                                                                                              \
     X(mideleg, ALL, 0, 0)
 
@@ -36,14 +57,27 @@ enum {
 #undef NAME
         COUNT
 };
-/* What the host had, for each hart, and its mode, while an enclave runs there. */
+/* What the host had, for each hart, and its mode, while an enclave runs there; and which of the registers the hart has. */
 static uint64_t kept[MOST_HARTS][COUNT], kept_mode[MOST_HARTS];
+static uint8_t has[MOST_HARTS][COUNT];
+
+/* Whether the hart has a register: reading one that it has not is an illegal instruction, which goes on after it. */
+#define IS_THERE(csr)                                                                                                  \
+    ({                                                                                                                 \
+        uint8_t is_there_;                                                                                             \
+        __asm__ volatile("la t0, 1f\n csrrw t0, mtvec, t0\n li %0, 0\n csrr t1, " #csr                                 \
+                         "\n li %0, 1\n .balign 4\n1: csrw mtvec, t0"                                                  \
+                         : "=&r"(is_there_)::"t0", "t1", "memory");                                                    \
+        is_there_;                                                                                                     \
+    })
 
 static void into_enclave(unsigned hart)
 {
 #define TAKE(csr, bits, stay, set)                                                                                     \
-    kept[hart][NUMBER_##csr] = READ(csr) & (bits);                                                                     \
-    WRITE(csr, (READ(csr) & (~(bits) | (stay))) | (set));
+    if (has[hart][NUMBER_##csr]) {                                                                                     \
+        kept[hart][NUMBER_##csr] = READ(csr) & (bits);                                                                 \
+        WRITE(csr, (READ(csr) & (~(bits) | (stay))) | (set));                                                          \
+    }
     CONTROL_REGISTERS(TAKE)
 #undef TAKE
     kept_mode[hart] = worlds[hart].mode;
@@ -52,7 +86,9 @@ static void into_enclave(unsigned hart)
 
 static void back_to_host(unsigned hart)
 {
-#define GIVE(csr, bits, stay, set) WRITE(csr, (READ(csr) & ~(bits)) | kept[hart][NUMBER_##csr]);
+#define GIVE(csr, bits, stay, set)                                                                                     \
+    if (has[hart][NUMBER_##csr])                                                                                       \
+        WRITE(csr, (READ(csr) & ~(bits)) | kept[hart][NUMBER_##csr]);
     CONTROL_REGISTERS(GIVE)
 #undef GIVE
     worlds[hart].mode = kept_mode[hart];
@@ -68,9 +104,17 @@ void control_switch(uint64_t from, uint64_t to)
         back_to_host(hart);
 }
 
-/* The hart has run no world: the host will be the first, in supervisor mode. */
+static void find_registers(unsigned hart)
+{
+#define FIND(csr, bits, stay, set) has[hart][NUMBER_##csr] = IS_THERE(csr);
+    CONTROL_REGISTERS(FIND)
+#undef FIND
+}
+
+/* The hart has run no world, or the host stopped it: the host will be the next, in supervisor mode. */
 void control_at_start(void)
 {
+    find_registers(this_hart());
     worlds[this_hart()].mode = MPP_SUPERVISOR;
     WRITE(mstatus, WIDTH_64);
     WRITE(satp, 0);
@@ -79,5 +123,8 @@ void control_at_start(void)
     WRITE(mideleg, HOSTS_INTERRUPTS);
     WRITE(scounteren, 0);
     WRITE(mcounteren, 7);
+    if (IS_THERE(0x30a)) /* menvcfg */
+        WRITE(0x30a, 0);
+    CLEAR(mip, SOFTWARE_OF_SUPERVISOR | TIMER_OF_SUPERVISOR);
     timer_off();
 }

@@ -1,7 +1,7 @@
 /*
- * The harts of the board, and the stop of the others: while the host's view changes no other hart runs a world. A hart that
- * waits for the monitor's lock is stopped already; the others come by a software interrupt, and load their entries before
- * they leave (run_world).
+ * The harts of the board, and what they ask of one another, by software interrupts. While the host's view changes no other
+ * hart runs a world. A hart that waits for the monitor's lock, or that is parked, is stopped already; the others come, and
+ * load their entries before they leave (run_world).
  */
 #include "board.h"
 
@@ -9,12 +9,14 @@ extern volatile uint32_t harts_run;
 extern volatile uint8_t arrived[MOST_HARTS];
 static volatile uint32_t *const software_interrupt = (volatile uint32_t *)0x2000000;
 
+volatile enum hart_state hart_state[MOST_HARTS] = {STARTED, STOPPED, STOPPED, STOPPED};
+
 unsigned hart_count(void)
 {
     return (unsigned)platform->harts;
 }
 
-void stop_others(void)
+void stop_harts(uint64_t harts)
 {
     unsigned self = this_hart();
 #ifdef NO_STOP
@@ -22,19 +24,46 @@ void stop_others(void)
 #endif
     if (!harts_run)
         return;
+    harts &= ~(1ul << self);
     for (unsigned hart = 0; hart < hart_count(); hart++)
-        if (hart != self)
+        if (harts >> hart & 1)
             software_interrupt[hart] = 1;
     for (unsigned hart = 0; hart < hart_count(); hart++)
-        while (hart != self && !halted[hart])
+        while (harts >> hart & 1 && !halted[hart])
             ;
     __asm__ volatile("fence rw, rw" ::: "memory");
 }
 
-/* A software interrupt of the hart that goes on has had its effect: it stood still. */
-void end_stop(void)
+static volatile uint8_t is_interrupted[MOST_HARTS];
+
+void interrupt_supervisor(unsigned hart)
 {
-    software_interrupt[this_hart()] = 0;
+    if (hart == this_hart()) {
+        SET(mip, SOFTWARE_OF_SUPERVISOR);
+        return;
+    }
+    is_interrupted[hart] = 1;
+    software_interrupt[hart] = 1;
+}
+
+/* A stop has had its effect: the hart stood still. It has the monitor now, so that no other asks it for anything. */
+void take_requests(void)
+{
+    unsigned self = this_hart();
+    software_interrupt[self] = 0;
+    if (is_interrupted[self] && hart_state[self] == STARTED)
+        SET(mip, SOFTWARE_OF_SUPERVISOR);
+    is_interrupted[self] = 0;
+}
+
+/* trap.S waits for it. */
+volatile uint32_t is_wanted[MOST_HARTS];
+
+void unpark(unsigned hart)
+{
+    is_wanted[hart] = 1;
+    __asm__ volatile("fence" ::: "memory");
+    software_interrupt[hart] = 1;
 }
 
 /* A platform that names a hart which the board has not would wait for it at the first stop. */

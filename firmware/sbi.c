@@ -1,92 +1,66 @@
 /*
- * The calls of the host that are none of the monitor's: of the Supervisor Binary Interface (version 1.0) the base, TIME and
- * SRST extensions; and why an enclave stopped. None of them takes an address.
+ * The calls of the host that are none of the monitor's: those of the Supervisor Binary Interface (version 1.0), by their
+ * extension, and why an enclave stopped. None of them takes an address at which machine mode then reads or writes.
  */
-#include "board.h"
+#include "sbi.h"
 #include "pmpmon_calls.h"
-
-#define BASE 0x10ul
-#define TIME 0x54494d45ul
-#define RESET 0x53525354ul
-#define TIMER_OF_SUPERVISOR (1ul << 5)
-#define NOT_SUPPORTED (-2)
-#define INVALID_PARAMETER (-3)
-
-struct answer {
-    int64_t error;
-    uint64_t value;
-};
 
 uint64_t stop_cause[MOST_HARTS], stop_value[MOST_HARTS];
 
-static struct answer base_call(uint64_t function, uint64_t extension)
+static struct sbiret stops_call(uint64_t function, const uint64_t *a)
 {
-    switch (function) {
-    case 0: /* the version, 1.0 */
-        return (struct answer){0, 1ul << 24};
-    case 3: /* is there such an extension? */
-        return (struct answer){0, extension == BASE || extension == TIME || extension == RESET ||
-                                      extension == PMPMON_EXTENSION || extension == PMPMON_STOPS};
-    case 1: /* the implementation and its version; the vendor, the architecture, the implementation of the hart */
-    case 2:
-    case 4:
-    case 5:
-    case 6:
-        return (struct answer){0, 0};
-    default:
-        return (struct answer){NOT_SUPPORTED, 0};
-    }
-}
-
-static struct answer time_call(uint64_t function, uint64_t time)
-{
-    if (function != 0)
-        return (struct answer){NOT_SUPPORTED, 0};
-    timer_at(time);
-    CLEAR(mip, TIMER_OF_SUPERVISOR);
-    return (struct answer){0, 0};
-}
-
-static struct answer reset_call(uint64_t function, uint64_t kind, uint64_t reason)
-{
-    if (function != 0)
-        return (struct answer){NOT_SUPPORTED, 0};
-    if ((uint32_t)kind > 0)
-        return (struct answer){NOT_SUPPORTED, 0};
-    if ((uint32_t)reason > 1)
-        return (struct answer){INVALID_PARAMETER, 0};
-    power_off(reason);
-}
-
-static struct answer stops_call(uint64_t function)
-{
+    (void)a;
     if (function == PMPMON_STOP_CAUSE)
-        return (struct answer){0, stop_cause[this_hart()]};
+        return (struct sbiret){SBI_SUCCESS, stop_cause[this_hart()]};
     if (function == PMPMON_STOP_VALUE)
-        return (struct answer){0, stop_value[this_hart()]};
-    return (struct answer){NOT_SUPPORTED, 0};
+        return (struct sbiret){SBI_SUCCESS, stop_value[this_hart()]};
+    return (struct sbiret){SBI_ERR_NOT_SUPPORTED, 0};
+}
+
+static const struct extension {
+    uint64_t number;
+    struct sbiret (*call)(uint64_t function, const uint64_t *a);
+} extensions[] = {
+    {0x10, sbi_base},
+    {0x54494d45, sbi_time},
+    {0x735049, sbi_ipi},
+    {0x52464e43, sbi_rfence},
+    {0x48534d, sbi_hsm},
+    {0x53525354, sbi_srst},
+    {PMPMON_STOPS, stops_call},
+};
+
+static const struct extension *extension_of(uint64_t number)
+{
+    for (unsigned i = 0; i < sizeof extensions / sizeof extensions[0]; i++)
+        if (extensions[i].number == number)
+            return &extensions[i];
+    return 0;
+}
+
+int sbi_has(uint64_t extension)
+{
+    return extension == PMPMON_EXTENSION || extension_of(extension) != 0;
+}
+
+int hart_list(uint64_t hart_mask, uint64_t hart_mask_base, uint64_t *harts)
+{
+    uint64_t all = (1ul << hart_count()) - 1;
+    *harts = all;
+    if (hart_mask_base == ~0ul)
+        return 1;
+    if (hart_mask_base >= hart_count() || hart_mask & ~(all >> hart_mask_base))
+        return 0;
+    *harts = hart_mask << hart_mask_base;
+    return 1;
 }
 
 int board_call(struct world *world)
 {
-    struct answer answer;
-    uint64_t function = world->x[16], first = world->x[10];
-    switch (world->x[17]) {
-    case BASE:
-        answer = base_call(function, first);
-        break;
-    case TIME:
-        answer = time_call(function, first);
-        break;
-    case RESET:
-        answer = reset_call(function, first, world->x[11]);
-        break;
-    case PMPMON_STOPS:
-        answer = stops_call(function);
-        break;
-    default:
+    const struct extension *extension = extension_of(world->x[17]);
+    if (!extension)
         return 0;
-    }
+    struct sbiret answer = extension->call(world->x[16], world->x + 10);
     world->x[10] = (uint64_t)answer.error;
     world->x[11] = answer.value;
     world->pc += 4;

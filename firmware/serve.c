@@ -86,7 +86,6 @@ static int64_t written_answer(const struct answer_frame *answer)
     control_switch(world_number[hart], answer->world);
     world_number[hart] = answer->world;
     answered(answer);
-    end_stop();
     return sizeof *answer;
 }
 

@@ -8,6 +8,7 @@
     .equ    WORLD, 36 * 8       # the bytes of a struct world
     .equ    BANK, 72 * 8        # and of a struct bank
     .equ    SAVED, 14 * 8
+    .equ    CLINT, 0x2000000    # its first words: a software interrupt for each hart
 
 /* Registers x1 to x31 but the one that points to the world. */
     .macro  all what, pointer
@@ -58,6 +59,38 @@ run_world:
     all     ld, x31
     ld      x31, 8 * 31(x31)
     mret
+
+/*
+ * Parked: the hart lets go of the monitor, and is halted until it is wanted. The word of the CLINT that wakes it is made zero
+ * before it looks, so that no wish is missed.
+ */
+    .globl  park
+park:
+    addi    sp, sp, -SAVED
+    callee_saved sd
+    la      t0, monitor_sp
+    sd      sp, (t0)
+    csrr    t1, mhartid
+    slli    t1, t1, 2
+    la      t2, halted
+    add     t2, t2, t1
+    la      t3, is_wanted
+    add     t3, t3, t1
+    li      t4, CLINT
+    add     t4, t4, t1
+    li      t1, 1
+    fence   rw, rw
+    sw      t1, (t2)
+    la      t0, lock
+    amoswap.w.rl zero, zero, (t0)
+1:  sw      zero, (t4)
+    fence
+    lw      t1, (t3)
+    bnez    t1, 2f
+    wfi
+    j       1b
+2:  sw      zero, (t3)
+    j       enter_as_trapped
 
 /* A hart that has run no world yet comes in as one that was stopped. */
     .weak   enter_as_trapped

@@ -45,3 +45,11 @@ _Noreturn void power_off(uint64_t status)
     for (;;)
         ;
 }
+
+/* The board begins anew, and the monitor with it. */
+_Noreturn void start_again(void)
+{
+    *finisher = 0x7777;
+    for (;;)
+        ;
+}

@@ -2,6 +2,7 @@
 import importlib.machinery
 import importlib.util
 import os
+import re
 import shutil
 import subprocess
 import sys
@@ -10,6 +11,7 @@ from concurrent.futures import ThreadPoolExecutor
 from pathlib import Path
 
 from lives import Life
+from trees import trees
 
 TOP = Path(__file__).resolve().parents[2]
 HERE = Path(__file__).resolve().parent
@@ -17,6 +19,13 @@ FIRMWARE = TOP / "firmware"
 GCC = "riscv64-unknown-elf-gcc"
 FLAGS = ["-march=rv64imac_zicsr_zifencei", "-mabi=lp64", "-mcmodel=medany", "-std=gnu11", "-O2", "-ffreestanding", "-fno-builtin", "-nostdlib", "-static"]
 LIVES, EVENTS = 20, 120
+# Those of user, supervisor and hypervisor mode that can be written, by their numbers in the Privileged Architecture's list.
+REGISTERS = {1: "fflags", 2: "frm", 3: "fcsr", 8: "vstart", 9: "vxsat", 10: "vxrm", 15: "vcsr"}
+REGISTERS |= {0x100: "sstatus", 0x104: "sie", 0x105: "stvec", 0x106: "scounteren", 0x10A: "senvcfg"}
+REGISTERS |= {0x140: "sscratch", 0x141: "sepc", 0x142: "scause", 0x143: "stval", 0x144: "sip", 0x14D: "stimecmp", 0x180: "satp", 0x5A8: "scontext"}
+REGISTERS |= {0x200: "vsstatus", 0x204: "vsie", 0x205: "vstvec", 0x240: "vsscratch", 0x241: "vsepc", 0x242: "vscause", 0x243: "vstval", 0x244: "vsip"}
+REGISTERS |= {0x24D: "vstimecmp", 0x280: "vsatp", 0x600: "hstatus", 0x602: "hedeleg", 0x603: "hideleg", 0x604: "hie", 0x605: "htimedelta"}
+REGISTERS |= {0x606: "hcounteren", 0x607: "hgeie", 0x60A: "henvcfg", 0x643: "htval", 0x644: "hip", 0x645: "hvip", 0x64A: "htinst", 0x680: "hgatp", 0x6A8: "hcontext"}
 # What the host of firmware/host prints.
 HOST = """host: a word of the monitor: fault 5
 host: create: 0 1
@@ -144,11 +153,11 @@ def refused_memory(on_hart, folder, told):
     told(f"the monitor's most: {most}", numbers["stack"] <= 65536 and numbers["heap"] <= 65536)
 
 
-def booted(image, payload, harts):
+def booted(image, payload, harts, *more, seconds=60):
     board = [on_hart_module().QEMU, "-machine", "virt", "-smp", str(harts), "-m", "128", "-display", "none", "-monitor", "none", "-serial", "stdio"]
-    board += ["-bios", str(image), "-device", f"loader,file={payload}"]
+    board += ["-bios", str(image), "-device", f"loader,file={payload}", *more]
     try:
-        return subprocess.run(board, stdin=subprocess.DEVNULL, capture_output=True, text=True, timeout=60).stdout.replace("\r", "")
+        return subprocess.run(board, stdin=subprocess.DEVNULL, capture_output=True, text=True, timeout=seconds).stdout.replace("\r", "")
     except subprocess.TimeoutExpired:
         return "the board did not end"
 
@@ -161,15 +170,54 @@ def worlds(folder, told):
     """The host of firmware/host, and two harts that race, with the stop of the others and without."""
     said = booted(FIRMWARE / "out/pmpmon-virt.elf", FIRMWARE / "out/host.elf", 1)
     told("a host in C makes, runs, interrupts and destroys an enclave", said == HOST, said if said != HOST else "")
+    wrong = folder / "three.dtb"
+    if wrong.exists():
+        said = booted(FIRMWARE / "out/pmpmon-virt.elf", FIRMWARE / "out/host.elf", 1, "-dtb", str(wrong))
+        told("a board whose device tree can't be read stops, and says so", said == "monitor: the device tree cannot be read\n", said)
     two = folder / "two.toml"
     two.write_text("harts = 2\n" + (FIRMWARE / "platform.toml").read_text().replace("harts = 1\n", ""))
-    race = folder / "race.elf"
-    subprocess.run([GCC, *FLAGS, f"-I{FIRMWARE}", f"-I{TOP}/include", f"-Wl,-T,{FIRMWARE}/host/host.ld", "-Wl,--no-relax", "-Wl,--build-id=none",
-                    "-Wl,--no-warn-rwx-segments", "-o", race, HERE / "race.S", FIRMWARE / "uart.c"], check=True)
+    race = host(folder / "race.elf", "race.S")
     for name, flags, want in (("with", "", "faults\n"), ("without", "-DNO_STOP", "reads on\n")):
         built(two, folder / name, flags)
         said = booted(folder / name / "pmpmon-virt.elf", race, 2)
         told(f"{name} the stop of other harts, a page that became an enclave's {want.strip()}", said == want, said if said != want else "")
+    sbi(folder / "with/pmpmon-virt.elf", folder, told)
+    hostile(folder, told)
+
+
+def hostile(folder, told):
+    """A host that writes into every register of supervisor mode before each entry; three builds without a cure each fail it."""
+    runs = os.environ.get("HOSTILE_RUNS", "50")
+    payload = host(folder / "hostile.elf", "hostile.S", "hostile.c", flags=("-DSEED=2", f"-DRUNS={runs}"))
+    said = booted(FIRMWARE / "out/pmpmon-virt.elf", payload, 1, seconds=600)
+    match = re.fullmatch(r"registers ([\d ]+)\ninterrupted (\d+), with a table (\d+), with a guest's interrupt (\d+)\nwrong 0\n", said)
+    how = "interrupted {} times, {} entries with a table of pages, {} with an interrupt of a guest".format(*match.groups()[1:]) if match else said
+    told(f"{runs} runs under a hostile host", match and all(int(it) for it in match.groups()[1:]), how)
+    told_of = set(re.findall(r"`(\w+)`", (FIRMWARE / "README.md").read_text().split("## Control registers")[1].split("\n## ")[0]))
+    found = [REGISTERS.get(int(it), it) for it in match.group(1).split()] if match else []
+    lacking = [it for it in found if it not in told_of]
+    told(f"each of {len(found)} registers that supervisor mode writes is in the table of control registers", found and not lacking, " ".join(lacking))
+    payload = host(folder / "hostile.elf", "hostile.S", "hostile.c", flags=("-DSEED=2", "-DRUNS=10"))
+    for cure in ("UXL", "GUESTS", "SATP"):
+        built(FIRMWARE / "platform.toml", folder / cure, f"-DLEAVE_{cure}")
+        said = booted(folder / cure / "pmpmon-virt.elf", payload, 1, seconds=20)
+        right = said.startswith("registers ") and "\nwrong 0\n" not in said
+        told(f"without the cure for {cure} a hostile host is found", right, "" if right else said)
+
+
+def host(path, *sources, flags=()):
+    """A host of this folder's sources."""
+    subprocess.run([GCC, *FLAGS, *flags, "-Wall", "-Wextra", "-Werror", f"-I{FIRMWARE}", f"-I{TOP}/include", f"-Wl,-T,{FIRMWARE}/host/host.ld", "-Wl,--no-relax", "-Wl,--build-id=none",
+                    "-Wl,--no-warn-rwx-segments", "-o", path, *(HERE / it for it in sources), FIRMWARE / "uart.c", FIRMWARE / "memory.c"], check=True)
+    return path
+
+
+def sbi(image, folder, told):
+    """Each function and each error of the Supervisor Binary Interface, on two harts; sbi_host.txt has what its version 1.0 says."""
+    said = booted(image, host(folder / "sbi.elf", "sbi_host.S", "sbi_host.c"), 2).splitlines()
+    want = (HERE / "sbi_host.txt").read_text().splitlines()
+    wrong = [f"{got} in place of {line}" for got, line in zip(said, want) if got != line] + said[len(want) :] + want[len(said) :]
+    told(f"{len(want)} answers of the Supervisor Binary Interface", not wrong, "; ".join(wrong[:5]))
 
 
 def monitor(program, told):
@@ -179,6 +227,7 @@ def monitor(program, told):
         folder = Path(place)
         header_is_read(told)
         examples(on_hart, program, told)
+        trees(folder, told)
         worlds(folder, told)
         lives(on_hart, program, folder, told)
         refused_memory(on_hart, folder, told)

@@ -3,6 +3,7 @@
  * said so, a read that is done is wrong: what hart 0 then prints is `reads on`, and otherwise `faults`.
  */
     .equ    EXTENSION, 0x08454E43
+    .equ    HSM, 0x48534D
     .equ    RESET, 0x53525354
     .equ    PAGE, 0x85000000
     .equ    FLAG, 0x85100000
@@ -10,10 +11,16 @@
     .option norelax
     .globl  host_entry
 host_entry:
-    bnez    a0, reader
-    li      t0, 1 << 22
-1:  addi    t0, t0, -1
-    bnez    t0, 1b
+    la      a1, reader
+    li      a0, 1
+    li      a2, 0
+    li      a6, 0
+    li      a7, HSM
+    ecall                       # hart_start(1, reader, 0)
+    bnez    a0, .
+    li      t0, FLAG
+1:  ld      t1, 16(t0)          # hart 1 has read
+    beqz    t1, 1b
     li      a0, PAGE
     li      a1, 1
     li      a2, 0
@@ -46,6 +53,9 @@ reader:
     csrw    stvec, t0
     li      s1, PAGE
     li      s2, FLAG
+    ld      s4, (s1)
+    li      t1, 1
+    sd      t1, 16(s2)
 1:  ld      s3, (s2)
     fence   r, r
     ld      s4, (s1)

@@ -1,0 +1,252 @@
+/*
+ * Enters the monitor's range into the flattened device tree, in place: the node is put before the end of its parent, and the
+ * names of its properties after the other names. Each word is read inside the tree's own blocks.
+ */
+#include "device_tree.h"
+#include <stddef.h>
+
+void *memcpy(void *to, const void *from, size_t n);
+void *memmove(void *to, const void *from, size_t n);
+
+/* Section 5.2: the header, in words of 32 bits with the highest byte first. */
+#define MAGIC 0xd00dfeedu
+enum {
+    WORD_MAGIC,
+    WORD_SIZE,
+    WORD_STRUCT,
+    WORD_STRINGS,
+    WORD_RESERVED,
+    WORD_VERSION,
+    WORD_COMPATIBLE,
+    WORD_BOOT_HART,
+    WORD_STRINGS_SIZE,
+    WORD_STRUCT_SIZE,
+    HEADER_WORDS
+};
+#define VERSION 17
+/* Section 5.4.1: the tokens of the structure block. */
+enum { BEGIN_NODE = 1, END_NODE = 2, PROP = 3, NOP = 4, END = 9 };
+
+static const char NOT_READ[] = "cannot be read";
+static const char NO_ROOM[] = "has no room";
+static const char NAMES[] = "#address-cells\0#size-cells\0ranges\0reg\0no-map";
+enum { ADDRESS_CELLS = 0, SIZE_CELLS = 15, RANGES = 27, REG = 34, NO_MAP = 38 };
+_Static_assert(sizeof NAMES == 45, "the places of the names");
+
+struct tree {
+    uint8_t *at;
+    uint32_t size, nodes, nodes_size, names, names_size;
+};
+
+/* Where the node goes: before the end of /reserved-memory, or of the root where there is none; and the root's cells. */
+struct place {
+    uint32_t at, has_parent, address_cells, size_cells;
+};
+
+/* The words that are put in. */
+struct piece {
+    uint8_t bytes[192];
+    uint32_t size, names;
+};
+
+static uint32_t load(const uint8_t *at)
+{
+    return (uint32_t)at[0] << 24 | (uint32_t)at[1] << 16 | (uint32_t)at[2] << 8 | at[3];
+}
+
+static void store(uint8_t *at, uint32_t word)
+{
+    for (unsigned i = 0; i < 4; i++)
+        at[i] = (uint8_t)(word >> (24 - 8 * i));
+}
+
+static int is_inside(uint32_t first, uint32_t size, uint32_t end)
+{
+    return first <= end && size <= end - first;
+}
+
+/* The blocks stand in their order (section 5.1), each inside the tree. */
+static int read_header(struct tree *tree, uint64_t room)
+{
+    const uint8_t *at = tree->at;
+    if ((uintptr_t)at % 8 || room < 4 * HEADER_WORDS || load(at) != MAGIC)
+        return 0;
+    if (load(at + 4 * WORD_VERSION) < VERSION || load(at + 4 * WORD_COMPATIBLE) > VERSION)
+        return 0;
+    if (load(at + 4 * WORD_RESERVED) > load(at + 4 * WORD_STRUCT))
+        return 0;
+    tree->size = load(at + 4 * WORD_SIZE);
+    tree->nodes = load(at + 4 * WORD_STRUCT);
+    tree->nodes_size = load(at + 4 * WORD_STRUCT_SIZE);
+    tree->names = load(at + 4 * WORD_STRINGS);
+    tree->names_size = load(at + 4 * WORD_STRINGS_SIZE);
+    if (tree->size > room || tree->nodes < 4 * HEADER_WORDS || tree->nodes % 4)
+        return 0;
+    if (!is_inside(tree->names, tree->names_size, tree->size))
+        return 0;
+    return is_inside(tree->nodes, tree->nodes_size, tree->names);
+}
+
+/* Whether the text from `at` on, which ends before `end`, is this one. */
+static int is_text(const struct tree *tree, uint32_t at, uint32_t end, const char *text)
+{
+    for (; at < end && tree->at[at] == (uint8_t)*text; at++, text++)
+        if (!*text)
+            return 1;
+    return 0;
+}
+
+/* The word after the text from `at` on, or `end` where none ends there. */
+static uint32_t after_text(const struct tree *tree, uint32_t at, uint32_t end)
+{
+    while (at < end && tree->at[at])
+        at++;
+    return at < end ? (at + 4) & ~3u : end;
+}
+
+/* A property of the root: its cells are kept. `at` is at its length; the next token's place, or 0. */
+static uint32_t read_property(const struct tree *tree, uint32_t at, uint32_t end, int is_root, struct place *place)
+{
+    uint32_t length, name, names_end = tree->names + tree->names_size;
+    if (!is_inside(at, 8, end))
+        return 0;
+    length = load(tree->at + at);
+    name = load(tree->at + at + 4);
+    if (!is_inside(at + 8, length, end) || name >= tree->names_size)
+        return 0;
+    if (is_root && length == 4) {
+        if (is_text(tree, tree->names + name, names_end, NAMES + ADDRESS_CELLS))
+            place->address_cells = load(tree->at + at + 8);
+        if (is_text(tree, tree->names + name, names_end, NAMES + SIZE_CELLS))
+            place->size_cells = load(tree->at + at + 8);
+    }
+    return at + 8 + ((length + 3) & ~3u);
+}
+
+/* Walks the tokens up to the end of /reserved-memory, or of the root; whether it came there. */
+static int find_place(const struct tree *tree, struct place *place)
+{
+    uint32_t at = tree->nodes, end = tree->nodes + tree->nodes_size, depth = 0;
+    while (at && is_inside(at, 4, end)) {
+        uint32_t token = load(tree->at + at), here = at;
+        at += 4;
+        if (token == BEGIN_NODE) {
+            place->has_parent |= depth == 1 && is_text(tree, at, end, "reserved-memory");
+            depth++;
+            at = after_text(tree, at, end);
+        } else if (token == PROP) {
+            at = depth ? read_property(tree, at, end, depth == 1, place) : 0;
+        } else if (token == END_NODE && depth) {
+            depth--;
+            place->at = here;
+            if (depth == 0 || (depth == 1 && place->has_parent))
+                return 1;
+        } else if (token != NOP) {
+            return 0;
+        }
+    }
+    return 0;
+}
+
+static void put_word(struct piece *piece, uint32_t word)
+{
+    store(piece->bytes + piece->size, word);
+    piece->size += 4;
+}
+
+static void put_node(struct piece *piece, const char *name)
+{
+    put_word(piece, BEGIN_NODE);
+    for (; *name; name++)
+        piece->bytes[piece->size++] = (uint8_t)*name;
+    do
+        piece->bytes[piece->size++] = 0;
+    while (piece->size % 4);
+}
+
+static void put_property(struct piece *piece, uint32_t name, uint32_t length)
+{
+    put_word(piece, PROP);
+    put_word(piece, length);
+    put_word(piece, piece->names + name);
+}
+
+static void put_cells(struct piece *piece, uint64_t number, uint32_t cells)
+{
+    if (cells == 2)
+        put_word(piece, (uint32_t)(number >> 32));
+    put_word(piece, (uint32_t)number);
+}
+
+/* The range's node. Its unit address is its base (section 2.2.1). */
+static void put_range(struct piece *piece, const struct place *place, uint64_t base, uint64_t size)
+{
+    char name[] = "monitor@0000000000000000";
+    char *digit = name + 8;
+    for (int shift = 60; shift >= 0; shift -= 4)
+        if (base >> shift || shift == 0)
+            *digit++ = "0123456789abcdef"[base >> shift & 15];
+    *digit = 0;
+    put_node(piece, name);
+    put_property(piece, REG, 4 * (place->address_cells + place->size_cells));
+    put_cells(piece, base, place->address_cells);
+    put_cells(piece, size, place->size_cells);
+    put_property(piece, NO_MAP, 0);
+    put_word(piece, END_NODE);
+}
+
+/* The node with its parent, where there is none: its cells are the root's, and its `ranges` are empty (section 3.5.1). */
+static void put_all(struct piece *piece, const struct place *place, uint64_t base, uint64_t size)
+{
+    if (!place->has_parent) {
+        put_node(piece, "reserved-memory");
+        put_property(piece, ADDRESS_CELLS, 4);
+        put_word(piece, place->address_cells);
+        put_property(piece, SIZE_CELLS, 4);
+        put_word(piece, place->size_cells);
+        put_property(piece, RANGES, 0);
+    }
+    put_range(piece, place, base, size);
+    if (!place->has_parent)
+        put_word(piece, END_NODE);
+}
+
+/* Makes room for the piece in the nodes, which moves the names, and for its names after them. */
+static void put_in(struct tree *tree, uint32_t place, const struct piece *piece)
+{
+    uint8_t *at = tree->at;
+    uint32_t names_end;
+    memmove(at + tree->names + piece->size, at + tree->names, tree->names_size);
+    memmove(at + place + piece->size, at + place, tree->names - place);
+    memcpy(at + place, piece->bytes, piece->size);
+    memcpy(at + tree->names + piece->size + tree->names_size, NAMES, sizeof NAMES);
+    store(at + 4 * WORD_STRUCT_SIZE, tree->nodes_size + piece->size);
+    store(at + 4 * WORD_STRINGS, tree->names + piece->size);
+    store(at + 4 * WORD_STRINGS_SIZE, tree->names_size + (uint32_t)sizeof NAMES);
+    names_end = tree->names + piece->size + tree->names_size + (uint32_t)sizeof NAMES;
+    if (tree->size < names_end)
+        store(at + 4 * WORD_SIZE, names_end);
+}
+
+/* Whether a number goes into so many cells, one or two. */
+static int fits(uint64_t number, uint32_t cells)
+{
+    return cells == 2 || (cells == 1 && number >> 32 == 0);
+}
+
+const char *reserve_in_tree(uint8_t *at, uint64_t room, uint64_t base, uint64_t size)
+{
+    struct tree tree = {.at = at};
+    struct place place = {.address_cells = 2, .size_cells = 1};
+    struct piece piece = {.size = 0};
+    if (!read_header(&tree, room) || !find_place(&tree, &place))
+        return NOT_READ;
+    if (!fits(base, place.address_cells) || !fits(size, place.size_cells))
+        return NOT_READ;
+    piece.names = tree.names_size;
+    put_all(&piece, &place, base, size);
+    if ((uint64_t)tree.names + tree.names_size + piece.size + sizeof NAMES > room)
+        return NO_ROOM;
+    put_in(&tree, place.at, &piece);
+    return 0;
+}

@@ -1,0 +1,72 @@
+/*
+ * Tries firmware/device_tree.c on Linux, where a sanitizer sees each byte that it reads or writes.
+ *
+ *   trees one IN ROOM BASE SIZE OUT    the tree of IN with the range, or why not; OUT has its bytes
+ *   trees random IN ROOM COUNT         so many times with some bytes changed: how many were taken, and how many refused trees were changed
+ */
+#include "device_tree.h"
+#include <stdio.h>
+#include <stdlib.h>
+#include <string.h>
+
+#define MOST (1u << 20)
+
+static uint64_t seed = 1;
+
+static uint32_t chance(uint32_t below)
+{
+    seed = seed * 6364136223846793005u + 1442695040888963407u;
+    return (uint32_t)(seed >> 33) % below;
+}
+
+/* A copy with exactly `room` bytes, so that one more is seen. */
+static uint8_t *copy(const uint8_t *from, size_t size, size_t room)
+{
+    uint8_t *to = calloc(1, room ? room : 1);
+    memcpy(to, from, size < room ? size : room);
+    return to;
+}
+
+static int one(const uint8_t *tree, size_t size, char **words)
+{
+    size_t room = strtoul(words[0], 0, 0);
+    uint8_t *at = copy(tree, size, room);
+    const char *why = reserve_in_tree(at, room, strtoul(words[1], 0, 0), strtoul(words[2], 0, 0));
+    FILE *out = fopen(words[3], "wb");
+    fwrite(at, 1, room, out);
+    fclose(out);
+    puts(why ? why : "taken");
+    free(at);
+    return 0;
+}
+
+static int many(const uint8_t *tree, size_t size, char **words)
+{
+    size_t room = strtoul(words[0], 0, 0), taken = 0, changed = 0;
+    for (size_t count = strtoul(words[1], 0, 0); count; count--) {
+        uint8_t *at = copy(tree, size, room), *before;
+        /* A quarter of the changes is in the header. */
+        for (uint32_t n = 1 + chance(4); n; n--)
+            at[chance(chance(4) ? (uint32_t)size : 40)] ^= (uint8_t)(1u << chance(8));
+        before = copy(at, room, room);
+        if (!reserve_in_tree(at, room, 0x80000000, 0x80000))
+            taken++;
+        else
+            changed += memcmp(at, before, room) != 0;
+        free(at);
+        free(before);
+    }
+    printf("%zu %zu\n", taken, changed);
+    return 0;
+}
+
+int main(int argc, char **argv)
+{
+    static uint8_t tree[MOST];
+    FILE *in = argc > 4 ? fopen(argv[2], "rb") : 0;
+    if (!in)
+        return 2;
+    size_t size = fread(tree, 1, MOST, in);
+    fclose(in);
+    return strcmp(argv[1], "one") ? many(tree, size, argv + 3) : one(tree, size, argv + 3);
+}

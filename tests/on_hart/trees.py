@@ -1,0 +1,90 @@
+"""Device trees with the monitor's range: what tests/on_hart/run tries of firmware/device_tree.c, on Linux."""
+import shutil
+import struct
+import subprocess
+from pathlib import Path
+
+TOP = Path(__file__).resolve().parents[2]
+HERE = Path(__file__).resolve().parent
+FLAGS = ["-std=gnu11", "-O1", "-g", "-Wall", "-Wextra", "-Werror", "-fsanitize=address,undefined", "-fno-sanitize-recover=all"]
+BASE, SIZE, RANDOM = 0x80000000, 0x80000, 4000
+WITHOUT = "/dts-v1/; / {{ {cells} model = \"a\"; chosen {{ }}; memory@80000000 {{ reg = <{reg}>; }}; {more} }};"
+RANGE = "monitor@80000000 {{ reg = <{range}>; no-map; }};"
+PARENT = "reserved-memory {{ {cells} ranges; {nodes} }};"
+TWO = {"cells": "#address-cells = <2>; #size-cells = <2>;", "reg": "0 0x80000000 0 0x8000000", "range": "0 0x80000000 0 0x80000"}
+ONE = {"cells": "#address-cells = <1>; #size-cells = <1>;", "reg": "0x80000000 0x8000000", "range": "0x80000000 0x80000"}
+# Cells that are not given are two and one (Devicetree Specification v0.4, section 2.3.5).
+NONE = {"cells": "", "reg": "0 0x80000000 0x8000000", "range": "0 0x80000000 0x80000"}
+OTHER = "other@87000000 {{ reg = <{other}>; inner {{ }}; }};"
+
+
+def compiled(folder, name, text, *more):
+    path = folder / f"{name}.dtb"
+    path.write_bytes(subprocess.run(["dtc", "-q", "-I", "dts", "-O", "dtb", *more], input=text.encode(), stdout=subprocess.PIPE, check=True).stdout)
+    return path
+
+
+def listed(path):
+    """A tree as its source, with nodes and properties in order of their names."""
+    return subprocess.run(["dtc", "-q", "-s", "-I", "dtb", "-O", "dts", path], capture_output=True, text=True).stdout
+
+
+def pairs():
+    """Trees, each with what it has to become."""
+    for name, its in (("two cells", TWO), ("one cell", ONE)):
+        yield name, WITHOUT.format(more="", **its), WITHOUT.format(more=PARENT.format(nodes=RANGE.format(**its), **its), **its)
+    cells = {**NONE, "cells": "#address-cells = <2>; #size-cells = <1>;"}
+    yield "no cells", WITHOUT.format(more="", **NONE), WITHOUT.format(more=PARENT.format(nodes=RANGE.format(**NONE), cells=cells["cells"]), **NONE)
+    other = OTHER.format(other="0 0x87000000 0 0x1000")
+    has, wants = (PARENT.format(nodes=nodes, **TWO) for nodes in (other, other + RANGE.format(**TWO)))
+    yield "other reserved memory", WITHOUT.format(more=has, **TWO), WITHOUT.format(more=wants, **TWO)
+
+
+def trees(folder, told):
+    if not shutil.which("dtc"):
+        print("left out: device trees, for want of dtc (on Debian: apt-get install --no-install-recommends device-tree-compiler)")
+        return
+    program = folder / "trees"
+    subprocess.run(["gcc", *FLAGS, f"-I{TOP}/firmware", "-o", program, HERE / "trees.c", TOP / "firmware/device_tree.c"], check=True)
+
+    def answer(path, room, base=BASE):
+        done = subprocess.run([program, "one", path, str(room), str(base), str(SIZE), folder / "out.dtb"], capture_output=True, text=True)
+        return done.stdout.strip() or done.stderr[-300:]
+
+    for name, text, want in pairs():
+        for slack in (0, 1000):
+            tree = compiled(folder, "in", text, "-p", str(slack))
+            said = answer(tree, tree.stat().st_size + 400)
+            right = said == "taken" and listed(folder / "out.dtb") == listed(compiled(folder, "want", want))
+            told(f"a device tree with {name}, {slack} bytes free: the range is in it, and nothing else is changed", right, "" if right else said)
+    refusals(folder, told, answer)
+    tree = compiled(folder, "in", next(pairs())[1])
+    for room in (tree.stat().st_size, tree.stat().st_size + 400):
+        done = subprocess.run([program, "random", tree, str(room), str(RANDOM)], capture_output=True, text=True)
+        told(f"{RANDOM} trees with changed bytes and room of {room}: nothing beside them is touched, and no refused one",
+             done.stdout.endswith(" 0\n") and (room == tree.stat().st_size or not done.stdout.startswith("0 ")), done.stdout + done.stderr[-500:])
+
+
+def refusals(folder, told, answer):
+    """Trees that can't be read or have no room are left as they were."""
+    tree = compiled(folder, "in", next(pairs())[1])
+    bytes_of = tree.read_bytes()
+    size = len(bytes_of)
+    grown = next(room for room in range(size, size + 400) if answer(tree, room) == "taken")
+    answer(tree, grown)
+    end = struct.unpack_from(">I", (folder / "out.dtb").read_bytes(), 4)[0]
+    told("a tree is taken from the room on that it needs", end == grown and answer(tree, grown - 1) == "has no room", f"{grown} and {end}")
+    answer(tree, size)
+    told("a tree without room is left as it was", (folder / "out.dtb").read_bytes() == bytes_of)
+    wrong = {"another magic number": (0, 0xD00DFEEE), "version 16": (20, 16), "a later version's layout": (24, 18), "a size above its room": (4, 1 << 20)}
+    wrong |= {"nodes at the header": (8, 8), "nodes past its end": (36, size), "names past its end": (32, size)}
+    for name, (at, word) in wrong.items():
+        changed = bytearray(bytes_of)
+        struct.pack_into(">I", changed, at, word)
+        (folder / "wrong.dtb").write_bytes(changed)
+        said = answer(folder / "wrong.dtb", size + 400)
+        told(f"a device tree with {name} is refused", said == "cannot be read" and (folder / "out.dtb").read_bytes()[:size] == changed, said)
+    three = compiled(folder, "three", WITHOUT.format(more="", **{**TWO, "cells": "#address-cells = <3>; #size-cells = <2>;"}))
+    told("a device tree with three cells is refused", answer(three, 4096) == "cannot be read")
+    one = compiled(folder, "one", WITHOUT.format(more="", **ONE))
+    told("a range that its cells can't tell is refused", answer(one, 4096, 1 << 32) == "cannot be read")
