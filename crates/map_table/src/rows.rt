@@ -9,9 +9,8 @@ use crate::overridden::overridden;
 use arrayvec::ArrayVec;
 use permission_map::Memory;
 use pmp_encoding::Limit;
-use pmp_registers::Extent;
 use printed_lines::letters;
-use stretches::Stretch;
+use stretches::{ExtentTree, Stretch};
 use text_lines::{Line, push_decimal, push_hex, push_text};
 
 const REST: &[u8] = b"all else                                       ---  no entry\n";
@@ -65,7 +64,7 @@ fn push_before(line: &mut Line, behind: &[usize])
 }
 
 /// Which entry decides, and which it comes before.
-fn number_line(extents: &[Extent], i: usize, stretch: &Stretch) -> Line
+fn number_line(extents: &ExtentTree, i: usize, stretch: &Stretch) -> Line
     requires { i < length extents.now }
     ensures { result.items ≡ number_text i
         (overridden_from (i + 1) (drop (i + 1) extents.now) stretch.now) }
@@ -79,7 +78,7 @@ fn number_line(extents: &[Extent], i: usize, stretch: &Stretch) -> Line
 }
 
 /// Appends the row of a stretch that an entry decides.
-fn push_row(text: &mut Vec<u8>, extents: &[Extent], stretch: &Stretch) -> Result<(), Memory>
+fn push_row(text: &mut Vec<u8>, extents: &ExtentTree, stretch: &Stretch) -> Result<(), Memory>
     requires { IsRow extents.now stretch.now }
     ensures { OnOk result
         (text.new.items ≡ text.old.items ++ row_by extents.now stretch.now stretch.now.entry) }
@@ -97,7 +96,7 @@ fn push_row(text: &mut Vec<u8>, extents: &[Extent], stretch: &Stretch) -> Result
 /// Appends a row for each stretch that an entry decides.
 pub(crate) fn push_rows(
     text: &mut Vec<u8>,
-    extents: &[Extent],
+    extents: &ExtentTree,
     all: &[Stretch],
 ) -> Result<(), Memory>
     requires { All (IsRow extents.now) all.now }

@@ -15,7 +15,7 @@ use permission_map::{Memory, PermissionMap};
 use pmp_encoding::{Entry, Limit};
 use pmp_registers::Extent;
 use std::alloc::{AllocError, Global};
-use stretches::{Stretch, extents_of, stretches, stretches_by_entries};
+use stretches::{ExtentTree, Stretch, extents_of, stretches, stretches_by_entries};
 
 /// Why a table was not written.
 #[derive(Clone, Copy, PartialEq, Eq, Debug)]
@@ -50,9 +50,10 @@ pub(crate) fn table_of(
 {
     let extents = extents_of(alloc, entries)?;
     let all = stretches_by_entries(alloc, map, entries)?;
+    let tree = ExtentTree::new(alloc, extents.as_slice())?;
     let mut text = Vec::new(alloc);
     text.extend_from_slice(HEAD)?;
-    push_rows(&mut text, extents.as_slice(), all.as_slice())?;
+    push_rows(&mut text, &tree, all.as_slice())?;
     push_rest(&mut text, all.as_slice())?;
     let count = count_line(entries.len(), limit);
     text.extend_from_slice(count.as_slice())?;
@@ -91,9 +92,10 @@ pub fn extent_table(alloc: Global, extents: &[Extent], on: usize) -> Result<Vec<
     let map = PermissionMap::new(alloc);
     let all = stretches(alloc, &map, extents)?;
     let rows = all_as_given(alloc, all.as_slice())?;
+    let tree = ExtentTree::new(alloc, extents)?;
     let mut text = Vec::new(alloc);
     text.extend_from_slice(HEAD)?;
-    push_rows(&mut text, extents, rows.as_slice())?;
+    push_rows(&mut text, &tree, rows.as_slice())?;
     push_rest(&mut text, rows.as_slice())?;
     let count = on_line(on);
     text.extend_from_slice(count.as_slice())?;

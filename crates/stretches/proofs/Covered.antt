@@ -1,5 +1,5 @@
 -- The extents of a list one after another, as far as what they say of the bytes from one on stays the same.
-use Rattle.std.proofs.Common.{◌≡◌, ◌≢◌, ◌∙◌, ℕ, ◌+◌, ◌^◌, ◌<◌, ◌≤◌, min, List, [], ◌∷◌, length, drop, get_or, Bool, true, false, Option, None, Some, ⊎_elim, nat_le, nat_lt, ◌&&◌, ap, sym, refl, arith, if◌then◌else◌}
+use Rattle.std.proofs.Common.{◌≡◌, ◌≢◌, ◌∙◌, ℕ, zero, suc, ◌+◌, ◌-◌, ◌^◌, ◌<◌, ◌≤◌, min, List, [], ◌∷◌, length, drop, get_or, Bool, true, false, Option, None, Some, ⊎_elim, nat_le, nat_lt, ◌&&◌, ap, sym, refl, arith, if◌then◌else◌}
 use Rattle.std.proofs.lemmas.Bool.{cases_lt}
 use Rattle.std.proofs.lemmas.Bool.Decides.{nat_tests}
 use Rattle.std.proofs.lemmas.List.{drop_all, drop_more}
@@ -9,6 +9,8 @@ use Rattle.pmp_encoding.specs.declared.perm.Perm.TheVariants.{NoAccess}
 use Rattle.pmp_encoding.specs.declared.extent.Extent.{Extent}
 use Rattle.pmp_registers.specs.Bytes.{has_byte, perm_at}
 use Rattle.pmp_registers.specs.Decision.{IsWords}
+use Rattle.pmp_registers.specs.Tor.{nowhere}
+use Rattle.stretches.specs.Meetings.{IsNextMeeting, MissesAll, meets}
 use Rattle.stretches.specs.Stretches.{decider, decider_from}
 
 -- ---- a byte and an extent
@@ -111,6 +113,40 @@ passed_ended extents i at end last e split is ended passed =
     (λ small. let before = passed.turned small in (before.0, omega (arith, before.1), before.2))
     passed
 
+-- an extent that does not meet the bytes has none of them
+none_of : (x : Extent) (at end byte : ℕ) → meets x at end ≡ false → at ≤ byte → byte < end → has_byte x byte ≡ false
+none_of x at end byte h low high = grind (arith, nat_tests)
+
+-- one extent more, that does not meet the bytes
+passed_one :
+    (extents : List Extent) (i at end : ℕ) (e : Extent) → drop i extents ≡ e ∷ drop (i + 1) extents → meets e at end ≡ false
+    → Passed extents i at end → Passed extents (i + 1) at end
+passed_one extents i at end e split misses passed =
+    more extents i at end end e split (omega arith)
+    (λ byte low high. none_of e at end byte misses low high)
+    (λ small. let before = passed.turned small in (before.0, omega (arith, before.1), before.2))
+    passed
+
+passed_by :
+    (extents : List Extent) (i n at end : ℕ) → i + n ≤ length extents → MissesAll extents i (i + n) at end → Passed extents i at end → Passed extents (i + n) at end
+passed_by extents i zero at end inside misses passed = let same : i + 0 ≡ i = omega arith in rw same passed
+passed_by extents i (suc n) at end inside misses passed =
+    let next : i + 1 + n ≡ i + suc n = omega arith in
+    let first : Passed extents (i + 1) at end =
+    passed_one extents i at end (get_or extents i nowhere) (drop_more extents i nowhere (omega (arith, inside))) (misses i (omega arith) (omega arith)) passed in
+    let rest : Passed extents (i + 1 + n) at end =
+    passed_by extents (i + 1) n at end (omega (arith, inside)) (λ k low high. misses k (omega (arith, low)) (omega (arith, high))) first in
+    rw (sym next) rest
+
+-- all extents up to one that does meet them
+pub passed_to :
+    (extents : List Extent) (i j at end : ℕ) → i ≤ j → j ≤ length extents → MissesAll extents i j at end → Passed extents i at end → Passed extents j at end
+passed_to extents i j at end low inside misses passed =
+    let same : i + (j - i) ≡ j = omega (arith, low) in
+    let to : Passed extents (i + (j - i)) at end =
+    passed_by extents i (j - i) at end (omega (arith, low, inside)) (λ k begun high. misses k begun (omega (arith, low, high))) passed in
+    rw (sym same) to
+
 -- what the extents say from `at` to before `to`
 pub record Says (extents : List Extent) (at to : ℕ) (entry : Option ℕ) (perm : Perm) : Type 0 where
   pub decided : (byte : ℕ) → at ≤ byte → byte < to → decider extents byte ≡ entry
@@ -159,3 +195,38 @@ says_none extents i at end all passed =
       given = λ byte low high. passed.given byte low high ∙ ap (λ es. perm_at es byte) none;
       changes = λ small same. let before = passed.turned small in absurd (let e = sym before.2 ∙ same in cc);
     }
+
+-- ---- the next extent that meets the bytes from `at` to before `end`
+
+meets_begins : (x : Extent) (at end : ℕ) → meets x at end ≡ true → x.base < end
+meets_begins x at end h = grind (arith, nat_tests)
+
+meets_ends : (x : Extent) (at end : ℕ) → meets x at end ≡ true → at < x.end
+meets_ends x at end h = grind (arith, nat_tests)
+
+-- it has the byte `at`
+pub says_met :
+    (extents : List Extent) (from i at end to : ℕ) (e : Extent) → e ≡ get_or extents i nowhere → IsNextMeeting extents from at end i → e.base ≤ at → to ≡ min end e.end
+    → Passed extents from at end → Says extents at to (Some i) e.perm
+says_met extents from i at end to e is next low shorter passed =
+    says_first extents i at end to e.end e (rw is (drop_more extents i nowhere next.inside)) refl low
+    (meets_ends e at end (rw is next.met)) shorter
+    (passed_to extents from i at end next.later (omega (arith, next.inside)) next.before passed)
+
+-- it begins after the byte `at`
+pub passed_met :
+    (extents : List Extent) (from i at end : ℕ) (e : Extent) → e ≡ get_or extents i nowhere → IsNextMeeting extents from at end i → IsWords e → at < e.base
+    → Passed extents from at end → (e.base < end) × Passed extents (i + 1) at e.base
+passed_met extents from i at end e is next words later passed =
+    let begins : e.base < end = meets_begins e at end (rw is next.met) in (
+      begins,
+      passed_later extents i at end e.base e.end e (rw is (drop_more extents i nowhere next.inside)) refl (long e at words later) later (omega (arith, begins))
+          (passed_to extents from i at end next.later (omega (arith, next.inside)) next.before passed),
+    )
+
+-- there is none
+pub says_rest :
+    (extents : List Extent) (from at end : ℕ) → from ≤ length extents → MissesAll extents from (length extents) at end
+    → Passed extents from at end → Says extents at end None NoAccess
+says_rest extents from at end within misses passed =
+    says_none extents (length extents) at end (omega arith) (passed_to extents from (length extents) at end within (omega arith) misses passed)

@@ -1,2 +1,3 @@
 pub mod Covered
 pub mod Joined
+pub mod Nested

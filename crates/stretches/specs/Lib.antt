@@ -1,1 +1,3 @@
+pub mod Hulls
+pub mod Meetings
 pub mod Stretches

@@ -5,8 +5,8 @@ ghost use Rattle.pmp_registers.specs.Bytes.{perm_at};
 ghost use Rattle.pmp_registers.specs.Decision.{IsWords};
 ghost use Rattle.stretches.specs.Stretches.{decider};
 
+use crate::extent_tree::ExtentTree;
 use pmp_encoding::{Perm, SPACE_SIZE};
-use pmp_registers::Extent;
 
 /// The first extent that has each byte from some byte to before `end`, and its permission.
 #[derive(Clone, Copy, PartialEq, Eq, Debug)]
@@ -17,7 +17,7 @@ pub(crate) struct Covering {
 }
 
 /// What the extents say from the byte on, as far as it stays the same.
-pub(crate) fn covering_from(extents: &[Extent], at: u64) -> Covering
+pub(crate) fn covering_from(extents: &ExtentTree, at: u64) -> Covering
     requires at { at < 2 ^ 56 }
     requires words { All IsWords extents.now }
     ensures some { at < result.end }
@@ -29,17 +29,19 @@ pub(crate) fn covering_from(extents: &[Extent], at: u64) -> Covering
     ensures changes { result.end < 2 ^ 56 → decider extents.now result.end ≢ result.entry }
 {
     let mut end = SPACE_SIZE;
-    for (i, extent) in extents.iter().enumerate() {
+    let mut from = 0;
+    while let Some(i) = extents.next_meeting(from, at, end) {
+        let extent = extents.extents()[i];
         let last = extent.end;
-        if at < extent.base {
-            end = end.min(extent.base);
-        } else if at < last {
+        if extent.base <= at {
             return Covering {
                 end: end.min(last),
                 entry: Some(i),
                 given: extent.perm,
             };
         }
+        end = extent.base;
+        from = i + 1;
     }
     Covering {
         end,

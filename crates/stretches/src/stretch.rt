@@ -7,6 +7,7 @@ ghost use Rattle.pmp_registers.specs.Lists.{matched_by};
 ghost use Rattle.stretches.specs.Stretches.{AreStretches, IsStretch};
 
 use crate::covering::covering_from;
+use crate::extent_tree::ExtentTree;
 use crate::standing::standing_from;
 use page_views::PAGE_SIZE;
 use permission_map::{Memory, PermissionMap};
@@ -31,7 +32,7 @@ pub struct Stretch {
 }
 
 /// The stretch from a byte on.
-fn stretch_from(map: &PermissionMap, extents: &[Extent], at: u64) -> Stretch
+fn stretch_from(map: &PermissionMap, extents: &ExtentTree, at: u64) -> Stretch
     requires at { at < 2 ^ 56 }
     requires words { All IsWords extents.now }
     ensures first { result.first ≡ at }
@@ -60,10 +61,11 @@ pub fn stretches(
     ensures { IfOk result (λ all. AreStretches (view_of_runs map.now) extents.now 0 all.items
         (2 ^ 56)) }
 {
+    let tree = ExtentTree::new(alloc, extents)?;
     let mut all = Vec::new(alloc);
     let mut at = 0;
     while at < SPACE_SIZE {
-        let stretch = stretch_from(map, extents, at);
+        let stretch = stretch_from(map, &tree, at);
         all.push(stretch)?;
         at = stretch.end;
     }

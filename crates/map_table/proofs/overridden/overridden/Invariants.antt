@@ -2,11 +2,12 @@ use Rattle.std.proofs.Common.{◌≡◌, ◌+◌, ◌-◌, ◌≤◌, ◌++◌, 
 use Rattle.map_table.specs.Rows.{overridden_from}
 use Rattle.map_table.proofs.overridden.overridden.Given as goal
 
-abbrev pub invariant-loop-j : goal.invariant-loop-j
-invariant-loop-j l = record {
-  found : l.found.items ++ overridden_from l.j (drop l.j l.extents) l.stretch ≡ overridden_from (l.i + 1) (drop (l.i + 1) l.extents) l.stretch;
+abbrev pub invariant-loop-from : goal.invariant-loop-from
+invariant-loop-from l = record {
+  found : l.found.items ++ overridden_from l.from (drop l.from l.extents) l.stretch ≡ overridden_from (l.i + 1) (drop (l.i + 1) l.extents) l.stretch;
   few : length l.found.items ≤ 3;
+  within : l.from ≤ length l.extents;
 }
 
-abbrev pub decreases-loop-j : goal.decreases-loop-j
-decreases-loop-j l = length l.extents - l.j
+abbrev pub decreases-loop-from : goal.decreases-loop-from
+decreases-loop-from l = length l.extents - l.from

@@ -1,33 +1,39 @@
 -- The first extent that has the byte decides; one before it ends the stretch where it begins.
-use Rattle.std.proofs.Common.{◌∙◌, refl, arith, get_or}
-use Rattle.std.proofs.lemmas.List.{drop_more}
+use Rattle.std.proofs.Common.{ap, arith, get_or}
+use Rattle.pmp_registers.specs.Decision.{IsWords}
 use Rattle.pmp_registers.specs.Tor.{nowhere}
-use Rattle.stretches.proofs.Covered.{long, passed_later, passed_ended, says_first}
+use Rattle.stretches.proofs.Covered.{passed_met, says_met, says_rest}
 use Rattle.stretches.proofs.covering.covering_from.Goals as goal
-use Rattle.stretches.proofs.covering.covering_from.Goals.{then-at-extent, else-at-extent+else-at-last}
 
-pub returns-then-at-last-clause-changes : goal.returns-then-at-last-clause-changes
-returns-then-at-last-clause-changes c =
-    let extent = get_or c.args.extents.now c.loop-i.i nowhere in
-    let split = drop_more c.args.extents.now c.loop-i.i nowhere c.loop-i-test.true in
-    (says_first c.args.extents.now c.loop-i.i c.args.at c.loop-i.end c.min.result extent.end extent split refl c.if-at-extent.false c.if-at-last.true c.min.ensures c.loop-i.invariant.passed).changes
+pub returns-then-extent-at-clause-decided : goal.returns-then-extent-at-clause-decided
+returns-then-extent-at-clause-decided c =
+    let e = get_or c.extents.result.now c.in-Some.i nowhere in
+    (says_met c.args.extents.now c.loop-i.from c.in-Some.i c.args.at c.loop-i.end c.min.result e (ap (λ xs. get_or xs c.in-Some.i nowhere) c.extents.ensures) c.in-Some.ensures c.if-extent-at.true c.min.ensures c.loop-i.invariant.passed).decided
+
+pub returns-then-extent-at-clause-given : goal.returns-then-extent-at-clause-given
+returns-then-extent-at-clause-given c =
+    let e = get_or c.extents.result.now c.in-Some.i nowhere in
+    (says_met c.args.extents.now c.loop-i.from c.in-Some.i c.args.at c.loop-i.end c.min.result e (ap (λ xs. get_or xs c.in-Some.i nowhere) c.extents.ensures) c.in-Some.ensures c.if-extent-at.true c.min.ensures c.loop-i.invariant.passed).given
+
+pub returns-then-extent-at-clause-changes : goal.returns-then-extent-at-clause-changes
+returns-then-extent-at-clause-changes c =
+    let e = get_or c.extents.result.now c.in-Some.i nowhere in
+    (says_met c.args.extents.now c.loop-i.from c.in-Some.i c.args.at c.loop-i.end c.min.result e (ap (λ xs. get_or xs c.in-Some.i nowhere) c.extents.ensures) c.in-Some.ensures c.if-extent-at.true c.min.ensures c.loop-i.invariant.passed).changes
 
 pub loop-i-preserved : goal.loop-i-preserved
 loop-i-preserved c =
-    let extent = get_or c.args.extents.now c.loop-i.i nowhere in
-    let split = drop_more c.args.extents.now c.loop-i.i nowhere c.loop-i-test.true in
-    let words = c.requires.words c.loop-i.i nowhere c.loop-i-test.true in
-    elim c.if-at-extent.branch [
-      | then-at-extent w ↦
-          record {
-            some = omega arith;
-            inside = omega arith;
-            passed = passed_later c.args.extents.now c.loop-i.i c.args.at c.loop-i.end c.if-at-extent.end extent.end extent split refl (long extent c.args.at words w.if-at-extent.true) w.if-at-extent.true (w.end-is ∙ w.min-end.ensures) c.loop-i.invariant.passed;
-          }
-      | else-at-extent+else-at-last w ↦
-          record {
-            some = omega arith;
-            inside = omega arith;
-            passed = rw w.end-is (passed_ended c.args.extents.now c.loop-i.i c.args.at c.loop-i.end extent.end extent split refl (omega arith) c.loop-i.invariant.passed);
-          }
-    ]
+    let e = get_or c.extents.result.now c.in-Some.i nowhere in
+    let words : IsWords e = rw c.extents.ensures (c.requires.words c.in-Some.i nowhere c.in-Some.ensures.inside) in
+    let passed = passed_met c.args.extents.now c.loop-i.from c.in-Some.i c.args.at c.loop-i.end e (ap (λ xs. get_or xs c.in-Some.i nowhere) c.extents.ensures) c.in-Some.ensures words c.if-extent-at.false c.loop-i.invariant.passed in
+    record {
+      some = c.if-extent-at.false;
+      inside = omega (arith, passed.0, c.loop-i.invariant.inside);
+      within = omega (arith, c.in-Some.ensures.inside);
+      passed = passed.1;
+    }
+
+pub returns-clause-decided : goal.returns-clause-decided
+returns-clause-decided c = (says_rest c.args.extents.now c.loop-i.from c.args.at c.loop-i.end c.loop-i.invariant.within c.in_default.ensures c.loop-i.invariant.passed).decided
+
+pub returns-clause-given : goal.returns-clause-given
+returns-clause-given c = (says_rest c.args.extents.now c.loop-i.from c.args.at c.loop-i.end c.loop-i.invariant.within c.in_default.ensures c.loop-i.invariant.passed).given

@@ -1,0 +1,14 @@
+-- The hulls of the nodes from i on are nested.
+use Rattle.std.proofs.Common.{◌≡◌, ◌≤◌, length}
+use Rattle.stretches.specs.Hulls.{AreNestedFrom}
+use Rattle.stretches.proofs.extent_tree.hulls_of.Given as goal
+
+abbrev pub invariant-loop-i : goal.invariant-loop-i
+invariant-loop-i l = record {
+  same : length l.hulls.items ≡ length l.extents;
+  inside : l.i ≤ length l.extents;
+  nested : AreNestedFrom l.i l.hulls.items l.extents;
+}
+
+abbrev pub decreases-loop-i : goal.decreases-loop-i
+decreases-loop-i l = l.i
