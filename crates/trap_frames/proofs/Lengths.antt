@@ -60,3 +60,9 @@ device_step items bytes n a b perm is p q r =
     let e : suc n ≡ n + 1 = omega arith in
     let same : (a, b, bits_of perm) ≡ (word_at bytes (71 + 3 * n), word_at bytes (72 + 3 * n), word_at bytes (73 + 3 * n)) = rw (p, q, r) refl in
     map-append words_of_device items ((a, b, perm) ∷ []) ∙ ap (λ xs. xs ++ ((a, b, bits_of perm) ∷ [])) is ∙ ap (λ (d : ℕ × ℕ × ℕ). device_words bytes n ++ (d ∷ [])) same ∙ ap (device_words bytes) e
+
+-- an entry more
+pub address_step : (entries : List Entry) (n : ℕ) → address_bytes entries n ++ little_bytes 8 (address_at entries n) ≡ address_bytes entries (n + 1)
+address_step entries n =
+    let e : suc n ≡ n + 1 = omega arith in
+    ap (address_bytes entries) e

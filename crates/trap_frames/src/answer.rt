@@ -1,10 +1,9 @@
 //! The frame of an answer: with what a hart goes on.
 
-ghost use Rattle.std.specs.Prelude.{◌≡◌, ◌<◌, ◌≤◌, ◌+◌, ◌++◌, length};
+ghost use Rattle.std.specs.Prelude.{◌≡◌, ◌<◌, ◌≤◌, ◌+◌, ◌++◌, length, take};
 ghost use Rattle.trap_frames.specs.Answers.{address_at, address_bytes, answer_bytes, cfg_at, cfg_bytes, head_bytes, number_of, pages_of, register_bytes, wake_word};
 
-use crate::frame::{Frame, TAG_ANSWER, push_word};
-use arrayvec::ArrayVec;
+use crate::frame::{AnswerBytes, TAG_ANSWER, put_word};
 use page_views::PageRange;
 use pmp_encoding::Entry;
 use sbi_decode::Registers;
@@ -57,32 +56,31 @@ fn pages_of(zero: Option<PageRange>) -> PageRange
     }
 }
 
-/// Appends the words before the registers.
-fn push_head(frame: &mut Frame, head: &Head, used: u64)
-    requires { length frame.old.items + 72 ≤ 904 }
-    ensures { frame.new.items ≡ frame.old.items ++ head_bytes head.now used }
+/// Writes the words before the registers.
+#[inline(always)]
+fn put_head(frame: &mut AnswerBytes, head: &Head, used: u64)
+    ensures { take 72 frame.new ≡ head_bytes head.now used }
 {
     let pages = pages_of(head.zero);
-    push_word(frame, TAG_ANSWER);
-    push_word(frame, u64::from(head.hart));
-    push_word(frame, number_of(head.world));
-    push_word(frame, head.status);
-    push_word(frame, head.value);
-    push_word(frame, used);
-    push_word(frame, pages.first);
-    push_word(frame, pages.count);
-    push_word(frame, wake_word(&head.woken));
+    put_word(frame, 0, TAG_ANSWER);
+    put_word(frame, 1, u64::from(head.hart));
+    put_word(frame, 2, number_of(head.world));
+    put_word(frame, 3, head.status);
+    put_word(frame, 4, head.value);
+    put_word(frame, 5, used);
+    put_word(frame, 6, pages.first);
+    put_word(frame, 7, pages.count);
+    put_word(frame, 8, wake_word(&head.woken));
 }
 
-/// Appends the program counter and x1 to x31.
-#[tactic(auto, using(crate::proofs::Lengths::register_length, crate::proofs::Lengths::word_length, crate::proofs::Lengths::room))]
-fn push_registers(frame: &mut Frame, registers: &Registers)
-    requires { length frame.old.items + 256 ≤ 904 }
-    ensures { frame.new.items ≡ frame.old.items ++ register_bytes registers.now 32 }
+/// Writes the program counter and x1 to x31 after them.
+#[inline(always)]
+fn put_registers(frame: &mut AnswerBytes, registers: &Registers)
+    ensures { take 328 frame.new ≡ take 72 frame.old ++ register_bytes registers.now 32 }
 {
-    push_word(frame, registers.pc());
+    put_word(frame, 9, registers.pc());
     for n in 1..32 {
-        push_word(frame, registers.get(n));
+        put_word(frame, n + 9, registers.get(n));
     }
 }
 
@@ -110,37 +108,33 @@ fn address_at(entries: &[Entry], i: usize) -> u64
     address
 }
 
-/// Appends the configuration bytes of 64 entries. As words they are pmpcfg0, pmpcfg2, .. pmpcfg14.
-#[tactic(auto, using(crate::proofs::Lengths::cfg_length, crate::proofs::Lengths::word_length, crate::proofs::Lengths::room))]
-fn push_configuration(frame: &mut Frame, entries: &[Entry])
-    requires { length frame.old.items + 64 ≤ 904 }
-    ensures { frame.new.items ≡ frame.old.items ++ cfg_bytes entries.now 64 }
+/// Writes the configuration bytes of 64 entries after them. As words they are pmpcfg0, pmpcfg2, .. pmpcfg14.
+#[inline(always)]
+fn put_configuration(frame: &mut AnswerBytes, entries: &[Entry])
+    ensures { take 392 frame.new ≡ take 328 frame.old ++ cfg_bytes entries.now 64 }
 {
     for i in 0..64 {
-        frame.push(cfg_at(entries, i));
+        frame[328 + i] = cfg_at(entries, i);
     }
 }
 
-/// Appends the address registers of 64 entries.
-#[tactic(auto, using(crate::proofs::Lengths::address_length, crate::proofs::Lengths::word_length, crate::proofs::Lengths::room))]
-fn push_addresses(frame: &mut Frame, entries: &[Entry])
-    requires { length frame.old.items + 512 ≤ 904 }
-    ensures { frame.new.items ≡ frame.old.items ++ address_bytes entries.now 64 }
+/// Writes the address registers of 64 entries after them.
+#[inline(always)]
+fn put_addresses(frame: &mut AnswerBytes, entries: &[Entry])
+    ensures { frame.new ≡ take 392 frame.old ++ address_bytes entries.now 64 }
 {
     for i in 0..64 {
-        push_word(frame, address_at(entries, i));
+        put_word(frame, 49 + i, address_at(entries, i));
     }
 }
 
-/// The frame with what a hart goes on: its registers, and the entries that it loads.
-#[inline(never)]
-pub fn answer_frame(head: &Head, registers: &Registers, entries: &[Entry]) -> Frame
-    ensures { result.items ≡ answer_bytes head.now registers.now entries.now }
+/// Writes the frame with what a hart goes on: its registers, and the entries that it loads.
+#[inline(always)]
+pub fn put_answer(frame: &mut AnswerBytes, head: &Head, registers: &Registers, entries: &[Entry])
+    ensures { frame.new ≡ answer_bytes head.now registers.now entries.now }
 {
-    let mut frame: Frame = ArrayVec::new();
-    push_head(&mut frame, head, entries.len() as u64);
-    push_registers(&mut frame, registers);
-    push_configuration(&mut frame, entries);
-    push_addresses(&mut frame, entries);
-    frame
+    put_head(frame, head, entries.len() as u64);
+    put_registers(frame, registers);
+    put_configuration(frame, entries);
+    put_addresses(frame, entries);
 }

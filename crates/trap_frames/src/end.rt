@@ -3,8 +3,7 @@
 ghost use Rattle.std.specs.Prelude.{◌≡◌};
 ghost use Rattle.trap_frames.specs.Ends.{end_bytes, reason_of, detail_of};
 
-use crate::frame::{Frame, TAG_END, push_word};
-use arrayvec::ArrayVec;
+use crate::frame::{ShortBytes, TAG_END, three_words};
 use enclave_table::PlatformFault;
 
 /// Why nothing more is served.
@@ -47,12 +46,8 @@ impl Refusal {
 
 /// The last frame.
 #[inline(never)]
-pub fn end_frame(refusal: Refusal) -> Frame
-    ensures { result.items ≡ end_bytes refusal }
+pub fn end_frame(refusal: Refusal) -> ShortBytes
+    ensures { result ≡ end_bytes refusal }
 {
-    let mut frame: Frame = ArrayVec::new();
-    push_word(&mut frame, TAG_END);
-    push_word(&mut frame, refusal.reason());
-    push_word(&mut frame, refusal.detail());
-    frame
+    three_words(TAG_END, refusal.reason(), refusal.detail())
 }

@@ -1,10 +1,9 @@
 //! The words of frames.
 
-ghost use Rattle.std.specs.Prelude.{◌≡◌, ◌+◌, ◌*◌, ◌≤◌, ◌++◌, length};
+ghost use Rattle.std.specs.Prelude.{◌≡◌, ◌+◌, ◌*◌, ◌≤◌, ◌++◌, ◌∷◌, [], length, take};
 ghost use Rattle.byteorder.specs.Endian.{little_bytes};
-ghost use Rattle.trap_frames.specs.Words.{word_at};
+ghost use Rattle.trap_frames.specs.Words.{bytes_of, word_at};
 
-use arrayvec::ArrayVec;
 use byteorder::{ByteOrder, LittleEndian};
 
 /// A tag is up to eight letters, the first in the lowest byte: `platform`.
@@ -28,8 +27,11 @@ pub(crate) const TAG_MEASURE: u64 = 0x0065_7275_7361_656d;
 /// `end`
 pub(crate) const TAG_END: u64 = 0x0064_6e65;
 
-/// The bytes of a frame that is written: the largest has 113 words.
-pub type Frame = ArrayVec<u8, 904>;
+/// The bytes of an answer: nine words, the registers, and the entries.
+pub type AnswerBytes = [u8; 904];
+
+/// The bytes of a frame of three words.
+pub type ShortBytes = [u8; 24];
 
 /// Word k of some bytes.
 #[inline(always)]
@@ -40,15 +42,24 @@ pub(crate) fn word(bytes: &[u8], k: usize) -> u64
     LittleEndian::read_u64(&bytes[8 * k..])
 }
 
-/// Appends a word.
+/// Writes word k. The bytes before it stay.
 #[inline(always)]
-pub(crate) fn push_word(frame: &mut Frame, value: u64)
-    requires { length frame.old.items + 8 ≤ 904 }
-    ensures { frame.new.items ≡ frame.old.items ++ little_bytes 8 value }
+pub(crate) fn put_word(bytes: &mut [u8], k: usize, value: u64)
+    requires { 8 * k + 8 ≤ length bytes.old }
+    ensures size { length bytes.new ≡ length bytes.old }
+    ensures front { take (8 * k + 8) bytes.new ≡ take (8 * k) bytes.old ++ little_bytes 8 value }
 {
-    let mut bytes = [0; 8];
-    LittleEndian::write_u64(&mut bytes, value);
-    let Ok(()) = frame.try_extend_from_slice(&bytes) else {
-        unreachable!();
-    };
+    LittleEndian::write_u64(&mut bytes[8 * k..], value);
+}
+
+/// A frame of three words.
+#[inline(always)]
+pub(crate) fn three_words(first: u64, second: u64, third: u64) -> ShortBytes
+    ensures { result ≡ bytes_of (first ∷ (second ∷ (third ∷ []))) }
+{
+    let mut bytes = [0; 24];
+    put_word(&mut bytes, 0, first);
+    put_word(&mut bytes, 1, second);
+    put_word(&mut bytes, 2, third);
+    bytes
 }

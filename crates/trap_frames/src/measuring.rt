@@ -7,9 +7,8 @@ ghost use Rattle.trap_frames.specs.Traps.{CountsRead};
 ghost use Rattle.trap_frames.specs.Measuring.{Asks, HasParts, Measures, ReadsPage, layout_of, question_bytes};
 
 use crate::fault::FrameFault;
-use crate::frame::{Frame, TAG_MEASURE, TAG_PAGE, push_word, word};
+use crate::frame::{ShortBytes, TAG_MEASURE, TAG_PAGE, three_words, word};
 use crate::reading::read_whole;
-use arrayvec::ArrayVec;
 use byte_streams::{Sink, Source, write_whole};
 use enclave_table::Create;
 use measurement::{Layout, Measure};
@@ -30,14 +29,10 @@ fn layout(parts: &Create) -> Layout
 }
 
 /// The question for so many pages from one on.
-fn question(first: u64, count: u64) -> Frame
-    ensures { result.items ≡ question_bytes first count }
+fn question(first: u64, count: u64) -> ShortBytes
+    ensures { result ≡ question_bytes first count }
 {
-    let mut frame: Frame = ArrayVec::new();
-    push_word(&mut frame, TAG_MEASURE);
-    push_word(&mut frame, first);
-    push_word(&mut frame, count);
-    frame
+    three_words(TAG_MEASURE, first, count)
 }
 
 /// Reads the frame of a page.
@@ -72,7 +67,7 @@ pub fn digest_of<R: Source, W: Sink>(
 {
     let first = parts.base / 4096;
     let count = parts.text_pages + parts.data_pages;
-    let Ok(()) = write_whole(sink, question(first, count).as_slice()) else {
+    let Ok(()) = write_whole(sink, &question(first, count)) else {
         return Err(FrameFault::Write);
     };
     let mut measure = Measure::begin(&layout(parts));

@@ -20,7 +20,7 @@ pub enum ServeFault {
 pub(crate) fn refuse<W: Sink>(sink: &mut W, refusal: Refusal) -> ServeFault
     ensures { Ends result (W.contents sink.old) (W.contents sink.new) }
 {
-    match write_whole(sink, end_frame(refusal).as_slice()) {
+    match write_whole(sink, &end_frame(refusal)) {
         Ok(()) => ServeFault::Refused(refusal),
         Err(_) => ServeFault::Write,
     }

@@ -10,7 +10,7 @@ use crate::fault::{ServeFault, end};
 use byte_streams::{Sink, Source, write_whole};
 use monitor_core::{Answer, Monitor};
 use page_views::PageRange;
-use trap_frames::{Event, Frame, Head, Trap, answer_frame, digest_of};
+use trap_frames::{AnswerBytes, Event, Head, Trap, digest_of, put_answer};
 
 /// What stands for the answer where there was no call.
 pub(crate) const NOTHING: Answer = Answer {
@@ -52,17 +52,19 @@ fn status_word(answer: &Answer) -> u64
     u64::MAX - (-1 - status) as u64
 }
 
-/// The frame with which a hart goes on, and the harts that load the same entries with it.
-fn frame_of(
+/// Puts together the frame with which a hart goes on, and the harts that load the same entries with it.
+#[inline(always)]
+fn put_frame(
+    frame: &mut AnswerBytes,
     monitor: &Monitor,
     hart: u8,
     answer: &Answer,
     zero: Option<PageRange>,
     woken: [bool; 4],
-) -> Frame
+)
     requires hart { hart < 4 }
     requires woken { MayWake (state_of monitor.now) hart woken }
-    ensures { IsAnswer (state_of monitor.now) hart answer.now zero woken result.items }
+    ensures { IsAnswer (state_of monitor.now) hart answer.now zero woken frame.new }
 {
     let head = Head {
         hart,
@@ -72,7 +74,7 @@ fn frame_of(
         zero,
         woken,
     };
-    answer_frame(&head, monitor.registers(hart), monitor.entries(hart))
+    put_answer(frame, &head, monitor.registers(hart), monitor.entries(hart));
 }
 
 /// Writes with what a hart goes on.
@@ -90,8 +92,9 @@ pub(crate) fn write_answer<W: Sink>(
     ensures { Writes result (IsAnswer (state_of monitor.now) hart answer zero woken)
         (W.contents sink.old) (W.contents sink.new) }
 {
-    let frame = frame_of(monitor, hart, &answer, zero, woken);
-    match write_whole(sink, frame.as_slice()) {
+    let mut frame = [0; 904];
+    put_frame(&mut frame, monitor, hart, &answer, zero, woken);
+    match write_whole(sink, &frame) {
         Ok(()) => Ok(()),
         Err(_) => Err(ServeFault::Write),
     }

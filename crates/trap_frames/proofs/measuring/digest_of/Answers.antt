@@ -8,7 +8,7 @@ use Rattle.trap_frames.proofs.measuring.digest_of.Goals as goal
 pub loop-i-init : goal.loop-i-init
 loop-i-init g c = record {
   pages = ([], [], no_page, Consumes-nil _, rw c.layout.ensures at c.begin-measure.ensures);
-  written = rw c.question.ensures at (rw c.as_slice.ensures.value at c.in-Ok.ensures.whole);
+  written = rw c.question.ensures at c.in-Ok.ensures.whole;
   failures = refl;
 }
 

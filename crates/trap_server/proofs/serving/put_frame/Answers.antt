@@ -6,7 +6,7 @@ use Rattle.monitor_core.specs.Monitors.{state_of}
 use Rattle.monitor_core.specs.States.{view_of}
 use Rattle.trap_frames.specs.Answers.{answer_bytes}
 use Rattle.trap_server.specs.Answered.{head_of}
-use Rattle.trap_server.proofs.serving.frame_of.Goals as goal
+use Rattle.trap_server.proofs.serving.put_frame.Goals as goal
 
 pub returns : goal.returns
 returns c =
@@ -20,7 +20,7 @@ returns c =
             let both = c.requires.woken other known is in
             subst (λ w. IsFewest (view_of s.table w) entries) (both.1 ∙ sym both.0) c.entries.ensures.fewest;
       },
-      c.answer_frame.ensures
+      c.put_answer.ensures
           ∙ ap (λ (w : World). answer_bytes (record { hart = hart; world = w; status = c.status_word.result; value = c.args.answer.now.value; zero = c.args.zero; woken = c.args.woken }) c.registers.result.now entries) c.world.ensures
           ∙ ap (λ (n : ℕ). answer_bytes (record { hart = hart; world = s.worlds hart; status = n; value = c.args.answer.now.value; zero = c.args.zero; woken = c.args.woken }) c.registers.result.now entries) c.status_word.ensures
           ∙ ap (λ (file : RegisterFile). answer_bytes (head_of s hart c.args.answer.now c.args.zero c.args.woken) file entries) c.registers.ensures,
