@@ -41,6 +41,7 @@ _Noreturn void ended(const struct end_frame *end);
 /* control.c: the registers of machine and supervisor mode that decide what a world can do. */
 void control_at_start(void);
 void control_switch(uint64_t from, uint64_t to);
+void control_to_handler(struct world *world);
 
 /* harts.c, with the states of a hart (SBI, chapter 9). */
 enum hart_state { STARTED = 0, STOPPED = 1, START_PENDING = 2 };

@@ -66,12 +66,8 @@ static int is_of_board(struct world *world, unsigned hart)
         return 0;
     if (is_call(world))
         return board_call(world);
-    put("monitor: a trap of the host that nobody handles, cause ");
-    put_hex(world->cause);
-    put(" at ");
-    put_hex(world->pc);
-    put("\n");
-    power_off(1);
+    control_to_handler(world);
+    return 1;
 }
 
 uint64_t next_trap(void)

@@ -170,6 +170,9 @@ def worlds(folder, told):
     """The host of firmware/host, and two harts that race, with the stop of the others and without."""
     said = booted(FIRMWARE / "out/pmpmon-virt.elf", FIRMWARE / "out/host.elf", 1)
     told("a host in C makes, runs, interrupts and destroys an enclave", said == HOST, said if said != HOST else "")
+    built(FIRMWARE / "platform.toml", folder / "undelegated", "-DLEAVE_DELEGATION")
+    said = booted(folder / "undelegated/pmpmon-virt.elf", FIRMWARE / "out/host.elf", 1)
+    told("the same where its exceptions come to machine mode first", said == HOST, said if said != HOST else "")
     wrong = folder / "three.dtb"
     if wrong.exists():
         said = booted(FIRMWARE / "out/pmpmon-virt.elf", FIRMWARE / "out/host.elf", 1, "-dtb", str(wrong))

@@ -13,6 +13,7 @@
 #define ALL (~0ul)
 #define PRIVATE 0x85000000ul
 #define NEVER (~0ul)
+#define JUMP_TO_SELF 0x0000006fu
 
 long load_at(uint64_t at);
 void second_entry(void);
@@ -20,7 +21,7 @@ void second_entry(void);
 /* The interrupts of each hart, by the handler: software, timer. */
 static volatile uint64_t came[2][2];
 /* What hart 0 wants of hart 1, which makes it 0 when it is done, and what came of it. */
-static volatile enum { NOTHING, LOAD, STOP } wish;
+static volatile enum { NOTHING, LOAD, ENTER, STOP } wish;
 static volatile uint64_t second[6];
 
 static const struct {
@@ -121,6 +122,10 @@ void second_main(uint64_t hart, uint64_t opaque, uint64_t satp, uint64_t sstatus
         if (wish == LOAD) {
             second[0] = (uint64_t)load_at(PRIVATE);
             wish = NOTHING;
+        } else if (wish == ENTER) {
+            second[0] = (uint64_t)pmpmon_run(1).error;
+            second[1] = pmpmon_stop_cause().value;
+            wish = NOTHING;
         } else if (wish == STOP) {
             wish = NOTHING;
             CLEAR(sstatus, 2);
@@ -190,6 +195,20 @@ static void two_harts(void)
     say("hart 1 loads from the page of the enclave that is gone: fault", (int64_t)second[0], (int64_t)came[1][0]);
 }
 
+/* An interrupt that hart 1 takes before it has entered is lost to the enclave, so there is another. */
+static void interrupted_enclave(void)
+{
+    memset((void *)PRIVATE, 0, PAGE);
+    *(volatile uint32_t *)PRIVATE = JUMP_TO_SELF;
+    say("create", pmpmon_create(PRIVATE, 1, 0, 0, 0, 0).error, 0);
+    wish = ENTER;
+    while (wish) {
+        call(RFENCE, 0, 2, 0, 0);
+        call(IPI, 0, 2, 0, 0);
+    }
+    say("an enclave on hart 1 is stopped, and by interrupt", (int64_t)second[0], (int64_t)(second[1] & 0xff));
+}
+
 void host_main(void)
 {
     say("create", pmpmon_create(PRIVATE, 1, 0, 0, 0, 0).error, 0);
@@ -199,5 +218,6 @@ void host_main(void)
     }
     time_and_self();
     two_harts();
+    interrupted_enclave();
     call(SRST, 0, 0, 0, 0);
 }
