@@ -1,27 +1,67 @@
 -- What was read.
-use Rattle.std.proofs.Common.{◌≡◌, ◌≤◌, ℕ, List, Ok, Err, Result, Option, length, subst}
-use Rattle.std.specs.Result.{IfOk}
+use Rattle.std.proofs.Common.{◌≡◌, ◌≤◌, ◌<◌, ◌+◌, ◌/◌, inl, inr, ℕ, refl, List, [], ◌∷◌, ◌++◌, Ok, Err, Result, Option, length, subst, append_assoc}
+use Rattle.std.specs.Result.{IfOk, IfErr}
 use Rattle.std.specs.Io.KnownBytes.{Consumes}
 use Rattle.std.proofs.Common.{take_all}
-use Rattle.enclave_table.specs.Platform.{Layout}
+use Rattle.enclave_table.specs.Platform.{Layout, platform_rules}
+use Rattle.enclave_table.specs.Refusals.{AllPass, FailsFirst}
+use Rattle.enclave_table.specs.declared.platform.PlatformFault.{PlatformFault}
 use Rattle.trap_frames.specs.declared.fault.FrameFault.{FrameFault}
 use Rattle.trap_frames.specs.declared.fault.FrameFault.TheVariants as faults
 use Rattle.trap_frames.specs.declared.end.Refusal.{Refusal}
+use Rattle.trap_frames.specs.declared.end.Refusal.TheVariants.{NotUnderstood, Platform, NeedsEntries, Memory}
+use Rattle.trap_frames.specs.Words.{platform_tag, word_at}
 use Rattle.trap_frames.specs.Reading.{Filled}
-use Rattle.trap_frames.specs.Measuring.{ReadsPage}
-use Rattle.trap_frames.specs.Platforms.{IsPlatformFrame, ReadsPlatform}
+use Rattle.trap_frames.specs.Measuring.{ArePages, Measures, ReadsPage}
+use Rattle.trap_frames.specs.Traps.{CountsWrite}
+use Rattle.enclave_table.specs.declared.request.Create.{Create}
+use Rattle.std.proofs.KnownBytes.{Consumes-trans}
+use Rattle.trap_frames.specs.Platforms.{AreNoRanges, IsNoPlatform, IsPlatformFrame, ReadsPlatform, shape_rules}
+
+fails_then : (front more : List (PlatformFault × Type 0)) (fault : PlatformFault) → FailsFirst front fault → FailsFirst (front ++ more) fault
+fails_then [] more fault fails = absurd fails
+fails_then (rule ∷ rules) more fault (inl here) = inl here
+fails_then (rule ∷ rules) more fault (inr later) = inr (later.0, fails_then rules more fault later.1)
+
+-- the first rule that is broken, where others come after
+pub fails_before : (front between more : List (PlatformFault × Type 0)) (fault : PlatformFault) → FailsFirst (front ++ between) fault → FailsFirst (front ++ (between ++ more)) fault
+fails_before front between more fault fails = subst (λ rules. FailsFirst rules fault) (append_assoc front between more) (fails_then (front ++ between) more fault fails)
+
+-- where none of those before is
+pub fails_after : (front more : List (PlatformFault × Type 0)) (fault : PlatformFault) → AllPass front → FailsFirst more fault → FailsFirst (front ++ more) fault
+fails_after [] more fault pass fails = fails
+fails_after (rule ∷ rules) more fault pass fails = inr (pass.0, fails_after rules more fault pass.1 fails)
 
 -- a buffer that was filled left the source whole
 pub whole : (n : ℕ) (buffer : List ℕ) (before after : Option (List ℕ)) → length buffer ≤ n → Filled n buffer before after → Consumes before after buffer
 whole n buffer before after all filled = subst (Consumes before after) (take_all n buffer all) filled.consumed
 
--- a page that was not read
-pub page_consumes : (fault : FrameFault) (page : ℕ) (bytes : List ℕ) (before after : Option (List ℕ)) → ReadsPage (Err fault) page bytes before after → (read : List ℕ) × Consumes before after read
-page_consumes faults.NotUnderstood page bytes before after reads = (reads.0, reads.2)
-page_consumes faults.Read page bytes before after reads = (reads.0, reads.2)
-page_consumes faults.Write page bytes before after reads = absurd reads
+-- a page that was not read ends the measurement
+pub page_stops :
+    (fault : FrameFault) (parts : Create) (k : ℕ) (bytes read : List ℕ) (pages : List (List ℕ)) (before now after : Option (List ℕ)) → k < parts.text_pages + parts.data_pages
+    → ArePages (parts.base / 4096) k read pages → Consumes before now read → ReadsPage (Err fault) (parts.base / 4096 + k) bytes now after → Measures (Err fault) parts before after
+page_stops faults.NotUnderstood parts k bytes read pages before now after more are came reads =
+    (read ++ reads.0, (k, more, read, reads.0, pages, are, reads.1, refl), Consumes-trans before now after read reads.0 came reads.2)
+page_stops faults.Read parts k bytes read pages before now after more are came reads = (read ++ reads.0, Consumes-trans before now after read reads.0 came reads.2)
+page_stops faults.Write parts k bytes read pages before now after more are came reads = absurd reads
+
+-- and is no failed write
+pub page_writes :
+    (fault : FrameFault) (page : ℕ) (bytes : List ℕ) (before after : Option (List ℕ)) (failures failed stalls stalled : ℕ) → ReadsPage (Err fault) page bytes before after
+    → (failed ≡ failures) × (stalled ≡ stalls) → CountsWrite {X = List ℕ} (Err fault) failures failed stalls stalled
+page_writes faults.NotUnderstood page bytes before after failures failed stalls stalled reads well = well
+page_writes faults.Read page bytes before after failures failed stalls stalled reads well = well
+page_writes faults.Write page bytes before after failures failed stalls stalled reads well = absurd reads
 
 -- a platform, or why it is none
-pub reads_platform : (result : Result Layout Refusal) (bytes : List ℕ) (before after : Option (List ℕ)) → length bytes ≡ 1336 → IfOk result (λ p. IsPlatformFrame bytes p) → Consumes before after bytes → ReadsPlatform (Ok result) before after
-reads_platform (Ok layout) bytes before after size is consumed = (bytes, size, is, consumed)
-reads_platform (Err refusal) bytes before after size is consumed = (bytes, size, consumed)
+pub reads_platform : (result : Result Layout Refusal) (bytes : List ℕ) (before after : Option (List ℕ)) → length bytes ≡ 1336 → IfOk result (λ p. IsPlatformFrame bytes p) → IfErr result (λ refusal. IsNoPlatform refusal bytes) → Consumes before after bytes → ReadsPlatform (Ok result) before after
+reads_platform (Ok layout) bytes before after size is not consumed = (bytes, size, is, consumed)
+reads_platform (Err refusal) bytes before after size is not consumed = (bytes, size, not, consumed)
+
+-- what is no range of a platform is none, with its tag
+pub no_platform : (refusal : Refusal) (bytes : List ℕ) → word_at bytes 0 ≡ platform_tag → AreNoRanges refusal bytes → IsNoPlatform refusal bytes
+no_platform NotUnderstood bytes tag not = inr (tag, not.0, not.1)
+no_platform (Platform fault) bytes tag (inl many) = (tag, inl many)
+no_platform (Platform fault) bytes tag (inr broken) = (tag, inr (broken.0, broken.1, broken.2, fails_before (platform_rules broken.1.monitor broken.1.ram broken.1.devices) [] (shape_rules bytes) fault broken.3))
+no_platform (NeedsEntries count) bytes tag not = absurd not
+no_platform Memory bytes tag not = absurd not

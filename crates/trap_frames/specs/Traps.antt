@@ -1,7 +1,7 @@
 -- The frame of a trap.
 use Rattle.std.specs.Prelude.{◌≡◌, ◌⊎◌, ℕ, ◌+◌, ◌<◌, ◌≤◌, List, [], length, Option, Some, None, Result, Ok, Err}
 use Rattle.std.specs.Io.KnownBytes.{Consumes, IsAtEnd}
-use Rattle.byte_streams.specs.Streams.{one_failure_more}
+use Rattle.byte_streams.specs.Streams.{WriteFails, one_failure_more}
 use Rattle.sbi_decode.specs.Registers.{RegisterFile, x_of}
 use Rattle.trap_frames.specs.Words.{word_at, call_tag, stop_tag}
 use Rattle.trap_frames.specs.Reading.{Breaks}
@@ -46,3 +46,8 @@ ReadsTrap (Err faults.Write) harts before after = ⊥
 abbrev pub CountsRead : {X : Type 0} → Result X FrameFault → ℕ → ℕ → Type 0
 CountsRead (Err faults.Read) before after = after ≡ one_failure_more before
 CountsRead _ before after = after ≡ before
+
+-- a write failed, or took none of some bytes, where that is the answer, and otherwise none did
+abbrev pub CountsWrite : {X : Type 0} → Result X FrameFault → ℕ → ℕ → ℕ → ℕ → Type 0
+CountsWrite (Err faults.Write) failures failed stalls stalled = WriteFails failures failed stalls stalled
+CountsWrite _ failures failed stalls stalled = (failed ≡ failures) × (stalled ≡ stalls)

@@ -3,7 +3,7 @@
 ghost use Rattle.std.specs.Prelude.{◌≡◌, ◌+◌, ◌≤◌, ◌<◌, ◌^◌, MatchResult};
 ghost use Rattle.byte_streams.specs.Writings.{writing, Prints};
 ghost use Rattle.trap_frames.specs.Words.{word_at};
-ghost use Rattle.trap_frames.specs.Traps.{CountsRead};
+ghost use Rattle.trap_frames.specs.Traps.{CountsRead, CountsWrite};
 ghost use Rattle.trap_frames.specs.Measuring.{Asks, HasParts, Measures, ReadsPage, layout_of, question_bytes};
 
 use crate::fault::FrameFault;
@@ -46,7 +46,13 @@ fn read_page<R: Source>(source: &mut R, page: u64, bytes: &mut [u8; 4096]) -> Re
     let Ok(n) = read_whole(source, &mut frame) else {
         return Err(FrameFault::Read);
     };
-    if n < PAGE_BYTES || word(&frame, 0) != TAG_PAGE || word(&frame, 1) != page {
+    if n < PAGE_BYTES {
+        return Err(FrameFault::NotUnderstood);
+    }
+    if word(&frame, 0) != TAG_PAGE {
+        return Err(FrameFault::NotUnderstood);
+    }
+    if word(&frame, 1) != page {
         return Err(FrameFault::NotUnderstood);
     }
     bytes.copy_from_slice(&frame[16..]);
@@ -64,6 +70,8 @@ pub fn digest_of<R: Source, W: Sink>(
     ensures read { Measures result parts.now (R.remaining source.old) (R.remaining source.new) }
     ensures asked { Asks result parts.now (W.contents sink.old) (W.contents sink.new) }
     ensures failures { CountsRead result (R.failures source.old) (R.failures source.new) }
+    ensures writes { CountsWrite result (W.failures sink.old) (W.failures sink.new)
+        (W.stalls sink.old) (W.stalls sink.new) }
 {
     let first = parts.base / 4096;
     let count = parts.text_pages + parts.data_pages;

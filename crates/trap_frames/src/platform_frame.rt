@@ -1,13 +1,14 @@
 //! The first frame: the platform.
 
-ghost use Rattle.std.specs.Prelude.{◌≡◌, ◌≤◌, ◌<◌, IfOk, IfErr, IfSome, IfNone, Some, ℕ};
+ghost use Rattle.std.specs.Prelude.{◌≡◌, ◌≤◌, ◌<◌, ◌+◌, ◌*◌, ◌⊎◌, IfOk, IfErr, IfSome, IfNone, Some, ℕ};
 ghost use Rattle.pmp_encoding.specs.Perms.{bits_of};
 ghost use Rattle.pmp_encoding.specs.declared.perm.Perm.{Perm as PermOf};
-ghost use Rattle.enclave_table.specs.Platform.{Layout, IsLayout};
+ghost use Rattle.enclave_table.specs.Platform.{Layout, IsLayout, platform_rules};
+ghost use Rattle.enclave_table.specs.Refusals.{AllPass};
 ghost use Rattle.byte_streams.specs.Streams.{CountsFailure};
 ghost use Rattle.trap_frames.specs.Words.{word_at};
 ghost use Rattle.trap_frames.specs.Traps.{CountsRead};
-ghost use Rattle.trap_frames.specs.Platforms.{IsPlatformFrame, device_words, ram_in, words_of, ReadsPlatform};
+ghost use Rattle.trap_frames.specs.Platforms.{AreFew, AreNoRanges, IsNoPlatform, IsPlatformFrame, device_words, ram_in, words_of, ReadsPlatform};
 
 use crate::end::Refusal;
 use crate::fault::FrameFault;
@@ -57,7 +58,10 @@ fn perm_of(bits: u64) -> Option<Perm>
 #[tactic(auto, using(crate::proofs::Lengths::devices_room))]
 fn devices_in(bytes: &[u8; 1336], count: usize) -> Option<ArrayVec<(u64, u64, Perm), 32>>
     requires { count ≤ 32 }
-    ensures { IfSome result (λ devices. words_of devices.items ≡ device_words bytes.now count) }
+    ensures some { IfSome result (λ devices.
+        words_of devices.items ≡ device_words bytes.now count) }
+    ensures none { IfNone result ((k : ℕ) × (k < count)
+        × ((perm : PermOf) → bits_of perm ≡ word_at bytes.now (73 + 3 * k) → ⊥)) }
 {
     let mut devices = ArrayVec::new();
     for i in 0..count {
@@ -67,54 +71,49 @@ fn devices_in(bytes: &[u8; 1336], count: usize) -> Option<ArrayVec<(u64, u64, Pe
     Some(devices)
 }
 
-/// A count of at most 32.
-fn small_count(value: u64) -> Result<usize, Refusal>
-    ensures value { IfOk result (λ count. count ≡ value) }
-    ensures most { IfOk result (λ count. count ≤ 32) }
-{
-    if value > MOST {
-        return Err(Refusal::Platform(PlatformFault::BadNumber));
-    }
-    Ok(value as usize)
-}
-
 /// The same platform with so many harts.
-fn with_harts(platform: Platform, harts: u64) -> Result<Platform, Refusal>
-    ensures { IfOk result (λ p. p ≡ record platform { harts = harts }) }
+fn with_harts(platform: Platform, harts: u64) -> Result<Platform, PlatformFault>
+    ensures value { IfOk result (λ p. (0 < harts) × (harts ≤ 4)
+        × (p ≡ record platform { harts = harts })) }
+    ensures fault { IfErr result (λ fault.
+        (fault ≡ PlatformFault.BadHarts) × (((0 < harts) × (harts ≤ 4)) → ⊥)) }
 {
     if harts > 4 {
-        return Err(Refusal::Platform(PlatformFault::BadHarts));
+        return Err(PlatformFault::BadHarts);
     }
-    match platform.with_harts(harts as u8) {
-        Ok(platform) => Ok(platform),
-        Err(fault) => Err(Refusal::Platform(fault)),
-    }
+    platform.with_harts(harts as u8)
 }
 
 /// The same platform with so many entries.
-fn with_entries(platform: Platform, entries: u64) -> Result<Platform, Refusal>
+fn with_entries(platform: Platform, entries: u64) -> Result<Platform, PlatformFault>
     ensures limit { IfOk result (λ p. limit_number p.limit ≡ entries) }
     ensures others { IfOk result (λ p. p ≡ record platform { limit = p.limit }) }
+    ensures fault { IfErr result (λ fault.
+        (fault ≡ PlatformFault.BadEntries) × (((entries ≡ 16) ⊎ (entries ≡ 64)) → ⊥)) }
 {
     if entries > 64 {
-        return Err(Refusal::Platform(PlatformFault::BadEntries));
+        return Err(PlatformFault::BadEntries);
     }
-    match platform.with_entries(entries as u8) {
-        Ok(platform) => Ok(platform),
-        Err(fault) => Err(Refusal::Platform(fault)),
-    }
+    platform.with_entries(entries as u8)
 }
 
 /// The platform with the ranges of a frame.
 fn ranges_in(bytes: &[u8; 1336]) -> Result<Platform, Refusal>
-    ensures { IfOk result (λ p. HasRanges bytes.now p) }
+    ensures few { IfOk result (λ _. AreFew bytes.now) }
+    ensures ranges { IfOk result (λ p. HasRanges bytes.now p) }
+    ensures rules { IfOk result (λ p.
+        AllPass (platform_rules p.monitor p.ram p.devices)) }
+    ensures none { IfErr result (λ refusal. AreNoRanges refusal bytes.now) }
 {
-    let ram_count = small_count(word(bytes, 5))?;
-    let device_count = small_count(word(bytes, 6))?;
-    let Some(devices) = devices_in(bytes, device_count) else {
+    let ram_count = word(bytes, 5);
+    let device_count = word(bytes, 6);
+    if ram_count > MOST || device_count > MOST {
+        return Err(Refusal::Platform(PlatformFault::BadNumber));
+    }
+    let Some(devices) = devices_in(bytes, device_count as usize) else {
         return Err(Refusal::NotUnderstood);
     };
-    let ram = ram_in(bytes, ram_count);
+    let ram = ram_in(bytes, ram_count as usize);
     let monitor = (word(bytes, 3), word(bytes, 4));
     match Platform::new(monitor, ram.as_slice(), devices.as_slice()) {
         Ok(platform) => Ok(platform),
@@ -122,16 +121,26 @@ fn ranges_in(bytes: &[u8; 1336]) -> Result<Platform, Refusal>
     }
 }
 
-/// The platform that a frame is of.
+/// The platform that a frame is of, or why it is of none.
 fn platform_in(bytes: &[u8; 1336]) -> Result<Platform, Refusal>
-    ensures { IfOk result (λ p. IsPlatformFrame bytes.now p) }
+    ensures some { IfOk result (λ p. IsPlatformFrame bytes.now p) }
+    ensures none { IfErr result (λ refusal. IsNoPlatform refusal bytes.now) }
 {
     if word(bytes, 0) != TAG_PLATFORM {
         return Err(Refusal::NotUnderstood);
     }
-    let platform = ranges_in(bytes)?;
-    let platform = with_harts(platform, word(bytes, 1))?;
-    with_entries(platform, word(bytes, 2))
+    let platform = match ranges_in(bytes) {
+        Ok(platform) => platform,
+        Err(refusal) => return Err(refusal),
+    };
+    let platform = match with_harts(platform, word(bytes, 1)) {
+        Ok(platform) => platform,
+        Err(fault) => return Err(Refusal::Platform(fault)),
+    };
+    match with_entries(platform, word(bytes, 2)) {
+        Ok(platform) => Ok(platform),
+        Err(fault) => Err(Refusal::Platform(fault)),
+    }
 }
 
 /// Reads the platform. Where the source did not fail, and the frame is of none, it says why.

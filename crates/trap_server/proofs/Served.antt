@@ -13,6 +13,9 @@ use Rattle.worlds.specs.declared.world.World.{World}
 use Rattle.worlds.specs.declared.world.World.TheVariants.{Host}
 use Rattle.monitor_core.specs.Measured.{IsMeasuredFor, Measures}
 use Rattle.trap_frames.specs.Measuring.{ArePages}
+use Rattle.trap_frames.specs.Measuring.{Measures as MeasuresPages}
+use Rattle.trap_frames.specs.declared.fault.FrameFault.{FrameFault}
+use Rattle.trap_frames.specs.declared.fault.FrameFault.TheVariants as faults
 use Rattle.trap_frames.specs.Measuring.{next_page, no_page}
 use Rattle.monitor_core.specs.States.{State}
 use Rattle.trap_frames.specs.declared.trap.Trap.{Trap}
@@ -89,3 +92,9 @@ may_wake mid new hart woken n w hosts = rw (n, w) (λ other known is. hosts othe
 -- none is marked after the harts were woken
 pub quiet : (mid new : State) → new ≡ unmarked 4 mid → mid.table.layout.harts ≤ 4 → AreAwake new
 quiet mid new n most = rw n (λ hart known. awake mid mid.table.layout.harts hart most known)
+
+-- what a measurement that ended had read
+pub measure_read : (fault : FrameFault) (parts : Create) (before after : Option (List ℕ)) → MeasuresPages (Err fault) parts before after → (read : List ℕ) × Consumes before after read
+measure_read faults.NotUnderstood parts before after stops = (stops.0, stops.2)
+measure_read faults.Read parts before after stops = stops
+measure_read faults.Write parts before after stops = stops

@@ -5,7 +5,7 @@ use Rattle.sbi_decode.specs.Calls.{call_of}
 use Rattle.monitor_core.specs.Monitors.{state_of}
 use Rattle.monitor_core.specs.Measured.{asked_in}
 use Rattle.trap_frames.specs.Measuring.{ArePages, layout_of, question_bytes}
-use Rattle.trap_server.proofs.Served.{measured_for, numbered, numbered_all, pages_length, unmeasured}
+use Rattle.trap_server.proofs.Served.{measure_read, measured_for, numbered, numbered_all, pages_length, unmeasured}
 use Rattle.trap_server.proofs.serving.measured.Goals as goal
 
 pub returns-in_default : goal.returns-in_default
@@ -36,7 +36,7 @@ returns-in-Ok g c =
 
 pub returns-in-Err : goal.returns-in-Err
 returns-in-Err g c =
-    let r = c.in-Err.ensures.read in
+    let r = measure_read c.in-Err.fault c.in-Some.parts _ _ c.in-Err.ensures.read in
     let a = c.in-Err.ensures.asked in
     let e = c.end.ensures in
     (r.0, a.0, e.0, e.1, r.1, Appends-trans _ _ _ _ _ a.1 e.2)
