@@ -1,5 +1,5 @@
 -- A trap that was served, from what was asked, read and written.
-use Rattle.std.proofs.Common.{◌≡◌, ◌∙◌, ℕ, zero, suc, ◌+◌, ◌-◌, ◌<◌, ◌≤◌, Bool, true, false, List, [], ◌∷◌, ◌++◌, length, take, Option, None, Some, Result, Ok, Err, ap, sym, refl, arith, take_all, length-append}
+use Rattle.std.proofs.Common.{◌≡◌, ◌⊎◌, ◌∙◌, inl, inr, subst, ℕ, zero, suc, ◌+◌, ◌-◌, ◌<◌, ◌≤◌, Bool, true, false, List, [], ◌∷◌, ◌++◌, length, take, Option, None, Some, Result, Ok, Err, ap, sym, refl, arith, take_all, length-append}
 use Rattle.std.proofs.Math.Seq.{take-suc}
 use Rattle.std.proofs.lemmas.Bool.{true≢false}
 use Rattle.std.specs.Prelude.{get_or, slice_index_or}
@@ -11,18 +11,22 @@ use Rattle.enclave_table.specs.Requests.{parts_of}
 use Rattle.enclave_table.specs.declared.request.Create.{Create}
 use Rattle.worlds.specs.declared.world.World.{World}
 use Rattle.worlds.specs.declared.world.World.TheVariants.{Host}
-use Rattle.monitor_core.specs.Measured.{IsMeasuredFor, Measures}
+use Rattle.monitor_core.specs.Measured.{IsMeasuredFor, Measures, asked_in}
 use Rattle.trap_frames.specs.Measuring.{ArePages}
 use Rattle.trap_frames.specs.Measuring.{Measures as MeasuresPages}
 use Rattle.trap_frames.specs.declared.fault.FrameFault.{FrameFault}
-use Rattle.trap_frames.specs.declared.fault.FrameFault.TheVariants as faults
+use Rattle.trap_frames.specs.declared.fault.FrameFault.TheVariants as frames
+use Rattle.trap_frames.specs.declared.trap.Event.TheVariants.{Call}
+use Rattle.sbi_decode.specs.Calls.{call_of}
+use Rattle.trap_server.specs.declared.fault.ServeFault.TheVariants as faults
+use Rattle.trap_server.specs.Ends.{EndsAs, LastIs, fault_of}
 use Rattle.trap_frames.specs.Measuring.{next_page, no_page}
 use Rattle.monitor_core.specs.States.{State}
 use Rattle.trap_frames.specs.declared.trap.Trap.{Trap}
 use Rattle.trap_server.specs.declared.fault.ServeFault.{ServeFault}
 use Rattle.trap_server.specs.Answered.{AreAwake, marks_of, unmarked}
 use Rattle.trap_server.specs.Serving.{ServesTrap}
-use Rattle.trap_server.specs.Steps.{MayWake, Serves, Writes}
+use Rattle.trap_server.specs.Steps.{MayWake, Serves, StopsTrap, Writes}
 
 -- pages by their numbers, from a first one on
 abbrev pub numbered : List (List ℕ) → ℕ → ℕ → List ℕ
@@ -66,7 +70,7 @@ pub serves :
 serves (Ok done) Are trap old new before after held middle holds question read served quiet layout consumed asked wrote =
     (read, question, wrote.0, served wrote.0 wrote.1, quiet, layout, consumed, Appends-trans held middle holds question wrote.0 asked wrote.2)
 serves (Err fault) Are trap old new before after held middle holds question read served quiet layout consumed asked wrote =
-    (read, question, wrote.0, wrote.1, consumed, Appends-trans held middle holds question wrote.0 asked wrote.2)
+    (read, question, wrote.1, subst (λ f. LastIs f wrote.1) (sym wrote.0) tt, subst (λ f. StopsTrap f old trap read after) (sym wrote.0) tt, consumed, Appends-trans held middle holds question wrote.1 asked wrote.2)
 
 -- where no creation is to be measured, any digest will do
 pub unmeasured : (asked : Option Create) (table : EnclaveTable) (world : World) (digest : List ℕ) (pages : ℕ → List ℕ) → ((parts : Create) → Measures asked table world parts → ⊥) → IsMeasuredFor asked table world digest pages
@@ -93,8 +97,19 @@ may_wake mid new hart woken n w hosts = rw (n, w) (λ other known is. hosts othe
 pub quiet : (mid new : State) → new ≡ unmarked 4 mid → mid.table.layout.harts ≤ 4 → AreAwake new
 quiet mid new n most = rw n (λ hart known. awake mid mid.table.layout.harts hart most known)
 
--- what a measurement that ended had read
-pub measure_read : (fault : FrameFault) (parts : Create) (before after : Option (List ℕ)) → MeasuresPages (Err fault) parts before after → (read : List ℕ) × Consumes before after read
-measure_read faults.NotUnderstood parts before after stops = (stops.0, stops.2)
-measure_read faults.Read parts before after stops = stops
-measure_read faults.Write parts before after stops = stops
+-- a measurement that ended: what it had read, and why
+pub measure_stops :
+    (fault : FrameFault) (s : State) (trap : Trap) (parts : Create) (before after : Option (List ℕ)) → trap.event ≡ Call
+    → Measures (asked_in (call_of trap.registers)) s.table (s.worlds trap.hart) parts → MeasuresPages (Err fault) parts before after
+    → (read : List ℕ) × StopsTrap (fault_of fault) s trap read after × Consumes before after read
+measure_stops frames.NotUnderstood s trap parts before after call measures stops = (stops.0, (call, parts, measures, stops.1), stops.2)
+measure_stops frames.Read s trap parts before after call measures stops = (stops.0, tt, stops.1)
+measure_stops frames.Write s trap parts before after call measures stops = (stops.0, tt, stops.1)
+
+ends_by : (result fault : ServeFault) (held holds : Option (List ℕ)) (Why : ServeFault → Type 0) (last : List ℕ) → ((result ≡ fault) × LastIs fault last) ⊎ (result ≡ faults.Write) → Appends held holds last → Why fault → Why faults.Write → (last : List ℕ) × LastIs result last × Why result × Appends held holds last
+ends_by result fault held holds Why last (inl is) wrote why failed = (last, subst (λ f. LastIs f last) (sym is.0) is.1, subst Why (sym is.0) why, wrote)
+ends_by result fault held holds Why last (inr is) wrote why failed = (last, subst (λ f. LastIs f last) (sym is) tt, subst Why (sym is) failed, wrote)
+
+-- the loop ends with a fault, or with a write that failed, and why
+pub ends_why : (result fault : ServeFault) (held holds : Option (List ℕ)) (Why : ServeFault → Type 0) → EndsAs result fault held holds → Why fault → Why faults.Write → (last : List ℕ) × LastIs result last × Why result × Appends held holds last
+ends_why result fault held holds Why ends why failed = ends_by result fault held holds Why ends.0 ends.1 ends.2 why failed

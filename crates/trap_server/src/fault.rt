@@ -1,6 +1,6 @@
 //! Why the loop ended before its input did.
 
-ghost use Rattle.trap_server.specs.Ends.{Ends};
+ghost use Rattle.trap_server.specs.Ends.{EndsAs, fault_of};
 
 use byte_streams::{Sink, write_whole};
 use trap_frames::{FrameFault, Refusal, end_frame};
@@ -18,7 +18,8 @@ pub enum ServeFault {
 
 /// Writes the last frame, and gives the fault that the loop ends with.
 pub(crate) fn refuse<W: Sink>(sink: &mut W, refusal: Refusal) -> ServeFault
-    ensures { Ends result (W.contents sink.old) (W.contents sink.new) }
+    ensures { EndsAs result (ServeFault.Refused refusal) (W.contents sink.old)
+        (W.contents sink.new) }
 {
     match write_whole(sink, &end_frame(refusal)) {
         Ok(()) => ServeFault::Refused(refusal),
@@ -28,7 +29,7 @@ pub(crate) fn refuse<W: Sink>(sink: &mut W, refusal: Refusal) -> ServeFault
 
 /// The fault that the loop ends with, where a frame was not read or not written. What is not understood is answered.
 pub(crate) fn end<W: Sink>(sink: &mut W, fault: FrameFault) -> ServeFault
-    ensures { Ends result (W.contents sink.old) (W.contents sink.new) }
+    ensures { EndsAs result (fault_of fault) (W.contents sink.old) (W.contents sink.new) }
 {
     match fault {
         FrameFault::Read => ServeFault::Read,

@@ -3,20 +3,33 @@
 ghost use Rattle.std.specs.Prelude.{◌≡◌, ◌+◌, ◌≤◌, ◌<◌, ℕ, List, [], IfErr, IfOk};
 ghost use Rattle.std.specs.Io.KnownBytes.{IsAtEnd};
 ghost use Rattle.monitor_core.specs.Monitors.{state_of};
-ghost use Rattle.trap_server.specs.Booting.{Boots};
+ghost use Rattle.trap_server.specs.Booting.{Boots, BootsOn};
 ghost use Rattle.trap_server.specs.Answered.{AreAwake};
 ghost use Rattle.trap_server.specs.Runs.{EndsEarly, Ran, others};
 
 use crate::fault::{ServeFault, end, refuse};
 use crate::serving::{NOTHING, serve_trap, write_answer};
 use byte_streams::{Sink, Source};
-use enclave_table::BootFault;
+use enclave_table::{BootFault, Platform};
 use monitor_core::Monitor;
 use std::alloc::Global;
 use trap_frames::{Refusal, read_platform, read_trap};
 
-/// Boots the monitor on the platform that comes first.
+/// Boots the monitor on a platform.
 #[inline(never)]
+fn boot_on<W: Sink>(alloc: Global, platform: Platform, sink: &mut W) -> Result<Monitor, ServeFault>
+    ensures { BootsOn result platform (W.contents sink.old) (W.contents sink.new) }
+{
+    match Monitor::boot(alloc, platform) {
+        Ok(monitor) => Ok(monitor),
+        Err(BootFault::NeedsMoreEntries(count)) => {
+            Err(refuse(sink, Refusal::NeedsEntries(count)))
+        }
+        Err(BootFault::Memory) => Err(refuse(sink, Refusal::Memory)),
+    }
+}
+
+/// Boots the monitor on the platform that comes first.
 fn boot<R: Source, W: Sink>(
     alloc: Global,
     source: &mut R,
@@ -30,13 +43,7 @@ fn boot<R: Source, W: Sink>(
         Ok(Err(refusal)) => return Err(refuse(sink, refusal)),
         Err(fault) => return Err(end(sink, fault)),
     };
-    match Monitor::boot(alloc, platform) {
-        Ok(monitor) => Ok(monitor),
-        Err(BootFault::NeedsMoreEntries(count)) => {
-            Err(refuse(sink, Refusal::NeedsEntries(count)))
-        }
-        Err(BootFault::Memory) => Err(refuse(sink, Refusal::Memory)),
-    }
+    boot_on(alloc, platform, sink)
 }
 
 /// The harts but hart 0.
@@ -47,8 +54,11 @@ fn others(harts: u8) -> [bool; 4]
 }
 
 /// Boots the monitor on the platform that the source gives first, and says with which entries its harts begin. Then serves
-/// the traps that come after it, until the input ends. A frame that is not understood, a platform that is none, a device
-/// that fails and a refusal of memory at boot end it; so would 2^64 - 1 traps.
+/// the traps that come after it, until the input ends.
+///
+/// It ends early where a frame is not understood, which is no frame of its place or one within which the input ends; where the
+/// first frame is of no platform, or the host's view on it needs more entries than there are; where memory is refused at boot;
+/// where a read or a write fails; and after 2^64 - 1 traps.
 pub fn serve_traps<R: Source, W: Sink>(
     alloc: Global,
     source: &mut R,
@@ -70,7 +80,7 @@ pub fn serve_traps<R: Source, W: Sink>(
         Ok(()) => {}
         Err(fault) => return Err(fault),
     }
-    for _ in 0..u64::MAX {
+    for _count in 0..u64::MAX {
         let trap = match read_trap(source, harts) {
             Ok(Some(trap)) => trap,
             Ok(None) => return Ok(()),

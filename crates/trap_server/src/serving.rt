@@ -110,6 +110,7 @@ fn measured<R: Source, W: Sink>(
     sink: &mut W,
 ) -> Result<[u8; 32], ServeFault>
     requires hart { trap.now.hart < 4 }
+    requires call { trap.now.event ≡ Event.Call }
     ensures { TakesDigest result (state_of monitor.now) trap.now (R.remaining source.old)
         (R.remaining source.new) (W.contents sink.old) (W.contents sink.new) }
 {

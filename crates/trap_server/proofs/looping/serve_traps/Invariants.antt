@@ -3,8 +3,8 @@ use Rattle.monitor_core.specs.Monitors.{state_of}
 use Rattle.trap_server.proofs.Looped.{Progress}
 use Rattle.trap_server.proofs.looping.serve_traps.Given as goal
 
-abbrev pub invariant-loop : goal.invariant-loop
-invariant-loop g l = record {
-  progress : Progress (state_of l.monitor) (g.R.Source.remaining l.fn.source) (g.R.Source.remaining l.source) (g.W.Sink.contents l.fn.sink) (g.W.Sink.contents l.sink);
+abbrev pub invariant-loop-count : goal.invariant-loop-count
+invariant-loop-count g l = record {
+  progress : Progress l._count (state_of l.monitor) (g.R.Source.remaining l.fn.source) (g.R.Source.remaining l.source) (g.W.Sink.contents l.fn.sink) (g.W.Sink.contents l.sink);
   harts : l.harts ≡ (state_of l.monitor).table.layout.harts;
 }

@@ -5,7 +5,9 @@ use Rattle.sbi_decode.specs.Calls.{call_of}
 use Rattle.monitor_core.specs.Monitors.{state_of}
 use Rattle.monitor_core.specs.Measured.{asked_in}
 use Rattle.trap_frames.specs.Measuring.{ArePages, layout_of, question_bytes}
-use Rattle.trap_server.proofs.Served.{measure_read, measured_for, numbered, numbered_all, pages_length, unmeasured}
+use Rattle.trap_server.proofs.Served.{ends_why, measure_stops, measured_for, numbered, numbered_all, pages_length, unmeasured}
+use Rattle.trap_server.specs.Ends.{fault_of}
+use Rattle.trap_server.specs.Steps.{StopsTrap}
 use Rattle.trap_server.proofs.serving.measured.Goals as goal
 
 pub returns-in_default : goal.returns-in_default
@@ -36,7 +38,8 @@ returns-in-Ok g c =
 
 pub returns-in-Err : goal.returns-in-Err
 returns-in-Err g c =
-    let r = measure_read c.in-Err.fault c.in-Some.parts _ _ c.in-Err.ensures.read in
+    let s = state_of c.args.monitor.now in
+    let r = measure_stops c.in-Err.fault s c.args.trap.now c.in-Some.parts _ _ c.requires.call c.in-Some.ensures.parts c.in-Err.ensures.read in
     let a = c.in-Err.ensures.asked in
-    let e = c.end.ensures in
-    (r.0, a.0, e.0, e.1, r.1, Appends-trans _ _ _ _ _ a.1 e.2)
+    let e = ends_why c.end.result (fault_of c.in-Err.fault) _ _ (λ f. StopsTrap f s c.args.trap.now r.0 (g.R.Source.remaining c.digest_of.new.source)) c.end.ensures r.1 tt in
+    (r.0, a.0, e.0, e.1, e.2, r.2, Appends-trans _ _ _ _ _ a.1 e.3)
