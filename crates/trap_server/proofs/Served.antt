@@ -19,7 +19,11 @@ use Rattle.trap_frames.specs.declared.fault.FrameFault.TheVariants as frames
 use Rattle.trap_frames.specs.declared.trap.Event.TheVariants.{Call}
 use Rattle.sbi_decode.specs.Calls.{call_of}
 use Rattle.trap_server.specs.declared.fault.ServeFault.TheVariants as faults
-use Rattle.trap_server.specs.Ends.{EndsAs, LastIs, fault_of}
+use Rattle.trap_server.specs.Ends.{CountsRead, CountsReads, CountsWrite, CountsWrites, EndsAs, FrameRead, FrameWrite, LastIs, fault_of}
+use Rattle.trap_frames.specs.Traps.{ReadsTrap}
+use Rattle.trap_frames.specs.Traps.{CountsRead as CountsFrame}
+use Rattle.trap_frames.specs.Traps.{CountsWrite as CountsFrameWrite}
+use Rattle.trap_frames.specs.Platforms.{ReadsPlatform}
 use Rattle.trap_frames.specs.Measuring.{next_page, no_page}
 use Rattle.monitor_core.specs.States.{State}
 use Rattle.trap_frames.specs.declared.trap.Trap.{Trap}
@@ -113,3 +117,46 @@ ends_by result fault held holds Why last (inr is) wrote why failed = (last, subs
 -- the loop ends with a fault, or with a write that failed, and why
 pub ends_why : (result fault : ServeFault) (held holds : Option (List ℕ)) (Why : ServeFault → Type 0) → EndsAs result fault held holds → Why fault → Why faults.Write → (last : List ℕ) × LastIs result last × Why result × Appends held holds last
 ends_why result fault held holds Why ends why failed = ends_by result fault held holds Why ends.0 ends.1 ends.2 why failed
+
+-- counts over two parts, of which the first ended well
+pub reads_then : {X : Type 0} (result : Result X ServeFault) (a b d : ℕ) → b ≡ a → CountsReads result b d → CountsReads result a d
+reads_then result a b d same counts = subst (λ n. CountsReads result n d) same counts
+
+pub writes_then :
+    {X : Type 0} (result : Result X ServeFault) (a b d p q r : ℕ) → (b ≡ a) × (q ≡ p) → CountsWrites result b d q r → CountsWrites result a d p r
+writes_then result a b d p q r same counts = subst (λ n. CountsWrites result n d p r) same.0 (subst (λ n. CountsWrites result b d n r) same.1 counts)
+
+pub read_at : (fault : ServeFault) (a b : ℕ) → b ≡ a → CountsRead fault b b → CountsRead fault a b
+read_at fault a b same counts = subst (λ n. CountsRead fault n b) same counts
+
+-- what a frame's fault counts
+pub frame_reads : (X : Type 0) (fault : FrameFault) (a b : ℕ) → CountsFrame {X = X} (Err fault) a b → FrameRead fault a b
+frame_reads X frames.NotUnderstood a b counts = counts
+frame_reads X frames.Read a b counts = counts
+frame_reads X frames.Write a b counts = counts
+
+pub frame_writes : (fault : FrameFault) (a b p q : ℕ) → CountsFrameWrite {X = List ℕ} (Err fault) a b p q → FrameWrite fault a b p q
+frame_writes frames.NotUnderstood a b p q counts = counts
+frame_writes frames.Read a b p q counts = counts
+frame_writes frames.Write a b p q counts = counts
+
+-- a read is no write
+pub first_writes : (fault : FrameFault) (before after : Option (List ℕ)) (a p : ℕ) → ReadsPlatform (Err fault) before after → FrameWrite fault a a p p
+first_writes frames.NotUnderstood before after a p reads = (refl, refl)
+first_writes frames.Read before after a p reads = (refl, refl)
+first_writes frames.Write before after a p reads = absurd reads
+
+pub trap_writes : (fault : FrameFault) (harts : ℕ) (before after : Option (List ℕ)) (a b p q : ℕ) → ReadsTrap (Err fault) harts before after → (b ≡ a) × (q ≡ p) → FrameWrite fault a b p q
+trap_writes frames.NotUnderstood harts before after a b p q reads well = well
+trap_writes frames.Read harts before after a b p q reads well = well
+trap_writes frames.Write harts before after a b p q reads well = absurd reads
+
+-- a fault after reads that were well
+pub frame_after : (fault : FrameFault) (a b d : ℕ) → b ≡ a → FrameRead fault b d → FrameRead fault a d
+frame_after fault a b d same counts = subst (λ n. FrameRead fault n d) same counts
+
+pub read_after : (fault : ServeFault) (a b d : ℕ) → b ≡ a → CountsRead fault b d → CountsRead fault a d
+read_after fault a b d same counts = subst (λ n. CountsRead fault n d) same counts
+
+pub write_after : (fault : ServeFault) (a b d p q r : ℕ) → (b ≡ a) × (q ≡ p) → CountsWrite fault b d q r → CountsWrite fault a d p r
+write_after fault a b d p q r same counts = subst (λ n. CountsWrite fault n d p r) same.0 (subst (λ n. CountsWrite fault b d n r) same.1 counts)

@@ -5,6 +5,7 @@ ghost use Rattle.std.specs.Io.KnownBytes.{IsAtEnd};
 ghost use Rattle.monitor_core.specs.Monitors.{state_of};
 ghost use Rattle.trap_server.specs.Booting.{Boots, BootsOn};
 ghost use Rattle.trap_server.specs.Answered.{AreAwake};
+ghost use Rattle.trap_server.specs.Ends.{CountsReads, CountsWrites};
 ghost use Rattle.trap_server.specs.Runs.{EndsEarly, Ran, others};
 
 use crate::fault::{ServeFault, end, refuse};
@@ -18,7 +19,10 @@ use trap_frames::{Refusal, read_platform, read_trap};
 /// Boots the monitor on a platform.
 #[inline(never)]
 fn boot_on<W: Sink>(alloc: Global, platform: Platform, sink: &mut W) -> Result<Monitor, ServeFault>
-    ensures { BootsOn result platform (W.contents sink.old) (W.contents sink.new) }
+    ensures boots { BootsOn result platform (W.contents sink.old) (W.contents sink.new) }
+    ensures reads { (n : ℕ) → CountsReads result n n }
+    ensures writes { CountsWrites result (W.failures sink.old) (W.failures sink.new)
+        (W.stalls sink.old) (W.stalls sink.new) }
 {
     match Monitor::boot(alloc, platform) {
         Ok(monitor) => Ok(monitor),
@@ -30,13 +34,17 @@ fn boot_on<W: Sink>(alloc: Global, platform: Platform, sink: &mut W) -> Result<M
 }
 
 /// Boots the monitor on the platform that comes first.
+#[inline(never)]
 fn boot<R: Source, W: Sink>(
     alloc: Global,
     source: &mut R,
     sink: &mut W,
 ) -> Result<Monitor, ServeFault>
-    ensures { Boots result (R.remaining source.old) (R.remaining source.new)
+    ensures boots { Boots result (R.remaining source.old) (R.remaining source.new)
         (W.contents sink.old) (W.contents sink.new) }
+    ensures reads { CountsReads result (R.failures source.old) (R.failures source.new) }
+    ensures writes { CountsWrites result (W.failures sink.old) (W.failures sink.new)
+        (W.stalls sink.old) (W.stalls sink.new) }
 {
     let platform = match read_platform(source) {
         Ok(Ok(platform)) => platform,
@@ -70,6 +78,9 @@ pub fn serve_traps<R: Source, W: Sink>(
     ensures early { IfErr result (λ fault.
         EndsEarly fault (R.remaining source.old) (R.remaining source.new)
         (W.contents sink.old) (W.contents sink.new)) }
+    ensures reads { CountsReads result (R.failures source.old) (R.failures source.new) }
+    ensures writes { CountsWrites result (W.failures sink.old) (W.failures sink.new)
+        (W.stalls sink.old) (W.stalls sink.new) }
 {
     let mut monitor = match boot(alloc, source, sink) {
         Ok(monitor) => monitor,

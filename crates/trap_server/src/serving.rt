@@ -4,6 +4,7 @@ ghost use Rattle.std.specs.Prelude.{◌≡◌, ◌<◌, ℕ, List, Option};
 ghost use Rattle.monitor_core.specs.Monitors.{state_of};
 ghost use Rattle.monitor_core.specs.Changes.{without_mark};
 ghost use Rattle.trap_server.specs.Answered.{AreAwake, IsAnswer, marks_of, status_word, unmarked};
+ghost use Rattle.trap_server.specs.Ends.{CountsReads, CountsWrites};
 ghost use Rattle.trap_server.specs.Steps.{MayWake, Serves, TakesDigest, Writes};
 
 use crate::fault::{ServeFault, end};
@@ -89,8 +90,11 @@ pub(crate) fn write_answer<W: Sink>(
 ) -> Result<(), ServeFault>
     requires hart { hart < 4 }
     requires woken { MayWake (state_of monitor.now) hart woken }
-    ensures { Writes result (IsAnswer (state_of monitor.now) hart answer zero woken)
+    ensures bytes { Writes result (IsAnswer (state_of monitor.now) hart answer zero woken)
         (W.contents sink.old) (W.contents sink.new) }
+    ensures reads { (n : ℕ) → CountsReads result n n }
+    ensures writes { CountsWrites result (W.failures sink.old) (W.failures sink.new)
+        (W.stalls sink.old) (W.stalls sink.new) }
 {
     let mut frame = [0; 904];
     put_frame(&mut frame, monitor, hart, &answer, zero, woken);
@@ -111,8 +115,11 @@ fn measured<R: Source, W: Sink>(
 ) -> Result<[u8; 32], ServeFault>
     requires hart { trap.now.hart < 4 }
     requires call { trap.now.event ≡ Event.Call }
-    ensures { TakesDigest result (state_of monitor.now) trap.now (R.remaining source.old)
+    ensures digest { TakesDigest result (state_of monitor.now) trap.now (R.remaining source.old)
         (R.remaining source.new) (W.contents sink.old) (W.contents sink.new) }
+    ensures reads { CountsReads result (R.failures source.old) (R.failures source.new) }
+    ensures writes { CountsWrites result (W.failures sink.old) (W.failures sink.new)
+        (W.stalls sink.old) (W.stalls sink.new) }
 {
     let Some(parts) = monitor.measures(trap.hart, &trap.registers) else {
         return Ok([0; 32]);
@@ -136,6 +143,9 @@ fn serve_call<R: Source, W: Sink>(
     ensures served { Serves result trap.now (state_of monitor.old) (state_of monitor.new)
         (R.remaining source.old) (R.remaining source.new) (W.contents sink.old)
         (W.contents sink.new) }
+    ensures reads { CountsReads result (R.failures source.old) (R.failures source.new) }
+    ensures writes { CountsWrites result (W.failures sink.old) (W.failures sink.new)
+        (W.stalls sink.old) (W.stalls sink.new) }
 {
     let _most = monitor.harts();
     let digest = match measured(monitor, trap, source, sink) {
@@ -157,6 +167,9 @@ fn serve_stop<W: Sink>(monitor: &mut Monitor, trap: &Trap, sink: &mut W) -> Resu
     ensures served { (before : Option (List ℕ))
         → Serves result trap.now (state_of monitor.old) (state_of monitor.new) before before
         (W.contents sink.old) (W.contents sink.new) }
+    ensures reads { (n : ℕ) → CountsReads result n n }
+    ensures writes { CountsWrites result (W.failures sink.old) (W.failures sink.new)
+        (W.stalls sink.old) (W.stalls sink.new) }
 {
     let _most = monitor.harts();
     let _onward = monitor.interrupt(trap.hart, &trap.registers);
@@ -176,6 +189,9 @@ pub(crate) fn serve_trap<R: Source, W: Sink>(
     ensures served { Serves result trap.now (state_of monitor.old) (state_of monitor.new)
         (R.remaining source.old) (R.remaining source.new) (W.contents sink.old)
         (W.contents sink.new) }
+    ensures reads { CountsReads result (R.failures source.old) (R.failures source.new) }
+    ensures writes { CountsWrites result (W.failures sink.old) (W.failures sink.new)
+        (W.stalls sink.old) (W.stalls sink.new) }
 {
     match trap.event {
         Event::Call => serve_call(monitor, trap, source, sink),
