@@ -35,19 +35,21 @@ abbrev pub CountsWrite : ServeFault → ℕ → ℕ → ℕ → ℕ → Type 0
 CountsWrite faults.Write failures failed stalls stalled = WriteFails failures failed stalls stalled
 CountsWrite _ failures failed stalls stalled = (failed ≡ failures) × (stalled ≡ stalls)
 
--- over a call that ends in a fault or well
+-- what a call that ends in a fault or well counts of its reads
 abbrev pub CountsReads : {X : Type 0} → Result X ServeFault → ℕ → ℕ → Type 0
 CountsReads result before after = MatchResult result (λ _. after ≡ before) (λ fault. CountsRead fault before after)
 
+-- and of its writes
 abbrev pub CountsWrites : {X : Type 0} → Result X ServeFault → ℕ → ℕ → ℕ → ℕ → Type 0
 CountsWrites result failures failed stalls stalled =
     MatchResult result (λ _. (failed ≡ failures) × (stalled ≡ stalls)) (λ fault. CountsWrite fault failures failed stalls stalled)
 
--- what a frame's fault counts of reads, and of writes
+-- what a frame's fault counts of reads
 abbrev pub FrameRead : FrameFault → ℕ → ℕ → Type 0
 FrameRead frames.Read before after = after ≡ one_failure_more before
 FrameRead _ before after = after ≡ before
 
+-- and of writes
 abbrev pub FrameWrite : FrameFault → ℕ → ℕ → ℕ → ℕ → Type 0
 FrameWrite frames.Write failures failed stalls stalled = WriteFails failures failed stalls stalled
 FrameWrite _ failures failed stalls stalled = (failed ≡ failures) × (stalled ≡ stalls)

@@ -1,5 +1,4 @@
-use Rattle.std.proofs.Common.{Ok, Err, Result, subst}
-use Rattle.std.proofs.KnownBytes.{Appends-nil, Appends-trans}
+use Rattle.std.proofs.Common.{Ok, Result, subst}
 use Rattle.trap_frames.specs.Platforms.{ReadsPlatform}
 use Rattle.trap_server.specs.Booting.{StopsAtFirst}
 use Rattle.trap_server.specs.Ends.{fault_of}
