@@ -7,8 +7,8 @@ ghost use Rattle.command_line.specs.Building.{app_by, with_arguments, IsCommandO
 
 use crate::arguments::Argument;
 use crate::texts::{
-    ABOUT, AUDIT_HELP, CHECK_HELP, EXAMPLE, JUDGE_HELP, LINT_HELP, MAP_HELP, PLAN_HELP, RUN_HELP, SHOW_HELP,
-    VERSION,
+    ABOUT, AUDIT_HELP, CHECK_HELP, EXAMPLE, JUDGE_HELP, LINT_HELP, MAP_HELP, PLAN_HELP, RUN_HELP,
+    SHOW_HELP, VERSION,
 };
 use clap::Command;
 use program_tasks::{SUBCOMMANDS, Subcommand};

@@ -16,5 +16,7 @@ mod commands;
 mod inputs;
 
 pub use certifying::{bank_of, plan_and_certify, planned};
-pub use commands::{Asked, do_audit, do_check, do_judge, do_lint, do_map, do_plan, do_show_as, verdict};
+pub use commands::{
+    Asked, do_audit, do_check, do_judge, do_lint, do_map, do_plan, do_show_as, verdict,
+};
 pub use inputs::bytes_in;

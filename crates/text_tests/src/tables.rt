@@ -64,7 +64,8 @@ fn registers_as_a_map(rt: HostRuntime) -> Result<(), Fail> {
     let alloc = rt.alloc();
     let listing =
         "pmpcfg0 0x1f180900\npmpaddr0 0x400\npmpaddr1 0x800\npmpaddr2 0x20000fff\npmpaddr3 0x20ffffff\nmtvec 1\n";
-    let wanted = "0x0000000000001000 0x0000000000001000 r\n0x0000000080008000 0x0000000007ff8000 rwx\n# lines of other registers are passed over, line 6 first\n";
+    let wanted =
+        "0x0000000000001000 0x0000000000001000 r\n0x0000000080008000 0x0000000007ff8000 rwx\n# lines of other registers are passed over, line 6 first\n";
     expect_map(&rt, alloc, listing, true, wanted);
     let map = map_of(alloc, wanted.as_bytes()).expect(&rt, "a map");
     assert_eq!(rt; map.ranges().len(), 2);
