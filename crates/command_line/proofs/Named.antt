@@ -5,7 +5,7 @@ use Rattle.std.specs.List.{find}
 use Rattle.std.specs.Str.{bytes_eq}
 use Rattle.clap.specs.Words.{Shape}
 use Rattle.program_tasks.specs.declared.subcommand.Subcommand.{Subcommand}
-use Rattle.program_tasks.specs.declared.subcommand.Subcommand.TheVariants.{Audit, Check, Judge, Lint, Plan, Run, Show}
+use Rattle.program_tasks.specs.declared.subcommand.Subcommand.TheVariants.{Audit, Check, Judge, Lint, Map, Plan, Run, Show}
 use Rattle.program_tasks.specs.Subcommands.{Text, subcommand_word}
 use Rattle.command_line.specs.Building.{app_by}
 use Rattle.command_line.specs.CommandLine.{app_alone, app_named, program_app}
@@ -18,6 +18,7 @@ named Judge = refl
 named Check = refl
 named Show = refl
 named Audit = refl
+named Map = refl
 named Lint = refl
 
 not_true : (b : Bool) → (b ≡ true → ⊥) → b ≡ false
@@ -40,4 +41,4 @@ nothing_found name (shape ∷ shapes) none = rw none.0 (nothing_found name shape
 -- a word that is none of a subcommand finds none
 pub not_named : (name : Text) → ((subcommand : Subcommand) → name ≢ subcommand_word subcommand) → app_named name ≡ program_app
 not_named name other =
-    ap app_alone (nothing_found name program_app.subs (differs name _ (other Run), (differs name _ (other Plan), (differs name _ (other Judge), (differs name _ (other Check), (differs name _ (other Show), (differs name _ (other Audit), (differs name _ (other Lint), tt))))))))
+    ap app_alone (nothing_found name program_app.subs (differs name _ (other Run), (differs name _ (other Plan), (differs name _ (other Judge), (differs name _ (other Check), (differs name _ (other Show), (differs name _ (other Audit), (differs name _ (other Map), (differs name _ (other Lint), tt)))))))))

@@ -3,11 +3,11 @@ use Rattle.std.specs.Prelude.{◌≡◌, List, [], ◌∷◌, true, false}
 use Rattle.clap.specs.Words.{App, Rule, app_of, with_rule, with_subcommand}
 use Rattle.clap.specs.declared.builder.command.Command.{Command}
 use Rattle.clap.specs.declared.builder.command.Command.TheViews.{out-Command}
-use Rattle.command_line.specs.CommandLine.{audit_app, at_most_rule, check_app, entries_rule, file_rule, format_rule, judge_app, lint_app, measure_rule, plan_app, registers_rule, run_app, show_app}
+use Rattle.command_line.specs.CommandLine.{audit_app, at_most_rule, check_app, entries_rule, file_rule, format_rule, judge_app, lint_app, map_app, measure_rule, plan_app, registers_rule, run_app, show_app}
 use Rattle.command_line.specs.declared.arguments.Argument.{Argument}
 use Rattle.command_line.specs.declared.arguments.Argument.TheVariants.{AtMost, Entries, File, Format, MaybeFile, Measure, Registers}
 use Rattle.program_tasks.specs.declared.subcommand.Subcommand.{Subcommand}
-use Rattle.program_tasks.specs.declared.subcommand.Subcommand.TheVariants.{Audit, Check, Judge, Lint, Plan, Run, Show}
+use Rattle.program_tasks.specs.declared.subcommand.Subcommand.TheVariants.{Audit, Check, Judge, Lint, Map, Plan, Run, Show}
 
 -- the rule of an argument
 abbrev pub rule_by : Argument → Rule
@@ -32,6 +32,7 @@ app_by Judge = judge_app
 app_by Check = check_app
 app_by Show = show_app
 app_by Audit = audit_app
+app_by Map = map_app
 app_by Lint = lint_app
 
 -- with these subcommands, in turn

@@ -76,6 +76,9 @@ show_app = with_rule
 abbrev pub audit_app : App
 audit_app = with_rule (with_rule (new_app (codes "audit")) (file_rule (codes "MAP") true)) (file_rule (codes "REGISTERS") true)
 
+abbrev pub map_app : App
+map_app = with_rule (new_app (codes "map")) (file_rule (codes "REGISTERS") true)
+
 abbrev pub lint_app : App
 lint_app = with_rule (new_app (codes "lint")) (file_rule (codes "MAP") true)
 
@@ -87,9 +90,11 @@ abbrev pub program_app : App
 program_app = with_subcommand
     (with_subcommand
     (with_subcommand
+    (with_subcommand
     (with_subcommand (with_subcommand (with_subcommand (with_subcommand bare_app run_app.top) plan_app.top) judge_app.top) check_app.top)
     show_app.top)
     audit_app.top)
+    map_app.top)
     lint_app.top
 
 -- a subcommand as a program of its own, and the whole program where there is none

@@ -7,8 +7,8 @@ ghost use Rattle.command_line.specs.Building.{app_by, with_arguments, IsCommandO
 
 use crate::arguments::Argument;
 use crate::texts::{
-    ABOUT, AUDIT_HELP, CHECK_HELP, EXAMPLE, JUDGE_HELP, LINT_HELP, PLAN_HELP, RUN_HELP, SHOW_HELP,
-    VERSION,
+    ABOUT, AUDIT_HELP, CHECK_HELP, EXAMPLE, JUDGE_HELP, LINT_HELP, MAP_HELP, PLAN_HELP, RUN_HELP,
+    SHOW_HELP, VERSION,
 };
 use clap::Command;
 use program_tasks::{SUBCOMMANDS, Subcommand};
@@ -48,6 +48,7 @@ fn bin_name(subcommand: Subcommand) -> &'static str {
         Subcommand::Check => "pmpmon check",
         Subcommand::Show => "pmpmon show",
         Subcommand::Audit => "pmpmon audit",
+        Subcommand::Map => "pmpmon map",
         Subcommand::Lint => "pmpmon lint",
     }
 }
@@ -63,6 +64,7 @@ fn subcommand_command<'a>(alloc: Global, subcommand: Subcommand) -> Result<Comma
         Subcommand::Check => check_command(alloc),
         Subcommand::Show => show_command(alloc),
         Subcommand::Audit => audit_command(alloc),
+        Subcommand::Map => map_command(alloc),
         Subcommand::Lint => lint_command(alloc),
     }
 }
@@ -160,6 +162,14 @@ fn audit_command<'a>(alloc: Global) -> Result<Command<'a>, AllocError>
         AUDIT_HELP,
         &arguments,
     )
+}
+
+fn map_command<'a>(alloc: Global) -> Result<Command<'a>, AllocError>
+    ensures { IfOk result (IsCommandOf (app_by Subcommand.Map)) }
+{
+    let about = "Print the map that registers mean, where they mean one by whole pages";
+    let arguments = [Argument::File("REGISTERS", "The listing of the registers")];
+    command(alloc, Subcommand::Map.name(), about, MAP_HELP, &arguments)
 }
 
 fn lint_command<'a>(alloc: Global) -> Result<Command<'a>, AllocError>

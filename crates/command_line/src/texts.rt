@@ -24,6 +24,10 @@ pub const PLAN_HELP: &str =
 pub const AUDIT_HELP: &str =
     "REGISTERS is what 'plan' prints, or lines 'pmpaddrN VALUE' and 'pmpcfgK VALUE' in any order; a later line overrides an\nearlier one, and what no line sets is zero.\n\nPrints 'means the map: 5 entries where 3 are enough'; or, with status 1, the first stretch that differs, what the map and\nthe registers say there and which entry says it, or the first pair that no entry has. Lines of other\nregisters are passed over, which a comment says. Where mseccfg is not zero there is no verdict, with status 1.\n\nExample:\n  pmpmon audit map.txt registers.txt";
 
+/// After those of `map`.
+pub const MAP_HELP: &str =
+    "REGISTERS is a listing of registers, as audit takes it. Prints a line 'BASE SIZE PERM' for each range of pages that\nsupervisor and user mode may use: a map file, which plan makes the fewest entries of.\n\nStatus 1, and one line that says why, where no map of whole pages is what the registers mean.\n\nExample:\n  pmpmon map board.txt | pmpmon plan -";
+
 /// After those of `lint`.
 pub const LINT_HELP: &str =
     "Prints a line for each line of the file that is at fault: 'MAP:LINE:COLUMN:', what is wrong with it, and how to fix\nit; in a map without fault, a warning for each line that can go, all of them together. A file whose name ends in\n'.toml' should be a platform: the first thing that it breaks is printed.\n\nStatus 0 where the file is a map, with warnings too, or a platform, and 1 where it is none.\n\nExample:\n  pmpmon lint map.txt";

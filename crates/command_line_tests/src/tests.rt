@@ -126,6 +126,18 @@ fn audit_takes_a_map_and_registers(rt: HostRuntime) -> Result<(), Fail> {
 }
 
 #[test]
+fn map_takes_registers(rt: HostRuntime) -> Result<(), Fail> {
+    let task = command_of(rt.alloc(), &["pmpmon", "map", "board.txt"])?;
+    assert_eq!(rt;
+        task,
+        Task::Map {
+            registers: "board.txt"
+        }
+    );
+    Ok(())
+}
+
+#[test]
 fn lint_takes_a_map(rt: HostRuntime) -> Result<(), Fail> {
     let task = command_of(rt.alloc(), &["pmpmon", "lint", "-"])?;
     assert_eq!(rt; task, Task::Lint { map: "-" });

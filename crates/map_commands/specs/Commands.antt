@@ -37,12 +37,14 @@ use Rattle.register_formats.specs.AsmTexts.{IsAsmText}
 use Rattle.register_formats.specs.CTexts.{IsCText}
 use Rattle.register_formats.specs.JsonTexts.{IsJsonText}
 use Rattle.register_audit.specs.Audits.{IsAudit}
+use Rattle.register_map.specs.Maps.{AreTooFine, IsMapFile}
 use Rattle.register_table.specs.Tables.{IsRegisterTable}
-use Rattle.register_text.specs.Listings.{IsFirstUnknown}
+use Rattle.register_text.specs.declared.listing.Listing.{Listing}
+use Rattle.register_text.specs.Listings.{IsFirstUnknown, listed}
 use Rattle.program_tasks.specs.declared.task.Format.{Format}
 use Rattle.program_tasks.specs.declared.task.Format.TheVariants as formats
 use Rattle.program_troubles.specs.declared.trouble.Trouble.{Trouble}
-use Rattle.program_troubles.specs.declared.trouble.Trouble.TheVariants.{NotUnderstood, TooLarge, NeedsEntries, CannotRead, CannotWrite, Output, Memory}
+use Rattle.program_troubles.specs.declared.trouble.Trouble.TheVariants.{NotUnderstood, TooLarge, TooManyRanges, NeedsEntries, CannotRead, CannotWrite, Output, Memory}
 use Rattle.map_commands.specs.Parts.{IsMapFault, IsWhole, Stops}
 use Rattle.program_troubles.specs.Troubles.{map_trouble, run_trouble}
 use Rattle.map_commands.specs.Verdicts.{IsVerdict}
@@ -305,6 +307,22 @@ pub data Tells {W : Type 0} (IsText : Bool → List ℕ → Type 0) (out : Writi
   whole : (is : Bool) (text : List ℕ) → IsText is text → TakesAll text out → Tells IsText out (Ok (answer_status is))
   no_memory : IsUnwritten out → Tells IsText out (Err Memory)
   no_output : (is : Bool) (text : List ℕ) → IsText is text → Breaks text out → Tells IsText out (Err Output)
+
+-- `map`: the listing of registers is read, and the map that they mean is printed, or why there is none. That it would have too
+-- many ranges is a rule of its own
+pub data Maps {R W : Type 0} (registers : Bor (List ℕ)) (first : Reading R) (out : Writing W) : Result ℕ Trouble → Type 0 where
+  told :
+      (listing text : List ℕ) (is_map : Bool) → HasBytes (2 ^ 20) first listing → IsMapFile listing text is_map → TakesAll text out
+      → Maps registers first out (Ok (answer_status is_map))
+  no_bytes : (trouble : Trouble) → HasNoBytes (2 ^ 20) registers first trouble → IsUnwritten out → Maps registers first out (Err trouble)
+  no_memory : (listing : List ℕ) → HasBytes (2 ^ 20) first listing → IsUnwritten out → Maps registers first out (Err Memory)
+  too_many :
+      (listing : List ℕ) (leaves : Listing) → HasBytes (2 ^ 20) first listing → listed listing ≡ Some leaves → AreTooFine leaves → IsUnwritten out
+      → Maps registers first out (Err (TooManyRanges registers))
+  not_understood :
+      (listing : List ℕ) (n : ℕ) → HasBytes (2 ^ 20) first listing → IsFirstUnknown listing n → IsUnwritten out → Maps registers first out (Err (NotUnderstood registers n))
+  no_output :
+      (listing text : List ℕ) (is_map : Bool) → HasBytes (2 ^ 20) first listing → IsMapFile listing text is_map → Breaks text out → Maps registers first out (Err Output)
 
 -- `lint`: the file is read, and what is wrong with it is printed
 pub data Lints {R W : Type 0} (file : Bor (List ℕ)) (first : Reading R) (out : Writing W) : Result ℕ Trouble → Type 0 where

@@ -8,7 +8,7 @@ ghost use Rattle.program_troubles.specs.Troubles.{status_of};
 
 use crate::commands::do_run;
 use byte_streams::{Sink, Source};
-use map_commands::{Asked, do_audit, do_check, do_judge, do_lint, do_plan, do_show_as};
+use map_commands::{Asked, do_audit, do_check, do_judge, do_lint, do_map, do_plan, do_show_as};
 use program_files::WholeSink;
 use program_tasks::Task;
 use program_troubles::Trouble;
@@ -68,6 +68,7 @@ fn run_task<'a, R: Source, C: WholeSink, W: Sink>(
         }
         Task::Check { map, cert } => do_check(alloc, *map, *cert, first, second, out),
         Task::Audit { map, registers } => { do_audit(alloc, *map, *registers, first, second, out) }
+        Task::Map { registers } => do_map(alloc, *registers, first, out),
         Task::Lint { map } => do_lint(alloc, *map, first, out),
         Task::Show {
             map,

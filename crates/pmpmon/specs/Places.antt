@@ -31,6 +31,7 @@ first_of (tasks.Plan map cert limit at_most format) = place_of map
 first_of (tasks.Judge map trace limit) = place_of map
 first_of (tasks.Check map cert) = place_of map
 first_of (tasks.Audit map registers) = place_of map
+first_of (tasks.Map registers) = place_of registers
 first_of (tasks.Lint map) = place_of map
 first_of (tasks.Show map limit at_most registers) = place_of map
 

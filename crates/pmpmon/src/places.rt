@@ -39,6 +39,7 @@ pub fn first_of<'a>(task: &Task<'a>) -> Place<'a>
         | Task::Audit { map, .. }
         | Task::Lint { map }
         | Task::Show { map, .. } => place_of(map),
+        Task::Map { registers } => place_of(registers),
     }
 }
 
@@ -50,7 +51,7 @@ pub fn second_of<'a>(task: &Task<'a>) -> Option<Place<'a>>
         Task::Run { trace, .. } | Task::Judge { trace, .. } => Some(place_of(trace)),
         Task::Check { cert, .. } => Some(Place::File(cert)),
         Task::Audit { registers, .. } => Some(place_of(registers)),
-        Task::Plan { .. } | Task::Lint { .. } | Task::Show { .. } => None,
+        Task::Plan { .. } | Task::Map { .. } | Task::Lint { .. } | Task::Show { .. } => None,
     }
 }
 

@@ -3,7 +3,7 @@ use Rattle.std.proofs.Common.{ℕ, ◌∷◌, ◌≡◌, ◌∙◌, false, Optio
 use Rattle.std.proofs.Math.Dec.{eqb}
 use Rattle.std.proofs.lemmas.Bool.{eq-eqb}
 use Rattle.std.specs.List.{slice_index_or}
-use Rattle.program_tasks.specs.declared.task.Task.TheVariants.{Run, Plan, Judge, Check, Show, Audit, Lint}
+use Rattle.program_tasks.specs.declared.task.Task.TheVariants.{Run, Plan, Judge, Check, Show, Audit, Map, Lint}
 use Rattle.program_tasks.specs.declared.fault.Fault.{Fault}
 use Rattle.program_tasks.specs.declared.fault.Fault.TheVariants.{InputTwice}
 use Rattle.program_tasks.specs.Faults.{Breaks, IsFirst, demands_of, has}
@@ -48,6 +48,7 @@ twice_audited value flag map registers m r mi ri (Judge p t s) e v sound = diffe
 twice_audited value flag map registers m r mi ri (Check p t) e v sound = differ _ _ _ _ refl e
 twice_audited value flag map registers m r mi ri (Show p t s b) e v sound = differ _ _ _ _ refl e
 twice_audited value flag map registers m r mi ri (Lint p) e v sound = differ _ _ _ _ refl e
+twice_audited value flag map registers m r mi ri (Map p) e v sound = differ _ _ _ _ refl e
 
 pub unlisted : (value flag : Text → Option Text) → value (codes "REGISTERS") ≡ None → NamesNone (codes "audit") value flag
 unlisted value flag none (Audit named other) e v sound = given value (codes "REGISTERS") _ v.1 none
@@ -57,3 +58,4 @@ unlisted value flag none (Judge p t s) e v sound = differ _ _ _ _ refl e
 unlisted value flag none (Check p t) e v sound = differ _ _ _ _ refl e
 unlisted value flag none (Show p t s b) e v sound = differ _ _ _ _ refl e
 unlisted value flag none (Lint p) e v sound = differ _ _ _ _ refl e
+unlisted value flag none (Map p) e v sound = differ _ _ _ _ refl e

@@ -69,6 +69,7 @@ demands_of subcommands.Judge = has (codes "MAP") ∷ has (codes "TRACE") ∷ has
 demands_of subcommands.Check = has (codes "MAP") ∷ has (codes "CERT") ∷ []
 demands_of subcommands.Show = has (codes "MAP") ∷ has (codes "entries") ∷ names_limit ∷ counts ∷ []
 demands_of subcommands.Audit = has (codes "MAP") ∷ has (codes "REGISTERS") ∷ reads_once (codes "REGISTERS") ∷ []
+demands_of subcommands.Map = has (codes "REGISTERS") ∷ []
 demands_of subcommands.Lint = has (codes "MAP") ∷ []
 
 -- no sound task is that subcommand with these values, and the fault is that of the first demand that they lack

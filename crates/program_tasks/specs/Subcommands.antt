@@ -3,7 +3,7 @@ use Rattle.std.specs.Prelude.{ℕ, List, codes}
 use Rattle.program_tasks.specs.declared.subcommand.Subcommand.{Subcommand}
 use Rattle.program_tasks.specs.declared.subcommand.Subcommand.TheVariants as subcommands
 use Rattle.program_tasks.specs.declared.task.Task.{Task}
-use Rattle.program_tasks.specs.declared.task.Task.TheVariants.{Run, Plan, Judge, Check, Show, Audit, Lint}
+use Rattle.program_tasks.specs.declared.task.Task.TheVariants.{Run, Plan, Judge, Check, Show, Audit, Map, Lint}
 
 -- bytes of UTF-8
 abbrev pub Text : Type 0
@@ -17,6 +17,7 @@ subcommand_word subcommands.Judge = codes "judge"
 subcommand_word subcommands.Check = codes "check"
 subcommand_word subcommands.Show = codes "show"
 subcommand_word subcommands.Audit = codes "audit"
+subcommand_word subcommands.Map = codes "map"
 subcommand_word subcommands.Lint = codes "lint"
 
 -- the subcommand that a task is
@@ -27,6 +28,7 @@ subcommand_of (Judge map trace limit) = subcommands.Judge
 subcommand_of (Check map cert) = subcommands.Check
 subcommand_of (Show map limit at_most registers) = subcommands.Show
 subcommand_of (Audit map registers) = subcommands.Audit
+subcommand_of (Map registers) = subcommands.Map
 subcommand_of (Lint map) = subcommands.Lint
 
 -- its word

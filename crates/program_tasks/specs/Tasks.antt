@@ -1,5 +1,5 @@
 -- What the program can be asked to do: which task a subcommand with its values is.
-use Rattle.std.specs.Prelude.{ℕ, true, false, List, Option, Some, None, codes, ◌≡◌, ◌≢◌, option_map}
+use Rattle.std.specs.Prelude.{ℕ, true, false, Option, Some, None, codes, ◌≡◌, ◌≢◌, option_map}
 use Rattle.pmp_encoding.specs.declared.limit.Limit.{Limit}
 use Rattle.pmp_encoding.specs.declared.limit.Limit.TheVariants.{Sixteen, SixtyFour}
 use Rattle.text_lines.specs.Numbers.{number_of}
@@ -7,7 +7,7 @@ use Rattle.program_tasks.specs.declared.task.Format.{Format}
 use Rattle.program_tasks.specs.declared.task.Format.TheVariants as formats
 use Rattle.program_tasks.specs.declared.subcommand.Subcommand.{Subcommand}
 use Rattle.program_tasks.specs.declared.task.Task.{Task}
-use Rattle.program_tasks.specs.declared.task.Task.TheVariants.{Run, Plan, Judge, Check, Show, Audit, Lint}
+use Rattle.program_tasks.specs.declared.task.Task.TheVariants.{Run, Plan, Judge, Check, Show, Audit, Map, Lint}
 use Rattle.program_tasks.specs.Subcommands.{Text, subcommand_of, word_of}
 
 -- the word that names a limit
@@ -56,6 +56,7 @@ HasValues value flag (Show map limit at_most registers) =
 HasValues value flag (Audit map registers) =
     (value (codes "MAP") ≡ Some map.now)
     × (value (codes "REGISTERS") ≡ Some registers.now)
+HasValues value flag (Map registers) = value (codes "REGISTERS") ≡ Some registers.now
 HasValues value flag (Lint map) = value (codes "MAP") ≡ Some map.now
 
 -- a word that standard input stands for

@@ -19,18 +19,21 @@ pub enum Subcommand {
     Show,
     /// `audit`.
     Audit,
+    /// `map`.
+    Map,
     /// `lint`.
     Lint,
 }
 
 /// All of them, as the program's help lists them.
-pub const SUBCOMMANDS: [Subcommand; 7] = [
+pub const SUBCOMMANDS: [Subcommand; 8] = [
     Subcommand::Run,
     Subcommand::Plan,
     Subcommand::Judge,
     Subcommand::Check,
     Subcommand::Show,
     Subcommand::Audit,
+    Subcommand::Map,
     Subcommand::Lint,
 ];
 
@@ -46,6 +49,7 @@ impl Subcommand {
             Subcommand::Check => "check",
             Subcommand::Show => "show",
             Subcommand::Audit => "audit",
+            Subcommand::Map => "map",
             Subcommand::Lint => "lint",
         }
     }
@@ -73,6 +77,9 @@ impl Subcommand {
         }
         if word == "audit" {
             return Some(Subcommand::Audit);
+        }
+        if word == "map" {
+            return Some(Subcommand::Map);
         }
         if word == "lint" {
             return Some(Subcommand::Lint);

@@ -63,6 +63,11 @@ pub enum Task<'a> {
         /// The listing of the registers.
         registers: &'a str,
     },
+    /// Print the map that registers mean.
+    Map {
+        /// The listing of the registers.
+        registers: &'a str,
+    },
     /// Say what is wrong with a map file, line by line.
     Lint {
         /// The map file.

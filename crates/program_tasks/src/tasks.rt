@@ -240,6 +240,16 @@ fn audit_in<'a, V: Values<'a>>(given: &V) -> Result<Task<'a>, Fault<'a>>
     Ok(Task::Audit { map, registers })
 }
 
+fn map_in<'a, V: Values<'a>>(given: &V) -> Result<Task<'a>, Fault<'a>>
+    ensures task { IfOk result (IsTaskOf Subcommand.Map (V.value given.now)
+        (V.flag given.now)) }
+    ensures refused { IfErr result (RefusesTask Subcommand.Map (V.value given.now)
+        (V.flag given.now)) }
+{
+    let registers = value_in(given, "REGISTERS")?;
+    Ok(Task::Map { registers })
+}
+
 fn lint_in<'a, V: Values<'a>>(given: &V) -> Result<Task<'a>, Fault<'a>>
     ensures task { IfOk result (IsTaskOf Subcommand.Lint (V.value given.now)
         (V.flag given.now)) }
@@ -263,6 +273,7 @@ fn task_in<'a, V: Values<'a>>(subcommand: Subcommand, given: &V) -> Result<Task<
         Subcommand::Check => check_in(given),
         Subcommand::Show => show_in(given),
         Subcommand::Audit => audit_in(given),
+        Subcommand::Map => map_in(given),
         Subcommand::Lint => lint_in(given),
     }
 }

@@ -1,6 +1,8 @@
-//! Listings as tables, with the text of each.
+//! Listings as tables and as maps, with the text of each.
 
 use byte_streams::fakes::PieceSink;
+use map_text::map_of;
+use register_map::print_map_of;
 use register_table::{ListingFault, print_registers};
 use std::alloc::Global;
 use std::process::Abort;
@@ -46,5 +48,53 @@ fn registers_that_mean_nothing(rt: HostRuntime) -> Result<(), Fail> {
     let mut out = PieceSink::new(7, None);
     let answer = print_registers(rt.alloc(), b"\npmpcfg1 0\n", &mut out);
     assert!(rt; answer == Err(ListingFault::Line(2)));
+    Ok(())
+}
+
+/// That the listing has this text, which is a map or not.
+fn expect_map(rt: &impl Abort, alloc: Global, listing: &str, is_map: bool, wanted: &str) {
+    let mut out = PieceSink::new(7, None);
+    let answer = print_map_of(alloc, listing.as_bytes(), &mut out);
+    assert!(rt; answer == Ok(is_map));
+    assert_eq!(rt; out.written(), wanted.as_bytes());
+}
+
+#[test]
+fn registers_as_a_map(rt: HostRuntime) -> Result<(), Fail> {
+    let alloc = rt.alloc();
+    let listing =
+        "pmpcfg0 0x1f180900\npmpaddr0 0x400\npmpaddr1 0x800\npmpaddr2 0x20000fff\npmpaddr3 0x20ffffff\nmtvec 1\n";
+    let wanted =
+        "0x0000000000001000 0x0000000000001000 r\n0x0000000080008000 0x0000000007ff8000 rwx\n# lines of other registers are passed over, line 6 first\n";
+    expect_map(&rt, alloc, listing, true, wanted);
+    let map = map_of(alloc, wanted.as_bytes()).expect(&rt, "a map");
+    assert_eq!(rt; map.ranges().len(), 2);
+    assert_eq!(rt; map.ranges()[1].first, 0x80008);
+    expect_map(&rt, alloc, "", true, "");
+    Ok(())
+}
+
+#[test]
+fn registers_below_a_page(rt: HostRuntime) -> Result<(), Fail> {
+    for (listing, wanted) in [
+        (
+            "pmpcfg0 0x0f\npmpaddr0 0x20000080\n",
+            "no map: 0x0000000080000200 0x0000000080000fff has ---, its page's first byte rwx\n",
+        ),
+        (
+            "pmpcfg0 0x1911\npmpaddr0 0x20000001\npmpaddr1 0x200001ff\n",
+            "no map: 0x0000000080000000 0x0000000080000007, entry 0 cuts an access of 8 bytes\n",
+        ),
+        (
+            "pmpcfg0 0x20\n",
+            "pair 0 0x20 0x0000000000000000: reserved bits\n",
+        ),
+        (
+            "mseccfg 1\n",
+            "mseccfg 0x0000000000000001: no verdict, Smepmp is not modelled\n",
+        ),
+    ] {
+        expect_map(&rt, rt.alloc(), listing, false, wanted);
+    }
     Ok(())
 }

@@ -1,4 +1,4 @@
-use Rattle.std.proofs.Common.{ℕ, List, Option, Result, Ok, Err, IfErr, ◌≡◌}
+use Rattle.std.proofs.Common.{Option, Result, Ok, Err, IfErr, ◌≡◌}
 use Rattle.program_tasks.specs.declared.fault.Fault.{Fault}
 use Rattle.program_tasks.specs.declared.subcommand.Subcommand.{Subcommand}
 use Rattle.program_tasks.specs.Faults.{IsFaultOf, RefusesTask, first}

@@ -1,0 +1,3 @@
+pub mod EachPage
+pub mod NoMap
+pub mod Meant
