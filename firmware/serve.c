@@ -28,23 +28,34 @@ static int is_worlds(uint64_t page)
     return is_ram(page) && page - platform->monitor_base / PAGE >= platform->monitor_size / PAGE;
 }
 
-static int64_t read_trap(struct trap_frame *frame)
+/* The loop's frames are bytes and lie anywhere: where words can't be read or written there, they are here. */
+static uint64_t words[sizeof(struct answer_frame) / sizeof(uint64_t)];
+
+static int is_aligned(const void *at)
 {
+    return (uintptr_t)at % sizeof(uint64_t) == 0;
+}
+
+static int64_t read_trap(void *to)
+{
+    struct trap_frame *frame = is_aligned(to) ? to : (void *)words;
     unsigned hart;
     frame->tag = next_trap();
     hart = this_hart();
     frame->hart = hart;
     frame->pc = worlds[hart].pc;
     memcpy(frame->x, worlds[hart].x + 1, sizeof frame->x);
+    if (!is_aligned(to))
+        memcpy(to, frame, sizeof *frame);
     return sizeof *frame;
 }
 
 static int64_t read_page(struct page_frame *frame)
 {
-    frame->tag = TAG_PAGE;
-    frame->page = next_page;
+    const uint64_t front[] = {TAG_PAGE, next_page};
     if (!is_worlds(next_page))
         return -1;
+    memcpy(frame, front, sizeof front);
     memcpy(frame->bytes, (const void *)(next_page * PAGE), PAGE);
     next_page++;
     if (--pages_left == 0)
@@ -99,9 +110,12 @@ static int64_t written_measure(const struct measure_frame *asked)
 
 int64_t write(uint64_t descriptor, const void *from, uint64_t n)
 {
-    uint64_t tag = *(const uint64_t *)from;
-    if ((int)descriptor != 1)
+    uint64_t tag;
+    if ((int)descriptor != 1 || n > sizeof words)
         return -1;
+    if (!is_aligned(from))
+        from = memcpy(words, from, n);
+    tag = *(const uint64_t *)from;
     if (tag == TAG_ANSWER && n == sizeof(struct answer_frame))
         return written_answer(from);
     if (tag == TAG_MEASURE && n == sizeof(struct measure_frame))
