@@ -28,11 +28,19 @@ StopsAtFirst (faults.Refused refusal) read after = RefusesFirst refusal read aft
 StopsAtFirst faults.Read read after = length read < 1336
 StopsAtFirst faults.Write read after = Unit {0}
 
+-- the first bytes are a platform's
+abbrev pub IsFirst : Layout → Option (List ℕ) → Option (List ℕ) → Type 0
+IsFirst layout before after = (first : List ℕ) × (length first ≡ 1336) × IsPlatformFrame first layout × Consumes before after first
+
+-- the loop ends at the first bytes, and why
+abbrev pub EndsAtFirst : ServeFault → Option (List ℕ) → Option (List ℕ) → Option (List ℕ) → Option (List ℕ) → Type 0
+EndsAtFirst fault before after held holds = (read last : List ℕ) × LastIs fault last × StopsAtFirst fault read after × Consumes before after read × Appends held holds last
+
 -- the platform was read and nothing written, and the monitor is as at its opening; or the loop ends, and why
 abbrev pub Boots : Result Monitor ServeFault → Option (List ℕ) → Option (List ℕ) → Option (List ℕ) → Option (List ℕ) → Type 0
 Boots (Ok monitor) before after held holds =
     (layout : Layout) × (first : List ℕ) × (length first ≡ 1336) × IsPlatformFrame first layout × (state_of monitor ≡ opening layout) × Consumes before after first × Appends held holds []
-Boots (Err fault) before after held holds = (read last : List ℕ) × LastIs fault last × StopsAtFirst fault read after × Consumes before after read × Appends held holds last
+Boots (Err fault) before after held holds = EndsAtFirst fault before after held holds
 
 -- the same of a platform that was read
 abbrev pub BootsOn : Result Monitor ServeFault → Layout → Option (List ℕ) → Option (List ℕ) → Type 0

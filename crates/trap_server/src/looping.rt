@@ -1,9 +1,9 @@
 //! The loop: a trap is read and served, and its answer written, before the next is read.
 
-ghost use Rattle.std.specs.Prelude.{◌≡◌, ◌+◌, ◌≤◌, ◌<◌, ℕ, List, [], IfErr, IfOk};
+ghost use Rattle.std.specs.Prelude.{◌≡◌, ◌+◌, ◌≤◌, ◌<◌, ℕ, List, [], IfErr, IfOk, MatchResult};
 ghost use Rattle.std.specs.Io.KnownBytes.{IsAtEnd};
 ghost use Rattle.monitor_core.specs.Monitors.{state_of};
-ghost use Rattle.trap_server.specs.Booting.{Boots, BootsOn};
+ghost use Rattle.trap_server.specs.Booting.{Boots, BootsOn, EndsAtFirst, IsFirst};
 ghost use Rattle.trap_server.specs.Answered.{AreAwake};
 ghost use Rattle.trap_server.specs.Ends.{CountsReads, CountsWrites};
 ghost use Rattle.trap_server.specs.Runs.{EndsEarly, Ran, others};
@@ -18,18 +18,48 @@ use trap_frames::{Refusal, read_platform, read_trap};
 
 /// Boots the monitor on a platform.
 #[inline(never)]
-fn boot_on<W: Sink>(alloc: Global, platform: Platform, sink: &mut W) -> Result<Monitor, ServeFault>
-    ensures boots { BootsOn result platform (W.contents sink.old) (W.contents sink.new) }
+fn boot_on<W: Sink>(
+    alloc: Global,
+    platform: Box<Platform>,
+    sink: &mut W,
+) -> Result<Monitor, ServeFault>
+    ensures boots { BootsOn result platform.value (W.contents sink.old) (W.contents sink.new) }
     ensures reads { (n : ℕ) → CountsReads result n n }
     ensures writes { CountsWrites result (W.failures sink.old) (W.failures sink.new)
         (W.stalls sink.old) (W.stalls sink.new) }
 {
-    match Monitor::boot(alloc, platform) {
+    match Monitor::boot(alloc, Box::into_inner(platform)) {
         Ok(monitor) => Ok(monitor),
         Err(BootFault::NeedsMoreEntries(count)) => {
             Err(refuse(sink, Refusal::NeedsEntries(count)))
         }
         Err(BootFault::Memory) => Err(refuse(sink, Refusal::Memory)),
+    }
+}
+
+/// The platform that comes first. It is on the heap, so that the stack has no copy of it while the monitor is made.
+#[inline(never)]
+fn platform_in<R: Source, W: Sink>(
+    alloc: Global,
+    source: &mut R,
+    sink: &mut W,
+) -> Result<Box<Platform>, ServeFault>
+    ensures first { MatchResult result
+        (λ platform. IsFirst platform.value (R.remaining source.old) (R.remaining source.new)
+        × (W.contents sink.new ≡ W.contents sink.old))
+        (λ fault. EndsAtFirst fault (R.remaining source.old) (R.remaining source.new)
+        (W.contents sink.old) (W.contents sink.new)) }
+    ensures reads { CountsReads result (R.failures source.old) (R.failures source.new) }
+    ensures writes { CountsWrites result (W.failures sink.old) (W.failures sink.new)
+        (W.stalls sink.old) (W.stalls sink.new) }
+{
+    match read_platform(source) {
+        Ok(Ok(platform)) => match Box::new(alloc, platform) {
+            Ok(platform) => Ok(platform),
+            Err(_) => Err(refuse(sink, Refusal::Memory)),
+        },
+        Ok(Err(refusal)) => Err(refuse(sink, refusal)),
+        Err(fault) => Err(end(sink, fault)),
     }
 }
 
@@ -46,12 +76,10 @@ fn boot<R: Source, W: Sink>(
     ensures writes { CountsWrites result (W.failures sink.old) (W.failures sink.new)
         (W.stalls sink.old) (W.stalls sink.new) }
 {
-    let platform = match read_platform(source) {
-        Ok(Ok(platform)) => platform,
-        Ok(Err(refusal)) => return Err(refuse(sink, refusal)),
-        Err(fault) => return Err(end(sink, fault)),
-    };
-    boot_on(alloc, platform, sink)
+    match platform_in(alloc, source, sink) {
+        Ok(platform) => boot_on(alloc, platform, sink),
+        Err(fault) => Err(fault),
+    }
 }
 
 /// The harts but hart 0.
