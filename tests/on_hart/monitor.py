@@ -149,8 +149,18 @@ def refused_memory(on_hart, folder, told):
     faults, kinds = [it[0] for it in done if it[0]], [it[1] for it in done]
     how = f"{kinds.count('boot')} at boot, {kinds.count('call')} answered -109, {kinds.count('same')} made up for"
     told(f"each of {len(done)} allocations refused: {how}", not faults and kinds.count("boot") and kinds.count("call"), "; ".join(faults[:3]))
-    most = f"stack {numbers['stack']}, heap {numbers['heap']} bytes; instructions {numbers['other']} of a switch, {numbers['owning']} of a creation"
-    told(f"the monitor's most: {most}", numbers["stack"] <= 65536 and numbers["heap"] <= 65536)
+
+
+def most_taken(on_hart, folder, told):
+    """What a life takes on a small platform and on the board's own, whose map is a deeper tree: less than 32 KiB of stack, 64 KiB of heap."""
+    trace, most = folder / "most.trace", {}
+    trace.write_text(LIFE)
+    for platform in (platform_with(folder, 1), FIRMWARE / "platform.toml"):
+        _, notes, _ = on_hart.report_of(platform, trace, has_notes=True)
+        for it in notes.splitlines():
+            most[it.split()[1]] = max(most.get(it.split()[1], 0), int(it.split()[2]))
+    numbers = f"stack {most['stack']}, heap {most['heap']} bytes; instructions {most['other']} of a switch, {most['owning']} of a creation"
+    told(f"the monitor's most: {numbers}", most["stack"] < 32768 and most["heap"] < 65536 and most["other"] < 8192)
 
 
 def booted(image, payload, harts, *more, seconds=60):
@@ -234,3 +244,4 @@ def monitor(program, told):
         worlds(folder, told)
         lives(on_hart, program, folder, told)
         refused_memory(on_hart, folder, told)
+        most_taken(on_hart, folder, told)
