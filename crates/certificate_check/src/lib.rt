@@ -23,11 +23,11 @@
 #![tactic(auto)]
 
 mod begun;
+mod certificate;
 mod chains;
-mod checking;
 mod entries;
+mod entry_list;
 mod keys;
-mod listing;
 mod nodes;
 mod numbers;
 mod piece;
@@ -36,5 +36,5 @@ mod runs;
 mod sizes;
 mod sweep;
 
-pub use checking::check;
+pub use certificate::check;
 pub use refusal::CheckRefusal;

@@ -3,7 +3,7 @@ use Rattle.std.proofs.Common.{ℕ, ◌+◌, ◌<◌, List, ◌∷◌, length, dr
 use Rattle.std.proofs.lemmas.Grind.{common_steps}
 use Rattle.std.proofs.Common.{arith}
 use Rattle.clap.specs.Words.{App, Rule, with_rule, with_subcommand}
-use Rattle.command_line.specs.Building.{app_by, rule_by, with_arguments, with_subcommands}
+use Rattle.command_line.specs.ClapModel.{app_by, rule_by, with_arguments, with_subcommands}
 use Rattle.command_line.specs.declared.arguments.Argument.{Argument}
 use Rattle.program_tasks.specs.declared.subcommand.Subcommand.{Subcommand}
 

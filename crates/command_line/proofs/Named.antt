@@ -7,7 +7,7 @@ use Rattle.clap.specs.Words.{Shape}
 use Rattle.program_tasks.specs.declared.subcommand.Subcommand.{Subcommand}
 use Rattle.program_tasks.specs.declared.subcommand.Subcommand.TheVariants.{Audit, Check, Judge, Lint, Map, Plan, Run, Show}
 use Rattle.program_tasks.specs.Subcommands.{Text, subcommand_word}
-use Rattle.command_line.specs.Building.{app_by}
+use Rattle.command_line.specs.ClapModel.{app_by}
 use Rattle.command_line.specs.CommandLine.{app_alone, app_named, program_app}
 
 -- the word of a subcommand finds it

@@ -1,3 +1,3 @@
-pub mod Building
+pub mod ClapModel
 pub mod CommandLine
 pub mod Faults

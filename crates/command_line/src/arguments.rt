@@ -3,7 +3,7 @@
 ghost use Rattle.std.specs.Prelude.{◌≡◌, false};
 ghost use Rattle.clap.specs.Words.{rule_of};
 ghost use Rattle.command_line.specs.CommandLine.{at_most_rule, entries_rule, file_rule, format_rule, measure_rule, registers_rule};
-ghost use Rattle.command_line.specs.Building.{rule_by};
+ghost use Rattle.command_line.specs.ClapModel.{rule_by};
 
 use clap::{Arg, ArgAction};
 use std::alloc::Global;

@@ -3,7 +3,7 @@
 ghost use Rattle.std.specs.Prelude.{◌≡◌, IfOk};
 ghost use Rattle.clap.specs.Words.{app_of, new_app};
 ghost use Rattle.command_line.specs.CommandLine.{app_named, bare_app, program_app};
-ghost use Rattle.command_line.specs.Building.{app_by, with_arguments, IsCommandOf};
+ghost use Rattle.command_line.specs.ClapModel.{app_by, with_arguments, IsCommandOf};
 
 use crate::arguments::Argument;
 use crate::texts::{

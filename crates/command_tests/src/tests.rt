@@ -2,7 +2,7 @@
 
 mod certificates;
 mod devices;
-mod failing;
+mod failures;
 mod inputs;
 mod judged;
 mod machine;

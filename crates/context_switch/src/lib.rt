@@ -20,8 +20,8 @@
 
 mod contexts;
 mod hart;
-mod switching;
+mod world_switch;
 
 pub use contexts::Contexts;
 pub use hart::Hart;
-pub use switching::switch;
+pub use world_switch::switch;

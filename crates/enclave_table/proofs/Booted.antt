@@ -12,7 +12,7 @@ use Rattle.enclave_table.specs.Views.{host_view}
 use Rattle.enclave_table.proofs.ShortNames.{any_private}
 use Rattle.enclave_table.specs.Fewest.{IsListOf}
 use Rattle.enclave_table.specs.Tables.{IsKept}
-use Rattle.enclave_table.specs.Booting.{opening}
+use Rattle.enclave_table.specs.Boot.{opening}
 use Rattle.enclave_table.specs.declared.enclave.Enclave.{Enclave}
 use Rattle.enclave_table.proofs.Places.{live_place}
 

@@ -12,7 +12,7 @@ use Rattle.enclave_table.specs.Views.{host_view, enclave_view}
 use Rattle.enclave_table.specs.Refusals.{AllPass}
 use Rattle.enclave_table.specs.Checks.{create_checks, IsClear}
 use Rattle.enclave_table.specs.Fewest.{FitsIn, IsWant, IsListOf}
-use Rattle.enclave_table.specs.Creating.{fresh, RefusesCreate, Creates}
+use Rattle.enclave_table.specs.Create.{fresh, RefusesCreate, Creates}
 use Rattle.enclave_table.specs.Tables.{IsSound}
 use Rattle.enclave_table.specs.declared.request.Create.{Create}
 use Rattle.enclave_table.specs.declared.enclave.Enclave.{Enclave}

@@ -10,8 +10,8 @@ use Rattle.enclave_table.specs.Views.{host_view, enclave_view}
 use Rattle.enclave_table.specs.Refusals.{AllPass, FailsFirst}
 use Rattle.enclave_table.specs.Checks.{create_checks, host_checks, MayDestroy}
 use Rattle.enclave_table.specs.Fewest.{IsWant}
-use Rattle.enclave_table.specs.Creating.{fresh, RefusesCreate}
-use Rattle.enclave_table.specs.Destroying.{RefusesDestroy}
+use Rattle.enclave_table.specs.Create.{fresh, RefusesCreate}
+use Rattle.enclave_table.specs.Destroy.{RefusesDestroy}
 use Rattle.enclave_table.specs.declared.request.Create.{Create}
 use Rattle.enclave_table.specs.declared.refusal.Refusal.{Refusal}
 use Rattle.enclave_table.specs.declared.refusal.Refusal.TheVariants.{NotHost, NotEnclave, BadCount, BadAddress, BadEntry, NotRam, Overlap, TableFull, NoEntries, NoMemory, BadId, BadState, BadWord}

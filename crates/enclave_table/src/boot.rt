@@ -3,7 +3,7 @@
 ghost use Rattle.std.specs.Prelude.{◌≡◌, ◌<◌, None, replicate, length, IfOk, IfErr};
 ghost use Rattle.enclave_table.specs.Fewest.{FitsIn};
 ghost use Rattle.enclave_table.specs.Views.{host_view};
-ghost use Rattle.enclave_table.specs.Booting.{opening, IsBootFault, boot_fault_number};
+ghost use Rattle.enclave_table.specs.Boot.{opening, IsBootFault, boot_fault_number};
 
 use crate::enclave::Enclave;
 use crate::entry_list::EntryList;

@@ -4,7 +4,7 @@ ghost use Rattle.std.specs.Prelude.{◌≡◌, ◌<◌, ◌-◌, IfOk, IfErr, On
 ghost use Rattle.enclave_table.specs.Tables.{IsCurrent};
 ghost use Rattle.enclave_table.specs.Requests.{HasCounts, HasPlaces};
 ghost use Rattle.enclave_table.specs.Digests.{measured};
-ghost use Rattle.enclave_table.specs.Creating.{Creates, RefusesCreate};
+ghost use Rattle.enclave_table.specs.Create.{Creates, RefusesCreate};
 
 use crate::digest::{Pages, digest};
 use crate::enclave::{Enclave, State};

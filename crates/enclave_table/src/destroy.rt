@@ -2,7 +2,7 @@
 
 ghost use Rattle.std.specs.Prelude.{◌≡◌, ◌<◌, ◌-◌, IfOk, IfErr, OnErr, None};
 ghost use Rattle.enclave_table.specs.Tables.{IsCurrent};
-ghost use Rattle.enclave_table.specs.Destroying.{Destroys, RefusesDestroy};
+ghost use Rattle.enclave_table.specs.Destroy.{Destroys, RefusesDestroy};
 
 use crate::entry_list::EntryList;
 use crate::refusal::Refusal;

@@ -4,7 +4,7 @@ ghost use Rattle.std.specs.Prelude.{◌≡◌, IfOk, OnOk, IfErr, OnErr, Some};
 ghost use Rattle.enclave_table.specs.Tables.{IsCurrent};
 ghost use Rattle.enclave_table.specs.Checks.{host_checks, leave_checks, state_before, MayEnter};
 ghost use Rattle.enclave_table.specs.Refusals.{FailsFirst};
-ghost use Rattle.enclave_table.specs.Living.{state_after, Enters, Leaves};
+ghost use Rattle.enclave_table.specs.Lives.{state_after, Enters, Leaves};
 
 use crate::enclave::State;
 use crate::refusal::Refusal;

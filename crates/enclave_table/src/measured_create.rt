@@ -6,7 +6,7 @@ ghost use Rattle.enclave_table.specs.Tables.{IsCurrent};
 ghost use Rattle.enclave_table.specs.Requests.{HasCounts, HasPlaces, parts_of};
 ghost use Rattle.enclave_table.specs.Checks.{create_checks};
 ghost use Rattle.enclave_table.specs.Refusals.{AllPass};
-ghost use Rattle.enclave_table.specs.Creating.{Creates, IsMeasured, RefusesCreate, measured_as};
+ghost use Rattle.enclave_table.specs.Create.{Creates, IsMeasured, RefusesCreate, measured_as};
 
 use crate::enclave::{Enclave, State};
 use crate::fewest::enclave_list;

@@ -4,7 +4,7 @@ use Rattle.std.proofs.Math.Nat.{mul-mod_right}
 use Rattle.pmp_encoding.specs.Block.{IsBlock}
 use Rattle.pmp_encoding.proofs.Multiples.{power_order}
 use Rattle.pmp_match.proofs.Blocks.{pages_bytes}
-use Rattle.entry_planner.specs.Placing.{ArePages}
+use Rattle.entry_planner.specs.Placement.{ArePages}
 
 pub pages_block : (k first : ℕ) → ArePages k first → IsBlock (first * 4096) (k + 12)
 pages_block k first pages =

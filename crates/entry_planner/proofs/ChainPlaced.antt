@@ -8,7 +8,7 @@ use Rattle.pmp_encoding.specs.declared.region.Entry.{Entry}
 use Rattle.pmp_encoding.specs.Perms.{perm_eq}
 use Rattle.prefix_tree.specs.Trees.{PermTree, Uniform, Split}
 use Rattle.entry_planner.specs.Choice.{AddsChosen, IsChosenAt, handed_on}
-use Rattle.entry_planner.specs.Placing.{IsOwn}
+use Rattle.entry_planner.specs.Placement.{IsOwn}
 use Rattle.entry_planner.proofs.SamePerm.{perm_eq-same}
 use Rattle.prefix_tree.specs.declared.chains.Chain.{Chain}
 use Rattle.prefix_tree.specs.Chains.{chained, goes_up, nested}

@@ -6,7 +6,7 @@ use Rattle.pmp_encoding.specs.declared.region.Entry.{Entry}
 use Rattle.pmp_encoding.specs.Perms.{perm_eq}
 use Rattle.prefix_tree.specs.Trees.{PermTree, Uniform, Split}
 use Rattle.entry_planner.specs.Costs.{cost}
-use Rattle.entry_planner.specs.Placing.{Turns}
+use Rattle.entry_planner.specs.Placement.{Turns}
 
 -- the halves may inherit q where the block inherits p: with the entry for q, if q is not p, that is the cheapest
 abbrev pub IsCheap : PermTree → PermTree → Perm → Perm → Type 0

@@ -10,7 +10,7 @@ use Rattle.prefix_tree.specs.Trees.{PermTree, Uniform, Split, Fits}
 use Rattle.prefix_tree.specs.Joined.{one_perm}
 use Rattle.entry_planner.specs.declared.costs.HalfPerms.{HalfPerms}
 use Rattle.entry_planner.specs.Choice.{AddsChosen, AreChosen, IsChosenAt, handed_on}
-use Rattle.entry_planner.specs.Placing.{ArePages, IsOwn}
+use Rattle.entry_planner.specs.Placement.{ArePages, IsOwn}
 use Rattle.entry_planner.specs.Plans.{half_perms, half_perms_in}
 use Rattle.entry_planner.proofs.BlockCosts.{added_both}
 use Rattle.entry_planner.proofs.BlockPages.{lower_pages, upper_pages}

@@ -5,7 +5,7 @@ use Rattle.pmp_encoding.specs.declared.perm.Perm.TheVariants.{NoAccess, Read, Re
 use Rattle.pmp_encoding.specs.declared.region.Entry.{Entry}
 use Rattle.prefix_tree.specs.Trees.{PermTree, Uniform, Split}
 use Rattle.entry_planner.specs.Costs.{least_of, cost}
-use Rattle.entry_planner.specs.Placing.{IsOwn}
+use Rattle.entry_planner.specs.Placement.{IsOwn}
 
 -- what the halves of a split block cost together where they inherit q
 abbrev pub halves_cost : PermTree → PermTree → Perm → ℕ

@@ -3,7 +3,7 @@ use Rattle.std.specs.Prelude.{ℕ, ◌*◌, Bool, false, List}
 use Rattle.pmp_encoding.specs.declared.perm.Perm.{Perm}
 use Rattle.enclave_table.specs.Platform.{Layout}
 use Rattle.enclave_table.specs.Enclaves.{EnclaveTable}
-use Rattle.enclave_table.specs.Booting.{opening as opening_table}
+use Rattle.enclave_table.specs.Boot.{opening as opening_table}
 pub use Rattle.enclave_table.specs.Views.{current_view as view_of}
 use Rattle.worlds.specs.declared.world.World.{World}
 use Rattle.worlds.specs.declared.world.World.TheVariants.{Host}

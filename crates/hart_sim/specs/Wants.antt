@@ -6,7 +6,7 @@ use Rattle.enclave_table.specs.Views.{host_view}
 use Rattle.enclave_table.specs.Refusals.{AllPass, refusal_number}
 use Rattle.enclave_table.specs.Checks.{create_checks, host_checks, MayDestroy}
 use Rattle.enclave_table.specs.Fewest.{NeedsMore}
-use Rattle.enclave_table.specs.Creating.{OutgrowsByCreate}
+use Rattle.enclave_table.specs.Create.{OutgrowsByCreate}
 use Rattle.enclave_table.specs.declared.request.Create.{Create}
 use Rattle.enclave_table.specs.declared.refusal.Refusal.TheVariants.{NoEntries, NoMemory}
 use Rattle.enclave_table.specs.declared.refusal.Refusal.{Refusal}

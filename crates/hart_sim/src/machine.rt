@@ -25,7 +25,7 @@ impl Machine {
     ghost use Rattle.pmp_encoding.specs.Banks.{HasList, limit_of};
     ghost use Rattle.pmp_encoding.specs.Limits.{limit_number};
     ghost use Rattle.pmp_match.specs.declared.access.Access.{Access};
-    ghost use Rattle.enclave_table.specs.Booting.{IsBootFault, opening as opening_table};
+    ghost use Rattle.enclave_table.specs.Boot.{IsBootFault, opening as opening_table};
     ghost use Rattle.enclave_table.specs.Fewest.{FitsIn};
     ghost use Rattle.enclave_table.specs.Platform.{Layout, IsLayout};
     ghost use Rattle.enclave_table.specs.Views.{host_view};

@@ -6,7 +6,7 @@
 #[cfg(test)]
 mod events;
 #[cfg(test)]
-mod judging;
+mod failures;
 #[cfg(test)]
 mod lines;
 #[cfg(test)]

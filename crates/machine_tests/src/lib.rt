@@ -8,10 +8,10 @@
 #[cfg(test)]
 mod calls;
 #[cfg(test)]
-mod measuring;
+mod digests;
 #[cfg(test)]
-mod running;
+mod runs;
 #[cfg(test)]
-mod serving;
+mod served;
 #[cfg(test)]
-mod switching;
+mod switches;

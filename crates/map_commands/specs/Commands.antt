@@ -30,7 +30,7 @@ use Rattle.map_lint.specs.Lints.{IsVerdictOfLines}
 use Rattle.certificate_check.specs.Certificates.{IsRight}
 use Rattle.certificate_format.specs.Spelling.{Spells}
 use Rattle.plan_certificate.specs.Written.{version_for}
-use Rattle.trace_judge.specs.Judging.{is_no_access, judged_by}
+use Rattle.trace_judge.specs.Answers.{is_no_access, judged_by}
 use Rattle.printed_lines.specs.Plans.{IsPlanText}
 use Rattle.map_table.specs.Tables.{IsTable}
 use Rattle.register_formats.specs.AsmTexts.{IsAsmText}

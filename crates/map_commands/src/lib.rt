@@ -11,11 +11,11 @@
 //! ```
 #![tactic(auto)]
 
-mod certifying;
+mod certified_plan;
 mod commands;
 mod inputs;
 
-pub use certifying::{bank_of, plan_and_certify, planned};
+pub use certified_plan::{bank_of, plan_and_certify, planned};
 pub use commands::{
     Asked, do_audit, do_check, do_judge, do_lint, do_map, do_plan, do_show_as, verdict,
 };

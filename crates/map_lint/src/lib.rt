@@ -11,9 +11,9 @@
 mod columns;
 mod findings;
 mod idle;
-mod linting;
 mod perms;
 mod reasons;
+mod report;
 mod texts;
 
-pub use linting::{LintFault, lint};
+pub use report::{LintFault, lint};

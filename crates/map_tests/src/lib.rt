@@ -5,22 +5,22 @@
 #![tactic(auto)]
 
 #[cfg(test)]
+mod accesses;
+#[cfg(test)]
 mod certificate_parts;
 #[cfg(test)]
 mod certificates;
 #[cfg(test)]
 mod cuts;
-#[cfg(test)]
-mod encoding;
 mod laws;
 #[cfg(test)]
 mod maps;
 #[cfg(test)]
-mod matching;
-#[cfg(test)]
 mod pages;
 #[cfg(test)]
-mod planning;
+mod plans;
+#[cfg(test)]
+mod registers;
 #[cfg(test)]
 mod trees;
 

@@ -7,7 +7,7 @@ use Rattle.program_troubles.specs.Troubles.{trouble_text}
 use Rattle.hart_sim.specs.declared.machine.Machine.{Machine}
 use Rattle.hart_sim.specs.Machines.{kept_of}
 use Rattle.monitor_cli.specs.Programs.{Tells, told, cut}
-use Rattle.monitor_cli.specs.Running.{IsMeasured}
+use Rattle.monitor_cli.specs.Runs.{IsMeasured}
 use Rattle.monitor_cli.specs.Tasks.{AreMeasures}
 
 pub tells : {E X Y : Type 0} (err : Writing E) (trouble : Trouble) (printed : Result X Y) → Prints (trouble_text trouble) err printed → Tells err (Err trouble)

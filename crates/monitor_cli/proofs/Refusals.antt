@@ -5,8 +5,8 @@ use Rattle.enclave_table.specs.Platform.{Layout}
 use Rattle.program_troubles.specs.declared.trouble.Trouble.{Trouble}
 use Rattle.program_troubles.specs.declared.trouble.Trouble.TheVariants.{NotAPlatform, Memory}
 use Rattle.map_commands.specs.Commands.{HasBytes, Reading}
-use Rattle.monitor_cli.specs.Running.{HasNoPlatform}
-use Rattle.monitor_cli.specs.Running as running
+use Rattle.monitor_cli.specs.Runs.{HasNoPlatform}
+use Rattle.monitor_cli.specs.Runs as running
 use Rattle.platform_file.specs.Document.{IsPlatformFile}
 
 pub no_platform :

@@ -1,5 +1,5 @@
-pub use Rattle.trace_judge.specs.Judging
-pub mod Closing
+pub use Rattle.trace_judge.specs.Answers
+pub mod HeldOutput
 pub mod Programs
-pub mod Running
+pub mod Runs
 pub mod Tasks

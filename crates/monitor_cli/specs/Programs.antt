@@ -7,7 +7,7 @@ use Rattle.program_tasks.specs.declared.task.Task.TheVariants as tasks
 use Rattle.program_troubles.specs.declared.trouble.Trouble.{Trouble}
 use Rattle.program_troubles.specs.Troubles.{status_of, trouble_text}
 use Rattle.map_commands.specs.Commands.{Audits, Checks, IsUnread, Judges, Lints, Maps, Placing, Plans, Reading, ShowsAs}
-use Rattle.monitor_cli.specs.Running.{Runs}
+use Rattle.monitor_cli.specs.Runs.{Runs}
 
 -- what a task comes to: what its command does not use stays as it was
 abbrev pub Performs : {R C W : Type 0} → Task → Reading R → Reading R → Placing C → Writing W → Result ℕ Trouble → Type 0

@@ -10,12 +10,12 @@
 //! ```
 #![tactic(auto)]
 
-mod closing;
 mod commands;
+mod held_output;
+mod machine_run;
 mod program;
-mod running;
 
-pub use closing::{closed, perform_and_close};
+pub use held_output::{closed, perform_and_close};
 pub use platform_file::{TextFault, platform_of};
 pub use printed_lines::digest_text;
 pub use program::perform;

@@ -5,7 +5,7 @@ use Rattle.pmp_encoding.specs.declared.region.Entry.{Entry}
 use Rattle.pmp_match.specs.Meaning.{IsFewest}
 use Rattle.enclave_table.proofs.SameViews.{fewest_same}
 use Rattle.monitor_core.specs.Frames.{LoadsAnew}
-use Rattle.monitor_core.specs.Loading.{KeepsLoaded, LoadsAsTold}
+use Rattle.monitor_core.specs.Loads.{KeepsLoaded, LoadsAsTold}
 use Rattle.monitor_core.specs.States.{State, current_view, view_of}
 use Rattle.monitor_core.proofs.Cases.{both}
 

@@ -12,9 +12,9 @@ use Rattle.enclave_table.specs.declared.life.Entering.{Entering}
 use Rattle.enclave_table.specs.declared.life.Entering.TheVariants.{Run, Resume}
 use Rattle.enclave_table.specs.declared.life.Leaving.{Leaving}
 use Rattle.enclave_table.specs.Checks.{leave_checks, state_before}
-use Rattle.enclave_table.specs.Living.{Enters, Leaves, Turns, state_after}
+use Rattle.enclave_table.specs.Lives.{Enters, Leaves, Turns, state_after}
 use Rattle.enclave_table.specs.Refusals.{FailsFirst}
-use Rattle.enclave_table.specs.Destroying.{Destroys}
+use Rattle.enclave_table.specs.Destroy.{Destroys}
 use Rattle.enclave_table.specs.declared.refusal.Refusal.{Refusal}
 use Rattle.page_views.specs.declared.pages.PageRange.{PageRange}
 use Rattle.worlds.specs.declared.world.World.{World}

@@ -5,7 +5,7 @@ use Rattle.page_views.specs.declared.pages.PageRange.{PageRange}
 use Rattle.permission_map.specs.Views.{SameView}
 use Rattle.enclave_table.specs.Enclaves.{EnclaveTable, Live, enclave_at, with_enclave}
 use Rattle.enclave_table.specs.Tables.{IsCurrent}
-use Rattle.enclave_table.specs.Living.{Enters, Leaves}
+use Rattle.enclave_table.specs.Lives.{Enters, Leaves}
 use Rattle.enclave_table.specs.declared.enclave.Enclave.{Enclave}
 use Rattle.enclave_table.specs.declared.enclave.State.{State as Stage}
 use Rattle.enclave_table.specs.declared.enclave.State.TheVariants.{Fresh, Running, Stopped}

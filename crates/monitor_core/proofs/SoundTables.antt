@@ -4,9 +4,9 @@ use Rattle.enclave_table.specs.Platform.{Layout, IsLayout}
 use Rattle.enclave_table.specs.Enclaves.{EnclaveTable, with_enclave}
 use Rattle.enclave_table.specs.Requests.{parts_of}
 use Rattle.enclave_table.specs.Tables.{IsTable}
-use Rattle.enclave_table.specs.Creating.{Creates, fresh}
-use Rattle.enclave_table.specs.Destroying.{Destroys}
-use Rattle.enclave_table.specs.Living.{Turns}
+use Rattle.enclave_table.specs.Create.{Creates, fresh}
+use Rattle.enclave_table.specs.Destroy.{Destroys}
+use Rattle.enclave_table.specs.Lives.{Turns}
 use Rattle.enclave_table.specs.declared.request.Create.{Create}
 use Rattle.enclave_table.specs.declared.enclave.State.{State as Stage}
 use Rattle.page_views.specs.declared.pages.PageRange.{PageRange}

@@ -10,8 +10,8 @@ use Rattle.enclave_table.specs.Views.{host_view, enclave_view}
 use Rattle.enclave_table.specs.Refusals.{AllPass, FailsFirst, refusal_number}
 use Rattle.enclave_table.specs.Checks.{create_checks, host_checks, MayDestroy, MayEnter, leave_checks, word_checks}
 use Rattle.enclave_table.specs.Fewest.{FitsIn, NeedsMore}
-use Rattle.enclave_table.specs.Creating.{OutgrowsByCreate, RefusesCreate, fresh}
-use Rattle.enclave_table.specs.Destroying.{RefusesDestroy}
+use Rattle.enclave_table.specs.Create.{OutgrowsByCreate, RefusesCreate, fresh}
+use Rattle.enclave_table.specs.Destroy.{RefusesDestroy}
 use Rattle.enclave_table.specs.Enclaves.{IsNextId}
 use Rattle.enclave_table.specs.declared.request.Create.{Create}
 use Rattle.enclave_table.specs.declared.refusal.Refusal.{Refusal}

@@ -6,10 +6,10 @@ use Rattle.enclave_table.specs.Platform.{Layout}
 use Rattle.enclave_table.specs.Enclaves.{EnclaveTable, Live, enclave_at, with_enclave}
 use Rattle.enclave_table.specs.Requests.{parts_of}
 use Rattle.enclave_table.specs.Tables.{IsCurrent}
-use Rattle.enclave_table.specs.Living.{Enters, Leaves}
-use Rattle.enclave_table.specs.Creating.{fresh}
+use Rattle.enclave_table.specs.Lives.{Enters, Leaves}
+use Rattle.enclave_table.specs.Create.{fresh}
 use Rattle.enclave_table.specs.Checks.{state_before}
-use Rattle.enclave_table.specs.Living.{state_after}
+use Rattle.enclave_table.specs.Lives.{state_after}
 use Rattle.enclave_table.specs.declared.request.Create.{Create}
 use Rattle.enclave_table.specs.declared.enclave.Enclave.{Enclave}
 use Rattle.enclave_table.specs.declared.enclave.State.{State as Stage}

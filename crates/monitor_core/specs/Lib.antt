@@ -5,7 +5,7 @@ pub mod Steps
 pub mod RegisterSets
 pub mod Parts
 pub mod Frames
-pub mod Loading
+pub mod Loads
 pub mod Measured
 pub mod Monitors
 pub mod Wants

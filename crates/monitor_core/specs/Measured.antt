@@ -4,7 +4,7 @@ use Rattle.enclave_table.specs.Enclaves.{EnclaveTable}
 use Rattle.enclave_table.specs.Requests.{parts_of}
 use Rattle.enclave_table.specs.Refusals.{AllPass}
 use Rattle.enclave_table.specs.Checks.{create_checks}
-use Rattle.enclave_table.specs.Creating.{IsMeasured}
+use Rattle.enclave_table.specs.Create.{IsMeasured}
 use Rattle.enclave_table.specs.declared.request.Create.{Create}
 use Rattle.worlds.specs.declared.world.World.{World}
 use Rattle.sbi_decode.specs.declared.calls.Call.{Call}

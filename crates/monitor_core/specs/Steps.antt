@@ -2,9 +2,9 @@
 use Rattle.std.specs.Prelude.{◌≡◌, ◌⊎◌, ℕ, ◌+◌, List, Option, None, Some}
 use Rattle.enclave_table.specs.Enclaves.{EnclaveTable, Live}
 use Rattle.enclave_table.specs.Refusals.{FailsFirst, refusal_number}
-use Rattle.enclave_table.specs.Creating.{Creates, RefusesCreate}
-use Rattle.enclave_table.specs.Destroying.{Destroys, RefusesDestroy}
-use Rattle.enclave_table.specs.Living.{Enters, Leaves}
+use Rattle.enclave_table.specs.Create.{Creates, RefusesCreate}
+use Rattle.enclave_table.specs.Destroy.{Destroys, RefusesDestroy}
+use Rattle.enclave_table.specs.Lives.{Enters, Leaves}
 use Rattle.enclave_table.specs.Checks.{MayEnter, host_checks, leave_checks, word_checks}
 use Rattle.enclave_table.specs.Digests.{AnswersWord}
 use Rattle.enclave_table.specs.declared.request.Create.{Create}

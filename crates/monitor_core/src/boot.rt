@@ -7,7 +7,7 @@ use std::alloc::Global;
 
 impl Parts {
     ghost use Rattle.std.specs.Prelude.{◌≡◌, IfOk, IfErr};
-    ghost use Rattle.enclave_table.specs.Booting.{IsBootFault, opening as opening_table};
+    ghost use Rattle.enclave_table.specs.Boot.{IsBootFault, opening as opening_table};
     ghost use Rattle.enclave_table.specs.Fewest.{FitsIn};
     ghost use Rattle.enclave_table.specs.Views.{host_view};
     ghost use Rattle.monitor_core.specs.Parts.{HoldsTogether, state_in};

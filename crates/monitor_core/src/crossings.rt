@@ -9,7 +9,7 @@ use enclave_table::{Entering, Leaving, Refusal, World};
 impl Parts {
     ghost use Rattle.std.specs.Prelude.{◌≡◌, ℕ, ◌+◌, ◌<◌, ◌≤◌, false, IfErr, OnOk, OnErr};
     ghost use Rattle.enclave_table.specs.Checks.{leave_checks};
-    ghost use Rattle.enclave_table.specs.Living.{Leaves};
+    ghost use Rattle.enclave_table.specs.Lives.{Leaves};
     ghost use Rattle.enclave_table.specs.Refusals.{FailsFirst};
     ghost use Rattle.enclave_table.specs.declared.enclave.Enclave.{Enclave};
     ghost use Rattle.monitor_core.specs.Changes.{back_to_host, with_table};

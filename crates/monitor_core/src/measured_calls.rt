@@ -13,7 +13,7 @@ impl Parts {
     ghost use Rattle.monitor_core.specs.Changes.{past_call, with_running};
     ghost use Rattle.monitor_core.specs.Frames.{IsOn, KeepsFrame, LoadsAnew};
     ghost use Rattle.monitor_core.specs.Measured.{IsMeasuredFor, asked_in};
-    ghost use Rattle.enclave_table.specs.Creating.{IsMeasured};
+    ghost use Rattle.enclave_table.specs.Create.{IsMeasured};
     ghost use Rattle.monitor_core.specs.Parts.{HoldsTogether, state_in};
     ghost use Rattle.monitor_core.specs.States.{running_registers};
     ghost use Rattle.monitor_core.specs.Steps.{DoesCall, DoesCreate};

@@ -23,7 +23,7 @@ impl Monitor {
     ghost use Rattle.monitor_core.specs.Measured.{IsMeasuredFor, Measures, asked_in};
     ghost use Rattle.pmp_encoding.specs.Limits.{limit_number};
     ghost use Rattle.pmp_match.specs.Meaning.{IsFewest, Needs};
-    ghost use Rattle.enclave_table.specs.Booting.{IsBootFault, opening as opening_table};
+    ghost use Rattle.enclave_table.specs.Boot.{IsBootFault, opening as opening_table};
     ghost use Rattle.enclave_table.specs.Fewest.{FitsIn};
     ghost use Rattle.enclave_table.specs.Platform.{IsLayout};
     ghost use Rattle.enclave_table.specs.Tables.{IsTable};

@@ -8,7 +8,7 @@ use Rattle.permission_map.specs.declared.runs.Run.{Run}
 use Rattle.permission_map.specs.declared.fault.MapFault.{MapFault}
 use Rattle.permission_map.specs.declared.fault.MapFault.TheVariants.{PastEnd, TooManyRanges, Memory}
 use Rattle.permission_map.specs.Runs.{end_of, AreRuns, in_range, view_of_runs}
-use Rattle.permission_map.specs.Overwriting.{AreOverwritten, IsBelow, IsAbove, IsNew, Becomes}
+use Rattle.permission_map.specs.Overwrite.{AreOverwritten, IsBelow, IsAbove, IsNew, Becomes}
 use Rattle.permission_map.proofs.Rising.{range_above, range_past}
 use Rattle.permission_map.proofs.Determined.{determined}
 use Rattle.permission_map.proofs.Parted.{at_back}

@@ -11,7 +11,7 @@ use Rattle.pmp_encoding.specs.declared.perm.Perm.TheVariants.{NoAccess}
 use Rattle.permission_map.specs.declared.runs.Run.{Run}
 use Rattle.permission_map.specs.Runs.{end_of, AreRunsAfter, AreRuns, view_of_runs}
 use Rattle.permission_map.specs.Views.{overwritten, SameView}
-use Rattle.permission_map.specs.Overwriting.{AreOverwritten, IsBelow, IsAbove, IsNew}
+use Rattle.permission_map.specs.Overwrite.{AreOverwritten, IsBelow, IsAbove, IsNew}
 use Rattle.permission_map.proofs.Parted.{at_front, at_back, below_end, below_clear, below_cut_at, below_joined_at, above_all, above_clear, above_cut_at, above_joined_at}
 use Rattle.permission_map.proofs.Answered.{none_wanted, one_wanted, in_order, wanted_is}
 use Rattle.permission_map.proofs.Overwritten.{changed_below, changed_past, changed_in}

@@ -6,7 +6,7 @@ use Rattle.pmp_encoding.specs.declared.perm.Perm.TheVariants.{NoAccess}
 use Rattle.permission_map.specs.declared.runs.Run.{Run}
 use Rattle.permission_map.specs.Runs.{end_of, IsRunAfter, AreRunsAfter, in_range, view_of_runs}
 use Rattle.permission_map.specs.Views.{overwritten}
-use Rattle.permission_map.specs.Overwriting.{AreOverwritten, last_end, last_perm, IsBelow, IsAbove, IsNew}
+use Rattle.permission_map.specs.Overwrite.{AreOverwritten, last_end, last_perm, IsBelow, IsAbove, IsNew}
 use Rattle.permission_map.proofs.Rising.{range_above, range_past, range_has, view_above, view_past, view_in, view_before, view_second, runs_append, runs_earlier}
 use Rattle.permission_map.proofs.Seams.{view_only}
 

@@ -7,7 +7,7 @@ use Rattle.pmp_encoding.specs.declared.perm.Perm.{Perm}
 use Rattle.pmp_encoding.specs.declared.perm.Perm.TheVariants.{NoAccess}
 use Rattle.permission_map.specs.declared.runs.Run.{Run}
 use Rattle.permission_map.specs.Runs.{end_of, AreRunsAfter, AreRuns}
-use Rattle.permission_map.specs.Overwriting.{last_end, IsBelow, IsAbove}
+use Rattle.permission_map.specs.Overwrite.{last_end, IsBelow, IsAbove}
 use Rattle.permission_map.proofs.Rising.{runs_second, last_end-append}
 use Rattle.permission_map.proofs.Seams.{below_none, below_cut, below_joined, above_none, above_cut, above_joined}
 

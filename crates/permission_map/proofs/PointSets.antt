@@ -9,7 +9,7 @@ use Rattle.pmp_encoding.specs.declared.perm.Perm.TheVariants.{NoAccess}
 use Rattle.permission_map.specs.declared.points.Point.{Point}
 use Rattle.permission_map.specs.Runs.{in_range}
 use Rattle.permission_map.specs.Views.{overwritten}
-use Rattle.permission_map.specs.Overwriting.{AreOverwritten}
+use Rattle.permission_map.specs.Overwrite.{AreOverwritten}
 use Rattle.permission_map.specs.Points.{ArePoints, ArePointsAfter, IsBuilt, IsStop, IsTurn, allows, page_of, perm_of, runs_of, standing}
 use Rattle.permission_map.proofs.Overwritten.{changed_below, changed_in, changed_past}
 use Rattle.permission_map.proofs.PointLists.{count_by-append}

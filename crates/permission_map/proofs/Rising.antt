@@ -7,7 +7,7 @@ use Rattle.pmp_encoding.specs.declared.perm.Perm.{Perm}
 use Rattle.pmp_encoding.specs.declared.perm.Perm.TheVariants.{NoAccess}
 use Rattle.permission_map.specs.declared.runs.Run.{Run}
 use Rattle.permission_map.specs.Runs.{end_of, AreRunsAfter, in_range, view_of_runs}
-use Rattle.permission_map.specs.Overwriting.{last_end, last_perm}
+use Rattle.permission_map.specs.Overwrite.{last_end, last_perm}
 
 -- ---- a page and a range
 

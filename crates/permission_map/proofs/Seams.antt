@@ -7,7 +7,7 @@ use Rattle.pmp_encoding.specs.declared.perm.Perm.{Perm}
 use Rattle.pmp_encoding.specs.declared.perm.Perm.TheVariants.{NoAccess}
 use Rattle.permission_map.specs.declared.runs.Run.{Run}
 use Rattle.permission_map.specs.Runs.{end_of, AreRunsAfter, AreRuns, view_of_runs}
-use Rattle.permission_map.specs.Overwriting.{last_end, last_perm, IsBelow, IsAbove}
+use Rattle.permission_map.specs.Overwrite.{last_end, last_perm, IsBelow, IsAbove}
 use Rattle.permission_map.proofs.Rising.{view_above, view_past, view_in, view_before, view_second, view_alike, runs_first, runs_second, runs_append, runs_apart, last_end-append, last_perm-append}
 
 -- runs with a list after that says nothing of a page

@@ -8,8 +8,8 @@ use Rattle.pmp_encoding.specs.declared.perm.Perm.{Perm}
 use Rattle.pmp_encoding.specs.declared.perm.Perm.TheVariants.{NoAccess}
 use Rattle.permission_map.specs.declared.runs.Run.{Run}
 use Rattle.permission_map.specs.Runs.{end_of, AreRunsAfter, AreRuns, view_of_runs}
-use Rattle.permission_map.specs.Searching.{IsNext}
-use Rattle.permission_map.specs.Overwriting.{last_end, last_perm}
+use Rattle.permission_map.specs.Search.{IsNext}
+use Rattle.permission_map.specs.Overwrite.{last_end, last_perm}
 use Rattle.permission_map.proofs.Rising.{view_above, view_past, view_in, view_before, view_differs, runs_first, runs_second, view_second}
 
 -- ---- the ends rise, and so do the first pages

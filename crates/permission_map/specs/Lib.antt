@@ -1,6 +1,6 @@
 pub mod Faults
 pub mod Runs
 pub mod Views
-pub mod Searching
-pub mod Overwriting
+pub mod Search
+pub mod Overwrite
 pub mod Points

@@ -3,12 +3,12 @@
 ghost use Rattle.std.specs.Prelude.{◌≡◌, ◌≤◌, ◌<◌, ◌+◌, ◌++◌, ◌^◌, ◌↔◌, List, [], length, Err, OnOk, OnErr, IfOk, vec_capacity};
 ghost use Rattle.permission_map.specs.declared.runs.Run.{Run};
 ghost use Rattle.permission_map.specs.declared.fault.MapFault as MapFault;
-ghost use Rattle.permission_map.specs.Overwriting.{AreOverwritten, Becomes};
+ghost use Rattle.permission_map.specs.Overwrite.{AreOverwritten, Becomes};
 ghost use Rattle.permission_map.specs.Points.{ArePoints, IsBuilt, next_page, runs_of};
 
 use crate::fault::MapFault;
 use crate::map::{Memory, PermissionMap};
-use crate::overwriting::MOST_RUNS;
+use crate::overwrite::MOST_RUNS;
 use crate::points::{
     Point, before, begun_at, begun_between, replace, standing_behind, stop, turn, up_to,
 };

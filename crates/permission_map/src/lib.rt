@@ -26,10 +26,10 @@ mod builder;
 mod fault;
 mod laws;
 mod map;
-mod overwriting;
+mod overwrite;
 mod points;
 mod runs;
-mod searching;
+mod search;
 
 pub use builder::MapBuilder;
 pub use fault::MapFault;

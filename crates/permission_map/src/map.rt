@@ -7,13 +7,13 @@ ghost use Rattle.page_views.specs.Views.{IsUniform};
 ghost use Rattle.permission_map.specs.declared.runs.Run.{Run};
 ghost use Rattle.permission_map.specs.declared.fault.MapFault as MapFault;
 ghost use Rattle.permission_map.specs.Runs.{AreRuns, view_of_runs};
-ghost use Rattle.permission_map.specs.Overwriting.{AreOverwritten};
-ghost use Rattle.permission_map.specs.Searching.{IsNext};
+ghost use Rattle.permission_map.specs.Overwrite.{AreOverwritten};
+ghost use Rattle.permission_map.specs.Search.{IsNext};
 
 use crate::fault::MapFault;
-use crate::overwriting::overwrite;
+use crate::overwrite::overwrite;
 use crate::runs::Run;
-use crate::searching::next;
+use crate::search::next;
 use page_views::{SPACE_PAGES, pages_of};
 use pmp_encoding::Perm;
 use std::alloc::{AllocError, Global};

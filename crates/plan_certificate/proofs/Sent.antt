@@ -16,7 +16,7 @@ use Rattle.certificate_format.specs.declared.costs.SixCosts.{SixCosts}
 use Rattle.certificate_format.specs.Costs.{cost_of, six_of}
 use Rattle.certificate_format.specs.Spelling.{costs_bytes, node_bytes}
 use Rattle.byte_streams.specs.Writings.{Breaks, writing}
-use Rattle.plan_certificate.specs.Sending.{Taken, IsPut, IsCut, taken}
+use Rattle.plan_certificate.specs.Pieces.{Taken, IsPut, IsCut, taken}
 use Rattle.plan_certificate.specs.Written.{entry_bytes}
 
 pub put_none : (held : List ℕ) (sink : Taken) → IsPut held held sink sink []

@@ -1,4 +1,4 @@
 pub mod Spelling
 pub mod Written
-pub mod Sending
+pub mod Pieces
 pub mod ChainBytes

@@ -11,10 +11,10 @@
 //! ```
 #![tactic(auto)]
 
+mod certificate;
 mod laws;
-mod sending;
-mod writing;
+mod pieces;
 
+pub use certificate::{send_map, write, write_map};
 pub use certificate_format::{Header, ReadFault, Reader, Tag, Version};
 pub use laws::certificate_law;
-pub use writing::{send_map, write, write_map};

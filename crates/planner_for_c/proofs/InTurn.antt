@@ -4,7 +4,7 @@ use Rattle.std.proofs.Math.Seq.{take-length}
 use Rattle.pmp_encoding.specs.declared.perm.Perm.{Perm}
 use Rattle.pmp_encoding.proofs.Pairs.{perm_from_same_bits}
 use Rattle.permission_map.specs.declared.runs.Run.{Run}
-use Rattle.permission_map.specs.Overwriting.{AreOverwritten}
+use Rattle.permission_map.specs.Overwrite.{AreOverwritten}
 use Rattle.permission_map.proofs.Determined.{determined}
 use Rattle.planner_for_c.specs.declared.settings.Setting.{Setting}
 use Rattle.planner_for_c.specs.declared.settings.SettingFault.{SettingFault}

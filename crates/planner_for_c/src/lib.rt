@@ -9,15 +9,15 @@
 #![tactic(auto)]
 
 mod access;
-mod checking;
-mod judging;
-mod planning;
+mod check;
+mod judge;
+mod plan;
 mod registers;
 mod settings;
 
 pub use access::AccessWords;
-pub use checking::pmpmon_check;
-pub use judging::pmpmon_judge;
-pub use planning::{pmpmon_needed, pmpmon_plan};
+pub use check::pmpmon_check;
+pub use judge::pmpmon_judge;
+pub use plan::{pmpmon_needed, pmpmon_plan};
 pub use registers::Registers;
 pub use settings::{Setting, SettingFault};

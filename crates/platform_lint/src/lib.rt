@@ -9,7 +9,7 @@
 #![tactic(auto)]
 
 mod breach;
-mod finding;
+mod first_breach;
 mod lint;
 mod ranges;
 mod rules;

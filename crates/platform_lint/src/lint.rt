@@ -13,7 +13,7 @@ ghost use Rattle.platform_lint.specs.declared.breach.Breach.{Breach};
 ghost use Rattle.platform_lint.specs.declared.lint.LintFault as LintFault;
 
 use crate::breach::Breach;
-use crate::finding::form_breach;
+use crate::first_breach::form_breach;
 use crate::rules::rule_breach;
 use crate::texts::{push, push_breach, push_number};
 use byte_streams::{Sink, write_whole};

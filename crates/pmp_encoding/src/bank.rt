@@ -5,12 +5,12 @@ ghost use Rattle.pmp_encoding.specs.Extents.{AreExtents};
 ghost use Rattle.pmp_encoding.specs.Limits.{limit_number};
 
 use crate::csr::{Csr, csr_of, fault_of_word};
-use crate::decoding::decode;
 use crate::extent::Extent;
 use crate::fault::EncodingFault;
 use crate::limit::Limit;
 use crate::perm::Perm;
 use crate::region::Entry;
+use crate::register_pair::decode;
 
 /// The PMP registers of a hart: eight configuration words pmpcfg0, pmpcfg2, .. pmpcfg14, of eight bytes each, the
 /// lowest byte first, and 64 address registers. No pair that it holds has a fault, and with a limit of sixteen each

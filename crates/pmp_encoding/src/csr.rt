@@ -5,9 +5,9 @@ ghost use Rattle.pmp_encoding.specs.Csrs.{IsCsr, IsFaultlessWord, IsFaultOfWord}
 ghost use Rattle.pmp_encoding.specs.Named.{IsNamed};
 
 use crate::bank::byte_of;
-use crate::decoding::fault_of;
 use crate::fault::EncodingFault;
 use crate::limit::Limit;
+use crate::register_pair::fault_of;
 
 /// A register of a bank.
 #[derive(Clone, Copy)]

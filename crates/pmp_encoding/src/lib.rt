@@ -20,19 +20,19 @@
 
 mod bank;
 mod csr;
-mod decoding;
 mod extent;
 mod fault;
 mod laws;
 mod limit;
 mod perm;
 mod region;
+mod register_pair;
 
 pub use bank::Bank;
-pub use decoding::decode;
 pub use extent::Extent;
 pub use fault::EncodingFault;
 pub use laws::{bank_law, faultless_law, list_law, one_law, pair_law, round_trip_law};
 pub use limit::Limit;
 pub use perm::Perm;
 pub use region::{Entry, Region, SPACE_SIZE};
+pub use register_pair::decode;

@@ -19,12 +19,12 @@
 
 mod access;
 mod cause;
-mod judging;
+mod judgement;
 mod laws;
 mod segments;
 
 pub use access::{Access, Kind, Mode};
 pub use cause::Cause;
-pub use judging::judge;
+pub use judgement::judge;
 pub use laws::{byte_law, decision_law, judgement_law, least_law, needs_law, page_law};
 pub use segments::Segments;

@@ -12,7 +12,7 @@ ghost use Rattle.pmp_match.specs.Segments.{IsWithin, Decides, IsSegmentOf};
 
 use crate::access::Access;
 use crate::cause::Cause;
-use crate::judging::{access_fault, holds, is_aligned, is_machine, judge};
+use crate::judgement::{access_fault, holds, is_aligned, is_machine, judge};
 use page_views::SPACE_SIZE;
 use pmp_encoding::{Bank, Extent, Perm};
 

@@ -5,7 +5,7 @@ use Rattle.pmp_encoding.specs.declared.perm.Perm.{Perm}
 use Rattle.pmp_encoding.specs.declared.perm.Perm.TheVariants.{NoAccess}
 use Rattle.permission_map.specs.declared.runs.Run.{Run}
 use Rattle.permission_map.specs.Runs.{end_of, view_of_runs, AreRunsAfter, AreRuns}
-use Rattle.permission_map.specs.Overwriting.{last_end, last_perm}
+use Rattle.permission_map.specs.Overwrite.{last_end, last_perm}
 use Rattle.std.proofs.lemmas.Bool.{cases_lt}
 use Rattle.permission_map.proofs.Rising.{view_in, runs_first, runs_second}
 use Rattle.permission_map.proofs.Searched.{next_is, begins_inside, ends_inside}

@@ -2,8 +2,8 @@
 use Rattle.std.specs.Prelude.{◌≡◌, ℕ, ◌+◌, ◌^◌, ◌<◌, ◌≤◌, ◌⊎◌}
 use Rattle.permission_map.specs.declared.runs.Run.{Run}
 use Rattle.permission_map.specs.Runs.{end_of}
-use Rattle.prefix_tree.specs.declared.overwriting.Overlap.{Overlap}
-use Rattle.prefix_tree.specs.declared.overwriting.Overlap.TheVariants.{Apart, Within, Partly}
+use Rattle.prefix_tree.specs.declared.overwrite.Overlap.{Overlap}
+use Rattle.prefix_tree.specs.declared.overwrite.Overlap.TheVariants.{Apart, Within, Partly}
 
 -- the block of the 2 ^ height pages from `first` on
 abbrev pub IsOverlap : Run → ℕ → ℕ → Overlap → Type 0

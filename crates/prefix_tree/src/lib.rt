@@ -23,13 +23,13 @@
 #![tactic(auto)]
 
 mod blocks;
-mod building;
 mod chains;
 mod halving;
-mod joining;
+mod join;
 mod laws;
 mod map_blocks;
-mod overwriting;
+mod map_tree;
+mod overwrite;
 mod trees;
 
 pub use blocks::{Block, Parts};

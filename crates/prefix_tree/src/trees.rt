@@ -12,10 +12,10 @@ ghost use Rattle.prefix_tree.specs.Counts.{splits, leaves};
 ghost use Rattle.prefix_tree.specs.Shapes.{shape_of};
 
 use crate::blocks::Block;
-use crate::building::build_block;
-use crate::joining::run_count;
+use crate::join::run_count;
 use crate::map_blocks::MapBlock;
-use crate::overwriting::overwritten_block;
+use crate::map_tree::build_block;
+use crate::overwrite::overwritten_block;
 use page_views::SPACE_PAGES;
 use permission_map::{MapFault, Memory, PermissionMap, Run};
 use pmp_encoding::Perm;

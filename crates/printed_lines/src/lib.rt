@@ -11,10 +11,10 @@
 mod digests;
 mod fields;
 mod hexadecimal;
-mod printing;
+mod plan;
 mod texts;
 
 pub use digests::{digest_text, measure_line};
 pub use fields::{letters, push_size};
-pub use printing::print_plan;
+pub use plan::print_plan;
 pub use texts::{accepted_line, accepted_of_line, count_line, entry_line, refused_line, word_line};

@@ -10,8 +10,8 @@ use Rattle.pmp_registers.specs.Bytes.{IsGiven, perm_at}
 use Rattle.pmp_registers.specs.Decision.{ContainsAll, ExtentsMean, Meets, NoneMeets}
 use Rattle.stretches.specs.declared.stretch.Stretch.{Stretch}
 use Rattle.stretches.specs.Stretches.{IsStretch}
-use Rattle.register_audit.specs.declared.comparing.Finding.{Finding}
-use Rattle.register_audit.specs.declared.comparing.Finding.TheVariants as findings
+use Rattle.register_audit.specs.declared.finding.Finding.{Finding}
+use Rattle.register_audit.specs.declared.finding.Finding.TheVariants as findings
 
 -- the extents give the bytes of the stretch the permission of the view
 abbrev pub agrees : Stretch → Type 0

@@ -12,13 +12,13 @@
 //! ```
 #![tactic(auto)]
 
-mod auditing;
-mod comparing;
-mod cutting;
+mod cut;
+mod finding;
+mod listing_audit;
 mod texts;
 mod verdict;
 
-pub use auditing::{AuditFault, audit};
-pub use comparing::{Finding, compared};
+pub use finding::{Finding, compared};
+pub use listing_audit::{AuditFault, audit};
 pub use texts::{passed_line, reserved_line, smepmp_line};
 pub use verdict::{Verdict, count_on, verdict_of};

@@ -5,7 +5,7 @@ ghost use Rattle.permission_map.specs.Runs.{view_of_runs};
 ghost use Rattle.register_audit.specs.Registers.{count_on, one_on};
 ghost use Rattle.register_audit.specs.Verdicts.{IsVerdict};
 
-use crate::comparing::{Finding, compared};
+use crate::finding::{Finding, compared};
 use permission_map::{Memory, PermissionMap};
 use pmp_registers::{Registers, ReservedAt, extents_of};
 use std::alloc::Global;

@@ -12,7 +12,7 @@ mod asm_rows;
 mod c_rows;
 mod json_rows;
 mod names;
-mod printing;
+mod print;
 mod rows;
 
-pub use printing::{print_asm, print_c, print_json};
+pub use print::{print_asm, print_c, print_json};

@@ -5,7 +5,7 @@ use Rattle.pmp_encoding.specs.declared.extent.Extent.{Extent}
 use Rattle.pmp_encoding.specs.declared.perm.Perm.{Perm}
 use Rattle.pmp_encoding.specs.declared.perm.Perm.TheVariants.{NoAccess}
 use Rattle.permission_map.specs.declared.runs.Run.{Run}
-use Rattle.permission_map.specs.Overwriting.{AreOverwritten}
+use Rattle.permission_map.specs.Overwrite.{AreOverwritten}
 use Rattle.permission_map.specs.Runs.{view_of_runs}
 use Rattle.permission_map.proofs.Overwritten.{changed_below, changed_in, changed_past}
 use Rattle.std.proofs.lemmas.List.{drop_all, drop_more}

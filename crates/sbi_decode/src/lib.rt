@@ -14,9 +14,9 @@
 #![tactic(auto)]
 
 mod calls;
-mod decoding;
+mod named_call;
 mod registers;
 
 pub use calls::{Call, EXTENSION_ID, NotSupported};
-pub use decoding::decode;
+pub use named_call::decode;
 pub use registers::Registers;

@@ -6,8 +6,8 @@ use Rattle.pmp_match.specs.SegmentedBank.{bank_of}
 use Rattle.text_lines.specs.declared.fault.RunFault.{RunFault}
 use Rattle.text_lines.specs.LineLoop.{Meaning}
 use Rattle.text_lines.proofs.Mapped.{Follows}
-use Rattle.trace_judge.specs.declared.judging.Judge.{Judge}
-use Rattle.trace_judge.specs.Judging.{judged_by}
+use Rattle.trace_judge.specs.declared.judge.Judge.{Judge}
+use Rattle.trace_judge.specs.Answers.{judged_by}
 
 -- by one bank
 abbrev pub Keeps : Bank → Judge → Type 0

@@ -5,7 +5,7 @@ use Rattle.std.proofs.lemmas.Fmt.{decimal_digit}
 use Rattle.pmp_match.specs.declared.cause.Cause.{Cause}
 use Rattle.pmp_match.specs.declared.cause.Cause.TheVariants.{FetchMisaligned, FetchFault, LoadMisaligned, LoadFault, StoreMisaligned, StoreFault}
 use Rattle.pmp_match.specs.Causes.{cause_number}
-use Rattle.trace_judge.specs.Judging.{answer_text}
+use Rattle.trace_judge.specs.Answers.{answer_text}
 
 one_digit : (cause : Cause) → decimal (cause_number cause) ≡ (48 + cause_number cause) ∷ []
 one_digit FetchMisaligned = decimal_digit (cause_number FetchMisaligned) (omega arith)

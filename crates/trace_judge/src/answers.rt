@@ -1,7 +1,7 @@
 //! The answer to an access, as a line.
 
 ghost use Rattle.std.specs.Prelude.{◌≡◌, []};
-ghost use Rattle.trace_judge.specs.Judging.{answer_text};
+ghost use Rattle.trace_judge.specs.Answers.{answer_text};
 
 use arrayvec::ArrayVec;
 use pmp_match::Cause;

@@ -11,7 +11,7 @@
 #![tactic(auto)]
 
 mod answers;
-mod judging;
+mod judge;
 
 pub use answers::{answer_line, push_answer};
-pub use judging::judge_trace;
+pub use judge::judge_trace;

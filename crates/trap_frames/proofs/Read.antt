@@ -11,8 +11,8 @@ use Rattle.trap_frames.specs.declared.fault.FrameFault.TheVariants as faults
 use Rattle.trap_frames.specs.declared.end.Refusal.{Refusal}
 use Rattle.trap_frames.specs.declared.end.Refusal.TheVariants.{NotUnderstood, Platform, NeedsEntries, Memory}
 use Rattle.trap_frames.specs.Words.{platform_tag, word_at}
-use Rattle.trap_frames.specs.Reading.{Filled}
-use Rattle.trap_frames.specs.Measuring.{ArePages, Measures, ReadsPage}
+use Rattle.trap_frames.specs.FrameBytes.{Filled}
+use Rattle.trap_frames.specs.PageDigest.{ArePages, Measures, ReadsPage}
 use Rattle.trap_frames.specs.Traps.{CountsWrite}
 use Rattle.enclave_table.specs.declared.request.Create.{Create}
 use Rattle.std.proofs.KnownBytes.{Consumes-trans}

@@ -1,7 +1,7 @@
 pub mod Words
-pub mod Reading
+pub mod FrameBytes
 pub mod Traps
 pub mod Platforms
-pub mod Measuring
+pub mod PageDigest
 pub mod Answers
 pub mod Ends

@@ -9,7 +9,7 @@ use Rattle.enclave_table.specs.Refusals.{FailsFirst}
 use Rattle.enclave_table.specs.declared.platform.PlatformFault.{PlatformFault}
 use Rattle.enclave_table.specs.declared.platform.PlatformFault.TheVariants.{BadNumber, BadHarts, BadEntries}
 use Rattle.trap_frames.specs.Words.{word_at, platform_tag}
-use Rattle.trap_frames.specs.Reading.{Breaks}
+use Rattle.trap_frames.specs.FrameBytes.{Breaks}
 use Rattle.trap_frames.specs.declared.fault.FrameFault.{FrameFault}
 use Rattle.trap_frames.specs.declared.fault.FrameFault.TheVariants as faults
 use Rattle.trap_frames.specs.declared.end.Refusal.{Refusal}

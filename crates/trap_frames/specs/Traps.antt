@@ -4,7 +4,7 @@ use Rattle.std.specs.Io.KnownBytes.{Consumes, IsAtEnd}
 use Rattle.byte_streams.specs.Streams.{WriteFails, one_failure_more}
 use Rattle.sbi_decode.specs.Registers.{RegisterFile, x_of}
 use Rattle.trap_frames.specs.Words.{word_at, call_tag, stop_tag}
-use Rattle.trap_frames.specs.Reading.{Breaks}
+use Rattle.trap_frames.specs.FrameBytes.{Breaks}
 use Rattle.trap_frames.specs.declared.trap.Event.{Event}
 use Rattle.trap_frames.specs.declared.trap.Event.TheVariants.{Call, Stop}
 use Rattle.trap_frames.specs.declared.trap.Trap.{Trap}

@@ -13,15 +13,15 @@ mod answer;
 mod end;
 mod fault;
 mod frame;
-mod measuring;
+mod frame_bytes;
+mod page_digest;
 mod platform_frame;
-mod reading;
 mod trap;
 
 pub use answer::{Head, put_answer};
 pub use end::{Refusal, end_frame};
 pub use fault::FrameFault;
 pub use frame::{AnswerBytes, ShortBytes};
-pub use measuring::digest_of;
+pub use page_digest::digest_of;
 pub use platform_frame::read_platform;
 pub use trap::{Event, Trap, read_trap};

@@ -13,7 +13,7 @@ ghost use Rattle.trap_frames.specs.Platforms.{AreFew, AreNoRanges, IsNoPlatform,
 use crate::end::Refusal;
 use crate::fault::FrameFault;
 use crate::frame::{TAG_PLATFORM, word};
-use crate::reading::read_whole;
+use crate::frame_bytes::read_whole;
 use arrayvec::ArrayVec;
 use byte_streams::Source;
 use enclave_table::{Platform, PlatformFault};

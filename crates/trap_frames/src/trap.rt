@@ -8,7 +8,7 @@ ghost use Rattle.trap_frames.specs.Traps.{HasRegisters, IsTrapFrame, ReadsTrap, 
 
 use crate::fault::FrameFault;
 use crate::frame::{TAG_CALL, TAG_STOP, word};
-use crate::reading::read_whole;
+use crate::frame_bytes::read_whole;
 use byte_streams::Source;
 use sbi_decode::Registers;
 

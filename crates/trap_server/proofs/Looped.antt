@@ -13,7 +13,7 @@ use Rattle.trap_frames.specs.declared.end.Refusal.TheVariants as refusals
 use Rattle.trap_server.specs.declared.fault.ServeFault.{ServeFault}
 use Rattle.trap_server.specs.declared.fault.ServeFault.TheVariants as faults
 use Rattle.trap_server.specs.Ends.{fault_of}
-use Rattle.trap_server.specs.Booting.{Boots, BootsOn, RefusesFirst, StopsAtFirst}
+use Rattle.trap_server.specs.Boot.{Boots, BootsOn, RefusesFirst, StopsAtFirst}
 use Rattle.trap_frames.specs.Platforms.{IsNoPlatform, IsPlatformFrame, ReadsPlatform}
 use Rattle.trap_frames.specs.Traps.{IsNoTrap, IsTrapFrame, ReadsTrap}
 use Rattle.trap_server.specs.Answered.{AreAwake, IsAnswer, no_answer}

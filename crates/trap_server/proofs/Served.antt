@@ -12,8 +12,8 @@ use Rattle.enclave_table.specs.declared.request.Create.{Create}
 use Rattle.worlds.specs.declared.world.World.{World}
 use Rattle.worlds.specs.declared.world.World.TheVariants.{Host}
 use Rattle.monitor_core.specs.Measured.{IsMeasuredFor, Measures, asked_in}
-use Rattle.trap_frames.specs.Measuring.{ArePages}
-use Rattle.trap_frames.specs.Measuring.{Measures as MeasuresPages}
+use Rattle.trap_frames.specs.PageDigest.{ArePages}
+use Rattle.trap_frames.specs.PageDigest.{Measures as MeasuresPages}
 use Rattle.trap_frames.specs.declared.fault.FrameFault.{FrameFault}
 use Rattle.trap_frames.specs.declared.fault.FrameFault.TheVariants as frames
 use Rattle.trap_frames.specs.declared.trap.Event.TheVariants.{Call}
@@ -24,12 +24,12 @@ use Rattle.trap_frames.specs.Traps.{ReadsTrap}
 use Rattle.trap_frames.specs.Traps.{CountsRead as CountsFrame}
 use Rattle.trap_frames.specs.Traps.{CountsWrite as CountsFrameWrite}
 use Rattle.trap_frames.specs.Platforms.{ReadsPlatform}
-use Rattle.trap_frames.specs.Measuring.{next_page, no_page}
+use Rattle.trap_frames.specs.PageDigest.{next_page, no_page}
 use Rattle.monitor_core.specs.States.{State}
 use Rattle.trap_frames.specs.declared.trap.Trap.{Trap}
 use Rattle.trap_server.specs.declared.fault.ServeFault.{ServeFault}
 use Rattle.trap_server.specs.Answered.{AreAwake, marks_of, unmarked}
-use Rattle.trap_server.specs.Serving.{ServesTrap}
+use Rattle.trap_server.specs.Service.{ServesTrap}
 use Rattle.trap_server.specs.Steps.{MayWake, Serves, StopsTrap, Writes}
 
 -- pages by their numbers, from a first one on

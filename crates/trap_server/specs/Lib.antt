@@ -1,6 +1,6 @@
 pub mod Answered
-pub mod Serving
+pub mod Service
 pub mod Ends
 pub mod Steps
-pub mod Booting
+pub mod Boot
 pub mod Runs

@@ -10,10 +10,10 @@ use Rattle.trap_server.specs.declared.fault.ServeFault.{ServeFault}
 use Rattle.trap_server.specs.declared.fault.ServeFault.TheVariants as faults
 use Rattle.trap_frames.specs.declared.end.Refusal.TheVariants.{NotUnderstood}
 use Rattle.trap_server.specs.Ends.{LastIs}
-use Rattle.trap_server.specs.Booting.{StopsAtFirst}
+use Rattle.trap_server.specs.Boot.{StopsAtFirst}
 use Rattle.trap_server.specs.Steps.{StopsTrap}
 use Rattle.trap_server.specs.Answered.{IsAnswer, no_answer}
-use Rattle.trap_server.specs.Serving.{ServesTrap}
+use Rattle.trap_server.specs.Service.{ServesTrap}
 
 -- traps that were served in turn, from one state to another: the bytes that were read for them, and those that were written
 pub data Serves (old : State) : List ℕ → List ℕ → State → Type 0 where

@@ -9,12 +9,12 @@ use Rattle.trap_server.specs.Answered.{AreAwake}
 use Rattle.trap_server.specs.declared.fault.ServeFault.TheVariants as faults
 use Rattle.trap_server.specs.Ends.{LastIs}
 use Rattle.enclave_table.specs.declared.request.Create.{Create}
-use Rattle.trap_frames.specs.Measuring.{StopsAtPage}
+use Rattle.trap_frames.specs.PageDigest.{StopsAtPage}
 use Rattle.trap_frames.specs.declared.trap.Event.TheVariants.{Call}
 use Rattle.trap_frames.specs.declared.end.Refusal.TheVariants.{NotUnderstood}
 use Rattle.sbi_decode.specs.Calls.{call_of}
 use Rattle.monitor_core.specs.Measured.{IsMeasuredFor, Measures, asked_in}
-use Rattle.trap_server.specs.Serving.{AsksFor, ServesTrap}
+use Rattle.trap_server.specs.Service.{AsksFor, ServesTrap}
 
 -- a hart is woken by another only where both are in the host's world
 abbrev pub MayWake : State → ℕ → List Bool → Type 0

@@ -16,9 +16,9 @@
 #![tactic(auto)]
 
 mod fault;
-mod looping;
-mod serving;
+mod service;
+mod trap_loop;
 
 pub use fault::ServeFault;
-pub use looping::serve_traps;
 pub use trap_frames::Refusal;
+pub use trap_loop::serve_traps;

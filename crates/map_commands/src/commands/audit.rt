@@ -4,7 +4,7 @@ ghost use Rattle.std.specs.Prelude.{◌-◌, ◌^◌, ◌<◌};
 ghost use Rattle.byte_streams.specs.Writings.{writing};
 ghost use Rattle.map_commands.specs.Commands.{reading, Audits};
 
-use crate::certifying::fewest_in;
+use crate::certified_plan::fewest_in;
 use crate::commands::answer_status;
 use crate::inputs::{REGISTER_BYTES, bytes_in, map_in};
 use byte_streams::{Sink, Source};

@@ -4,7 +4,7 @@ ghost use Rattle.std.specs.Prelude.{◌-◌, ◌^◌, ◌<◌};
 ghost use Rattle.byte_streams.specs.Writings.{writing};
 ghost use Rattle.map_commands.specs.Commands.{reading, Judges};
 
-use crate::certifying::bank_in;
+use crate::certified_plan::bank_in;
 use crate::inputs::map_in;
 use byte_streams::{Sink, Source};
 use pmp_encoding::Limit;

@@ -4,7 +4,7 @@ ghost use Rattle.std.specs.Prelude.{◌≡◌, ◌-◌, ◌^◌, ◌<◌, ℕ, L
 ghost use Rattle.map_commands.specs.Commands.{most_entries, placing, reading, IsPrinted, IsWithin, Plans};
 ghost use Rattle.byte_streams.specs.Writings.{writing, PrintsOne};
 
-use crate::certifying::plan_and_certify;
+use crate::certified_plan::plan_and_certify;
 use crate::inputs::map_in;
 use byte_streams::{DeviceFault, Sink, Source};
 use pmp_encoding::{Entry, Limit};

@@ -4,7 +4,7 @@ ghost use Rattle.std.specs.Prelude.{◌-◌, ◌^◌, ◌<◌};
 ghost use Rattle.byte_streams.specs.Writings.{writing};
 ghost use Rattle.map_commands.specs.Commands.{reading, Shows, ShowsAs, ShowsRegisters};
 
-use crate::certifying::planned_within;
+use crate::certified_plan::planned_within;
 use crate::commands::answer_status;
 use crate::inputs::{REGISTER_BYTES, bytes_in, map_in};
 use byte_streams::{Sink, Source};

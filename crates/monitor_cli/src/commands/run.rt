@@ -4,9 +4,9 @@ ghost use Rattle.std.specs.Prelude.{◌-◌, ◌^◌, ◌<◌};
 ghost use Rattle.hart_sim.specs.Machines.{KeepsBanksRight};
 ghost use Rattle.byte_streams.specs.Writings.{writing};
 ghost use Rattle.map_commands.specs.Commands.{reading};
-ghost use Rattle.monitor_cli.specs.Running.{Runs, RunsOn};
+ghost use Rattle.monitor_cli.specs.Runs.{Runs, RunsOn};
 
-use crate::running::{booted, print_measures, read_platform};
+use crate::machine_run::{booted, print_measures, read_platform};
 use byte_streams::{DeviceFault, Sink, Source};
 use hart_sim::{Machine, run};
 use program_troubles::Trouble;

@@ -1,4 +1,4 @@
-use Rattle.command_line.specs.Building.{with_arguments}
+use Rattle.command_line.specs.ClapModel.{with_arguments}
 use Rattle.command_line.proofs.subcommands.plan_command.Goals as goal
 
 pub returns : goal.returns

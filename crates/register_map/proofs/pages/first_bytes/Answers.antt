@@ -2,7 +2,7 @@ use Rattle.std.proofs.Common.{[], ◌≡◌, ℕ, Err, ap, drop, get_or, length,
 use Rattle.pmp_encoding.specs.declared.extent.Extent.{Extent}
 use Rattle.pmp_encoding.specs.declared.perm.Perm.TheVariants.{NoAccess}
 use Rattle.permission_map.specs.declared.runs.Run.{Run}
-use Rattle.permission_map.specs.Overwriting.{AreOverwritten}
+use Rattle.permission_map.specs.Overwrite.{AreOverwritten}
 use Rattle.permission_map.specs.Runs.{view_of_runs}
 use Rattle.pmp_registers.specs.Bytes.{perm_at}
 use Rattle.stretches.specs.declared.stretch.Stretch.{Stretch}

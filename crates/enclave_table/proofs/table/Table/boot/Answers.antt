@@ -8,7 +8,7 @@ use Rattle.pmp_encoding.specs.declared.region.Entry.{Entry}
 use Rattle.enclave_table.specs.Views.{host_view}
 use Rattle.enclave_table.specs.Tables.{IsKept, IsHostTree}
 use Rattle.enclave_table.specs.Fewest.{IsListOf}
-use Rattle.enclave_table.specs.Booting.{opening}
+use Rattle.enclave_table.specs.Boot.{opening}
 use Rattle.enclave_table.specs.declared.enclave.Enclave.{Enclave}
 use Rattle.enclave_table.proofs.SameViews.{tree_same, tree_view, fewest_same, needs_of}
 use Rattle.enclave_table.proofs.Booted.{opening_view, opening_kept}

@@ -6,7 +6,7 @@ use Rattle.enclave_table.specs.Enclaves.{EnclaveTable, with_enclave}
 use Rattle.enclave_table.specs.Views.{host_view, enclave_view}
 use Rattle.enclave_table.specs.Tables.{Kept}
 use Rattle.enclave_table.specs.Fewest.{IsListOf}
-use Rattle.enclave_table.specs.Creating.{fresh, RefusesCreate}
+use Rattle.enclave_table.specs.Create.{fresh, RefusesCreate}
 use Rattle.enclave_table.specs.Digests.{measured}
 use Rattle.enclave_table.specs.Refusals.{AllPass, FailsFirst}
 use Rattle.enclave_table.specs.Checks.{create_checks}

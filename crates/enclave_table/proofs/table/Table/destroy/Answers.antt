@@ -1,4 +1,4 @@
-use Rattle.enclave_table.specs.Destroying.{RefusesDestroy}
+use Rattle.enclave_table.specs.Destroy.{RefusesDestroy}
 use Rattle.std.proofs.Common.{◌≡◌, ◌∙◌, ◌+◌, ◌/◌, sym, ap, subst, None}
 use Rattle.std.proofs.lemmas.Option.{same_Some}
 use Rattle.pmp_encoding.specs.declared.perm.Perm.TheVariants.{ReadWriteExecute}

@@ -1,6 +1,6 @@
 use Rattle.std.proofs.Common.{Err, ap, inl, inr, refl}
 use Rattle.std.proofs.lemmas.Result.{err_from_is_err_and}
-use Rattle.trace_judge.specs.Judging.{is_no_access, judged_by}
+use Rattle.trace_judge.specs.Answers.{is_no_access, judged_by}
 use Rattle.map_commands.specs.Commands.{judged, no_bank}
 use Rattle.map_commands.specs.Commands as commands
 use Rattle.map_commands.proofs.Ends.{stops}

@@ -1,7 +1,7 @@
 use Rattle.std.proofs.Common.{refl}
 use Rattle.std.proofs.lemmas.Result.{err_from_is_err_and}
-use Rattle.monitor_cli.specs.Running.{not_booted}
-use Rattle.monitor_cli.specs.Running as commands
+use Rattle.monitor_cli.specs.Runs.{not_booted}
+use Rattle.monitor_cli.specs.Runs as commands
 use Rattle.monitor_cli.proofs.commands.run.do_run.Goals as goal
 
 pub returns-in_err-platform : goal.returns-in_err-platform

@@ -1,7 +1,7 @@
 use Rattle.std.proofs.Common.{Err, ◌∙◌, ap}
 use Rattle.hart_sim.specs.Reports.{DoesLine, RefusesLine, StarvesLine}
-use Rattle.monitor_cli.specs.Running.{ran, not_measured}
-use Rattle.monitor_cli.specs.Running as commands
+use Rattle.monitor_cli.specs.Runs.{ran, not_measured}
+use Rattle.monitor_cli.specs.Runs as commands
 use Rattle.map_commands.proofs.Ends.{stops}
 use Rattle.monitor_cli.proofs.Ends.{measured, unmeasured}
 use Rattle.monitor_cli.proofs.commands.run.run_on.Goals as goal

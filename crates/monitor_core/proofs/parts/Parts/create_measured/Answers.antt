@@ -1,5 +1,5 @@
 use Rattle.std.proofs.Common.{◌∙◌, ◌<◌, inl, inr, refl, ap, sym, subst}
-use Rattle.enclave_table.specs.Creating.{Creates, IsMeasured, RefusesCreate}
+use Rattle.enclave_table.specs.Create.{Creates, IsMeasured, RefusesCreate}
 use Rattle.enclave_table.specs.Refusals.{refusal_number}
 use Rattle.monitor_core.specs.Parts.{state_in}
 use Rattle.monitor_core.specs.Steps.{Refuses}

@@ -1,5 +1,5 @@
 use Rattle.std.proofs.Common.{◌∙◌, ◌<◌, inl, inr, refl, ap, sym, subst, None}
-use Rattle.enclave_table.specs.Destroying.{Destroys, RefusesDestroy}
+use Rattle.enclave_table.specs.Destroy.{Destroys, RefusesDestroy}
 use Rattle.enclave_table.specs.Refusals.{refusal_number}
 use Rattle.enclave_table.proofs.Places.{live_above}
 use Rattle.monitor_core.specs.Parts.{state_in}

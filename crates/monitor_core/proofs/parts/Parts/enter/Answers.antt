@@ -1,6 +1,6 @@
 use Rattle.std.proofs.Common.{◌∙◌, inl, inr, refl, ap, sym, subst, ◌==◌, if◌then◌else◌, ℕ}
 use Rattle.enclave_table.specs.Checks.{MayEnter, host_checks}
-use Rattle.enclave_table.specs.Living.{Enters}
+use Rattle.enclave_table.specs.Lives.{Enters}
 use Rattle.enclave_table.specs.Refusals.{FailsFirst, refusal_number}
 use Rattle.worlds.specs.declared.world.World.TheVariants.{Enclave as InEnclave}
 use Rattle.monitor_core.specs.Changes.{in_world}

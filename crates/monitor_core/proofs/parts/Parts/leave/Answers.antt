@@ -1,5 +1,5 @@
 use Rattle.std.proofs.Common.{◌≡◌, ◌∙◌, ℕ, refl, ap, sym, subst}
-use Rattle.enclave_table.specs.Living.{Leaves}
+use Rattle.enclave_table.specs.Lives.{Leaves}
 use Rattle.worlds.specs.declared.world.World.TheVariants.{Host}
 use Rattle.monitor_core.specs.Changes.{answering, back_to_host, with_table}
 use Rattle.monitor_core.specs.Parts.{state_in, world_in}

@@ -1,5 +1,5 @@
 use Rattle.std.proofs.Common.{◌≡◌, ◌∙◌, inl, inr, refl, ap, sym, subst}
-use Rattle.enclave_table.specs.Living.{Leaves}
+use Rattle.enclave_table.specs.Lives.{Leaves}
 use Rattle.enclave_table.specs.declared.life.Leaving.TheVariants.{Stop}
 use Rattle.enclave_table.specs.declared.refusal.Refusal.TheVariants.{NotEnclave}
 use Rattle.worlds.specs.declared.world.World.TheVariants.{Host, Enclave as InEnclave}

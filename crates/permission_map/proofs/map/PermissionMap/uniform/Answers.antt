@@ -1,6 +1,6 @@
 use Rattle.std.proofs.Common.{◌^◌, arith}
 use Rattle.pmp_encoding.proofs.Multiples.{power_order}
-use Rattle.permission_map.specs.Searching.{IsNext}
+use Rattle.permission_map.specs.Search.{IsNext}
 use Rattle.permission_map.proofs.Searched.{begins_inside, ends_inside}
 use Rattle.permission_map.proofs.map.PermissionMap.uniform.Goals as goal
 use Rattle.permission_map.proofs.map.PermissionMap.uniform.Goals.{then-run-first-via-then-run-first, then-run-first-via-else-run-first+then-run-end-2}

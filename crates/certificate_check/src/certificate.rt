@@ -1,0 +1,53 @@
+//! The check of a certificate: its parts in the order of reading, and the first that is not right.
+
+ghost use Rattle.std.specs.Prelude.{◌≡◌, ◌≤◌, ◌↔◌, ℕ, List, IfOk, IfErr, length};
+ghost use Rattle.pmp_encoding.specs.declared.region.Entry.{Entry};
+ghost use Rattle.pmp_match.specs.Meaning.{Means};
+ghost use Rattle.permission_map.specs.Runs.{view_of_runs};
+ghost use Rattle.certificate_check.specs.Certificates.{IsRight, HoldsFewest, RefusalStands};
+ghost use Rattle.certificate_check.specs.declared.refusal.CheckRefusal.{CheckRefusal};
+
+use crate::entry_list::listed;
+use crate::nodes::root;
+use crate::refusal::CheckRefusal;
+use crate::sweep::means;
+use certificate_format::Reader;
+use permission_map::PermissionMap;
+
+/// Reads the parts in their order, and answers the first that is not right.
+fn read_whole(map: &PermissionMap, bytes: &[u8]) -> Result<u32, CheckRefusal>
+    ensures right { IfOk result (IsRight (view_of_runs map.now) bytes.now) }
+    ensures given { (n : ℕ) → IsRight (view_of_runs map.now) bytes.now n → result ≡ Ok n }
+    ensures fault { IfErr result (RefusalStands (view_of_runs map.now) bytes.now) }
+{
+    let mut reader = Reader::new(bytes);
+    let header = reader.header()?;
+    let list = listed(&mut reader, header.count)?;
+    let root = root(&mut reader, map)?;
+    if header.count > root.no_access {
+        return Err(CheckRefusal::EntriesTooMany);
+    }
+    if !means(&list, map) {
+        return Err(CheckRefusal::WrongMeaning);
+    }
+    if !reader.rest().is_empty() {
+        return Err(CheckRefusal::Trailing);
+    }
+    Ok(header.count)
+}
+
+/// Checks that the bytes are a right certificate of fewest entries for the map, and answers how many entries it has.
+///
+/// A yes says that the bytes hold that many entries that mean the map (RISC-V Privileged Architecture, Physical Memory
+/// Protection), and that no list of fewer entries does. The refusal is the first in the order of reading: header,
+/// entries, nodes in preorder, and then the number of entries, their meaning and bytes after the root.
+pub fn check(map: &PermissionMap, bytes: &[u8]) -> Result<u32, CheckRefusal>
+    ensures fewest { IfOk result (HoldsFewest (view_of_runs map.now) bytes.now) }
+    ensures least { IfOk result (λ n.
+        (others : List Entry) → Means others (view_of_runs map.now) → n ≤ length others) }
+    ensures right { (n : ℕ) → (result ≡ Ok n) ↔ IsRight (view_of_runs map.now) bytes.now n }
+    ensures fault { (refusal : CheckRefusal)
+        → (result ≡ Err refusal) ↔ RefusalStands (view_of_runs map.now) bytes.now refusal }
+{
+    read_whole(map, bytes)
+}

@@ -1,0 +1,29 @@
+//! The switch from one world to another.
+
+ghost use Rattle.std.specs.Prelude.{◌≤◌, length};
+ghost use Rattle.pmp_encoding.specs.Limits.{limit_number};
+ghost use Rattle.pmp_encoding.specs.Banks.{limit_of, HasList, IsBankOf};
+ghost use Rattle.worlds.specs.Runners.{IsWorld};
+ghost use Rattle.context_switch.specs.Harts.{bank_of};
+ghost use Rattle.context_switch.specs.Switch.{Switches};
+
+use crate::contexts::Contexts;
+use crate::hart::Hart;
+use pmp_encoding::Entry;
+use worlds::World;
+
+/// Leaves the hart's world and goes to `to`, the host or an enclave with an id from 1 to 64: the hart's registers are
+/// saved as those of the world that it leaves, those of the other are loaded, and the entries, at most as many as the
+/// hart's bank has places, become its bank. It always succeeds.
+pub fn switch(hart: &mut Hart, contexts: &mut Contexts, to: World, entries: &[Entry])
+    requires world { IsWorld to }
+    requires entries { length entries.now ≤ limit_number (limit_of (bank_of hart.old)) }
+    ensures switches { Switches hart.old hart.new contexts.old contexts.new to }
+    ensures list { HasList (bank_of hart.new) entries.now }
+    ensures bank { IsBankOf (bank_of hart.new) (limit_of (bank_of hart.old)) entries.now }
+{
+    contexts.set(hart.number(), hart.world, hart.registers);
+    hart.registers = contexts.get(hart.number(), to);
+    hart.world = to;
+    hart.bank.load(entries);
+}

@@ -1,0 +1,205 @@
+//! The pass down the tree: which blocks take an entry.
+
+use crate::costs::HalfPerms;
+use page_views::pages_of;
+use pmp_encoding::{Entry, Perm, Region};
+use prefix_tree::{Chain, Halving};
+use std::alloc::AllocError;
+
+/// An aligned block of 2^log2 pages.
+#[derive(Clone, Copy)]
+pub struct Pages {
+    pub first: u64,
+    pub log2: u32,
+}
+
+/// A block that waits for the entry that gives it another permission than the inherited one.
+#[derive(Clone, Copy)]
+struct Waiting {
+    pages: Pages,
+    from: Perm,
+    perm: Perm,
+}
+
+ghost use Rattle.std.specs.Prelude.{◌≡◌, ◌+◌, ◌-◌, ◌*◌, ◌≤◌, ◌<◌, ◌^◌, ◌++◌, List, IfOk, OnOk, reverse};
+ghost use Rattle.pmp_encoding.specs.declared.region.Entry.{Entry};
+ghost use Rattle.prefix_tree.specs.Chains.{chained};
+ghost use Rattle.prefix_tree.specs.Trees.{PermTree, Fits};
+ghost use Rattle.entry_planner.specs.declared.costs.HalfPerms.{HalfPerms};
+ghost use Rattle.entry_planner.specs.Choice.{AddsChosen, handed_on};
+ghost use Rattle.entry_planner.specs.Placement.{ArePages, IsOwn};
+ghost use Rattle.entry_planner.specs.Plans.{half_perms, half_perms_in};
+
+impl Waiting {
+    fn new(pages: Pages, from: Perm, perm: Perm) -> Waiting
+        ensures { result ≡ record { pages = pages; from = from; perm = perm } }
+    {
+        Waiting { pages, from, perm }
+    }
+}
+
+impl Pages {
+    fn lower(self) -> Pages
+        requires split { 0 < self.log2 }
+        requires pages { ArePages self.log2 self.first }
+        ensures first { result.first ≡ self.first }
+        ensures log2 { result.log2 + 1 ≡ self.log2 }
+        ensures pages { ArePages result.log2 result.first }
+    {
+        Pages {
+            first: self.first,
+            log2: self.log2 - 1,
+        }
+    }
+
+    fn upper(self) -> Pages
+        requires split { 0 < self.log2 }
+        requires pages { ArePages self.log2 self.first }
+        ensures first { result.first ≡ self.first + 2 ^ (self.log2 - 1) }
+        ensures log2 { result.log2 + 1 ≡ self.log2 }
+        ensures pages { ArePages result.log2 result.first }
+    {
+        Pages {
+            first: self.first + pages_of(self.log2 - 1),
+            log2: self.log2 - 1,
+        }
+    }
+
+    /// The region of these pages.
+    fn region(self) -> Region
+        requires { ArePages self.log2 self.first }
+        ensures base { result.base ≡ self.first * 4096 }
+        ensures log2 { result.log2 ≡ self.log2 + 12 }
+    {
+        Region {
+            base: self.first * 4096,
+            log2: self.log2 + 12,
+        }
+    }
+}
+
+/// The permission that the halves of a split block inherit: the first that is best for both, where there is one
+/// and the permission that the block inherits is best for neither; otherwise that one.
+fn chosen(perms: HalfPerms, inherited: Perm) -> Perm
+    ensures { (low high : PermTree) → perms ≡ half_perms low high
+        → result ≡ handed_on low high inherited }
+{
+    if perms.either.contains(inherited) {
+        return inherited;
+    }
+    match perms.both.first() {
+        Some(perm) => perm,
+        None => inherited,
+    }
+}
+
+/// Adds the entry that gives a block another permission than the inherited one.
+fn turn(
+    pages: Pages,
+    inherited: Perm,
+    perm: Perm,
+    entries: &mut Vec<Entry>,
+) -> Result<(), AllocError>
+    requires { ArePages pages.log2 pages.first }
+    ensures { OnOk result ((own : List Entry) × (entries.new.items ≡ entries.old.items ++ own)
+        × IsOwn pages.log2 pages.first inherited perm own) }
+{
+    if perm != inherited {
+        let region = pages.region();
+        entries.push(Entry { region, perm })?;
+    }
+    Ok(())
+}
+
+/// Adds the entries of the largest block of a chain, as [`place`] does. An upper half's waits for those of the lower half
+/// that are as large, so that those of one size come by rising address.
+#[cycle(placing)]
+fn place_chain<'a, H: Halving>(
+    chain: Chain,
+    smallest: &H,
+    pages: Pages,
+    inherited: Perm,
+    halves: &'a [HalfPerms],
+    entries: &mut Vec<Entry>,
+) -> Result<&'a [HalfPerms], AllocError>
+    requires chain { chain.place < 2 ^ chain.levels }
+    requires most { chain.levels ≤ 44 }
+    requires fits { Fits pages.log2 (chained chain (H.shape smallest.now)) }
+    requires pages { ArePages pages.log2 pages.first }
+    requires halves { (rest : List HalfPerms)
+        × (halves.now ≡ rest ++ reverse (half_perms_in (chained chain (H.shape smallest.now)))) }
+    ensures rest { IfOk result (λ rest.
+        halves.now ≡ rest.now ++ reverse (half_perms_in (chained chain (H.shape smallest.now)))) }
+    ensures placed { OnOk result
+        (AddsChosen pages.log2 pages.first inherited (chained chain (H.shape smallest.now))
+        entries.old.items entries.new.items) }
+{
+    let mut rest = chain;
+    let mut block = pages;
+    let mut from = inherited;
+    let mut left = halves;
+    let mut late = Waiting::new(pages, inherited, inherited);
+    while rest.levels > 0 {
+        let [others @ .., perms] = left else {
+            unreachable!();
+        };
+        let perm = chosen(*perms, from);
+        turn(block, from, perm, entries)?;
+        turn(late.pages, late.from, late.perm, entries)?;
+        let lower = block.lower();
+        let upper = block.upper();
+        if rest.goes_up() {
+            turn(lower, perm, rest.before, entries)?;
+            late.perm = late.from;
+            block = upper;
+        } else {
+            late = Waiting::new(upper, perm, rest.behind);
+            block = lower;
+        }
+        let smaller = rest.smaller();
+        rest = smaller;
+        from = perm;
+        left = others;
+    }
+    let others = place(smallest, block, from, left, entries)?;
+    turn(late.pages, late.from, late.perm, entries)?;
+    Ok(others)
+}
+
+/// Adds the entries of a block that inherits a permission. The halves' permissions of its split blocks
+/// come last in the list, the first in preorder last; what comes before them is handed back.
+#[cycle(placing)]
+pub fn place<'a, H: Halving>(
+    block: &H,
+    pages: Pages,
+    inherited: Perm,
+    halves: &'a [HalfPerms],
+    entries: &mut Vec<Entry>,
+) -> Result<&'a [HalfPerms], AllocError>
+    requires fits { Fits pages.log2 (H.shape block.now) }
+    requires pages { ArePages pages.log2 pages.first }
+    requires halves { (rest : List HalfPerms)
+        × (halves.now ≡ rest ++ reverse (half_perms_in (H.shape block.now))) }
+    ensures rest { IfOk result (λ rest. halves.now ≡ rest.now
+        ++ reverse (half_perms_in (H.shape block.now))) }
+    ensures placed { OnOk result (AddsChosen pages.log2 pages.first inherited (H.shape block.now)
+        entries.old.items entries.new.items) }
+{
+    if let Some(perm) = block.one_perm() {
+        turn(pages, inherited, perm, entries)?;
+        return Ok(halves);
+    }
+    if let Some((chain, smallest)) = block.chain() {
+        let rest = place_chain(chain, &smallest, pages, inherited, halves, entries)?;
+        return Ok(rest);
+    }
+    let (lower, upper) = block.halves();
+    let [rest @ .., perms] = halves else {
+        unreachable!();
+    };
+    let perm = chosen(*perms, inherited);
+    let rest = place(&lower, pages.lower(), perm, rest, entries)?;
+    let rest = place(&upper, pages.upper(), perm, rest, entries)?;
+    turn(pages, inherited, perm, entries)?;
+    Ok(rest)
+}

@@ -1,0 +1,108 @@
+//! The plan of a tree or of a map.
+
+ghost use Rattle.std.specs.Prelude.{◌≡◌, ◌≤◌, ◌*◌, List, length, All, IfOk, reverse};
+ghost use Rattle.pmp_encoding.specs.declared.perm.Perm.TheVariants.{NoAccess};
+ghost use Rattle.pmp_encoding.specs.declared.region.Entry.{Entry};
+ghost use Rattle.pmp_match.specs.Bounds.{IsSoundBound, bound_of};
+ghost use Rattle.pmp_match.specs.Meaning.{IsFewest};
+ghost use Rattle.prefix_tree.specs.Counts.{splits};
+ghost use Rattle.prefix_tree.specs.Trees.{Fits, view_of_tree};
+ghost use Rattle.entry_planner.specs.Order.{AreInOrder};
+ghost use Rattle.entry_planner.specs.Choice.{AreChosen};
+ghost use Rattle.entry_planner.specs.Plans.{CostsAre, IsMade, costed, half_perms_in};
+ghost use Rattle.permission_map.specs.Runs.{view_of_runs};
+ghost use Rattle.prefix_tree.specs.TreeOf.{tree_of};
+
+use crate::costs::{HalfPerms, add_costs};
+use crate::order::put_in_order;
+use crate::placement::{Pages, place};
+use crate::planned::Plan;
+use permission_map::{Memory, PermissionMap};
+use pmp_encoding::{Entry, Perm};
+use prefix_tree::{Halving, MapBlock, Tree};
+use std::alloc::Global;
+
+/// The entries of the whole space, in which no access is inherited, in order.
+fn entries_of<H: Halving>(
+    alloc: Global,
+    root: &H,
+    least: u32,
+    halves: Vec<HalfPerms>,
+) -> Result<Vec<Entry>, Memory>
+    requires fits { Fits 44 (H.shape root.now) }
+    requires halves { halves.items ≡ reverse (half_perms_in (H.shape root.now)) }
+    ensures chosen { IfOk result (λ v. AreChosen (H.shape root.now) v.items) }
+    ensures order { IfOk result (λ v. AreInOrder v.items) }
+{
+    let mut entries = Vec::with_capacity(alloc, least as usize)?;
+    let space = Pages { first: 0, log2: 44 };
+    let _ = place(root, space, Perm::NoAccess, halves.as_slice(), &mut entries)?;
+    // The places that the entries are moved to take memory too.
+    drop(halves);
+    put_in_order(&mut entries);
+    Ok(entries)
+}
+
+/// The plan of a tree: the fewest entries that mean its view, and what each of its split blocks costs.
+///
+/// The list lets supervisor and user do, at every naturally aligned access in the space, just what the view lets them
+/// do, and no list of entries of any regions in any order that does so is shorter. Its regions are of whole pages, and
+/// the smaller come before the larger, those of one size by rising address. Of the lists with these properties it is
+/// the one of ORTC's pass down: from the whole space, which inherits no access, a block that is split gets an entry
+/// only where that saves more than it costs, for the first permission in the order none, R, RW, X, RX, RWX under which
+/// its halves cost least. The only error is out of memory.
+/// (RISC-V Privileged Architecture, Physical Memory Protection: priority and matching logic. The passes up and down
+/// are those of ORTC, Draves and others, 1999, with permissions for next hops and no access for the default route.)
+pub fn plan(alloc: Global, tree: &Tree) -> Result<Plan, Memory>
+    ensures fewest { IfOk result (λ plan. IsFewest (view_of_tree tree.now) plan.entries) }
+    ensures pages { IfOk result (λ plan. All (λ e. 12 ≤ e.region.log2) plan.entries) }
+    ensures order { IfOk result (λ plan. AreInOrder plan.entries) }
+    ensures choice { IfOk result (λ plan. AreChosen tree.now plan.entries) }
+    ensures costs { IfOk result (λ plan. CostsAre plan.costs 0 tree.now) }
+    ensures branches { IfOk result (λ plan. length plan.costs ≡ splits tree.now) }
+    ensures bound { IfOk result (λ plan. IsSoundBound (view_of_tree tree.now)
+        (costed plan.costs 0 tree.now)) }
+    ensures root { IfOk result (λ plan. bound_of (costed plan.costs 0 tree.now) NoAccess
+        ≡ length plan.entries) }
+{
+    let plan = plan_of(alloc, &tree.root(), tree.branches())?;
+    Ok(plan)
+}
+
+/// The plan of a map, as [`plan`] has it for the canonical tree of its view. That tree has at most 44 split blocks for
+/// each of the two ends of a run, and is not made.
+pub fn plan_map(alloc: Global, map: &PermissionMap) -> Result<Plan, Memory>
+    ensures fewest { IfOk result (λ plan. IsFewest (view_of_runs map.now) plan.entries) }
+    ensures pages { IfOk result (λ plan. All (λ e. 12 ≤ e.region.log2) plan.entries) }
+    ensures order { IfOk result (λ plan. AreInOrder plan.entries) }
+    ensures choice { IfOk result (λ plan.
+        AreChosen (tree_of (view_of_runs map.now)) plan.entries) }
+    ensures costs { IfOk result (λ plan. CostsAre plan.costs 0 (tree_of (view_of_runs map.now))) }
+    ensures branches { IfOk result (λ plan.
+        length plan.costs ≡ splits (tree_of (view_of_runs map.now))) }
+    ensures most { IfOk result (λ plan. length plan.costs ≤ 44 * 8192) }
+    ensures bound { IfOk result (λ plan.
+        IsSoundBound (view_of_runs map.now)
+        (costed plan.costs 0 (tree_of (view_of_runs map.now)))) }
+    ensures root { IfOk result (λ plan.
+        bound_of (costed plan.costs 0 (tree_of (view_of_runs map.now)))
+        NoAccess ≡ length plan.entries) }
+{
+    let most = 88 * map.ranges().len();
+    let plan = plan_of(alloc, &MapBlock::of(map), most)?;
+    Ok(plan)
+}
+
+/// The plan of the space, of which so many blocks are split at most.
+fn plan_of<H: Halving>(alloc: Global, root: &H, most: usize) -> Result<Plan, Memory>
+    requires fits { Fits 44 (H.shape root.now) }
+    requires splits { splits (H.shape root.now) ≤ most }
+    requires most { most ≤ 88 * 4096 }
+    ensures { IfOk result (λ plan. IsMade (H.shape root.now) plan) }
+{
+    let mut costs = Vec::with_capacity(alloc, most)?;
+    let mut halves = Vec::with_capacity(alloc, most)?;
+    let cost = add_costs(root, &mut costs, &mut halves)?;
+    let entries = entries_of(alloc, root, cost.least + 1, halves)?;
+    Ok(Plan::new(entries, costs))
+}

@@ -1,0 +1,146 @@
+//! The parts of `run`: the platform, the machine that boots on it, and the measurements after its report.
+
+ghost use Rattle.std.specs.Prelude.{◌≡◌, ◌-◌, ◌^◌, ◌<◌, ◌≤◌, ◌++◌, ◌⊎◌, ℕ, List, Err, IfErr, IfOk, IfSome, None};
+ghost use Rattle.byteorder.specs.Endian.{little_bytes};
+ghost use Rattle.byte_streams.specs.Writings.{writing, Breaks, PrintsOne, TakesAll};
+ghost use Rattle.enclave_table.specs.Boot.{IsBootFault};
+ghost use Rattle.enclave_table.specs.declared.boot.BootFault.{BootFault};
+ghost use Rattle.enclave_table.specs.declared.enclave.Enclave.{Enclave};
+ghost use Rattle.enclave_table.specs.Digests.{AnswersWord};
+ghost use Rattle.enclave_table.specs.Enclaves.{Live};
+ghost use Rattle.enclave_table.specs.Platform.{Layout};
+ghost use Rattle.hart_sim.specs.After.{IsBooted};
+ghost use Rattle.hart_sim.specs.Machines.{KeepsBanksRight};
+ghost use Rattle.program_troubles.specs.Troubles.{boot_trouble};
+ghost use Rattle.map_commands.specs.Commands.{reading};
+ghost use Rattle.monitor_cli.specs.Runs.{HasNoPlatform, HasPlatform};
+ghost use Rattle.monitor_cli.specs.Tasks.{AreMeasures, IsDigest, IsMeasureText};
+ghost use Rattle.platform_file.specs.Document.{IsPlatformFile};
+
+use byte_streams::{DeviceFault, Sink, Source, write_whole};
+use byteorder::{ByteOrder, LittleEndian};
+use enclave_table::{Platform, Table};
+use hart_sim::Machine;
+use map_commands::bytes_in;
+use platform_file::platform_of;
+use printed_lines::measure_line;
+use program_troubles::Trouble;
+use std::alloc::Global;
+use std::str;
+
+/// How many bytes a platform file may have.
+const PLATFORM_BYTES: usize = 1 << 20;
+
+/// The most enclaves that are live, and their largest id.
+const ENCLAVES: u64 = 64;
+
+/// The platform that the bytes of a file are.
+pub fn platform_in<'a>(alloc: Global, file: &'a str, bytes: &[u8]) -> Result<Platform, Trouble<'a>>
+    ensures ok { IfOk result (IsPlatformFile bytes.now) }
+    ensures refused { IfErr result (λ trouble.
+        (trouble ≡ Trouble.Memory)
+        ⊎ ((trouble ≡ Trouble.NotAPlatform file.entry)
+        × ((platform : Layout) → IsPlatformFile bytes.now platform → ⊥))) }
+{
+    let Ok(text) = str::from_utf8(bytes) else {
+        return Err(Trouble::NotAPlatform { file });
+    };
+    match platform_of(alloc, text) {
+        Ok(platform) => Ok(platform),
+        Err(fault) => Err(Trouble::of_text(file, fault)),
+    }
+}
+
+/// The platform of a platform file.
+pub fn read_platform<'a, R: Source>(
+    alloc: Global,
+    file: &'a str,
+    source: &mut R,
+) -> Result<Platform, Trouble<'a>>
+    ensures made { IfOk result
+        (HasPlatform (reading R.remaining R.failures source.old source.new)) }
+    ensures refused { IfErr result
+        (HasNoPlatform file.entry (reading R.remaining R.failures source.old source.new)) }
+{
+    let bytes = bytes_in(alloc, file, source, PLATFORM_BYTES)?;
+    platform_in(alloc, file, bytes.as_slice())
+}
+
+/// The machine of a platform.
+pub fn booted<'a>(alloc: Global, platform: Platform) -> Result<Machine, Trouble<'a>>
+    ensures kept { IfOk result (λ machine. KeepsBanksRight machine) }
+    ensures booted { IfOk result (IsBooted platform) }
+    ensures refused { IfErr result (λ trouble.
+        (fault : BootFault) × IsBootFault platform fault × (trouble ≡ boot_trouble fault)) }
+{
+    match Machine::boot(alloc, platform) {
+        Ok(machine) => Ok(machine),
+        Err(fault) => Err(Trouble::of_boot(fault)),
+    }
+}
+
+/// A word of the digest of an enclave, none where it is not live.
+#[tactic(auto, using(crate::proofs::Live::not_live))]
+fn word_of(table: &Table, id: u64, k: u64) -> Option<u64>
+    requires { k < 4 }
+    ensures some { IfSome result (AnswersWord table.now.table id k) }
+    ensures none { result ≡ None → (enclave : Enclave) → ¬ Live table.now.table id enclave }
+{
+    match table.word(id, k) {
+        Ok(word) => Some(word),
+        Err(_) => None,
+    }
+}
+
+/// Four words as bytes, each with its lowest byte first.
+fn bytes_of(first: u64, second: u64, third: u64, fourth: u64) -> [u8; 32]
+    ensures { result ≡ little_bytes 8 first ++
+        (little_bytes 8 second ++ (little_bytes 8 third ++ little_bytes 8 fourth)) }
+{
+    let mut bytes = [0; 32];
+    LittleEndian::write_u64(&mut bytes[..8], first);
+    LittleEndian::write_u64(&mut bytes[8..16], second);
+    LittleEndian::write_u64(&mut bytes[16..24], third);
+    LittleEndian::write_u64(&mut bytes[24..], fourth);
+    bytes
+}
+
+/// The digest of an enclave, none where it is not live.
+fn digest_of(table: &Table, id: u64) -> Option<[u8; 32]>
+    ensures some { IfSome result (IsDigest table.now.table id) }
+    ensures none { result ≡ None → (enclave : Enclave) → ¬ Live table.now.table id enclave }
+{
+    let first = word_of(table, id, 0)?;
+    let second = word_of(table, id, 1)?;
+    let third = word_of(table, id, 2)?;
+    let fourth = word_of(table, id, 3)?;
+    Some(bytes_of(first, second, third, fourth))
+}
+
+/// Writes the line of an enclave, where it is live.
+fn print_measure<W: Sink>(table: &Table, id: u64, out: &mut W) -> Result<(), DeviceFault>
+    ensures { PrintsOne (IsMeasureText table.now.table id)
+        (writing W.contents W.failures W.stalls out.old out.new) result }
+{
+    let Some(digest) = digest_of(table, id) else {
+        return Ok(());
+    };
+    let line = measure_line(id, &digest);
+    write_whole(out, line.as_slice())?;
+    Ok(())
+}
+
+/// Writes a line for each live enclave, by rising id.
+pub fn print_measures<W: Sink>(table: &Table, out: &mut W) -> Result<(), DeviceFault>
+    ensures written { IfOk result (λ _. (text : List ℕ)
+        × AreMeasures table.now.table 64 text
+        × TakesAll text (writing W.contents W.failures W.stalls out.old out.new)) }
+    ensures broken { IfErr result (λ _. (n : ℕ) × (n ≤ 64) × (text : List ℕ)
+        × AreMeasures table.now.table n text
+        × Breaks text (writing W.contents W.failures W.stalls out.old out.new)) }
+{
+    for i in 0..ENCLAVES {
+        print_measure(table, i + 1, out)?;
+    }
+    Ok(())
+}

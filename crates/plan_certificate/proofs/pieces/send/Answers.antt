@@ -1,0 +1,54 @@
+use Rattle.std.proofs.Common.{◌≡◌, ◌∙◌, ◌++◌, List, [], ℕ, append-nil, ap₂, subst}
+use Rattle.std.specs.List.{flat_map}
+use Rattle.pmp_encoding.specs.declared.region.Entry.{Entry}
+use Rattle.entry_planner.specs.Plans.{costed}
+use Rattle.certificate_format.specs.declared.header.Version.{Version}
+use Rattle.certificate_format.specs.Spelling.{header_bytes, node_bytes}
+use Rattle.plan_certificate.specs.Pieces.{taken, IsCut}
+use Rattle.plan_certificate.specs.Written.{entry_bytes}
+use Rattle.plan_certificate.proofs.Sent.{breaks_of_cut, put_then, cut_then, cut_more, cut_whole, cut_in_piece}
+use Rattle.plan_certificate.proofs.pieces.send.Goals as goal
+
+front : ℕ → Version → List ℕ
+front count version = header_bytes (record { version = version; count = count })
+
+-- the header, the entries and the root
+parts : (nodes held : List ℕ) (count n : ℕ) (version v : Version) (listed entries : List Entry) → held ≡ front count version → count ≡ n → version ≡ v → listed ≡ entries
+    → held ++ (flat_map entry_bytes listed ++ nodes) ≡ front n v ++ (flat_map entry_bytes entries ++ nodes)
+parts nodes held count n version v listed entries is_held is_count is_version is_listed =
+    ap₂ (λ (a : List ℕ) (es : List Entry). a ++ (flat_map entry_bytes es ++ nodes)) (is_held ∙ ap₂ front is_count is_version) is_listed
+
+pub returns-in_default-clause-prints : goal.returns-in_default-clause-prints
+unfolding front
+returns-in_default-clause-prints g c =
+    let now = taken g.W.Sink.contents g.W.Sink.failures g.W.Sink.stalls in
+    let nodes = node_bytes (costed c.args.plan.now.costs 0 (g.H.Halving.shape c.args.root.now)) in
+    breaks_of_cut g.W.Sink.contents g.W.Sink.failures g.W.Sink.stalls _
+    (subst (λ (b : List ℕ). IsCut [] (now c.args.sink.now) (now c.put_entries.new.sink) b)
+    (parts nodes _ _ _ _ _ _ _ c.header_piece-piece.ensures c.needed.ensures c.version_for.ensures c.entries.ensures)
+    (cut_whole _ _ _ _ (cut_more _ _ _ _ nodes c.in_default.ensures.cut)))
+
+pub returns-in_default-put_node-clause-prints : goal.returns-in_default-put_node-clause-prints
+unfolding front
+returns-in_default-put_node-clause-prints g c =
+    let now = taken g.W.Sink.contents g.W.Sink.failures g.W.Sink.stalls in
+    let nodes = node_bytes (costed c.args.plan.now.costs 0 (g.H.Halving.shape c.args.root.now)) in
+    breaks_of_cut g.W.Sink.contents g.W.Sink.failures g.W.Sink.stalls _
+    (subst (λ (b : List ℕ). IsCut [] (now c.args.sink.now) (now c.put_node.new.sink) b)
+    (parts nodes _ _ _ _ _ _ _ c.header_piece-piece.ensures c.needed.ensures c.version_for.ensures c.entries.ensures)
+    (cut_whole _ _ _ _ (cut_then _ _ _ _ _ _ _ c.in-Ok.ensures.put c.in_default-put_node.ensures.cut)))
+
+pub returns-in_default-write_whole-clause-prints : goal.returns-in_default-write_whole-clause-prints
+unfolding front
+returns-in_default-write_whole-clause-prints g c =
+    let now = taken g.W.Sink.contents g.W.Sink.failures g.W.Sink.stalls in
+    let nodes = node_bytes (costed c.args.plan.now.costs 0 (g.H.Halving.shape c.args.root.now)) in
+    let put = put_then _ _ _ _ _ _ _ _ c.in-Ok.ensures.put c.in-Ok-put_node.ensures.put in
+    let cut : IsCut c.put_node.new.piece.items (now c.put_node.new.sink) (now c.write_whole.new.sink) [] =
+    cut_in_piece _ _ _ [] (rw c.as_slice.ensures.value at c.in_default-write_whole.ensures.part) c.in_default-write_whole.ensures.fails
+    in
+    breaks_of_cut g.W.Sink.contents g.W.Sink.failures g.W.Sink.stalls _
+    (subst (λ (b : List ℕ). IsCut [] (now c.args.sink.now) (now c.write_whole.new.sink) b)
+    (parts nodes _ _ _ _ _ _ _ c.header_piece-piece.ensures c.needed.ensures c.version_for.ensures c.entries.ensures)
+    (cut_whole _ _ _ _
+    (subst (λ (b : List ℕ). IsCut c.header_piece-piece.result.items (now c.args.sink.now) (now c.write_whole.new.sink) b) (append-nil (flat_map entry_bytes c.entries.result.now ++ nodes)) (cut_then _ _ _ _ _ _ _ put cut))))

@@ -1,0 +1,365 @@
+//! The certificate, written piece by piece to a sink.
+
+ghost use Rattle.std.specs.Prelude.{◌≡◌, ◌+◌, ◌-◌, ◌*◌, ◌≤◌, ◌<◌, ◌^◌, ◌∷◌, ◌++◌, ℕ, List, [], IfOk, IfErr, OnOk, length};
+ghost use Rattle.std.specs.List.{flat_map};
+ghost use Rattle.byte_streams.specs.Writings.{writing, Prints};
+ghost use Rattle.pmp_encoding.specs.declared.perm.Perm.{Perm};
+ghost use Rattle.prefix_tree.specs.Chains.{IsChain};
+ghost use Rattle.prefix_tree.specs.Counts.{splits};
+ghost use Rattle.prefix_tree.specs.Trees.{Fits};
+ghost use Rattle.entry_planner.specs.Plans.{cost_in, costed};
+ghost use Rattle.certificate_format.specs.Costs.{cost_of, six_of};
+ghost use Rattle.certificate_format.specs.Spelling.{costs_bytes, header_bytes, version_bytes, node_bytes, FitsNode};
+ghost use Rattle.plan_certificate.specs.ChainBytes.{head_bytes, tail_bytes};
+ghost use Rattle.plan_certificate.specs.Pieces.{taken, IsPut, IsCut};
+ghost use Rattle.plan_certificate.specs.Written.{version_for, entry_bytes, certificate_for};
+
+use arrayvec::ArrayVec;
+use byte_streams::{DeviceFault, Sink, write_whole};
+use byteorder::{ByteOrder, LittleEndian};
+use certificate_format::{Header, SixCosts, Version};
+use entry_planner::Plan;
+use pmp_encoding::{Entry, Limit, Perm};
+use prefix_tree::{Chain, Halving};
+
+/// How many bytes go to a sink at a time.
+const PIECE: usize = 32768;
+
+fn version_for(limit: Limit) -> Version
+    ensures { result ≡ version_for limit }
+{
+    match limit {
+        Limit::Sixteen => Version::One,
+        Limit::SixtyFour => Version::Two(limit),
+    }
+}
+
+/// Puts bytes after those that are held, for which there is room.
+fn hold(piece: &mut ArrayVec<u8, PIECE>, bytes: &[u8])
+    requires { length piece.old.items + length bytes.now ≤ 32768 }
+    ensures { piece.new.items ≡ piece.old.items ++ bytes.now }
+{
+    let Ok(()) = piece.try_extend_from_slice(bytes) else {
+        unreachable!();
+    };
+}
+
+/// Puts the form after what is held.
+fn hold_version(piece: &mut ArrayVec<u8, PIECE>, version: Version)
+    requires { length piece.old.items ≤ 32766 }
+    ensures { piece.new.items ≡ piece.old.items ++ version_bytes version }
+{
+    match version {
+        Version::One => hold(piece, [1].as_slice()),
+        Version::Two(limit) => hold(piece, [2, limit.number() as u8].as_slice()),
+    }
+}
+
+/// The header's bytes.
+#[tactic(auto, unfolding(crate::specs::Spelling::u32_bytes))]
+fn header_piece(header: Header) -> ArrayVec<u8, PIECE>
+    ensures { result.items ≡ header_bytes header }
+{
+    let mut piece = ArrayVec::new();
+    hold(&mut piece, b"PMPC".as_slice());
+    hold_version(&mut piece, header.version);
+    hold(&mut piece, header.count.to_le_bytes().as_slice());
+    piece
+}
+
+/// An entry's configuration byte and address register.
+#[tactic(auto, unfolding(crate::specs::Spelling::u64_bytes))]
+fn pair_of(entry: &Entry) -> [u8; 9]
+    ensures { result ≡ entry_bytes entry.now }
+{
+    let (cfg, address) = entry.encode();
+    let mut bytes = [cfg; 9];
+    LittleEndian::write_u64(&mut bytes[1..], address);
+    bytes
+}
+
+/// The costs of the i-th split block.
+fn costs_of(plan: &Plan, i: usize) -> SixCosts
+    requires { i < length plan.now.costs }
+    ensures costs { result ≡ six_of (cost_in plan.now.costs i) }
+    ensures fits { (perm : Perm) → cost_in plan.now.costs i perm < 2 ^ 32 }
+{
+    SixCosts {
+        no_access: plan.cost(i, Perm::NoAccess),
+        read: plan.cost(i, Perm::Read),
+        read_write: plan.cost(i, Perm::ReadWrite),
+        execute: plan.cost(i, Perm::Execute),
+        read_execute: plan.cost(i, Perm::ReadExecute),
+        read_write_execute: plan.cost(i, Perm::ReadWriteExecute),
+    }
+}
+
+/// A branch's tag and its costs.
+#[tactic(auto, unfolding(crate::specs::Spelling::u32_bytes))]
+fn front_of(costs: SixCosts) -> [u8; 25]
+    ensures bytes { result ≡ 1 ∷ costs_bytes (cost_of costs) }
+    ensures size { length result ≡ 25 }
+{
+    let mut bytes = [1; 25];
+    LittleEndian::write_u32(&mut bytes[1..5], costs.no_access);
+    LittleEndian::write_u32(&mut bytes[5..9], costs.read);
+    LittleEndian::write_u32(&mut bytes[9..13], costs.read_write);
+    LittleEndian::write_u32(&mut bytes[13..17], costs.execute);
+    LittleEndian::write_u32(&mut bytes[17..21], costs.read_execute);
+    LittleEndian::write_u32(&mut bytes[21..25], costs.read_write_execute);
+    bytes
+}
+
+/// Makes room for so many bytes after those that are held, which go to the sink where there is none.
+fn make_room<W: Sink>(
+    piece: &mut ArrayVec<u8, PIECE>,
+    room: usize,
+    sink: &mut W,
+) -> Result<(), DeviceFault>
+    requires small { room ≤ 32768 }
+    ensures room { OnOk result (length piece.new.items + room ≤ 32768) }
+    ensures put { IfOk result (λ _.
+        IsPut piece.old.items piece.new.items (taken W.contents W.failures W.stalls sink.old)
+        (taken W.contents W.failures W.stalls sink.new) []) }
+    ensures cut { IfErr result (λ _.
+        (bytes : List ℕ)
+        → IsCut piece.old.items (taken W.contents W.failures W.stalls sink.old)
+        (taken W.contents W.failures W.stalls sink.new) bytes) }
+{
+    if room <= piece.remaining_capacity() {
+        return Ok(());
+    }
+    let Ok(()) = write_whole(sink, piece.as_slice()) else {
+        return Err(DeviceFault);
+    };
+    piece.clear();
+    Ok(())
+}
+
+/// Puts bytes after those that are held, which go to the sink first where there is no room.
+fn put<W: Sink>(
+    piece: &mut ArrayVec<u8, PIECE>,
+    bytes: &[u8],
+    sink: &mut W,
+) -> Result<(), DeviceFault>
+    requires small { length bytes.now ≤ 32768 }
+    ensures put { IfOk result (λ _.
+        IsPut piece.old.items piece.new.items (taken W.contents W.failures W.stalls sink.old)
+        (taken W.contents W.failures W.stalls sink.new) bytes.now) }
+    ensures cut { IfErr result (λ _.
+        IsCut piece.old.items (taken W.contents W.failures W.stalls sink.old)
+        (taken W.contents W.failures W.stalls sink.new) bytes.now) }
+{
+    let Ok(()) = make_room(piece, bytes.len(), sink) else {
+        return Err(DeviceFault);
+    };
+    hold(piece, bytes);
+    Ok(())
+}
+
+/// Puts the entries.
+fn put_entries<W: Sink>(
+    piece: &mut ArrayVec<u8, PIECE>,
+    entries: &[Entry],
+    sink: &mut W,
+) -> Result<(), DeviceFault>
+    ensures put { IfOk result (λ _.
+        IsPut piece.old.items piece.new.items (taken W.contents W.failures W.stalls sink.old)
+        (taken W.contents W.failures W.stalls sink.new) (flat_map entry_bytes entries.now)) }
+    ensures cut { IfErr result (λ _.
+        IsCut piece.old.items (taken W.contents W.failures W.stalls sink.old)
+        (taken W.contents W.failures W.stalls sink.new) (flat_map entry_bytes entries.now)) }
+{
+    for entry in entries {
+        let Ok(()) = put(piece, pair_of(entry).as_slice(), sink) else {
+            return Err(DeviceFault);
+        };
+    }
+    Ok(())
+}
+
+/// Puts what stands before the node of a chain's smallest block: the branches, and the leaves of the pages before it.
+fn hold_heads(piece: &mut ArrayVec<u8, PIECE>, chain: Chain, plan: &Plan, i: usize)
+    requires chain { chain.place < 2 ^ chain.levels }
+    requires most { chain.levels ≤ 44 }
+    requires room { length piece.old.items + 27 * chain.levels ≤ 32768 }
+    requires counted { i + chain.levels ≤ length plan.now.costs }
+    requires small { length plan.now.costs < 2 ^ 64 }
+    ensures held { piece.new.items
+        ≡ piece.old.items ++ head_bytes plan.now.costs i chain.levels chain.place chain.before }
+    ensures fits { (m : ℕ) → i ≤ m → m < i + chain.levels → (perm : Perm)
+        → cost_in plan.now.costs m perm < 2 ^ 32 }
+{
+    let leaf = [0, chain.before.bits()];
+    let bytes = leaf.as_slice();
+    let mut rest = chain;
+    let mut next = i;
+    while rest.levels > 0 {
+        let front = front_of(costs_of(plan, next));
+        let smaller = rest.smaller();
+        hold(piece, front.as_slice());
+        if rest.goes_up() {
+            hold(piece, bytes);
+        }
+        next += 1;
+        rest = smaller;
+    }
+}
+
+/// Puts what stands after it: the leaves of the pages after it.
+fn hold_tails(piece: &mut ArrayVec<u8, PIECE>, chain: Chain)
+    requires chain { chain.place < 2 ^ chain.levels }
+    requires most { chain.levels ≤ 44 }
+    requires room { length piece.old.items + 2 * chain.levels ≤ 32768 }
+    ensures { piece.new.items ≡ piece.old.items
+        ++ tail_bytes chain.levels chain.place chain.behind }
+{
+    let leaf = [0, chain.behind.bits()];
+    let bytes = leaf.as_slice();
+    let mut rest = chain;
+    while rest.levels > 0 {
+        if !rest.goes_up() {
+            hold(piece, bytes);
+        }
+        let smaller = rest.smaller();
+        rest = smaller;
+    }
+}
+
+/// Puts what stands before the node of a chain's smallest block.
+fn put_heads<W: Sink>(
+    piece: &mut ArrayVec<u8, PIECE>,
+    chain: Chain,
+    plan: &Plan,
+    i: usize,
+    sink: &mut W,
+) -> Result<(), DeviceFault>
+    requires chain { IsChain chain }
+    requires counted { i + chain.levels ≤ length plan.now.costs }
+    requires small { length plan.now.costs < 2 ^ 64 }
+    ensures put { IfOk result (λ _.
+        IsPut piece.old.items piece.new.items (taken W.contents W.failures W.stalls sink.old)
+        (taken W.contents W.failures W.stalls sink.new)
+        (head_bytes plan.now.costs i chain.levels chain.place chain.before)) }
+    ensures cut { IfErr result (λ _.
+        (bytes : List ℕ)
+        → IsCut piece.old.items (taken W.contents W.failures W.stalls sink.old)
+        (taken W.contents W.failures W.stalls sink.new) bytes) }
+    ensures fits { OnOk result ((m : ℕ) → i ≤ m → m < i + chain.levels → (perm : Perm)
+        → cost_in plan.now.costs m perm < 2 ^ 32) }
+{
+    let Ok(()) = make_room(piece, 27 * chain.levels as usize, sink) else {
+        return Err(DeviceFault);
+    };
+    hold_heads(piece, chain, plan, i);
+    Ok(())
+}
+
+/// Puts what stands after it.
+fn put_tails<W: Sink>(
+    piece: &mut ArrayVec<u8, PIECE>,
+    chain: Chain,
+    sink: &mut W,
+) -> Result<(), DeviceFault>
+    requires chain { IsChain chain }
+    ensures put { IfOk result (λ _.
+        IsPut piece.old.items piece.new.items (taken W.contents W.failures W.stalls sink.old)
+        (taken W.contents W.failures W.stalls sink.new)
+        (tail_bytes chain.levels chain.place chain.behind)) }
+    ensures cut { IfErr result (λ _.
+        (bytes : List ℕ)
+        → IsCut piece.old.items (taken W.contents W.failures W.stalls sink.old)
+        (taken W.contents W.failures W.stalls sink.new) bytes) }
+{
+    let Ok(()) = make_room(piece, 2 * chain.levels as usize, sink) else {
+        return Err(DeviceFault);
+    };
+    hold_tails(piece, chain);
+    Ok(())
+}
+
+/// Puts the node of a block whose split blocks count from the i-th on, and answers the number of the first one after it.
+fn put_node<H: Halving, W: Sink>(
+    piece: &mut ArrayVec<u8, PIECE>,
+    block: &H,
+    plan: &Plan,
+    i: usize,
+    sink: &mut W,
+) -> Result<usize, DeviceFault>
+    requires counted { i + splits (H.shape block.now) ≤ length plan.now.costs }
+    requires small { length plan.now.costs < 2 ^ 64 }
+    ensures next { IfOk result (λ next. next ≡ i + splits (H.shape block.now)) }
+    ensures put { IfOk result (λ _.
+        IsPut piece.old.items piece.new.items (taken W.contents W.failures W.stalls sink.old)
+        (taken W.contents W.failures W.stalls sink.new)
+        (node_bytes (costed plan.now.costs i (H.shape block.now)))) }
+    ensures cut { IfErr result (λ _.
+        IsCut piece.old.items (taken W.contents W.failures W.stalls sink.old)
+        (taken W.contents W.failures W.stalls sink.new)
+        (node_bytes (costed plan.now.costs i (H.shape block.now)))) }
+    ensures fits { OnOk result ((k : ℕ) → Fits k (H.shape block.now)
+        → FitsNode k (costed plan.now.costs i (H.shape block.now))) }
+{
+    if let Some(perm) = block.one_perm() {
+        let Ok(()) = put(piece, [0, perm.bits()].as_slice(), sink) else {
+            return Err(DeviceFault);
+        };
+        return Ok(i);
+    }
+    if let Some((chain, smallest)) = block.chain() {
+        let Ok(()) = put_heads(piece, chain, plan, i, sink) else {
+            return Err(DeviceFault);
+        };
+        let inside = i + chain.levels as usize;
+        let Ok(next) = put_node(piece, &smallest, plan, inside, sink) else {
+            return Err(DeviceFault);
+        };
+        let Ok(()) = put_tails(piece, chain, sink) else {
+            return Err(DeviceFault);
+        };
+        return Ok(next);
+    }
+    let (lower, upper) = block.halves();
+    let front = front_of(costs_of(plan, i));
+    let Ok(()) = put(piece, front.as_slice(), sink) else {
+        return Err(DeviceFault);
+    };
+    let Ok(middle) = put_node(piece, &lower, plan, i + 1, sink) else {
+        return Err(DeviceFault);
+    };
+    let Ok(next) = put_node(piece, &upper, plan, middle, sink) else {
+        return Err(DeviceFault);
+    };
+    Ok(next)
+}
+
+/// Sends the certificate of the space, of which the plan has so many split blocks, to a sink.
+pub(crate) fn send<H: Halving, W: Sink>(
+    root: &H,
+    plan: &Plan,
+    limit: Limit,
+    sink: &mut W,
+) -> Result<(), DeviceFault>
+    requires splits { splits (H.shape root.now) ≡ length plan.now.costs }
+    requires small { length plan.now.costs < 2 ^ 64 }
+    ensures prints { Prints (certificate_for limit plan.now (H.shape root.now))
+        (writing W.contents W.failures W.stalls sink.old sink.new) result }
+    ensures fits { OnOk result ((k : ℕ) → Fits k (H.shape root.now)
+        → FitsNode k (costed plan.now.costs 0 (H.shape root.now))) }
+{
+    let header = Header {
+        version: version_for(limit),
+        count: plan.needed(),
+    };
+    let mut piece = header_piece(header);
+    let Ok(()) = put_entries(&mut piece, plan.entries(), sink) else {
+        return Err(DeviceFault);
+    };
+    let Ok(_) = put_node(&mut piece, root, plan, 0, sink) else {
+        return Err(DeviceFault);
+    };
+    let Ok(()) = write_whole(sink, piece.as_slice()) else {
+        return Err(DeviceFault);
+    };
+    Ok(())
+}

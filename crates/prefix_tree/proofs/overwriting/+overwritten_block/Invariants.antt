@@ -1,4 +1,0 @@
-use Rattle.prefix_tree.proofs.overwriting.+overwritten_block.Given as goal
-
-abbrev pub decreases-overwritten_block : goal.decreases-overwritten_block
-decreases-overwritten_block l = l.height

@@ -1,0 +1,122 @@
+//! The audit of a listing.
+
+ghost use Rattle.std.specs.Prelude.{◌≡◌, ◌≢◌, ◌⊎◌, ◌-◌, ◌^◌, ◌<◌, ◌++◌, ℕ, Bool, Err, Ok, Some, List, IfOk, OnOk, length, true, false};
+ghost use Rattle.byte_streams.specs.Writings.{writing, Breaks, TakesAll};
+ghost use Rattle.permission_map.specs.Runs.{view_of_runs};
+ghost use Rattle.pmp_registers.specs.Decision.{RegistersMean};
+ghost use Rattle.register_text.specs.declared.listing.Listing.{Listing};
+ghost use Rattle.register_text.specs.Listings.{IsFirstUnknown, listed};
+ghost use Rattle.register_audit.specs.declared.listing_audit.AuditFault as AuditFault;
+ghost use Rattle.register_audit.specs.Audits.{IsAnswer, IsAudit};
+ghost use Rattle.register_audit.specs.Texts.{passed_text};
+ghost use Rattle.register_audit.specs.Verdicts.{is_meant};
+
+use crate::texts::{passed_line, smepmp_line, verdict_line};
+use crate::verdict::{Verdict, verdict_of};
+use byte_streams::{Sink, write_whole};
+use permission_map::{Memory, PermissionMap};
+use register_text::{Listing, listing_of};
+use std::alloc::Global;
+use text_lines::Line;
+
+/// Why a listing was not audited.
+#[derive(Clone, Copy, PartialEq, Eq, Debug)]
+pub enum AuditFault {
+    /// The line of this number, from 1, is not understood.
+    Line(u64),
+    /// Memory was refused.
+    Memory,
+    /// The device failed, or took none of some bytes.
+    Device,
+}
+
+/// The line of an answer, and whether it is a yes.
+#[derive(Drop)]
+struct Answer {
+    line: Line,
+    means: bool,
+}
+
+fn is_meant(verdict: &Verdict) -> bool
+    ensures { result ≡ is_meant verdict.now }
+{
+    matches!(verdict, Verdict::Means { .. })
+}
+
+/// The answer on what a listing leaves. The only error is out of memory.
+fn answer_of(
+    alloc: Global,
+    map: &PermissionMap,
+    fewest: u64,
+    listing: &Listing,
+) -> Result<Answer, Memory>
+    ensures { IfOk result (λ answer.
+        IsAnswer (view_of_runs map.now) fewest listing.now answer.line.items answer.means) }
+{
+    if listing.mseccfg != 0 {
+        return Ok(Answer {
+            line: smepmp_line(listing.mseccfg),
+            means: false,
+        });
+    }
+    let verdict = verdict_of(alloc, map, &listing.registers)?;
+    Ok(Answer {
+        line: verdict_line(fewest, &listing.registers, &verdict),
+        means: is_meant(&verdict),
+    })
+}
+
+/// The line of an answer and the comment after it. The only error is out of memory.
+fn text_of(alloc: Global, line: &Line, passed: Option<u64>) -> Result<Vec<u8>, Memory>
+    ensures { IfOk result (λ text. text.items ≡ line.now.items ++ passed_text passed) }
+{
+    let mut text = Vec::new(alloc);
+    text.extend_from_slice(line.as_slice())?;
+    let comment = passed_line(passed);
+    text.extend_from_slice(comment.as_slice())?;
+    Ok(text)
+}
+
+/// Reads a listing of registers and writes, in one line, whether they mean the map, and where they do not; and after it a
+/// comment where lines of other registers are passed over. `fewest` is how many entries are enough for the map. Where a line
+/// is not understood or memory is refused, nothing is written; where the device failed, or took none of some bytes, a
+/// beginning of the text was written, not all of it.
+pub fn audit<W: Sink>(
+    alloc: Global,
+    map: &PermissionMap,
+    fewest: u64,
+    listing: &[u8],
+    out: &mut W,
+) -> Result<bool, AuditFault>
+    requires short { length listing.now < 2 ^ 64 - 1 }
+    ensures written { IfOk result (λ means.
+        (text : List ℕ) × IsAudit (view_of_runs map.now) fewest listing.now text means
+        × TakesAll text (writing W.contents W.failures W.stalls out.old out.new)) }
+    ensures means { result ≡ Ok true
+        → (leaves : Listing) × (listed listing.now ≡ Some leaves) × (leaves.mseccfg ≡ 0)
+        × RegistersMean leaves.registers (view_of_runs map.now) }
+    ensures differs { result ≡ Ok false
+        → (leaves : Listing) × (listed listing.now ≡ Some leaves)
+        × (leaves.mseccfg ≢ 0 ⊎ ¬ RegistersMean leaves.registers (view_of_runs map.now)) }
+    ensures line { (n : ℕ) → result ≡ Err (AuditFault.Line n)
+        → IsFirstUnknown listing.now n × (out.new ≡ out.old) }
+    ensures untouched { result ≡ Err AuditFault.Memory → out.new ≡ out.old }
+    ensures broken { result ≡ Err AuditFault.Device → (text : List ℕ) × (means : Bool)
+        × IsAudit (view_of_runs map.now) fewest listing.now text means
+        × Breaks text (writing W.contents W.failures W.stalls out.old out.new) }
+{
+    let listing = match listing_of(listing) {
+        Ok(listing) => listing,
+        Err(number) => return Err(AuditFault::Line(number)),
+    };
+    let Ok(answer) = answer_of(alloc, map, fewest, &listing) else {
+        return Err(AuditFault::Memory);
+    };
+    let Ok(text) = text_of(alloc, &answer.line, listing.passed) else {
+        return Err(AuditFault::Memory);
+    };
+    let Ok(()) = write_whole(out, text.as_slice()) else {
+        return Err(AuditFault::Device);
+    };
+    Ok(answer.means)
+}

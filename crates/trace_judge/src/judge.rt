@@ -1,0 +1,117 @@
+//! The accesses of a trace, judged by a bank.
+
+ghost use Rattle.std.specs.Prelude.{◌≡◌, ℕ, ◌+◌, ◌-◌, ◌^◌, ◌<◌, Some, Err, IfOk, IfSome};
+ghost use Rattle.std.specs.Result.{result_ok};
+ghost use Rattle.text_lines.specs.LineLoop.{CountsReads, CountsWrites, DoesAll, StopsAt, StopsReading, StopsTooLong, StopsWriting};
+ghost use Rattle.trace_judge.specs.Answers.{access_on, is_no_access, judged_by};
+
+use crate::answers::push_answer;
+use byte_streams::{Sink, Source};
+use hart_trace::{Event, parse_by_words, plain_access};
+use pmp_encoding::Bank;
+use pmp_match::{Access, Segments};
+use text_lines::{Interpreter, Line, NotUnderstood, Refusal, RunFault, interpret_lines};
+
+/// The same access, field by field. As a whole it would be read in one piece while its fields, written just before, are on
+/// their way to memory, and the processor would wait for them.
+#[inline(always)]
+fn taken_apart(access: Access) -> Access
+    ensures { result ≡ access }
+{
+    Access {
+        mode: access.mode,
+        kind: access.kind,
+        size: access.size,
+        address: access.address,
+    }
+}
+
+/// The access of a plain line. None says nothing of the line.
+#[inline(always)]
+fn plain_access_in(line: &[u8]) -> Option<Access>
+    ensures { IfSome result (λ access. access_on line.now ≡ Some (Some access)) }
+{
+    if let Some((access, _)) = plain_access(line) {
+        return Some(taken_apart(access));
+    }
+    None
+}
+
+/// The access of a line, and none where it has no words.
+#[inline(never)]
+fn access_in(line: &[u8]) -> Result<Option<Access>, NotUnderstood>
+    ensures { result_ok result ≡ access_on line.now }
+{
+    match parse_by_words(line, 0) {
+        Ok(None) => Ok(None),
+        Ok(Some((_, Event::Access(access, _)))) => Ok(Some(access)),
+        _ => Err(NotUnderstood),
+    }
+}
+
+/// What judges the access of each line by a bank.
+#[derive(Drop)]
+struct Judge<'a> {
+    segments: Segments<'a>,
+}
+
+impl Interpreter for Judge<'_> {
+    ghost use Rattle.std.specs.Prelude.{◌≡◌};
+    ghost use Rattle.pmp_match.specs.SegmentedBank.{bank_of};
+    ghost use Rattle.trace_judge.specs.Answers.{is_no_access, judged_by};
+
+    ghost does = { λ old n line answer new. judged_by (bank_of old.segments) tt n line answer tt × (new ≡ old) };
+
+    ghost refuses = { λ now line. is_no_access tt line };
+
+    ghost starves = { λ old line new. ⊥ };
+
+    ghost keeps = { λ now. Unit {0} };
+
+    fn interpret(&mut self, line: &[u8], count: u64, answer: &mut Line) -> Result<bool, Refusal> {
+        if let Some(access) = plain_access_in(line) {
+            push_answer(answer, count + 1, self.segments.judge(&access));
+            return Ok(true);
+        }
+        let Ok(found) = access_in(line) else {
+            return Err(Refusal::NotUnderstood);
+        };
+        let Some(access) = found else {
+            return Ok(false);
+        };
+        push_answer(answer, count + 1, self.segments.judge(&access));
+        Ok(true)
+    }
+}
+
+/// Judges the accesses of a trace by a bank: the first three forms of trace lines alone, without `@H`. A store changes
+/// nothing. The answer to each line is written before the next line is read. It takes no memory.
+pub fn judge_trace<R: Source, W: Sink>(
+    bank: &Bank,
+    source: &mut R,
+    sink: &mut W,
+) -> Result<(), RunFault>
+    ensures all { IfOk result (λ _.
+        DoesAll (judged_by bank.now) tt tt (R.remaining source.old)
+        (R.remaining source.new) (W.contents sink.old) (W.contents sink.new)) }
+    ensures line { (n : ℕ) → result ≡ Err (RunFault.Line n)
+        → StopsAt n (judged_by bank.now) is_no_access tt tt (R.remaining source.old)
+        (R.remaining source.new) (W.contents sink.old) (W.contents sink.new) }
+    ensures too_long { result ≡ Err RunFault.TooLong
+        → StopsTooLong (judged_by bank.now) tt tt (R.remaining source.old)
+        (R.remaining source.new) (W.contents sink.old) (W.contents sink.new) }
+    ensures read { result ≡ Err RunFault.Read
+        → StopsReading (judged_by bank.now) tt tt (R.remaining source.old)
+        (R.remaining source.new) (W.contents sink.old) (W.contents sink.new) }
+    ensures write { result ≡ Err RunFault.Write
+        → StopsWriting (judged_by bank.now) tt tt (R.remaining source.old)
+        (R.remaining source.new) (W.contents sink.old) (W.contents sink.new) }
+    ensures no_memory { result ≡ Err RunFault.Memory → ⊥ }
+    ensures reads { CountsReads result (R.failures source.old) (R.failures source.new) }
+    ensures writes { CountsWrites result (W.failures sink.old)
+        (W.failures sink.new) (W.stalls sink.old) (W.stalls sink.new) }
+{
+    let segments = Segments::of(bank);
+    let mut by_bank = Judge { segments };
+    interpret_lines(&mut by_bank, source, sink)
+}

@@ -1,0 +1,27 @@
+use Rattle.std.proofs.Common.{◌∙◌, ℕ, ap, sym, subst}
+use Rattle.pmp_match.specs.Meaning.{IsFewest}
+use Rattle.worlds.specs.declared.world.World.{World}
+use Rattle.sbi_decode.specs.Registers.{RegisterFile}
+use Rattle.monitor_core.specs.Monitors.{state_of}
+use Rattle.monitor_core.specs.States.{view_of}
+use Rattle.trap_frames.specs.Answers.{answer_bytes}
+use Rattle.trap_server.specs.Answered.{head_of}
+use Rattle.trap_server.proofs.service.put_frame.Goals as goal
+
+pub returns : goal.returns
+returns c =
+    let s = state_of c.args.monitor.now in
+    let entries = c.entries.result.now in
+    let hart = c.args.hart in (
+      entries,
+      record {
+        here = c.entries.ensures.fewest;
+        there = λ other known is.
+            let both = c.requires.woken other known is in
+            subst (λ w. IsFewest (view_of s.table w) entries) (both.1 ∙ sym both.0) c.entries.ensures.fewest;
+      },
+      c.put_answer.ensures
+          ∙ ap (λ (w : World). answer_bytes (record { hart = hart; world = w; status = c.status_word.result; value = c.args.answer.now.value; zero = c.args.zero; woken = c.args.woken }) c.registers.result.now entries) c.world.ensures
+          ∙ ap (λ (n : ℕ). answer_bytes (record { hart = hart; world = s.worlds hart; status = n; value = c.args.answer.now.value; zero = c.args.zero; woken = c.args.woken }) c.registers.result.now entries) c.status_word.ensures
+          ∙ ap (λ (file : RegisterFile). answer_bytes (head_of s hart c.args.answer.now c.args.zero c.args.woken) file entries) c.registers.ensures,
+    )

@@ -1,0 +1,56 @@
+use Rattle.std.proofs.Common.{◌∙◌, ◌<◌, ◌≤◌, List, Bool, ap, sym, subst}
+use Rattle.sbi_decode.specs.Calls.{call_of}
+use Rattle.monitor_core.specs.Changes.{past_call, with_running}
+use Rattle.monitor_core.specs.Monitors.{state_of}
+use Rattle.monitor_core.specs.States.{State}
+use Rattle.trap_frames.specs.declared.trap.Event.{Event}
+use Rattle.trap_server.specs.Answered.{IsAnswer}
+use Rattle.trap_server.specs.Service.{ServesAs}
+use Rattle.trap_server.proofs.Served.{may_wake, quiet, reads_then, serves, writes_then}
+use Rattle.trap_server.proofs.Waking.{marks_in_host}
+use Rattle.trap_server.proofs.service.serve_call.Goals as goal
+
+pub write_answer-requires-clause-woken : goal.write_answer-requires-clause-woken
+write_answer-requires-clause-woken g c =
+    let s = state_of c.args.monitor.now in
+    let mid = state_of c.serve_measured-served.new.self in
+    let hart = c.args.trap.now.hart in
+    let file = past_call c.args.trap.now.registers in
+    let taken = c.in-Ok.ensures.digest in
+    let said = c.serve_measured-served.result in
+    let step = c.serve_measured-served.ensures.step taken.2 taken.4 in
+    may_wake mid (state_of c.wake_all-woken.new.monitor) hart c.wake_all-woken.result c.wake_all-woken.ensures.state c.wake_all-woken.ensures.marks
+    (λ other known marked.
+    let before = subst (λ t. other < t.harts) c.serve_measured-served.ensures.platform known in (
+      c.cite_invariant.ensures.worlds.marked other known marked,
+      marks_in_host (call_of file) taken.2 (with_running s hart file) hart said.answer said.zero mid other (c.requires.awake other before) step marked,
+    ))
+
+pub returns-clause-served : goal.returns-clause-served
+returns-clause-served g c =
+    let s = state_of c.args.monitor.now in
+    let mid = state_of c.serve_measured-served.new.self in
+    let new = state_of c.wake_all-woken.new.monitor in
+    let trap = c.args.trap.now in
+    let taken = c.in-Ok.ensures.digest in
+    let said = c.serve_measured-served.result in
+    let platform = c.serve_measured-served.ensures.platform in
+    let few : mid.table.layout.harts ≤ 4 = subst (λ t. t.harts ≤ 4) (sym platform) (subst (λ n. n ≤ 4) c.harts-most.ensures.value c.harts-most.ensures.most) in
+    serves c.write_answer.result (IsAnswer new trap.hart said.answer said.zero c.wake_all-woken.result) trap s new _ _ _ _ _ taken.0 taken.1
+    (λ bytes is. subst (λ (e : Event). ServesAs e s trap taken.1 taken.0 bytes new) (sym c.requires.call) (record {
+      pages = taken.2;
+      answer = said.answer;
+      cleared = said.zero;
+      mid = mid;
+      asks = taken.3;
+      step = c.serve_measured-served.ensures.step taken.2 taken.4;
+      woken = c.wake_all-woken.ensures.state;
+      goes_on = subst (λ (w : List Bool). IsAnswer new trap.hart said.answer said.zero w bytes) c.wake_all-woken.ensures.marks is;
+    }))
+    (quiet mid new c.wake_all-woken.ensures.state few) (ap (λ (x : State). x.table.layout) c.wake_all-woken.ensures.state ∙ platform) taken.5 taken.6 c.write_answer.ensures.bytes
+
+pub returns-clause-reads : goal.returns-clause-reads
+returns-clause-reads g c = reads_then c.write_answer.result _ _ _ c.in-Ok.ensures.reads (c.write_answer.ensures.reads _)
+
+pub returns-clause-writes : goal.returns-clause-writes
+returns-clause-writes g c = writes_then c.write_answer.result _ _ _ _ _ _ c.in-Ok.ensures.writes c.write_answer.ensures.writes

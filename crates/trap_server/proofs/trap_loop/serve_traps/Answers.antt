@@ -1,0 +1,126 @@
+use Rattle.std.proofs.Common.{◌≡◌, ◌∙◌, Option, ◌^◌, ◌-◌, arith, inl, inr, [], ◌++◌, Ok, ap, sym, subst}
+use Rattle.std.proofs.KnownBytes.{Appends-nil, Appends-trans, Consumes-nil, Consumes-trans}
+use Rattle.monitor_core.specs.Monitors.{state_of}
+use Rattle.trap_frames.specs.Traps.{ReadsTrap}
+use Rattle.trap_server.proofs.Looped.{begins, ended, goes_on, ran, read_stops, trap_stops}
+use Rattle.trap_server.proofs.Served.{ends_why, frame_after, frame_reads, read_after, read_at, trap_writes, write_after}
+use Rattle.trap_frames.specs.declared.trap.Trap.{Trap}
+use Rattle.trap_frames.specs.declared.end.Refusal.TheVariants as refusals
+use Rattle.trap_server.specs.declared.fault.ServeFault.TheVariants as faults
+use Rattle.trap_server.specs.Boot.{StopsAtFirst}
+use Rattle.trap_server.specs.Ends.{LastIs, fault_of}
+use Rattle.trap_server.specs.Runs.{StopsAfter}
+use Rattle.trap_server.proofs.trap_loop.serve_traps.Goals as goal
+
+pub returns-in-Err-clause-early : goal.returns-in-Err-clause-early
+returns-in-Err-clause-early g c =
+    let b = c.in-Err.ensures.boots in
+    (b.0, [], b.1, b.2, inl (b.3, b.4, b.5))
+
+pub returns-in-Err-write_answer-clause-early : goal.returns-in-Err-write_answer-clause-early
+returns-in-Err-write_answer-clause-early g c =
+    let b = c.in-Ok.ensures.boots in
+    let w = c.in-Err-write_answer.ensures.bytes in (
+      b.1,
+      [],
+      w.1,
+      subst (λ f. LastIs f w.1) (sym w.0) tt,
+      inl (subst (λ f. StopsAtFirst f b.1 (g.R.Source.remaining c.boot.new.source)) (sym w.0) tt, b.5, Appends-trans (g.W.Sink.contents c.args.sink.now) (g.W.Sink.contents c.boot.new.sink) (g.W.Sink.contents c.write_answer.new.sink) [] w.1 b.6 w.2),
+    )
+
+pub loop-count-init : goal.loop-count-init
+loop-count-init g c =
+    let b = c.in-Ok.ensures.boots in
+    let w = c.in-Ok-write_answer.ensures.bytes in
+    record {
+      progress = begins (state_of c.in-Ok.monitor) b.0 b.1 w.0 c.harts-harts.result c.others.result (g.R.Source.remaining c.args.source.now) (g.R.Source.remaining c.boot.new.source) (g.W.Sink.contents c.args.sink.now)
+          (g.W.Sink.contents c.boot.new.sink) (g.W.Sink.contents c.write_answer.new.sink) b.2 b.3 b.4 b.5 b.6 c.harts-harts.ensures.value c.others.ensures w.1 w.2;
+      harts = c.harts-harts.ensures.value;
+      reads = c.in-Ok.ensures.reads;
+      writes = (c.in-Ok-write_answer.ensures.writes.0 ∙ c.in-Ok.ensures.writes.0, c.in-Ok-write_answer.ensures.writes.1 ∙ c.in-Ok.ensures.writes.1);
+    }
+
+pub returns-in-Ok-None-clause-all : goal.returns-in-Ok-None-clause-all
+returns-in-Ok-None-clause-all g c =
+    let before = g.R.Source.remaining c.loop-count.source in
+    let after = g.R.Source.remaining c.read_trap.new.source in
+    let read = subst (λ r. ReadsTrap (Ok r) c.harts-harts.result before after) c.in-Ok-None.field-0-is c.in-Ok-None.ensures.trap in
+    ran c.loop-count._count (state_of c.loop-count.monitor) (g.R.Source.remaining c.args.source.now) before after (g.W.Sink.contents c.args.sink.now) (g.W.Sink.contents c.loop-count.sink) (g.W.Sink.contents c.loop-count.sink) [] [] c.loop-count.invariant.progress read.0 (Appends-nil _)
+
+pub returns-in-Err-read_trap-clause-early : goal.returns-in-Err-read_trap-clause-early
+returns-in-Err-read_trap-clause-early g c =
+    let before = g.R.Source.remaining c.loop-count.source in
+    let after = g.R.Source.remaining c.read_trap.new.source in
+    let s = state_of c.loop-count.monitor in
+    let n = c.loop-count._count in
+    let read = read_stops c.in-Err-read_trap.fault n s c.harts-harts.result before after c.loop-count.invariant.harts c.in-Err-read_trap.ensures.trap in
+    let e = ends_why c.end.result (fault_of c.in-Err-read_trap.fault) _ _ (λ f. StopsAfter f n s read.0 after) c.end.ensures.last read.1 tt in
+    (read.0, [], e.0, e.1, inr (ended c.end.result n s (g.R.Source.remaining c.args.source.now) before after (g.W.Sink.contents c.args.sink.now) (g.W.Sink.contents c.loop-count.sink) (g.W.Sink.contents c.end.new.sink) read.0 ([] ++ e.0) c.loop-count.invariant.progress read.2 e.3 e.2))
+
+pub returns-in-Err-serve_trap-clause-early : goal.returns-in-Err-serve_trap-clause-early
+returns-in-Err-serve_trap-clause-early g c =
+    let before = g.R.Source.remaining c.loop-count.source in
+    let mid = g.R.Source.remaining c.read_trap.new.source in
+    let after = g.R.Source.remaining c.serve_trap.new.source in
+    let read = subst (λ r. ReadsTrap (Ok r) c.harts-harts.result before mid) c.in-Ok-Some.field-0-is c.in-Ok-Some.ensures.trap in
+    let s = c.in-Err-serve_trap.ensures.served in (
+      read.0 ++ s.0,
+      s.1,
+      s.2,
+      s.3,
+      inr (ended c.in-Err-serve_trap.fault c.loop-count._count (state_of c.loop-count.monitor) (g.R.Source.remaining c.args.source.now) before after (g.W.Sink.contents c.args.sink.now) (g.W.Sink.contents c.loop-count.sink) (g.W.Sink.contents c.serve_trap.new.sink)
+          (read.0 ++ s.0) (s.1 ++ s.2) c.loop-count.invariant.progress (Consumes-trans before mid after read.0 s.0 read.3 s.5) s.6
+          (trap_stops c.in-Err-serve_trap.fault c.loop-count._count (state_of c.loop-count.monitor) c.in-Ok-Some.trap c.harts-harts.result read.0 s.0 after c.loop-count.invariant.harts read.1 read.2 s.4)),
+    )
+
+pub loop-count-preserved : goal.loop-count-preserved
+loop-count-preserved g c =
+    let before = g.R.Source.remaining c.loop-count.source in
+    let mid = g.R.Source.remaining c.read_trap.new.source in
+    let read = subst (λ r. ReadsTrap (Ok r) c.harts-harts.result before mid) c.in-Ok-Some.field-0-is c.in-Ok-Some.ensures.trap in
+    let s = c.in-Ok-serve_trap.ensures.served in
+    record {
+      progress = goes_on c.loop-count._count (state_of c.loop-count.monitor) (state_of c.serve_trap.new.monitor) c.in-Ok-Some.trap read.0 c.harts-harts.result (g.R.Source.remaining c.args.source.now) before mid (g.R.Source.remaining c.serve_trap.new.source)
+          (g.W.Sink.contents c.args.sink.now) (g.W.Sink.contents c.loop-count.sink) (g.W.Sink.contents c.serve_trap.new.sink) c.loop-count.invariant.progress read.1 read.2 c.loop-count.invariant.harts read.3 s;
+      harts = c.loop-count.invariant.harts ∙ ap (λ l. l.harts) (sym s.5);
+      reads = c.in-Ok-serve_trap.ensures.reads ∙ (c.in-Ok-Some.ensures.failures ∙ c.loop-count.invariant.reads);
+      writes = (c.in-Ok-serve_trap.ensures.writes.0 ∙ c.loop-count.invariant.writes.0, c.in-Ok-serve_trap.ensures.writes.1 ∙ c.loop-count.invariant.writes.1);
+    }
+
+pub returns-clause-early : goal.returns-clause-early
+returns-clause-early g c =
+    let before = g.R.Source.remaining c.loop-count.source in
+    let s = state_of c.loop-count.monitor in
+    let n = c.loop-count._count in
+    let last : n ≡ 2 ^ 64 - 1 = omega (arith, c.loop-count-test.false, c.loop-count.auto._count-end) in
+    let e = ends_why c.refuse.result (faults.Refused refusals.NotUnderstood) _ _ (λ f. StopsAfter f n s [] before) c.refuse.ensures.last (inr (inr last)) tt in
+    ([], [], e.0, e.1, inr (ended c.refuse.result n s (g.R.Source.remaining c.args.source.now) before before (g.W.Sink.contents c.args.sink.now) (g.W.Sink.contents c.loop-count.sink) (g.W.Sink.contents c.refuse.new.sink) [] ([] ++ e.0) c.loop-count.invariant.progress (Consumes-nil _) e.3 e.2))
+
+pub returns-in-Err-write_answer-clause-reads : goal.returns-in-Err-write_answer-clause-reads
+returns-in-Err-write_answer-clause-reads g c = read_at c.in-Err-write_answer.fault _ _ c.in-Ok.ensures.reads (c.in-Err-write_answer.ensures.reads _)
+
+pub returns-in-Err-write_answer-clause-writes : goal.returns-in-Err-write_answer-clause-writes
+returns-in-Err-write_answer-clause-writes g c = write_after c.in-Err-write_answer.fault _ _ _ _ _ _ c.in-Ok.ensures.writes c.in-Err-write_answer.ensures.writes
+
+pub returns-in-Ok-None-clause-reads : goal.returns-in-Ok-None-clause-reads
+returns-in-Ok-None-clause-reads g c = c.in-Ok-None.ensures.failures ∙ c.loop-count.invariant.reads
+
+pub returns-in-Err-read_trap-clause-reads : goal.returns-in-Err-read_trap-clause-reads
+returns-in-Err-read_trap-clause-reads g c =
+    c.end.ensures.reads _ _ (frame_after c.in-Err-read_trap.fault _ _ _ c.loop-count.invariant.reads (frame_reads (Option Trap) c.in-Err-read_trap.fault _ _ c.in-Err-read_trap.ensures.failures))
+
+pub returns-in-Err-read_trap-clause-writes : goal.returns-in-Err-read_trap-clause-writes
+returns-in-Err-read_trap-clause-writes g c =
+    c.end.ensures.writes _ _ (trap_writes c.in-Err-read_trap.fault c.harts-harts.result _ _ _ _ _ _ c.in-Err-read_trap.ensures.trap c.loop-count.invariant.writes)
+
+pub returns-in-Err-serve_trap-clause-reads : goal.returns-in-Err-serve_trap-clause-reads
+returns-in-Err-serve_trap-clause-reads g c = read_after c.in-Err-serve_trap.fault _ _ _ (c.in-Ok-Some.ensures.failures ∙ c.loop-count.invariant.reads) c.in-Err-serve_trap.ensures.reads
+
+pub returns-in-Err-serve_trap-clause-writes : goal.returns-in-Err-serve_trap-clause-writes
+returns-in-Err-serve_trap-clause-writes g c = write_after c.in-Err-serve_trap.fault _ _ _ _ _ _ c.loop-count.invariant.writes c.in-Err-serve_trap.ensures.writes
+
+pub returns-clause-reads : goal.returns-clause-reads
+returns-clause-reads g c = read_at c.refuse.result _ _ c.loop-count.invariant.reads (c.refuse.ensures.reads _)
+
+pub returns-clause-writes : goal.returns-clause-writes
+returns-clause-writes g c = write_after c.refuse.result _ _ _ _ _ _ c.loop-count.invariant.writes c.refuse.ensures.writes

@@ -1,0 +1,51 @@
+-- How a trap is served.
+use Rattle.std.specs.Prelude.{◌≡◌, ◌⊎◌, ℕ, ◌+◌, ◌/◌, List, [], Option, None}
+use Rattle.page_views.specs.declared.pages.PageRange.{PageRange}
+use Rattle.enclave_table.specs.Digests.{pages_from}
+use Rattle.enclave_table.specs.declared.request.Create.{Create}
+use Rattle.sbi_decode.specs.Calls.{call_of}
+use Rattle.monitor_core.specs.declared.answer.Answer.{Answer}
+use Rattle.monitor_core.specs.States.{State}
+use Rattle.monitor_core.specs.Changes.{past_call, with_running}
+use Rattle.monitor_core.specs.Measured.{Measures, asked_in}
+use Rattle.monitor_core.specs.Steps.{DoesCall, Interrupts}
+use Rattle.trap_frames.specs.declared.trap.Event.{Event}
+use Rattle.trap_frames.specs.declared.trap.Event.TheVariants.{Call, Stop}
+use Rattle.trap_frames.specs.declared.trap.Trap.{Trap}
+use Rattle.trap_frames.specs.PageDigest.{ArePages, question_bytes}
+use Rattle.trap_server.specs.Answered.{IsAnswer, marks_of, no_answer, unmarked}
+
+-- a creation that passes its checks has its private pages asked for, and read once, by rising number; nothing else is asked for or read
+abbrev pub AsksFor : Option Create → State → ℕ → List ℕ → List ℕ → (ℕ → List ℕ) → Type 0
+AsksFor asked s hart question read pages =
+    ((question ≡ []) × (read ≡ []) × ((parts : Create) → Measures asked s.table (s.worlds hart) parts → ⊥))
+    ⊎ ((parts : Create) × Measures asked s.table (s.worlds hart) parts × (question ≡ question_bytes (parts.base / 4096) (parts.text_pages + parts.data_pages))
+    × ArePages (parts.base / 4096) (parts.text_pages + parts.data_pages) read (pages_from pages (parts.base / 4096) (parts.text_pages + parts.data_pages)))
+
+-- a call is a step of the monitor, over the pages that were read; then no hart is marked, and each that was is woken
+pub record ServesCall (s : State) (trap : Trap) (read question answered : List ℕ) (new : State) : Type 0 where
+  pub pages : ℕ → List ℕ
+  pub answer : Answer
+  pub cleared : Option PageRange
+  pub mid : State
+  pub asks : AsksFor (asked_in (call_of trap.registers)) s trap.hart question read pages
+  pub step : DoesCall (call_of (past_call trap.registers)) pages (with_running s trap.hart (past_call trap.registers)) trap.hart answer cleared mid
+  pub woken : new ≡ unmarked 4 mid
+  pub goes_on : IsAnswer new trap.hart answer cleared (marks_of mid) answered
+
+-- an interrupt is a step of the monitor
+pub record ServesStop (s : State) (trap : Trap) (read question answered : List ℕ) (new : State) : Type 0 where
+  pub mid : State
+  pub nothing_asked : question ≡ []
+  pub nothing_read : read ≡ []
+  pub step : Interrupts (s.worlds trap.hart) (with_running s trap.hart trap.registers) trap.hart mid
+  pub woken : new ≡ unmarked 4 mid
+  pub goes_on : IsAnswer new trap.hart no_answer None (marks_of mid) answered
+
+-- a trap is served, by what happened
+abbrev pub ServesAs : Event → State → Trap → List ℕ → List ℕ → List ℕ → State → Type 0
+ServesAs Call s trap read question answered new = ServesCall s trap read question answered new
+ServesAs Stop s trap read question answered new = ServesStop s trap read question answered new
+
+abbrev pub ServesTrap : State → Trap → List ℕ → List ℕ → List ℕ → State → Type 0
+ServesTrap s trap read question answered new = ServesAs trap.event s trap read question answered new

@@ -1,0 +1,134 @@
+//! The loop: a trap is read and served, and its answer written, before the next is read.
+
+ghost use Rattle.std.specs.Prelude.{◌≡◌, ◌+◌, ◌≤◌, ◌<◌, ℕ, List, [], IfErr, IfOk, MatchResult};
+ghost use Rattle.std.specs.Io.KnownBytes.{IsAtEnd};
+ghost use Rattle.monitor_core.specs.Monitors.{state_of};
+ghost use Rattle.trap_server.specs.Boot.{Boots, BootsOn, EndsAtFirst, IsFirst};
+ghost use Rattle.trap_server.specs.Answered.{AreAwake};
+ghost use Rattle.trap_server.specs.Ends.{CountsReads, CountsWrites};
+ghost use Rattle.trap_server.specs.Runs.{EndsEarly, Ran, others};
+
+use crate::fault::{ServeFault, end, refuse};
+use crate::service::{NOTHING, serve_trap, write_answer};
+use byte_streams::{Sink, Source};
+use enclave_table::{BootFault, Platform};
+use monitor_core::Monitor;
+use std::alloc::Global;
+use trap_frames::{Refusal, read_platform, read_trap};
+
+/// Boots the monitor on a platform.
+#[inline(never)]
+fn boot_on<W: Sink>(
+    alloc: Global,
+    platform: Box<Platform>,
+    sink: &mut W,
+) -> Result<Monitor, ServeFault>
+    ensures boots { BootsOn result platform.value (W.contents sink.old) (W.contents sink.new) }
+    ensures reads { (n : ℕ) → CountsReads result n n }
+    ensures writes { CountsWrites result (W.failures sink.old) (W.failures sink.new)
+        (W.stalls sink.old) (W.stalls sink.new) }
+{
+    match Monitor::boot(alloc, Box::into_inner(platform)) {
+        Ok(monitor) => Ok(monitor),
+        Err(BootFault::NeedsMoreEntries(count)) => {
+            Err(refuse(sink, Refusal::NeedsEntries(count)))
+        }
+        Err(BootFault::Memory) => Err(refuse(sink, Refusal::Memory)),
+    }
+}
+
+/// The platform that comes first. It is on the heap, so that the stack has no copy of it while the monitor is made.
+#[inline(never)]
+fn platform_in<R: Source, W: Sink>(
+    alloc: Global,
+    source: &mut R,
+    sink: &mut W,
+) -> Result<Box<Platform>, ServeFault>
+    ensures first { MatchResult result
+        (λ platform. IsFirst platform.value (R.remaining source.old) (R.remaining source.new)
+        × (W.contents sink.new ≡ W.contents sink.old))
+        (λ fault. EndsAtFirst fault (R.remaining source.old) (R.remaining source.new)
+        (W.contents sink.old) (W.contents sink.new)) }
+    ensures reads { CountsReads result (R.failures source.old) (R.failures source.new) }
+    ensures writes { CountsWrites result (W.failures sink.old) (W.failures sink.new)
+        (W.stalls sink.old) (W.stalls sink.new) }
+{
+    match read_platform(source) {
+        Ok(Ok(platform)) => match Box::new(alloc, platform) {
+            Ok(platform) => Ok(platform),
+            Err(_) => Err(refuse(sink, Refusal::Memory)),
+        },
+        Ok(Err(refusal)) => Err(refuse(sink, refusal)),
+        Err(fault) => Err(end(sink, fault)),
+    }
+}
+
+/// Boots the monitor on the platform that comes first.
+#[inline(never)]
+fn boot<R: Source, W: Sink>(
+    alloc: Global,
+    source: &mut R,
+    sink: &mut W,
+) -> Result<Monitor, ServeFault>
+    ensures boots { Boots result (R.remaining source.old) (R.remaining source.new)
+        (W.contents sink.old) (W.contents sink.new) }
+    ensures reads { CountsReads result (R.failures source.old) (R.failures source.new) }
+    ensures writes { CountsWrites result (W.failures sink.old) (W.failures sink.new)
+        (W.stalls sink.old) (W.stalls sink.new) }
+{
+    match platform_in(alloc, source, sink) {
+        Ok(platform) => boot_on(alloc, platform, sink),
+        Err(fault) => Err(fault),
+    }
+}
+
+/// The harts but hart 0.
+fn others(harts: u8) -> [bool; 4]
+    ensures { result ≡ others harts }
+{
+    [false, harts > 1, harts > 2, harts > 3]
+}
+
+/// Boots the monitor on the platform that the source gives first, and says with which entries its harts begin. Then serves
+/// the traps that come after it, until the input ends.
+///
+/// It ends early where a frame is not understood, which is no frame of its place or one within which the input ends; where the
+/// first frame is of no platform, or the host's view on it needs more entries than there are; where memory is refused at boot;
+/// where a read or a write fails; and after 2^64 - 1 traps.
+pub fn serve_traps<R: Source, W: Sink>(
+    alloc: Global,
+    source: &mut R,
+    sink: &mut W,
+) -> Result<(), ServeFault>
+    ensures all { IfOk result (λ _. Ran (R.remaining source.old) (R.remaining source.new)
+        (W.contents sink.old) (W.contents sink.new) [] []) }
+    ensures at_end { IfOk result (λ _. IsAtEnd (R.remaining source.new)) }
+    ensures early { IfErr result (λ fault.
+        EndsEarly fault (R.remaining source.old) (R.remaining source.new)
+        (W.contents sink.old) (W.contents sink.new)) }
+    ensures reads { CountsReads result (R.failures source.old) (R.failures source.new) }
+    ensures writes { CountsWrites result (W.failures sink.old) (W.failures sink.new)
+        (W.stalls sink.old) (W.stalls sink.new) }
+{
+    let mut monitor = match boot(alloc, source, sink) {
+        Ok(monitor) => monitor,
+        Err(fault) => return Err(fault),
+    };
+    let harts = monitor.harts();
+    match write_answer(&monitor, 0, NOTHING, None, others(harts), sink) {
+        Ok(()) => {}
+        Err(fault) => return Err(fault),
+    }
+    for _count in 0..u64::MAX {
+        let trap = match read_trap(source, harts) {
+            Ok(Some(trap)) => trap,
+            Ok(None) => return Ok(()),
+            Err(fault) => return Err(end(sink, fault)),
+        };
+        match serve_trap(&mut monitor, &trap, source, sink) {
+            Ok(()) => {}
+            Err(fault) => return Err(fault),
+        }
+    }
+    Err(refuse(sink, Refusal::NotUnderstood))
+}
