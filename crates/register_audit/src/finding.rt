@@ -5,7 +5,7 @@ ghost use Rattle.permission_map.specs.Runs.{view_of_runs};
 ghost use Rattle.pmp_registers.specs.Decision.{IsWords};
 ghost use Rattle.register_audit.specs.Findings.{IsFinding, IsFirstOdd, agrees};
 
-use crate::cut::first_cut;
+use crate::cut_access::first_cut;
 use permission_map::{Memory, PermissionMap};
 use pmp_registers::Extent;
 use std::alloc::Global;

@@ -12,7 +12,7 @@
 //! ```
 #![tactic(auto)]
 
-mod cut;
+mod cut_access;
 mod finding;
 mod listing_audit;
 mod texts;

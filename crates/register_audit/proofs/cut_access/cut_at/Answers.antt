@@ -3,7 +3,7 @@ use Rattle.std.proofs.Common.{◌≡◌, ◌∙◌, ◌+◌, ◌-◌, ◌≤◌,
 use Rattle.pmp_encoding.specs.Perms.{can_read}
 use Rattle.permission_map.specs.Runs.{view_of_runs}
 use Rattle.register_audit.proofs.Cut.{cut_found, end_four}
-use Rattle.register_audit.proofs.cut.cut_at.Goals as goal
+use Rattle.register_audit.proofs.cut_access.cut_at.Goals as goal
 
 pub overflow_sub-at : goal.overflow_sub-at
 overflow_sub-at c =

@@ -6,7 +6,7 @@ use Rattle.pmp_registers.specs.Tor.{nowhere}
 use Rattle.register_audit.specs.Findings.{load_of_eight}
 use Rattle.register_audit.proofs.Cut.{some_meets}
 use Rattle.register_audit.proofs.Each.{all_more, all_whole}
-use Rattle.register_audit.proofs.cut.all_miss.Goals as goal
+use Rattle.register_audit.proofs.cut_access.all_miss.Goals as goal
 
 pub returns-then-has_some : goal.returns-then-has_some
 returns-then-has_some c = (

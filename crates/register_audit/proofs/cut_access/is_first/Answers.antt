@@ -4,7 +4,7 @@ use Rattle.std.proofs.lemmas.Option.{get_or_from_slice_get}
 use Rattle.pmp_registers.specs.Decision.{Meets}
 use Rattle.pmp_registers.specs.Tor.{nowhere}
 use Rattle.register_audit.specs.Findings.{load_of_eight}
-use Rattle.register_audit.proofs.cut.is_first.Goals as goal
+use Rattle.register_audit.proofs.cut_access.is_first.Goals as goal
 
 pub returns-then-all_miss : goal.returns-then-all_miss
 returns-then-all_miss c = λ x is.

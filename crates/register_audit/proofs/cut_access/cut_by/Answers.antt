@@ -1,7 +1,7 @@
 -- Eight bytes that an entry cuts have one of its ends in their middle; its lower end comes first.
 use Rattle.permission_map.specs.Runs.{view_of_runs}
 use Rattle.register_audit.proofs.Cut.{lowest_base, lowest_end, uncut_by}
-use Rattle.register_audit.proofs.cut.cut_by.Goals as goal
+use Rattle.register_audit.proofs.cut_access.cut_by.Goals as goal
 
 pub returns-in-Some : goal.returns-in-Some
 returns-in-Some c = lowest_base (view_of_runs c.args.map.now) c.args.extents.now c.args.i c.in-Some.low c.requires.words c.requires.i c.in-Some.ensures.some.0 c.in-Some.ensures.some.1

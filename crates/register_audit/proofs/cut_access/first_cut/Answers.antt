@@ -2,7 +2,7 @@
 use Rattle.std.proofs.Common.{arith}
 use Rattle.permission_map.specs.Runs.{view_of_runs}
 use Rattle.register_audit.proofs.Cut.{uncut_all, uncut_more}
-use Rattle.register_audit.proofs.cut.first_cut.Goals as goal
+use Rattle.register_audit.proofs.cut_access.first_cut.Goals as goal
 
 pub loop-i-preserved : goal.loop-i-preserved
 loop-i-preserved c = uncut_more (view_of_runs c.args.map.now) c.args.extents.now c.loop-i.i c.loop-i.invariant c.in_default.ensures
