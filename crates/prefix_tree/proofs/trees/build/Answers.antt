@@ -3,7 +3,7 @@ use Rattle.std.proofs.Common.{◌∙◌, sym, subst, ap, arith}
 use Rattle.prefix_tree.specs.Trees.{PermTree, Fits}
 use Rattle.prefix_tree.specs.Counts.{runs_in}
 use Rattle.prefix_tree.proofs.Canonical.{map_means, map_canonical}
-use Rattle.prefix_tree.proofs.trees.map_tree.Goals as goal
+use Rattle.prefix_tree.proofs.trees.build.Goals as goal
 
 pub invariant_of-result : goal.invariant_of-result
 invariant_of-result c =

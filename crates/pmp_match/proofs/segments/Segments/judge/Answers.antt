@@ -2,7 +2,7 @@
 use Rattle.std.proofs.Common.{◌∙◌, sym}
 use Rattle.pmp_encoding.proofs.Meant.{bank_some}
 use Rattle.pmp_match.proofs.Segmented.{judged_within}
-use Rattle.pmp_match.proofs.segments.Segments.judgement.Goals as goal
+use Rattle.pmp_match.proofs.segments.Segments.judge.Goals as goal
 
 pub returns-then-is_aligned-clause-by_no_other : goal.returns-then-is_aligned-clause-by_no_other
 returns-then-is_aligned-clause-by_no_other c =
