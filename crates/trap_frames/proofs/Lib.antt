@@ -2,3 +2,5 @@ mod Lengths
 mod Appended
 mod Filling
 mod Read
+mod Traps
+mod WordsBack

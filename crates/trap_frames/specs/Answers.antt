@@ -5,9 +5,10 @@ use Rattle.page_views.specs.declared.pages.PageRange.{PageRange}
 use Rattle.pmp_encoding.specs.declared.region.Entry.{Entry}
 use Rattle.pmp_encoding.specs.Encoding.{address_of, cfg_of}
 use Rattle.sbi_decode.specs.Registers.{RegisterFile, x_of}
+use Rattle.control_words.specs.declared.words.ControlWords.{ControlWords}
 use Rattle.worlds.specs.declared.world.World.{World}
 use Rattle.worlds.specs.declared.world.World.TheVariants.{Host, Enclave as InEnclave}
-use Rattle.trap_frames.specs.Words.{answer_tag, bytes_of}
+use Rattle.trap_frames.specs.Words.{answer_tag, bytes_of, control_tag}
 use Rattle.trap_frames.specs.declared.answer.Head.{Head}
 
 -- the number of a world
@@ -64,6 +65,12 @@ abbrev pub address_bytes : List Entry → ℕ → List ℕ
 address_bytes entries zero = []
 address_bytes entries (suc n) = address_bytes entries n ++ little_bytes 8 (address_at entries n)
 
+-- the control words in their order, after their tag
+abbrev pub control_bytes : ControlWords → List ℕ
+control_bytes words =
+    bytes_of (control_tag ∷ (words.status ∷ (words.satp ∷ (words.mie ∷ (words.scounteren ∷ (words.senvcfg ∷ (words.hstatus ∷ (words.medeleg ∷ (words.mideleg ∷ (words.mode ∷ []))))))))))
+
 -- the bytes of the frame
-abbrev pub answer_bytes : Head → RegisterFile → List Entry → List ℕ
-answer_bytes head file entries = head_bytes head (length entries) ++ register_bytes file 32 ++ cfg_bytes entries 64 ++ address_bytes entries 64
+abbrev pub answer_bytes : Head → RegisterFile → List Entry → ControlWords → List ℕ
+answer_bytes head file entries control =
+    head_bytes head (length entries) ++ register_bytes file 32 ++ cfg_bytes entries 64 ++ address_bytes entries 64 ++ control_bytes control

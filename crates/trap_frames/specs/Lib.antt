@@ -5,3 +5,4 @@ pub mod Platforms
 pub mod PageDigest
 pub mod Answers
 pub mod Ends
+pub mod RoundTrip

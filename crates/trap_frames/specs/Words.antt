@@ -11,7 +11,7 @@ abbrev pub bytes_of : List ℕ → List ℕ
 bytes_of [] = []
 bytes_of (word ∷ words) = little_bytes 8 word ++ bytes_of words
 
--- the tags: `platform`, `call`, `stop`, `page`, `answer`, `measure`, `end`
+-- the tags: `platform`, `call`, `stop`, `control` (before control words), `page`, `answer`, `measure`, `end`
 abbrev pub platform_tag : ℕ
 platform_tag = 7886488383309048944
 
@@ -20,6 +20,9 @@ call_tag = 1819042147
 
 abbrev pub stop_tag : ℕ
 stop_tag = 1886352499
+
+abbrev pub control_tag : ℕ
+control_tag = 30521834855100259
 
 abbrev pub page_tag : ℕ
 page_tag = 1701273968

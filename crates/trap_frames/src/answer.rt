@@ -1,9 +1,10 @@
 //! The frame of an answer: with what a hart goes on.
 
 ghost use Rattle.std.specs.Prelude.{◌≡◌, ◌<◌, ◌≤◌, ◌+◌, ◌++◌, length, take};
-ghost use Rattle.trap_frames.specs.Answers.{address_at, address_bytes, answer_bytes, cfg_at, cfg_bytes, head_bytes, number_of, pages_of, register_bytes, wake_word};
+ghost use Rattle.trap_frames.specs.Answers.{address_at, address_bytes, answer_bytes, cfg_at, cfg_bytes, control_bytes, head_bytes, number_of, pages_of, register_bytes, wake_word};
 
-use crate::frame::{AnswerBytes, TAG_ANSWER, put_word};
+use crate::frame::{AnswerBytes, TAG_ANSWER, TAG_CONTROL, put_word};
+use control_words::ControlWords;
 use page_views::PageRange;
 use pmp_encoding::Entry;
 use sbi_decode::Registers;
@@ -121,20 +122,44 @@ fn put_configuration(frame: &mut AnswerBytes, entries: &[Entry])
 /// Writes the address registers of 64 entries after them.
 #[inline(always)]
 fn put_addresses(frame: &mut AnswerBytes, entries: &[Entry])
-    ensures { frame.new ≡ take 392 frame.old ++ address_bytes entries.now 64 }
+    ensures { take 904 frame.new ≡ take 392 frame.old ++ address_bytes entries.now 64 }
 {
     for i in 0..64 {
         put_word(frame, 49 + i, address_at(entries, i));
     }
 }
 
-/// Writes the frame with what a hart goes on: its registers, and the entries that it loads.
+/// Writes the control words after them, below a tag of their own.
 #[inline(always)]
-pub fn put_answer(frame: &mut AnswerBytes, head: &Head, registers: &Registers, entries: &[Entry])
-    ensures { frame.new ≡ answer_bytes head.now registers.now entries.now }
+fn put_control(frame: &mut AnswerBytes, control: &ControlWords)
+    ensures { frame.new ≡ take 904 frame.old ++ control_bytes control.now }
+{
+    put_word(frame, 113, TAG_CONTROL);
+    put_word(frame, 114, control.status);
+    put_word(frame, 115, control.satp);
+    put_word(frame, 116, control.mie);
+    put_word(frame, 117, control.scounteren);
+    put_word(frame, 118, control.senvcfg);
+    put_word(frame, 119, control.hstatus);
+    put_word(frame, 120, control.medeleg);
+    put_word(frame, 121, control.mideleg);
+    put_word(frame, 122, control.mode);
+}
+
+/// Writes the frame with what a hart goes on: its registers, the entries that it loads, and its control words.
+#[inline(always)]
+pub fn put_answer(
+    frame: &mut AnswerBytes,
+    head: &Head,
+    registers: &Registers,
+    entries: &[Entry],
+    control: &ControlWords,
+)
+    ensures { frame.new ≡ answer_bytes head.now registers.now entries.now control.now }
 {
     put_head(frame, head, entries.len() as u64);
     put_registers(frame, registers);
     put_configuration(frame, entries);
     put_addresses(frame, entries);
+    put_control(frame, control);
 }

@@ -15,6 +15,9 @@ pub(crate) const TAG_CALL: u64 = 0x6c6c_6163;
 /// `stop`
 pub(crate) const TAG_STOP: u64 = 0x706f_7473;
 
+/// `control`
+pub(crate) const TAG_CONTROL: u64 = 0x006c_6f72_746e_6f63;
+
 /// `page`
 pub(crate) const TAG_PAGE: u64 = 0x6567_6170;
 
@@ -27,8 +30,8 @@ pub(crate) const TAG_MEASURE: u64 = 0x0065_7275_7361_656d;
 /// `end`
 pub(crate) const TAG_END: u64 = 0x0064_6e65;
 
-/// The bytes of an answer: nine words, the registers, and the entries.
-pub type AnswerBytes = [u8; 904];
+/// The bytes of an answer: nine words, the registers, the entries, and the control words after their tag.
+pub type AnswerBytes = [u8; 984];
 
 /// The bytes of a frame of three words.
 pub type ShortBytes = [u8; 24];

@@ -4,16 +4,17 @@ ghost use Rattle.std.specs.Prelude.{◌≡◌, ℕ, ◌+◌, ◌≤◌, IfSome, 
 ghost use Rattle.sbi_decode.specs.Registers.{RegisterFile, x_of};
 ghost use Rattle.trap_frames.specs.declared.trap.Trap.{Trap as TrapOf};
 ghost use Rattle.trap_frames.specs.Words.{word_at};
-ghost use Rattle.trap_frames.specs.Traps.{HasRegisters, IsTrapFrame, ReadsTrap, CountsRead};
+ghost use Rattle.trap_frames.specs.Traps.{HasControl, HasRegisters, IsTrapFrame, ReadsTrap, CountsRead};
 
 use crate::fault::FrameFault;
-use crate::frame::{TAG_CALL, TAG_STOP, word};
+use crate::frame::{TAG_CALL, TAG_CONTROL, TAG_STOP, word};
 use crate::frame_bytes::read_whole;
 use byte_streams::Source;
+use control_words::ControlWords;
 use sbi_decode::Registers;
 
-/// The bytes of its frame.
-const TRAP_BYTES: usize = 272;
+/// The bytes of its frame: its tag, the hart, the registers, and the control words after a tag of their own.
+const TRAP_BYTES: usize = 352;
 
 /// What happened to the world that runs on a hart.
 #[derive(Clone, Copy, Debug, PartialEq, Eq)]
@@ -24,8 +25,8 @@ pub enum Event {
     Stop,
 }
 
-/// A trap of a hart, with the registers of the world that ran there; the program counter is that of the instruction that
-/// trapped.
+/// A trap of a hart, with the registers and control words of the world that ran there; the program counter is that of the
+/// instruction that trapped.
 #[derive(Clone, Copy, Debug, PartialEq, Eq)]
 pub struct Trap {
     /// What happened.
@@ -34,10 +35,12 @@ pub struct Trap {
     pub hart: u8,
     /// The registers as they were.
     pub registers: Registers,
+    /// The control registers as they were.
+    pub control: ControlWords,
 }
 
 /// The registers in a frame: the program counter, then x1 to x31.
-fn registers_in(bytes: &[u8; 272]) -> Registers
+fn registers_in(bytes: &[u8; 352]) -> Registers
     ensures { HasRegisters bytes.now result }
 {
     let mut registers = Registers::new();
@@ -46,6 +49,23 @@ fn registers_in(bytes: &[u8; 272]) -> Registers
         registers.set(n, word(bytes, n + 2));
     }
     registers
+}
+
+/// The control words in a frame, in their order.
+fn control_in(bytes: &[u8; 352]) -> ControlWords
+    ensures { HasControl bytes.now result }
+{
+    ControlWords {
+        status: word(bytes, 35),
+        satp: word(bytes, 36),
+        mie: word(bytes, 37),
+        scounteren: word(bytes, 38),
+        senvcfg: word(bytes, 39),
+        hstatus: word(bytes, 40),
+        medeleg: word(bytes, 41),
+        mideleg: word(bytes, 42),
+        mode: word(bytes, 43),
+    }
 }
 
 /// What happened, by the tag.
@@ -61,7 +81,7 @@ fn event_in(tag: u64) -> Option<Event>
 }
 
 /// The trap that a frame is of, on one of so many harts.
-fn trap_in(bytes: &[u8; 272], harts: u8) -> Option<Trap>
+fn trap_in(bytes: &[u8; 352], harts: u8) -> Option<Trap>
     ensures trap { IfSome result (λ trap. IsTrapFrame bytes.now harts trap) }
     ensures none { IfNone result ((trap : TrapOf) → IsTrapFrame bytes.now harts trap → ⊥) }
 {
@@ -70,10 +90,14 @@ fn trap_in(bytes: &[u8; 272], harts: u8) -> Option<Trap>
     if hart >= u64::from(harts) {
         return None;
     }
+    if word(bytes, 34) != TAG_CONTROL {
+        return None;
+    }
     Some(Trap {
         event,
         hart: hart as u8,
         registers: registers_in(bytes),
+        control: control_in(bytes),
     })
 }
 

@@ -1,3 +1,4 @@
 mod Waking
 mod Served
 mod Looped
+mod Came

@@ -5,6 +5,8 @@ use Rattle.std.proofs.KnownBytes.{Appends-trans, Consumes-trans}
 use Rattle.enclave_table.specs.Platform.{Layout}
 use Rattle.monitor_core.specs.declared.monitor.Monitor.{Monitor}
 use Rattle.monitor_core.specs.States.{State, opening}
+use Rattle.control_words.specs.declared.words.ControlWords.{ControlWords}
+use Rattle.control_words.specs.Tables.{first_host_words}
 use Rattle.trap_frames.specs.declared.trap.Trap.{Trap}
 use Rattle.trap_frames.specs.declared.fault.FrameFault.{FrameFault}
 use Rattle.trap_frames.specs.declared.fault.FrameFault.TheVariants as frames
@@ -16,14 +18,14 @@ use Rattle.trap_server.specs.Ends.{fault_of}
 use Rattle.trap_server.specs.Boot.{Boots, BootsOn, RefusesFirst, StopsAtFirst}
 use Rattle.trap_frames.specs.Platforms.{IsNoPlatform, IsPlatformFrame, ReadsPlatform}
 use Rattle.trap_frames.specs.Traps.{IsNoTrap, IsTrapFrame, ReadsTrap}
-use Rattle.trap_server.specs.Answered.{AreAwake, IsAnswer, no_answer}
-use Rattle.trap_server.specs.Runs.{Ran, StopsAfter, others, trap_count}
+use Rattle.trap_server.specs.Answered.{AreAwake, IsAnswer, given_on, no_answer}
+use Rattle.trap_server.specs.Runs.{Ran, StopsAfter, first_words, others, trap_count}
 use Rattle.trap_server.specs.Runs.{Serves as Served}
 use Rattle.trap_server.specs.Runs.{next_trap, no_trap}
 use Rattle.trap_server.specs.Steps.{Serves, StopsTrap}
 
 -- the platform was read and answered, and traps were served from it to this state
-pub record Progress (count : ℕ) (now : State) (before after held holds : Option (List ℕ)) : Type 0 where
+pub record Progress (count : ℕ) (now : State) (hosts : ℕ → ControlWords) (before after held holds : Option (List ℕ)) : Type 0 where
   pub layout : Layout
   pub first : List ℕ
   pub opened : List ℕ
@@ -31,8 +33,8 @@ pub record Progress (count : ℕ) (now : State) (before after held holds : Optio
   pub written : List ℕ
   pub size : length first ≡ 1336
   pub platform : IsPlatformFrame first layout
-  pub begins : IsAnswer (opening layout) 0 no_answer None (others layout.harts) opened
-  pub served : Served (opening layout) read written now
+  pub begins : IsAnswer (opening layout) first_host_words 0 no_answer None (others layout.harts) opened
+  pub served : Served (opening layout) first_words read written now hosts
   pub counted : trap_count served ≡ count
   pub consumed : Consumes before after (first ++ read)
   pub appended : Appends held holds (opened ++ written)
@@ -47,7 +49,7 @@ appended_as held holds xs ys e c = subst (Appends held holds) e c
 -- the opening state
 opened_at :
     (layout : Layout) (first opened : List ℕ) (before after held middle holds : Option (List ℕ)) → length first ≡ 1336 → IsPlatformFrame first layout → Consumes before after first → Appends held middle []
-    → IsAnswer (opening layout) 0 no_answer None (others layout.harts) opened → Appends middle holds opened → Progress 0 (opening layout) before after held holds
+    → IsAnswer (opening layout) first_host_words 0 no_answer None (others layout.harts) opened → Appends middle holds opened → Progress 0 (opening layout) first_words before after held holds
 opened_at layout first opened before after held middle holds size platform consumed nothing answer wrote = record {
   layout = layout;
   first = first;
@@ -65,17 +67,20 @@ opened_at layout first opened before after held middle holds size platform consu
 }
 
 pub begins :
-    (s : State) (layout : Layout) (first opened : List ℕ) (harts : ℕ) (woken : List Bool) (before after held middle holds : Option (List ℕ)) → length first ≡ 1336 → IsPlatformFrame first layout → s ≡ opening layout
-    → Consumes before after first → Appends held middle [] → harts ≡ s.table.layout.harts → woken ≡ others harts → IsAnswer s 0 no_answer None woken opened → Appends middle holds opened → Progress 0 s before after held holds
-begins s layout first opened harts woken before after held middle holds size platform is consumed nothing n w answer wrote =
-    let at = subst (λ (x : State). IsAnswer x 0 no_answer None (others layout.harts) opened) is (subst (λ ws. IsAnswer s 0 no_answer None ws opened) (w ∙ ap others (n ∙ ap (λ (x : State). x.table.layout.harts) is)) answer) in
-    subst (λ (x : State). Progress 0 x before after held holds) (sym is) (opened_at layout first opened before after held middle holds size platform consumed nothing at wrote)
+    (s : State) (hosts : ℕ → ControlWords) (layout : Layout) (first opened : List ℕ) (harts : ℕ) (woken : List Bool) (before after held middle holds : Option (List ℕ)) → length first ≡ 1336 → IsPlatformFrame first layout → s ≡ opening layout → hosts ≡ first_words
+    → Consumes before after first → Appends held middle [] → harts ≡ s.table.layout.harts → woken ≡ others harts → IsAnswer s (given_on s hosts 0) 0 no_answer None woken opened → Appends middle holds opened → Progress 0 s hosts before after held holds
+begins s hosts layout first opened harts woken before after held middle holds size platform is words consumed nothing n w answer wrote =
+    let known = subst (λ ws. IsAnswer s (given_on s hosts 0) 0 no_answer None ws opened) (w ∙ ap others (n ∙ ap (λ (x : State). x.table.layout.harts) is)) answer in
+    let with_words = subst (λ (hs : ℕ → ControlWords). IsAnswer s (given_on s hs 0) 0 no_answer None (others layout.harts) opened) words known in
+    let at = subst (λ (x : State). IsAnswer x (given_on x first_words 0) 0 no_answer None (others layout.harts) opened) is with_words in
+    subst (λ (hs : ℕ → ControlWords). Progress 0 s hs before after held holds) (sym words)
+    (subst (λ (x : State). Progress 0 x first_words before after held holds) (sym is) (opened_at layout first opened before after held middle holds size platform consumed nothing at wrote))
 
 -- one trap more
 pub goes_on :
-    (count : ℕ) (old new : State) (trap : Trap) (frame : List ℕ) (harts : ℕ) (before now mid after held middle holds : Option (List ℕ)) → Progress count old before now held middle → length frame ≡ 272 → IsTrapFrame frame harts trap
-    → harts ≡ old.table.layout.harts → Consumes now mid frame → Serves (Ok tt) trap old new mid after middle holds → Progress (count + 1) new before after held holds
-goes_on count old new trap frame harts before now mid after held middle holds p size is n came s = record {
+    (count : ℕ) (old new : State) (hosts kept : ℕ → ControlWords) (trap : Trap) (frame : List ℕ) (harts : ℕ) (before now mid after held middle holds : Option (List ℕ)) → Progress count old hosts before now held middle → length frame ≡ 352 → IsTrapFrame frame harts trap
+    → harts ≡ old.table.layout.harts → Consumes now mid frame → Serves (Ok tt) trap old hosts new kept mid after middle holds → Progress (count + 1) new kept before after held holds
+goes_on count old new hosts kept trap frame harts before now mid after held middle holds p size is n came s = record {
   layout = p.layout;
   first = p.first;
   opened = p.opened;
@@ -84,7 +89,7 @@ goes_on count old new trap frame harts before now mid after held middle holds p 
   size = p.size;
   platform = p.platform;
   begins = p.begins;
-  served = next_trap p.served trap frame s.0 s.1 s.2 new size (subst (λ k. IsTrapFrame frame k trap) n is) s.3;
+  served = next_trap p.served trap frame s.0 s.1 s.2 new kept size (subst (λ k. IsTrapFrame frame k trap) n is) s.3;
   counted = ap (λ k. k + 1) p.counted;
   consumed = consumed_as before after ((p.first ++ p.read) ++ (frame ++ s.0)) (p.first ++ (p.read ++ (frame ++ s.0))) (append_assoc p.first p.read (frame ++ s.0))
       (Consumes-trans before now after (p.first ++ p.read) (frame ++ s.0) p.consumed (Consumes-trans now mid after frame s.0 came s.6));
@@ -94,14 +99,15 @@ goes_on count old new trap frame harts before now mid after held middle holds p 
 }
 
 -- what came and was written after them
-pub ran : (count : ℕ) (now : State) (before mid after held middle holds : Option (List ℕ)) (beyond rest : List ℕ) → Progress count now before mid held middle → Consumes mid after beyond → Appends middle holds rest → Ran before after held holds beyond rest
-ran count now before mid after held middle holds beyond rest p came wrote = record {
+pub ran : (count : ℕ) (now : State) (hosts : ℕ → ControlWords) (before mid after held middle holds : Option (List ℕ)) (beyond rest : List ℕ) → Progress count now hosts before mid held middle → Consumes mid after beyond → Appends middle holds rest → Ran before after held holds beyond rest
+ran count now hosts before mid after held middle holds beyond rest p came wrote = record {
   layout = p.layout;
   first = p.first;
   opened = p.opened;
   read = p.read;
   written = p.written;
   state = now;
+  hosts = hosts;
   count = count;
   size = p.size;
   platform = p.platform;
@@ -113,10 +119,10 @@ ran count now before mid after held middle holds beyond rest p came wrote = reco
 }
 
 -- and why the loop ends there
-pub ended : (fault : ServeFault) (count : ℕ) (now : State) (before mid after held middle holds : Option (List ℕ)) (beyond rest : List ℕ) → Progress count now before mid held middle → Consumes mid after beyond → Appends middle holds rest
+pub ended : (fault : ServeFault) (count : ℕ) (now : State) (hosts : ℕ → ControlWords) (before mid after held middle holds : Option (List ℕ)) (beyond rest : List ℕ) → Progress count now hosts before mid held middle → Consumes mid after beyond → Appends middle holds rest
     → StopsAfter fault count now beyond after → (run : Ran before after held holds beyond rest) × StopsAfter fault run.count run.state beyond after
 unfolding ran
-ended fault count now before mid after held middle holds beyond rest p came wrote why = (ran count now before mid after held middle holds beyond rest p came wrote, why)
+ended fault count now hosts before mid after held middle holds beyond rest p came wrote why = (ran count now hosts before mid after held middle holds beyond rest p came wrote, why)
 
 -- a trap that was not read: what was, and why the loop ends
 pub read_stops :
@@ -128,7 +134,7 @@ read_stops frames.Write count s harts before after n reads = absurd reads
 
 -- a trap that was read and not served
 pub trap_stops :
-    (fault : ServeFault) (count : ℕ) (s : State) (trap : Trap) (harts : ℕ) (frame read : List ℕ) (after : Option (List ℕ)) → harts ≡ s.table.layout.harts → length frame ≡ 272 → IsTrapFrame frame harts trap → StopsTrap fault s trap read after
+    (fault : ServeFault) (count : ℕ) (s : State) (trap : Trap) (harts : ℕ) (frame read : List ℕ) (after : Option (List ℕ)) → harts ≡ s.table.layout.harts → length frame ≡ 352 → IsTrapFrame frame harts trap → StopsTrap fault s trap read after
     → StopsAfter fault count s (frame ++ read) after
 trap_stops (faults.Refused refusals.NotUnderstood) count s trap harts frame read after n size is stops =
     inr (inl (trap, frame, read, size, subst (λ k. IsTrapFrame frame k trap) n is, stops, refl))

@@ -26,6 +26,7 @@ use Rattle.trap_frames.specs.Traps.{CountsWrite as CountsFrameWrite}
 use Rattle.trap_frames.specs.Platforms.{ReadsPlatform}
 use Rattle.trap_frames.specs.PageDigest.{next_page, no_page}
 use Rattle.monitor_core.specs.States.{State}
+use Rattle.control_words.specs.declared.words.ControlWords.{ControlWords}
 use Rattle.trap_frames.specs.declared.trap.Trap.{Trap}
 use Rattle.trap_server.specs.declared.fault.ServeFault.{ServeFault}
 use Rattle.trap_server.specs.Answered.{AreAwake, marks_of, unmarked}
@@ -68,12 +69,12 @@ awake s harts (suc (suc (suc (suc n)))) most known = absurd (none_there n harts 
 
 -- a trap was served where its answer was written
 pub serves :
-    (result : Result (Unit {0}) ServeFault) (Are : List ℕ → Type 0) (trap : Trap) (old new : State) (before after held middle holds : Option (List ℕ)) (question read : List ℕ)
-    → ((bytes : List ℕ) → Are bytes → ServesTrap old trap read question bytes new) → AreAwake new → new.table.layout ≡ old.table.layout → Consumes before after read → Appends held middle question
-    → Writes result Are middle holds → Serves result trap old new before after held holds
-serves (Ok done) Are trap old new before after held middle holds question read served quiet layout consumed asked wrote =
+    (result : Result (Unit {0}) ServeFault) (Are : List ℕ → Type 0) (trap : Trap) (old new : State) (hosts kept : ℕ → ControlWords) (before after held middle holds : Option (List ℕ)) (question read : List ℕ)
+    → ((bytes : List ℕ) → Are bytes → ServesTrap old hosts trap read question bytes new kept) → AreAwake new → new.table.layout ≡ old.table.layout → Consumes before after read → Appends held middle question
+    → Writes result Are middle holds → Serves result trap old hosts new kept before after held holds
+serves (Ok done) Are trap old new hosts kept before after held middle holds question read served quiet layout consumed asked wrote =
     (read, question, wrote.0, served wrote.0 wrote.1, quiet, layout, consumed, Appends-trans held middle holds question wrote.0 asked wrote.2)
-serves (Err fault) Are trap old new before after held middle holds question read served quiet layout consumed asked wrote =
+serves (Err fault) Are trap old new hosts kept before after held middle holds question read served quiet layout consumed asked wrote =
     (read, question, wrote.1, subst (λ f. LastIs f wrote.1) (sym wrote.0) tt, subst (λ f. StopsTrap f old trap read after) (sym wrote.0) tt, consumed, Appends-trans held middle holds question wrote.1 asked wrote.2)
 
 -- where no creation is to be measured, any digest will do

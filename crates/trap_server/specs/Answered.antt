@@ -6,6 +6,8 @@ use Rattle.pmp_match.specs.Meaning.{IsFewest}
 use Rattle.monitor_core.specs.declared.answer.Answer.{Answer}
 use Rattle.monitor_core.specs.States.{State, current_view, running_registers}
 use Rattle.monitor_core.specs.Changes.{without_mark}
+use Rattle.control_words.specs.declared.words.ControlWords.{ControlWords}
+use Rattle.control_words.specs.Given.{words_in}
 use Rattle.trap_frames.specs.declared.answer.Head.{Head}
 use Rattle.trap_frames.specs.Answers.{answer_bytes}
 
@@ -32,10 +34,16 @@ status_word (negsuc n) = 2 ^ 64 - (n + 1)
 abbrev pub head_of : State → ℕ → Answer → Option PageRange → List Bool → Head
 head_of s hart answer cleared woken = record { hart = hart; world = s.worlds hart; status = status_word answer.status; value = answer.value; zero = cleared; woken = woken }
 
--- an answer is written with which a hart goes on: the registers of the world that runs there, and its entries
-abbrev pub IsAnswer : State → ℕ → Answer → Option PageRange → List Bool → List ℕ → Type 0
-IsAnswer s hart answer cleared woken bytes =
-    (entries : List Entry) × AreEntries s hart woken entries × (bytes ≡ answer_bytes (head_of s hart answer cleared woken) (running_registers s hart) entries)
+-- the control words with which the world that runs on a hart goes on there, where the hosts have these
+abbrev pub given_on : State → (ℕ → ControlWords) → ℕ → ControlWords
+given_on s hosts hart = words_in (s.worlds hart) (hosts hart)
+
+-- an answer is written with which a hart goes on: the registers of the world that runs there, its entries, and the control words
+-- that it is given
+abbrev pub IsAnswer : State → ControlWords → ℕ → Answer → Option PageRange → List Bool → List ℕ → Type 0
+IsAnswer s given hart answer cleared woken bytes =
+    (entries : List Entry) × AreEntries s hart woken entries
+    × (bytes ≡ answer_bytes (head_of s hart answer cleared woken) (running_registers s hart) entries given)
 
 -- what stands for the answer where there was no call
 abbrev pub no_answer : Answer

@@ -3,6 +3,7 @@ use Rattle.std.specs.Prelude.{◌≡◌, ℕ, ◌<◌, Bool, true, false, List, 
 use Rattle.std.specs.Io.KnownBytes.{Appends, Consumes}
 use Rattle.worlds.specs.declared.world.World.TheVariants.{Host}
 use Rattle.monitor_core.specs.States.{State}
+use Rattle.control_words.specs.declared.words.ControlWords.{ControlWords}
 use Rattle.trap_frames.specs.declared.trap.Trap.{Trap}
 use Rattle.trap_server.specs.declared.fault.ServeFault.{ServeFault}
 use Rattle.trap_server.specs.Answered.{AreAwake}
@@ -34,10 +35,10 @@ StopsTrap faults.Read s trap read after = Unit {0}
 StopsTrap faults.Write s trap read after = Unit {0}
 
 -- a trap was served and answered, or the loop ends: some bytes were read for it, and some written
-abbrev pub Serves : Result (Unit {0}) ServeFault → Trap → State → State → Option (List ℕ) → Option (List ℕ) → Option (List ℕ) → Option (List ℕ) → Type 0
-Serves (Ok done) trap old new before after held holds =
-    (read question answered : List ℕ) × ServesTrap old trap read question answered new × AreAwake new × (new.table.layout ≡ old.table.layout) × Consumes before after read × Appends held holds (question ++ answered)
-Serves (Err fault) trap old new before after held holds =
+abbrev pub Serves : Result (Unit {0}) ServeFault → Trap → State → (ℕ → ControlWords) → State → (ℕ → ControlWords) → Option (List ℕ) → Option (List ℕ) → Option (List ℕ) → Option (List ℕ) → Type 0
+Serves (Ok done) trap old hosts new kept before after held holds =
+    (read question answered : List ℕ) × ServesTrap old hosts trap read question answered new kept × AreAwake new × (new.table.layout ≡ old.table.layout) × Consumes before after read × Appends held holds (question ++ answered)
+Serves (Err fault) trap old hosts new kept before after held holds =
     (read some last : List ℕ) × LastIs fault last × StopsTrap fault old trap read after × Consumes before after read × Appends held holds (some ++ last)
 
 -- the pages of a creation that passes its checks were asked for and read, and the digest is theirs; or the loop ends

@@ -3,12 +3,14 @@
 ghost use Rattle.std.specs.Prelude.{◌≡◌, ◌<◌, ℕ, List, Option};
 ghost use Rattle.monitor_core.specs.Monitors.{state_of};
 ghost use Rattle.monitor_core.specs.Changes.{without_mark};
-ghost use Rattle.trap_server.specs.Answered.{AreAwake, IsAnswer, marks_of, status_word, unmarked};
+ghost use Rattle.control_words.specs.Given.{host_words, keeping};
+ghost use Rattle.trap_server.specs.Answered.{AreAwake, IsAnswer, given_on, marks_of, status_word, unmarked};
 ghost use Rattle.trap_server.specs.Ends.{CountsReads, CountsWrites};
 ghost use Rattle.trap_server.specs.Steps.{MayWake, Serves, TakesDigest, Writes};
 
 use crate::fault::{ServeFault, end};
 use byte_streams::{Sink, Source, write_whole};
+use control_words::HostWords;
 use monitor_core::{Answer, Monitor};
 use page_views::PageRange;
 use trap_frames::{AnswerBytes, Event, Head, Trap, digest_of, put_answer};
@@ -58,6 +60,7 @@ fn status_word(answer: &Answer) -> u64
 fn put_frame(
     frame: &mut AnswerBytes,
     monitor: &Monitor,
+    hosts: &HostWords,
     hart: u8,
     answer: &Answer,
     zero: Option<PageRange>,
@@ -65,23 +68,33 @@ fn put_frame(
 )
     requires hart { hart < 4 }
     requires woken { MayWake (state_of monitor.now) hart woken }
-    ensures { IsAnswer (state_of monitor.now) hart answer.now zero woken frame.new }
+    ensures { let s = state_of monitor.now in
+        IsAnswer s (given_on s (host_words hosts.now) hart) hart answer.now zero woken frame.new }
 {
+    let world = monitor.world(hart);
     let head = Head {
         hart,
-        world: monitor.world(hart),
+        world,
         status: status_word(answer),
         value: answer.value,
         zero,
         woken,
     };
-    put_answer(frame, &head, monitor.registers(hart), monitor.entries(hart));
+    let control = hosts.given(hart, world);
+    put_answer(
+        frame,
+        &head,
+        monitor.registers(hart),
+        monitor.entries(hart),
+        &control,
+    );
 }
 
 /// Writes with what a hart goes on.
 #[inline(never)]
 pub(crate) fn write_answer<W: Sink>(
     monitor: &Monitor,
+    hosts: &HostWords,
     hart: u8,
     answer: Answer,
     zero: Option<PageRange>,
@@ -90,18 +103,28 @@ pub(crate) fn write_answer<W: Sink>(
 ) -> Result<(), ServeFault>
     requires hart { hart < 4 }
     requires woken { MayWake (state_of monitor.now) hart woken }
-    ensures bytes { Writes result (IsAnswer (state_of monitor.now) hart answer zero woken)
+    ensures bytes { let s = state_of monitor.now in Writes result
+        (IsAnswer s (given_on s (host_words hosts.now) hart) hart answer zero woken)
         (W.contents sink.old) (W.contents sink.new) }
     ensures reads { (n : ℕ) → CountsReads result n n }
     ensures writes { CountsWrites result (W.failures sink.old) (W.failures sink.new)
         (W.stalls sink.old) (W.stalls sink.new) }
 {
-    let mut frame = [0; 904];
-    put_frame(&mut frame, monitor, hart, &answer, zero, woken);
+    let mut frame = [0; 984];
+    put_frame(&mut frame, monitor, hosts, hart, &answer, zero, woken);
     match write_whole(sink, &frame) {
         Ok(()) => Ok(()),
         Err(_) => Err(ServeFault::Write),
     }
+}
+
+/// Keeps the control words that came with a trap, where it is the host's.
+fn keep_words(monitor: &Monitor, hosts: &mut HostWords, trap: &Trap)
+    requires { trap.now.hart < 4 }
+    ensures { host_words hosts.new ≡ keeping ((state_of monitor.now).worlds trap.now.hart)
+        (host_words hosts.old) trap.now.hart trap.now.control }
+{
+    hosts.keep(trap.hart, monitor.world(trap.hart), &trap.control);
 }
 
 /// The digest of the pages of a creation that passes its checks, which are asked for and read; of another call there is none,
@@ -133,6 +156,7 @@ fn measured<R: Source, W: Sink>(
 /// Serves the call in the registers of a trap. Where it is a creation that passes its checks, its pages are measured before.
 fn serve_call<R: Source, W: Sink>(
     monitor: &mut Monitor,
+    hosts: &mut HostWords,
     trap: &Trap,
     source: &mut R,
     sink: &mut W,
@@ -140,14 +164,15 @@ fn serve_call<R: Source, W: Sink>(
     requires hart { trap.now.hart < (state_of monitor.old).table.layout.harts }
     requires awake { AreAwake (state_of monitor.old) }
     requires call { trap.now.event ≡ Event.Call }
-    ensures served { Serves result trap.now (state_of monitor.old) (state_of monitor.new)
-        (R.remaining source.old) (R.remaining source.new) (W.contents sink.old)
-        (W.contents sink.new) }
+    ensures served { Serves result trap.now (state_of monitor.old) (host_words hosts.old)
+        (state_of monitor.new) (host_words hosts.new) (R.remaining source.old)
+        (R.remaining source.new) (W.contents sink.old) (W.contents sink.new) }
     ensures reads { CountsReads result (R.failures source.old) (R.failures source.new) }
     ensures writes { CountsWrites result (W.failures sink.old) (W.failures sink.new)
         (W.stalls sink.old) (W.stalls sink.new) }
 {
     let _most = monitor.harts();
+    keep_words(monitor, hosts, trap);
     let digest = match measured(monitor, trap, source, sink) {
         Ok(digest) => digest,
         Err(fault) => return Err(fault),
@@ -155,46 +180,62 @@ fn serve_call<R: Source, W: Sink>(
     let served = monitor.serve_measured(trap.hart, &trap.registers, &digest);
     monitor.cite_invariant();
     let woken = wake_all(monitor);
-    write_answer(monitor, trap.hart, served.answer, served.zero, woken, sink)
+    write_answer(
+        monitor,
+        hosts,
+        trap.hart,
+        served.answer,
+        served.zero,
+        woken,
+        sink,
+    )
 }
 
 /// Serves an interrupt: an enclave stops.
 #[inline(never)]
-fn serve_stop<W: Sink>(monitor: &mut Monitor, trap: &Trap, sink: &mut W) -> Result<(), ServeFault>
+fn serve_stop<W: Sink>(
+    monitor: &mut Monitor,
+    hosts: &mut HostWords,
+    trap: &Trap,
+    sink: &mut W,
+) -> Result<(), ServeFault>
     requires hart { trap.now.hart < (state_of monitor.old).table.layout.harts }
     requires awake { AreAwake (state_of monitor.old) }
     requires stop { trap.now.event ≡ Event.Stop }
     ensures served { (before : Option (List ℕ))
-        → Serves result trap.now (state_of monitor.old) (state_of monitor.new) before before
-        (W.contents sink.old) (W.contents sink.new) }
+        → Serves result trap.now (state_of monitor.old) (host_words hosts.old)
+        (state_of monitor.new) (host_words hosts.new) before before (W.contents sink.old)
+        (W.contents sink.new) }
     ensures reads { (n : ℕ) → CountsReads result n n }
     ensures writes { CountsWrites result (W.failures sink.old) (W.failures sink.new)
         (W.stalls sink.old) (W.stalls sink.new) }
 {
     let _most = monitor.harts();
+    keep_words(monitor, hosts, trap);
     let _onward = monitor.interrupt(trap.hart, &trap.registers);
     let woken = wake_all(monitor);
-    write_answer(monitor, trap.hart, NOTHING, None, woken, sink)
+    write_answer(monitor, hosts, trap.hart, NOTHING, None, woken, sink)
 }
 
 /// Serves a trap.
 pub(crate) fn serve_trap<R: Source, W: Sink>(
     monitor: &mut Monitor,
+    hosts: &mut HostWords,
     trap: &Trap,
     source: &mut R,
     sink: &mut W,
 ) -> Result<(), ServeFault>
     requires hart { trap.now.hart < (state_of monitor.old).table.layout.harts }
     requires awake { AreAwake (state_of monitor.old) }
-    ensures served { Serves result trap.now (state_of monitor.old) (state_of monitor.new)
-        (R.remaining source.old) (R.remaining source.new) (W.contents sink.old)
-        (W.contents sink.new) }
+    ensures served { Serves result trap.now (state_of monitor.old) (host_words hosts.old)
+        (state_of monitor.new) (host_words hosts.new) (R.remaining source.old)
+        (R.remaining source.new) (W.contents sink.old) (W.contents sink.new) }
     ensures reads { CountsReads result (R.failures source.old) (R.failures source.new) }
     ensures writes { CountsWrites result (W.failures sink.old) (W.failures sink.new)
         (W.stalls sink.old) (W.stalls sink.new) }
 {
     match trap.event {
-        Event::Call => serve_call(monitor, trap, source, sink),
-        Event::Stop => serve_stop(monitor, trap, sink),
+        Event::Call => serve_call(monitor, hosts, trap, source, sink),
+        Event::Stop => serve_stop(monitor, hosts, trap, sink),
     }
 }

@@ -11,6 +11,7 @@ ghost use Rattle.trap_server.specs.Runs.{EndsEarly, Ran, others};
 use crate::fault::{ServeFault, end, refuse};
 use crate::service::{NOTHING, serve_trap, write_answer};
 use byte_streams::{Sink, Source};
+use control_words::HostWords;
 use enclave_table::{BootFault, Platform};
 use monitor_core::Monitor;
 use std::alloc::Global;
@@ -115,7 +116,8 @@ pub fn serve_traps<R: Source, W: Sink>(
         Err(fault) => return Err(fault),
     };
     let harts = monitor.harts();
-    match write_answer(&monitor, 0, NOTHING, None, others(harts), sink) {
+    let mut hosts = HostWords::new();
+    match write_answer(&monitor, &hosts, 0, NOTHING, None, others(harts), sink) {
         Ok(()) => {}
         Err(fault) => return Err(fault),
     }
@@ -125,7 +127,7 @@ pub fn serve_traps<R: Source, W: Sink>(
             Ok(None) => return Ok(()),
             Err(fault) => return Err(end(sink, fault)),
         };
-        match serve_trap(&mut monitor, &trap, source, sink) {
+        match serve_trap(&mut monitor, &mut hosts, &trap, source, sink) {
             Ok(()) => {}
             Err(fault) => return Err(fault),
         }

@@ -1,4 +1,4 @@
-use Rattle.std.proofs.Common.{◌≡◌, ◌∙◌, ◌+◌, ◌*◌, ◌++◌, take, ap, sym, arith, append_assoc}
+use Rattle.std.proofs.Common.{◌≡◌, ◌∙◌, ◌+◌, ◌*◌, ◌++◌, take, ap, sym, arith}
 use Rattle.byteorder.specs.Endian.{little_bytes}
 use Rattle.sbi_decode.specs.Registers.{x_of}
 use Rattle.trap_frames.specs.Answers.{register_bytes}

@@ -1,4 +1,4 @@
-use Rattle.std.proofs.Common.{◌∙◌, inl, rules, arith, drop, take_all, length-drop}
+use Rattle.std.proofs.Common.{◌∙◌, rules, arith, drop, take_all, length-drop}
 use Rattle.trap_frames.proofs.Read.{whole}
 use Rattle.trap_frames.proofs.page_digest.read_page.Goals as goal
 

@@ -1,4 +1,4 @@
-use Rattle.std.proofs.Common.{◌≡◌, ◌⊎◌, ◌<◌, ◌≤◌, inl, inr, rules, subst, sym}
+use Rattle.std.proofs.Common.{inl, inr, rules}
 use Rattle.enclave_table.specs.Platform.{platform_rules}
 use Rattle.trap_frames.specs.Platforms.{shape_rules}
 use Rattle.trap_frames.proofs.Read.{fails_after}

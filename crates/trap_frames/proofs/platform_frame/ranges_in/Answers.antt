@@ -1,4 +1,4 @@
-use Rattle.std.proofs.Common.{◌≡◌, ◌∙◌, inr, ap, rules, arith}
+use Rattle.std.proofs.Common.{◌∙◌, inr, ap, rules, arith}
 use Rattle.pmp_encoding.specs.declared.limit.Limit.TheVariants.{Sixteen}
 use Rattle.trap_frames.specs.Platforms.{device_words, ram_in, words_of}
 use Rattle.trap_frames.proofs.platform_frame.ranges_in.Goals as goal

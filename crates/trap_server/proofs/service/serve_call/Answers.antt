@@ -1,10 +1,11 @@
-use Rattle.std.proofs.Common.{◌∙◌, ◌<◌, ◌≤◌, List, Bool, ap, sym, subst}
+use Rattle.std.proofs.Common.{refl, ◌∙◌, ◌<◌, ◌≤◌, List, Bool, ap, sym, subst}
 use Rattle.sbi_decode.specs.Calls.{call_of}
 use Rattle.monitor_core.specs.Changes.{past_call, with_running}
 use Rattle.monitor_core.specs.Monitors.{state_of}
 use Rattle.monitor_core.specs.States.{State}
+use Rattle.control_words.specs.Given.{host_words}
 use Rattle.trap_frames.specs.declared.trap.Event.{Event}
-use Rattle.trap_server.specs.Answered.{IsAnswer}
+use Rattle.trap_server.specs.Answered.{IsAnswer, given_on}
 use Rattle.trap_server.specs.Service.{ServesAs}
 use Rattle.trap_server.proofs.Served.{may_wake, quiet, reads_then, serves, writes_then}
 use Rattle.trap_server.proofs.Waking.{marks_in_host}
@@ -36,17 +37,24 @@ returns-clause-served g c =
     let said = c.serve_measured-served.result in
     let platform = c.serve_measured-served.ensures.platform in
     let few : mid.table.layout.harts ≤ 4 = subst (λ t. t.harts ≤ 4) (sym platform) (subst (λ n. n ≤ 4) c.harts-most.ensures.value c.harts-most.ensures.most) in
-    serves c.write_answer.result (IsAnswer new trap.hart said.answer said.zero c.wake_all-woken.result) trap s new _ _ _ _ _ taken.0 taken.1
-    (λ bytes is. subst (λ (e : Event). ServesAs e s trap taken.1 taken.0 bytes new) (sym c.requires.call) (record {
-      pages = taken.2;
-      answer = said.answer;
-      cleared = said.zero;
-      mid = mid;
-      asks = taken.3;
-      step = c.serve_measured-served.ensures.step taken.2 taken.4;
-      woken = c.wake_all-woken.ensures.state;
-      goes_on = subst (λ (w : List Bool). IsAnswer new trap.hart said.answer said.zero w bytes) c.wake_all-woken.ensures.marks is;
-    }))
+    let hosts = host_words c.args.hosts.now in
+    let kept = host_words c.keep_words.new.hosts in
+    let given = given_on new kept trap.hart in
+    serves c.write_answer.result (IsAnswer new given trap.hart said.answer said.zero c.wake_all-woken.result) trap s new hosts kept _ _ _ _ _ taken.0 taken.1
+    (λ bytes is. record {
+      given = given;
+      words = record { keeps = c.keep_words.ensures; gives = refl };
+      step = subst (λ (e : Event). ServesAs e s trap given taken.1 taken.0 bytes new) (sym c.requires.call) (record {
+        pages = taken.2;
+        answer = said.answer;
+        cleared = said.zero;
+        mid = mid;
+        asks = taken.3;
+        step = c.serve_measured-served.ensures.step taken.2 taken.4;
+        woken = c.wake_all-woken.ensures.state;
+        goes_on = subst (λ (w : List Bool). IsAnswer new given trap.hart said.answer said.zero w bytes) c.wake_all-woken.ensures.marks is;
+      });
+    })
     (quiet mid new c.wake_all-woken.ensures.state few) (ap (λ (x : State). x.table.layout) c.wake_all-woken.ensures.state ∙ platform) taken.5 taken.6 c.write_answer.ensures.bytes
 
 pub returns-clause-reads : goal.returns-clause-reads

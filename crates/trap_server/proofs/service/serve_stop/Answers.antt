@@ -2,8 +2,9 @@ use Rattle.std.proofs.Common.{◌∙◌, ◌≤◌, List, [], Bool, None, refl, 
 use Rattle.std.proofs.KnownBytes.{Appends-nil, Consumes-nil}
 use Rattle.monitor_core.specs.Monitors.{state_of}
 use Rattle.monitor_core.specs.States.{State}
+use Rattle.control_words.specs.Given.{host_words}
 use Rattle.trap_frames.specs.declared.trap.Event.{Event}
-use Rattle.trap_server.specs.Answered.{IsAnswer, no_answer}
+use Rattle.trap_server.specs.Answered.{IsAnswer, given_on, no_answer}
 use Rattle.trap_server.specs.Service.{ServesAs}
 use Rattle.trap_server.proofs.Served.{quiet, serves}
 use Rattle.trap_server.proofs.service.serve_stop.Goals as goal
@@ -16,13 +17,20 @@ returns-clause-served g c =
     let trap = c.args.trap.now in
     let platform = c.interrupt-onward.ensures.platform in
     let few : mid.table.layout.harts ≤ 4 = subst (λ t. t.harts ≤ 4) (sym platform) (subst (λ n. n ≤ 4) c.harts-most.ensures.value c.harts-most.ensures.most) in
-    λ before. serves c.write_answer.result (IsAnswer new trap.hart no_answer None c.wake_all-woken.result) trap s new before before _ _ _ [] []
-    (λ bytes is. subst (λ (e : Event). ServesAs e s trap [] [] bytes new) (sym c.requires.stop) (record {
-      mid = mid;
-      nothing_asked = refl;
-      nothing_read = refl;
-      step = c.interrupt-onward.ensures.step;
-      woken = c.wake_all-woken.ensures.state;
-      goes_on = subst (λ (w : List Bool). IsAnswer new trap.hart no_answer None w bytes) c.wake_all-woken.ensures.marks is;
-    }))
+    let hosts = host_words c.args.hosts.now in
+    let kept = host_words c.keep_words.new.hosts in
+    let given = given_on new kept trap.hart in
+    λ before. serves c.write_answer.result (IsAnswer new given trap.hart no_answer None c.wake_all-woken.result) trap s new hosts kept before before _ _ _ [] []
+    (λ bytes is. record {
+      given = given;
+      words = record { keeps = c.keep_words.ensures; gives = refl };
+      step = subst (λ (e : Event). ServesAs e s trap given [] [] bytes new) (sym c.requires.stop) (record {
+        mid = mid;
+        nothing_asked = refl;
+        nothing_read = refl;
+        step = c.interrupt-onward.ensures.step;
+        woken = c.wake_all-woken.ensures.state;
+        goes_on = subst (λ (w : List Bool). IsAnswer new given trap.hart no_answer None w bytes) c.wake_all-woken.ensures.marks is;
+      });
+    })
     (quiet mid new c.wake_all-woken.ensures.state few) (ap (λ (x : State). x.table.layout) c.wake_all-woken.ensures.state ∙ platform) (Consumes-nil before) (Appends-nil _) c.write_answer.ensures.bytes

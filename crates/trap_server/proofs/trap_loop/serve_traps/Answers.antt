@@ -1,6 +1,7 @@
-use Rattle.std.proofs.Common.{◌≡◌, ◌∙◌, Option, ◌^◌, ◌-◌, arith, inl, inr, [], ◌++◌, Ok, ap, sym, subst}
+use Rattle.std.proofs.Common.{◌≡◌, ◌<◌, ◌∙◌, Option, ◌^◌, ◌-◌, arith, inl, inr, [], ◌++◌, Ok, ap, sym, subst}
 use Rattle.std.proofs.KnownBytes.{Appends-nil, Appends-trans, Consumes-nil, Consumes-trans}
 use Rattle.monitor_core.specs.Monitors.{state_of}
+use Rattle.control_words.specs.Given.{host_words}
 use Rattle.trap_frames.specs.Traps.{ReadsTrap}
 use Rattle.trap_server.proofs.Looped.{begins, ended, goes_on, ran, read_stops, trap_stops}
 use Rattle.trap_server.proofs.Served.{ends_why, frame_after, frame_reads, read_after, read_at, trap_writes, write_after}
@@ -33,8 +34,8 @@ loop-count-init g c =
     let b = c.in-Ok.ensures.boots in
     let w = c.in-Ok-write_answer.ensures.bytes in
     record {
-      progress = begins (state_of c.in-Ok.monitor) b.0 b.1 w.0 c.harts-harts.result c.others.result (g.R.Source.remaining c.args.source.now) (g.R.Source.remaining c.boot.new.source) (g.W.Sink.contents c.args.sink.now)
-          (g.W.Sink.contents c.boot.new.sink) (g.W.Sink.contents c.write_answer.new.sink) b.2 b.3 b.4 b.5 b.6 c.harts-harts.ensures.value c.others.ensures w.1 w.2;
+      progress = begins (state_of c.in-Ok.monitor) (host_words c.new-hosts.result) b.0 b.1 w.0 c.harts-harts.result c.others.result (g.R.Source.remaining c.args.source.now) (g.R.Source.remaining c.boot.new.source) (g.W.Sink.contents c.args.sink.now)
+          (g.W.Sink.contents c.boot.new.sink) (g.W.Sink.contents c.write_answer.new.sink) b.2 b.3 b.4 c.new-hosts.ensures b.5 b.6 c.harts-harts.ensures.value c.others.ensures w.1 w.2;
       harts = c.harts-harts.ensures.value;
       reads = c.in-Ok.ensures.reads;
       writes = (c.in-Ok-write_answer.ensures.writes.0 ∙ c.in-Ok.ensures.writes.0, c.in-Ok-write_answer.ensures.writes.1 ∙ c.in-Ok.ensures.writes.1);
@@ -45,7 +46,7 @@ returns-in-Ok-None-clause-all g c =
     let before = g.R.Source.remaining c.loop-count.source in
     let after = g.R.Source.remaining c.read_trap.new.source in
     let read = subst (λ r. ReadsTrap (Ok r) c.harts-harts.result before after) c.in-Ok-None.field-0-is c.in-Ok-None.ensures.trap in
-    ran c.loop-count._count (state_of c.loop-count.monitor) (g.R.Source.remaining c.args.source.now) before after (g.W.Sink.contents c.args.sink.now) (g.W.Sink.contents c.loop-count.sink) (g.W.Sink.contents c.loop-count.sink) [] [] c.loop-count.invariant.progress read.0 (Appends-nil _)
+    ran c.loop-count._count (state_of c.loop-count.monitor) (host_words c.loop-count.hosts) (g.R.Source.remaining c.args.source.now) before after (g.W.Sink.contents c.args.sink.now) (g.W.Sink.contents c.loop-count.sink) (g.W.Sink.contents c.loop-count.sink) [] [] c.loop-count.invariant.progress read.0 (Appends-nil _)
 
 pub returns-in-Err-read_trap-clause-early : goal.returns-in-Err-read_trap-clause-early
 returns-in-Err-read_trap-clause-early g c =
@@ -55,7 +56,7 @@ returns-in-Err-read_trap-clause-early g c =
     let n = c.loop-count._count in
     let read = read_stops c.in-Err-read_trap.fault n s c.harts-harts.result before after c.loop-count.invariant.harts c.in-Err-read_trap.ensures.trap in
     let e = ends_why c.end.result (fault_of c.in-Err-read_trap.fault) _ _ (λ f. StopsAfter f n s read.0 after) c.end.ensures.last read.1 tt in
-    (read.0, [], e.0, e.1, inr (ended c.end.result n s (g.R.Source.remaining c.args.source.now) before after (g.W.Sink.contents c.args.sink.now) (g.W.Sink.contents c.loop-count.sink) (g.W.Sink.contents c.end.new.sink) read.0 ([] ++ e.0) c.loop-count.invariant.progress read.2 e.3 e.2))
+    (read.0, [], e.0, e.1, inr (ended c.end.result n s (host_words c.loop-count.hosts) (g.R.Source.remaining c.args.source.now) before after (g.W.Sink.contents c.args.sink.now) (g.W.Sink.contents c.loop-count.sink) (g.W.Sink.contents c.end.new.sink) read.0 ([] ++ e.0) c.loop-count.invariant.progress read.2 e.3 e.2))
 
 pub returns-in-Err-serve_trap-clause-early : goal.returns-in-Err-serve_trap-clause-early
 returns-in-Err-serve_trap-clause-early g c =
@@ -68,10 +69,17 @@ returns-in-Err-serve_trap-clause-early g c =
       s.1,
       s.2,
       s.3,
-      inr (ended c.in-Err-serve_trap.fault c.loop-count._count (state_of c.loop-count.monitor) (g.R.Source.remaining c.args.source.now) before after (g.W.Sink.contents c.args.sink.now) (g.W.Sink.contents c.loop-count.sink) (g.W.Sink.contents c.serve_trap.new.sink)
+      inr (ended c.in-Err-serve_trap.fault c.loop-count._count (state_of c.loop-count.monitor) (host_words c.loop-count.hosts) (g.R.Source.remaining c.args.source.now) before after (g.W.Sink.contents c.args.sink.now) (g.W.Sink.contents c.loop-count.sink) (g.W.Sink.contents c.serve_trap.new.sink)
           (read.0 ++ s.0) (s.1 ++ s.2) c.loop-count.invariant.progress (Consumes-trans before mid after read.0 s.0 read.3 s.5) s.6
           (trap_stops c.in-Err-serve_trap.fault c.loop-count._count (state_of c.loop-count.monitor) c.in-Ok-Some.trap c.harts-harts.result read.0 s.0 after c.loop-count.invariant.harts read.1 read.2 s.4)),
     )
+
+pub serve_trap-requires-clause-hart : goal.serve_trap-requires-clause-hart
+serve_trap-requires-clause-hart g c =
+    let before = g.R.Source.remaining c.loop-count.source in
+    let mid = g.R.Source.remaining c.read_trap.new.source in
+    let read = subst (λ r. ReadsTrap (Ok r) c.harts-harts.result before mid) c.in-Ok-Some.field-0-is c.in-Ok-Some.ensures.trap in
+    subst (λ n. c.in-Ok-Some.trap.hart < n) c.loop-count.invariant.harts read.2.known
 
 pub loop-count-preserved : goal.loop-count-preserved
 loop-count-preserved g c =
@@ -80,7 +88,7 @@ loop-count-preserved g c =
     let read = subst (λ r. ReadsTrap (Ok r) c.harts-harts.result before mid) c.in-Ok-Some.field-0-is c.in-Ok-Some.ensures.trap in
     let s = c.in-Ok-serve_trap.ensures.served in
     record {
-      progress = goes_on c.loop-count._count (state_of c.loop-count.monitor) (state_of c.serve_trap.new.monitor) c.in-Ok-Some.trap read.0 c.harts-harts.result (g.R.Source.remaining c.args.source.now) before mid (g.R.Source.remaining c.serve_trap.new.source)
+      progress = goes_on c.loop-count._count (state_of c.loop-count.monitor) (state_of c.serve_trap.new.monitor) (host_words c.loop-count.hosts) (host_words c.serve_trap.new.hosts) c.in-Ok-Some.trap read.0 c.harts-harts.result (g.R.Source.remaining c.args.source.now) before mid (g.R.Source.remaining c.serve_trap.new.source)
           (g.W.Sink.contents c.args.sink.now) (g.W.Sink.contents c.loop-count.sink) (g.W.Sink.contents c.serve_trap.new.sink) c.loop-count.invariant.progress read.1 read.2 c.loop-count.invariant.harts read.3 s;
       harts = c.loop-count.invariant.harts ∙ ap (λ l. l.harts) (sym s.5);
       reads = c.in-Ok-serve_trap.ensures.reads ∙ (c.in-Ok-Some.ensures.failures ∙ c.loop-count.invariant.reads);
@@ -94,7 +102,7 @@ returns-clause-early g c =
     let n = c.loop-count._count in
     let last : n ≡ 2 ^ 64 - 1 = omega (arith, c.loop-count-test.false, c.loop-count.auto._count-end) in
     let e = ends_why c.refuse.result (faults.Refused refusals.NotUnderstood) _ _ (λ f. StopsAfter f n s [] before) c.refuse.ensures.last (inr (inr last)) tt in
-    ([], [], e.0, e.1, inr (ended c.refuse.result n s (g.R.Source.remaining c.args.source.now) before before (g.W.Sink.contents c.args.sink.now) (g.W.Sink.contents c.loop-count.sink) (g.W.Sink.contents c.refuse.new.sink) [] ([] ++ e.0) c.loop-count.invariant.progress (Consumes-nil _) e.3 e.2))
+    ([], [], e.0, e.1, inr (ended c.refuse.result n s (host_words c.loop-count.hosts) (g.R.Source.remaining c.args.source.now) before before (g.W.Sink.contents c.args.sink.now) (g.W.Sink.contents c.loop-count.sink) (g.W.Sink.contents c.refuse.new.sink) [] ([] ++ e.0) c.loop-count.invariant.progress (Consumes-nil _) e.3 e.2))
 
 pub returns-in-Err-write_answer-clause-reads : goal.returns-in-Err-write_answer-clause-reads
 returns-in-Err-write_answer-clause-reads g c = read_at c.in-Err-write_answer.fault _ _ c.in-Ok.ensures.reads (c.in-Err-write_answer.ensures.reads _)

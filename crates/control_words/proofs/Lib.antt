@@ -1,0 +1,2 @@
+mod Own
+mod Lists
