@@ -38,9 +38,11 @@ uint64_t next_trap(void);
 void answered(const struct answer_frame *answer);
 _Noreturn void ended(const struct end_frame *end);
 
-/* control.c: the registers of machine and supervisor mode that decide what a world can do. */
+/* control.c: the registers of machine and supervisor mode that decide what a world can do, read for a frame and written from
+   one on the hart that calls. */
 void control_at_start(void);
-void control_switch(uint64_t from, uint64_t to);
+void control_read(struct control_words *words);
+void control_write(const struct control_words *words);
 void control_to_handler(struct world *world);
 
 /* harts.c, with the states of a hart (SBI, chapter 9). */

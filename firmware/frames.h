@@ -13,6 +13,7 @@
 #define TAG_PAGE TAG('p', 'a', 'g', 'e', 0, 0, 0, 0)
 #define TAG_ANSWER TAG('a', 'n', 's', 'w', 'e', 'r', 0, 0)
 #define TAG_MEASURE TAG('m', 'e', 'a', 's', 'u', 'r', 'e', 0)
+#define TAG_CONTROL TAG('c', 'o', 'n', 't', 'r', 'o', 'l', 0)
 #define TAG_END TAG('e', 'n', 'd', 0, 0, 0, 0, 0)
 
 #define PAGE 4096ul
@@ -29,9 +30,15 @@ struct platform_frame {
     } device[MOST_RANGES];
 };
 
+/* The control registers of a world (control.c says which each word is of). */
+struct control_words {
+    uint64_t status, satp, mie, scounteren, senvcfg, hstatus, medeleg, mideleg, mode;
+};
+
 /* Read for each trap: a call, or an interrupt that stops an enclave. */
 struct trap_frame {
-    uint64_t tag, hart, pc, x[31];
+    uint64_t tag, hart, pc, x[31], control_tag;
+    struct control_words control;
 };
 
 /* Read after each page that is asked for. */
@@ -42,7 +49,8 @@ struct page_frame {
 
 /* Written: with what a hart goes on. x[0] is x1. */
 struct answer_frame {
-    uint64_t tag, hart, world, status, value, used, zero_first, zero_count, wake, pc, x[31], cfg[8], addr[64];
+    uint64_t tag, hart, world, status, value, used, zero_first, zero_count, wake, pc, x[31], cfg[8], addr[64], control_tag;
+    struct control_words control;
 };
 
 /* Written: pages to be read, one after another. */
@@ -60,7 +68,7 @@ struct end_frame {
 #define END_MEMORY 4
 
 _Static_assert(sizeof(struct platform_frame) == 1336, "167 words");
-_Static_assert(sizeof(struct trap_frame) == 272, "34 words");
+_Static_assert(sizeof(struct trap_frame) == 352, "44 words");
 _Static_assert(sizeof(struct page_frame) == 4112, "514 words");
-_Static_assert(sizeof(struct answer_frame) == 904, "113 words");
+_Static_assert(sizeof(struct answer_frame) == 984, "123 words");
 #endif

@@ -45,6 +45,8 @@ static int64_t read_trap(void *to)
     frame->hart = hart;
     frame->pc = worlds[hart].pc;
     memcpy(frame->x, worlds[hart].x + 1, sizeof frame->x);
+    frame->control_tag = TAG_CONTROL;
+    control_read(&frame->control);
     if (!is_aligned(to))
         memcpy(to, frame, sizeof *frame);
     return sizeof *frame;
@@ -94,7 +96,7 @@ static int64_t written_answer(const struct answer_frame *answer)
         }
     world->pc = answer->pc;
     memcpy(world->x + 1, answer->x, sizeof answer->x);
-    control_switch(world_number[hart], answer->world);
+    control_write(&answer->control);
     world_number[hart] = answer->world;
     answered(answer);
     return sizeof *answer;

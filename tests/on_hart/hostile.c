@@ -1,7 +1,8 @@
 /*
- * A hostile host: before each entry of an enclave it writes a random word, all ones or zero into each control register that it
- * finds by trying every number, with interrupts waiting or not, with and without a table of pages, and every integer register
- * random. The enclave's results have to be those of a host that does nothing of the kind, and each register what it was.
+ * A hostile host: before each entry of an enclave it leaves one thing behind, and then, in each of its runs, a random word, all
+ * ones or zero in each control register that it finds by trying every number, with interrupts waiting or not, with and
+ * without a table of pages. Every integer register is random. The enclave's results have to be those of a host that does
+ * nothing of the kind, and each register what it was.
  */
 #include "board.h"
 #include "pmpmon_calls.h"
@@ -18,9 +19,10 @@
 #define MOST_ROUNDS 200
 #define RESULT 42
 
-enum { SSTATUS = 0x100, SIE = 0x104, STVEC = 0x105, SIP = 0x144, SATP = 0x180, HIE = 0x604, LAST = 0xbff };
+enum { SSTATUS = 0x100, SIE = 0x104, STVEC = 0x105, SIP = 0x144, SATP = 0x180, HIE = 0x604, HVIP = 0x645, LAST = 0xbff };
 #define IN_SSTATUS_SIE (1ul << 1)
 #define FLOATS_AND_VECTORS (3ul << 9 | 3ul << 13)
+#define GUESTS_INTERRUPTS (1ul << 2 | 1ul << 6 | 1ul << 10)
 
 void call_with(uint64_t *x);
 void handler(void);
@@ -101,18 +103,43 @@ static void find_registers(void)
 }
 
 /* One to one, in pages of a gibibyte that user mode may not use. */
-static uint64_t satp_word(void)
+static uint64_t satp_with(uint64_t space)
 {
     for (uint64_t i = 0; i < 4; i++)
         table[i] = i << 28 | 0xcf;
+    return 8ul << 60 | space << 44 | (uint64_t)table >> 12;
+}
+
+static uint64_t satp_word(void)
+{
     if (chance() % 2)
         return 0;
     with_table++;
-    return 8ul << 60 | (chance() & 0xffff) << 44 | (uint64_t)table >> 12;
+    return satp_with(chance() & 0xffff);
+}
+
+/* What is left behind alone, before any random word is. */
+static const char *const alone[] = {
+    "UXL 1", "UXL 2", "UXL 3", "a guest's interrupt", "a table of pages", "an interrupt that is not let in",
+};
+enum { GUESTS_INTERRUPT = 3, TABLE, INTERRUPT_NOT_LET_IN, ALONE };
+static unsigned row;
+
+static void leave_one(void)
+{
+    uint64_t is_guests = row == GUESTS_INTERRUPT ? GUESTS_INTERRUPTS : 0;
+    if (is_found(HIE)) {
+        csr_write(HIE, is_guests);
+        csr_write(HVIP, is_guests);
+    }
+    csr_write(SATP, row == TABLE ? satp_with(0) : 0);
+    __asm__ volatile("sfence.vma" ::: "memory");
+    csr_write(SIP, row == INTERRUPT_NOT_LET_IN ? SOFTWARE_OF_SUPERVISOR : 0);
+    left_status = FLOATS_AND_VECTORS | (row < GUESTS_INTERRUPT ? row + 1ul : 2ul) << 32;
 }
 
 /* With SIE an interrupt would come to this host at once, at a handler that is no address: so none is let in then. */
-static void leave_behind(void)
+static void leave_everything(void)
 {
     uint64_t status = word() & ~IN_SSTATUS_SIE;
     SET(sstatus, FLOATS_AND_VECTORS);
@@ -129,8 +156,6 @@ static void leave_behind(void)
     csr_write(SATP, satp_word());
     __asm__ volatile("sfence.vma" ::: "memory");
     csr_write(STVEC, word());
-    for (unsigned i = 0; i < count; i++)
-        left[i] = csr_read(numbers[i]);
     left_status = status;
 }
 
@@ -195,7 +220,7 @@ static struct pmpmon_answer enter(uint64_t function, uint64_t id)
 {
     static const unsigned apart[] = {SSTATUS, SIE, STVEC, SATP, SIP};
     uint64_t before[32], after[32], was[5];
-    pmpmon_call(TIME, 0, chance() % 3 ? ~0ul : READ(time) + chance() % 2000, 0, 0, 0, 0, 0);
+    pmpmon_call(TIME, 0, row < ALONE || chance() % 3 ? ~0ul : READ(time) + chance() % 2000, 0, 0, 0, 0, 0);
     for (unsigned n = 1; n < 32; n++)
         before[n] = word();
     before[10] = id;
@@ -203,7 +228,12 @@ static struct pmpmon_answer enter(uint64_t function, uint64_t id)
     before[17] = PMPMON_EXTENSION;
     before[27] = stub();
     memcpy(after, before, sizeof after);
-    leave_behind();
+    if (row < ALONE)
+        leave_one();
+    else
+        leave_everything();
+    for (unsigned i = 0; i < count; i++)
+        left[i] = csr_read(numbers[i]);
     csr_write(SSTATUS, left_status);
     for (unsigned i = 0; i < 5; i++)
         was[i] = csr_read(apart[i]);
@@ -214,7 +244,7 @@ static struct pmpmon_answer enter(uint64_t function, uint64_t id)
     return (struct pmpmon_answer){(int64_t)after[10], after[11]};
 }
 
-static void one_run(void)
+static int64_t one_run(void)
 {
     memset((void *)PRIVATE, 0, 2 * PAGE);
     memcpy((void *)PRIVATE, enclave, (size_t)(enclave_end - enclave));
@@ -232,11 +262,27 @@ static void one_run(void)
     if (back.error || back.value != RESULT || own != 3)
         differs("the enclave's result, after its stops:", own, (uint64_t)back.error, back.value);
     pmpmon_destroy(id);
+    return (int64_t)back.value;
+}
+
+static void leave_each_alone(void)
+{
+    for (row = 0; row < ALONE; row++) {
+        put("with ");
+        put(alone[row]);
+        put(": ");
+        put_number(one_run());
+        put(", interrupted ");
+        put_number((int64_t)interrupted);
+        put("\n");
+    }
+    with_table = guests = 0;
 }
 
 void host_main(void)
 {
     find_registers();
+    leave_each_alone();
     for (unsigned run = 0; run < RUNS; run++)
         one_run();
     put("interrupted ");

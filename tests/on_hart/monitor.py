@@ -26,6 +26,8 @@ REGISTERS |= {0x140: "sscratch", 0x141: "sepc", 0x142: "scause", 0x143: "stval",
 REGISTERS |= {0x200: "vsstatus", 0x204: "vsie", 0x205: "vstvec", 0x240: "vsscratch", 0x241: "vsepc", 0x242: "vscause", 0x243: "vstval", 0x244: "vsip"}
 REGISTERS |= {0x24D: "vstimecmp", 0x280: "vsatp", 0x600: "hstatus", 0x602: "hedeleg", 0x603: "hideleg", 0x604: "hie", 0x605: "htimedelta"}
 REGISTERS |= {0x606: "hcounteren", 0x607: "hgeie", 0x60A: "henvcfg", 0x643: "htval", 0x644: "hip", 0x645: "hvip", 0x64A: "htinst", 0x680: "hgatp", 0x6A8: "hcontext"}
+# What is left behind alone in hostile.c, and what comes of it.
+ALONE = ("UXL 1", "UXL 2", "UXL 3", "a guest's interrupt", "a table of pages", "an interrupt that is not let in")
 # What the host of firmware/host prints.
 HOST = """host: a word of the monitor: fault 5
 host: create: 0 1
@@ -163,7 +165,7 @@ def most_taken(on_hart, folder, told):
     told(f"the monitor's most: {numbers}", most["stack"] < 32768 and most["heap"] < 65536 and most["other"] < 8192)
 
 
-def booted(image, payload, harts, *more, seconds=60):
+def booted(image, payload, harts, *more, seconds=240):
     board = [on_hart_module().QEMU, "-machine", "virt", "-smp", str(harts), "-m", "128", "-display", "none", "-monitor", "none", "-serial", "stdio"]
     board += ["-bios", str(image), "-device", f"loader,file={payload}", *more]
     try:
@@ -177,7 +179,7 @@ def built(platform, out, flags=""):
 
 
 def worlds(folder, told):
-    """The host of firmware/host, and two harts that race, with the stop of the others and without."""
+    """The host of firmware/host; two harts that race, with the stop of the others and without; and hosts of this folder."""
     said = booted(FIRMWARE / "out/pmpmon-virt.elf", FIRMWARE / "out/host.elf", 1)
     told("a host in C makes, runs, interrupts and destroys an enclave", said == HOST, said if said != HOST else "")
     built(FIRMWARE / "platform.toml", folder / "undelegated", "-DLEAVE_DELEGATION")
@@ -194,16 +196,20 @@ def worlds(folder, told):
         built(two, folder / name, flags)
         said = booted(folder / name / "pmpmon-virt.elf", race, 2)
         told(f"{name} the stop of other harts, a page that became an enclave's {want.strip()}", said == want, said if said != want else "")
+    said = booted(folder / "with/pmpmon-virt.elf", host(folder / "two_hosts.elf", "sbi_host.S", "two_hosts.S", "two_hosts.c"), 2)
+    told("two harts enter two enclaves, and each host has its own words", said == "both harts were in an enclave: 1\nwrong 0\n", said)
     sbi(folder / "with/pmpmon-virt.elf", folder, told)
     hostile(folder, told)
 
 
 def hostile(folder, told):
-    """A host that writes into every register of supervisor mode before each entry; three builds without a cure each fail it."""
+    """A host that leaves words in the registers of supervisor mode before each entry; three builds without a cure each fail it."""
     runs = os.environ.get("HOSTILE_RUNS", "50")
     payload = host(folder / "hostile.elf", "hostile.S", "hostile.c", flags=("-DSEED=2", f"-DRUNS={runs}"))
     said = booted(FIRMWARE / "out/pmpmon-virt.elf", payload, 1, seconds=600)
-    match = re.fullmatch(r"registers ([\d ]+)\ninterrupted (\d+), with a table (\d+), with a guest's interrupt (\d+)\nwrong 0\n", said)
+    for it in ALONE:
+        told(f"under a host that leaves {it} an enclave exits with 42", f"\nwith {it}: 42, interrupted 0\n" in said)
+    match = re.fullmatch(r"registers ([\d ]+)\n(?:with .*\n)+interrupted (\d+), with a table (\d+), with a guest's interrupt (\d+)\nwrong 0\n", said)
     how = "interrupted {} times, {} entries with a table of pages, {} with an interrupt of a guest".format(*match.groups()[1:]) if match else said
     told(f"{runs} runs under a hostile host", match and all(int(it) for it in match.groups()[1:]), how)
     told_of = set(re.findall(r"`(\w+)`", (FIRMWARE / "README.md").read_text().split("## Control registers")[1].split("\n## ")[0]))
@@ -211,10 +217,10 @@ def hostile(folder, told):
     lacking = [it for it in found if it not in told_of]
     told(f"each of {len(found)} registers that supervisor mode writes is in the table of control registers", found and not lacking, " ".join(lacking))
     payload = host(folder / "hostile.elf", "hostile.S", "hostile.c", flags=("-DSEED=2", "-DRUNS=10"))
-    for cure in ("UXL", "GUESTS", "SATP"):
+    for cure, left in (("UXL", "UXL 1"), ("GUESTS", "a guest's interrupt"), ("SATP", "a table of pages")):
         built(FIRMWARE / "platform.toml", folder / cure, f"-DLEAVE_{cure}")
-        said = booted(folder / cure / "pmpmon-virt.elf", payload, 1, seconds=20)
-        right = said.startswith("registers ") and "\nwrong 0\n" not in said
+        said = booted(folder / cure / "pmpmon-virt.elf", payload, 1)
+        right = said.startswith("registers ") and f"\nwith {left}: 42" not in said and "\nwrong 0\n" not in said
         told(f"without the cure for {cure} a hostile host is found", right, "" if right else said)
 
 

@@ -1,4 +1,8 @@
-/* A host of two harts that tries each function and each error of the Supervisor Binary Interface (version 1.0). */
+/*
+ * A host of two harts that tries each function and each error of the Supervisor Binary Interface (version 1.0). sbi_host.txt has
+ * the error and the value that each call has to have, by the chapters that are named here: functions and extensions that there
+ * are not answer -2 (chapter 3), harts that the platform has not -3 (3.1), and the other errors are those of each function's table.
+ */
 #include "board.h"
 #include "pmpmon_calls.h"
 
@@ -28,7 +32,10 @@ static const struct {
     const char *name;
     uint64_t extension, function, a[3];
 } calls[] = {
+    /* Chapter 4. The version has its minor number in the low 24 bits. */
     {"base: version", BASE, 0, {0}},
+    {"base: implementation", BASE, 1, {0}},
+    {"base: its version", BASE, 2, {0}},
     {"base: function 7", BASE, 7, {0}},
     {"probe base", BASE, 3, {BASE}},
     {"probe TIME", BASE, 3, {TIME}},
@@ -37,10 +44,13 @@ static const struct {
     {"probe HSM", BASE, 3, {HSM}},
     {"probe SRST", BASE, 3, {SRST}},
     {"probe the monitor", BASE, 3, {PMPMON_EXTENSION}},
+    {"probe the stops", BASE, 3, {PMPMON_STOPS}},
     {"probe PMU", BASE, 3, {PMU}},
     {"probe DBCN", BASE, 3, {DBCN}},
     {"probe legacy 1", BASE, 3, {1}},
+    /* Chapter 6 */
     {"TIME: function 1", TIME, 1, {0}},
+    /* Chapter 7, and the list of harts of 3.1: the base has to be a hart too, or -1 for all harts. */
     {"IPI: function 1", IPI, 1, {0}},
     {"IPI: mask 4 from 0", IPI, 0, {4, 0}},
     {"IPI: mask 2 from 1", IPI, 0, {2, 1}},
@@ -48,6 +58,7 @@ static const struct {
     {"IPI: mask 0 from 0", IPI, 0, {0, 0}},
     {"IPI: mask 0 from 2", IPI, 0, {0, 2}},
     {"IPI: a stopped hart", IPI, 0, {2, 0}},
+    /* Chapter 8. Fences for guests may be left out (-2). */
     {"RFENCE: fence.i", RFENCE, 0, {3, 0}},
     {"RFENCE: sfence.vma", RFENCE, 1, {1, 1}},
     {"RFENCE: sfence.vma of a space", RFENCE, 2, {0, ALL}},
@@ -57,6 +68,7 @@ static const struct {
     {"RFENCE: hfence.vvma", RFENCE, 6, {1, 0}},
     {"RFENCE: function 7", RFENCE, 7, {1, 0}},
     {"RFENCE: mask 4 from 0", RFENCE, 1, {4, 0}},
+    /* Chapter 9. States: 0 started, 1 stopped. Errors of a start: -3 no such hart, -5 not to be executed, -6 it is started. */
     {"HSM: status of 0", HSM, 2, {0}},
     {"HSM: status of 1", HSM, 2, {1}},
     {"HSM: status of 2", HSM, 2, {2}},
@@ -68,6 +80,7 @@ static const struct {
     {"HSM: start where nothing is", HSM, 0, {1, 0x100000000}},
     {"HSM: start at an odd address", HSM, 0, {1, 0x80200001}},
     {"HSM: start at an enclave", HSM, 0, {1, PRIVATE}},
+    /* Types of 32 bits: 00000001 to 0fffffff and 80000001 to 8fffffff are reserved (-3); others may be left out (-2). */
     {"HSM: suspend 0", HSM, 3, {0}},
     {"HSM: suspend 1", HSM, 3, {1}},
     {"HSM: suspend 0fffffff", HSM, 3, {0x0fffffff}},
@@ -76,17 +89,20 @@ static const struct {
     {"HSM: suspend 80000001", HSM, 3, {0x80000001}},
     {"HSM: suspend 8fffffff", HSM, 3, {0x8fffffff}},
     {"HSM: suspend 90000000", HSM, 3, {0x90000000}},
+    /* Chapter 10. Types from 3 to efffffff are reserved, reasons from 2 to dfffffff; vendors' types may be left out (-2). */
     {"SRST: function 1", SRST, 1, {0}},
     {"SRST: type 3", SRST, 0, {3, 0}},
     {"SRST: type efffffff", SRST, 0, {0xefffffff, 0}},
     {"SRST: type f0000000", SRST, 0, {0xf0000000, 0}},
     {"SRST: reason 2", SRST, 0, {0, 2}},
     {"SRST: reason e0000000", SRST, 0, {0, 0xe0000000}},
+    /* Extensions that there are not; version 1.0 has no console but the legacy one, which may be left out (chapter 5). */
     {"DBCN: write", DBCN, 0, {16, 0x80000000, 0}},
     {"legacy: a character", 1, 0, {65}},
     {"legacy: an interrupt", 4, 0, {0x80000000}},
     {"PMU: counters", PMU, 0, {0}},
     {"the monitor: function 7", PMPMON_EXTENSION, 7, {0}},
+    {"the stops: function 2", PMPMON_STOPS, 2, {0}},
 };
 
 static void say(const char *name, int64_t number, int64_t value)
@@ -209,6 +225,13 @@ static void interrupted_enclave(void)
     say("an enclave on hart 1 is stopped, and by interrupt", (int64_t)second[0], (int64_t)(second[1] & 0xff));
 }
 
+/* Chapter 4: the hart's mvendorid, marchid and mimpid, which are the board's. */
+static void the_harts_words(void)
+{
+    for (uint64_t function = 4; function <= 6; function++)
+        say("base: a word of the hart", call(BASE, function, 0, 0, 0).error, 0);
+}
+
 void host_main(void)
 {
     say("create", pmpmon_create(PRIVATE, 1, 0, 0, 0, 0).error, 0);
@@ -216,6 +239,7 @@ void host_main(void)
         struct pmpmon_answer answer = call(calls[i].extension, calls[i].function, calls[i].a[0], calls[i].a[1], calls[i].a[2]);
         say(calls[i].name, answer.error, (int64_t)answer.value);
     }
+    the_harts_words();
     time_and_self();
     two_harts();
     interrupted_enclave();
