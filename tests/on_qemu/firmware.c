@@ -70,7 +70,9 @@ static void put_register(const char *name, uint64_t value)
         put_register(#name, value);                              \
     } while (0)
 
-static void put_registers(void)
+void put_registers(void);
+
+void put_registers(void)
 {
     REGISTER(pmpaddr0);
     REGISTER(pmpaddr1);

@@ -1,5 +1,5 @@
 /*
- * A firmware that loads the registers that `plan --format asm` prints, and then does accesses in supervisor and user mode.
+ * A firmware that loads the registers that `plan` prints, and then does accesses in supervisor and user mode.
  * Loads and stores are done from machine mode as if by these modes (mstatus.MPRV and MPP); for a fetch the hart goes there.
  */
     .equ    MPP, 3 << 11

@@ -1,2 +1,3 @@
 mod Rowed
+mod Three
 mod Four

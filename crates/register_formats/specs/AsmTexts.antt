@@ -1,5 +1,6 @@
 -- The registers as assembly.
-use Rattle.std.specs.Prelude.{◌≡◌, ℕ, ◌*◌, ◌/◌, List, [], ◌++◌, codes, decimal, length, slice_get}
+use Rattle.std.specs.Prelude.{◌≡◌, ℕ, ◌*◌, ◌/◌, List, [], ◌∷◌, ◌++◌, Option, Some, None, codes, decimal, length, slice_get}
+use Rattle.std.specs.List.{concat}
 use Rattle.pmp_encoding.specs.declared.bank.Bank.{Bank}
 use Rattle.pmp_encoding.specs.declared.limit.Limit.{Limit}
 use Rattle.pmp_encoding.specs.declared.region.Entry.{Entry}
@@ -9,6 +10,11 @@ use Rattle.text_lines.specs.Written.{hex}
 use Rattle.register_formats.specs.Names.{address_or_zero, note_text}
 use Rattle.register_formats.specs.Heads.{head_text}
 use Rattle.register_formats.specs.Rows.{rows_text}
+
+-- what stands at the head, with the label of a routine where it has a name
+abbrev pub asm_head : Option (List ℕ) → List ℕ
+asm_head None = head_text
+asm_head (Some name) = concat (head_text ∷ name ∷ codes "_load:\n" ∷ [])
 
 -- what stands before them: an instruction that changes nothing, and that RV32 lacks
 abbrev pub asm_begin : List ℕ
@@ -28,16 +34,21 @@ asm_word_row bank i =
     (codes "    li      t0, 0x" ++ hex 16 (word_at bank (2 * i)) ++ codes "\n")
     ++ (codes "    csrw    pmpcfg" ++ decimal (2 * i) ++ codes ", t0\n")
 
+-- the last instruction, and after it the end of a routine
+abbrev pub asm_end : Option (List ℕ) → List ℕ
+asm_end None = codes "    sfence.vma\n"
+asm_end (Some name) = codes "    sfence.vma\n    ret\n"
+
 -- the address registers of the entries, then all configuration words, in which the entries after them are off
-abbrev pub asm_text : Limit → List Entry → Bank → List ℕ
-asm_text limit entries bank =
-    head_text
+abbrev pub asm_text : Option (List ℕ) → Limit → List Entry → Bank → List ℕ
+asm_text name limit entries bank =
+    asm_head name
     ++ ((asm_begin ++ rows_text (asm_address_row entries) 0 (length entries))
     ++ (([] ++ rows_text (asm_word_row bank) 0 (limit_number limit / 8))
-    ++ codes "    sfence.vma\n"))
+    ++ asm_end name))
 
 -- the text of the bank that the entries make
-pub record IsAsmText (limit : Limit) (entries : List Entry) (text : List ℕ) : Type 0 where
+pub record IsAsmText (name : Option (List ℕ)) (limit : Limit) (entries : List Entry) (text : List ℕ) : Type 0 where
   pub bank : Bank
   pub is_bank : IsBankOf bank limit entries
-  pub lines : text ≡ asm_text limit entries bank
+  pub lines : text ≡ asm_text name limit entries bank

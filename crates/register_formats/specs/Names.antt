@@ -1,5 +1,5 @@
 -- Entries as people read them.
-use Rattle.std.specs.Prelude.{ℕ, ◌^◌, ◌++◌, List, Option, Some, None, codes, decimal}
+use Rattle.std.specs.Prelude.{ℕ, ◌^◌, ◌++◌, List, [], Option, Some, None, codes, decimal}
 use Rattle.pmp_encoding.specs.declared.region.Entry.{Entry}
 use Rattle.pmp_encoding.specs.Encoding.{address_of}
 use Rattle.text_lines.specs.Written.{hex}
@@ -31,3 +31,13 @@ note_text i entry = decimal i ++ codes ": " ++ region_or_off entry
 abbrev pub address_or_zero : Option Entry → ℕ
 address_or_zero (Some e) = address_of e
 address_or_zero None = 0
+
+-- what the names in C begin with: the name that is given, and otherwise `pmp`
+abbrev pub prefix_of : Option (List ℕ) → List ℕ
+prefix_of (Some name) = name
+prefix_of None = codes "pmp"
+
+-- what stands after it in the names of the arrays, which are `uart_pmpaddr` and `uart_pmpcfg` with the name `uart`
+abbrev pub array_link : Option (List ℕ) → List ℕ
+array_link (Some name) = codes "_pmp"
+array_link None = []

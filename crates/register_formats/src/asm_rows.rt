@@ -1,10 +1,23 @@
 //! The rows of assembly.
 
+ghost use Rattle.std.specs.Prelude.{◌≡◌, option_map};
+ghost use Rattle.register_formats.specs.AsmTexts.{asm_end};
+
 use crate::names::{address_or_zero, entry_at, push_note};
 use crate::rows::{Row, Rows};
 use arrayvec::ArrayVec;
 use pmp_encoding::{Bank, Entry};
 use text_lines::{push_decimal, push_hex, push_text};
+
+/// The last instruction, and after it the end of a routine, where it has a name.
+pub(crate) fn end(name: Option<&str>) -> &'static [u8]
+    ensures { result.now ≡ asm_end (option_map (λ s. s.now) name.entry) }
+{
+    match name {
+        Some(_) => b"    sfence.vma\n    ret\n",
+        None => b"    sfence.vma\n",
+    }
+}
 
 /// Two instructions for each address register.
 #[derive(Drop)]

@@ -1,50 +1,117 @@
 //! The rows of C.
 
-ghost use Rattle.std.specs.Prelude.{◌≡◌};
-ghost use Rattle.register_formats.specs.CTexts.{c_addresses_begin, c_words_begin};
+ghost use Rattle.std.specs.Prelude.{◌≡◌, decimal};
+ghost use Rattle.register_formats.specs.CTexts.{c_addresses_size, c_begin, c_between, c_count_begin, c_count_is, c_load_addresses, c_load_begin, c_load_words, c_loader_note, c_words_size};
 
 use crate::names::{address_or_zero, entry_at, push_note};
 use crate::rows::{Row, Rows};
 use arrayvec::ArrayVec;
 use pmp_encoding::{Bank, Entry, Limit};
-use text_lines::{push_decimal, push_hex, push_text};
+use text_lines::{Line, push_decimal, push_hex, push_text};
 
-/// The beginning of the array of address registers, after a guard that a compiler for RV32 refuses.
-pub(crate) fn addresses_begin(limit: Limit) -> &'static [u8]
-    ensures { result.now ≡ c_addresses_begin limit }
+/// What stands before the arrays, with a guard that a compiler for RV32 refuses.
+pub(crate) fn begin<'a>() -> &'a [u8]
+    ensures { result.now ≡ c_begin }
+{
+    b"#if defined(__riscv) && __riscv_xlen != 64
+#error \"these are the registers of RV64\"
+#endif
+
+#include <stdint.h>
+
+static const uint64_t "
+}
+
+/// The rest of the name of the array of address registers, and its size.
+pub(crate) fn addresses_size<'a>(limit: Limit) -> &'a [u8]
+    ensures { result.now ≡ c_addresses_size limit }
 {
     match limit {
-        Limit::Sixteen => {
-            b"#if defined(__riscv) && __riscv_xlen != 64
-#error \"these are the registers of RV64\"
-#endif
-
-#include <stdint.h>
-
-static const uint64_t pmpaddr[16] = {
-"
-        }
-        Limit::SixtyFour => {
-            b"#if defined(__riscv) && __riscv_xlen != 64
-#error \"these are the registers of RV64\"
-#endif
-
-#include <stdint.h>
-
-static const uint64_t pmpaddr[64] = {
-"
-        }
+        Limit::Sixteen => b"addr[16] = {\n",
+        Limit::SixtyFour => b"addr[64] = {\n",
     }
 }
 
-/// The beginning of the array of configuration words.
-pub(crate) fn words_begin(limit: Limit) -> &'static [u8]
-    ensures { result.now ≡ c_words_begin limit }
+/// The end of that array, and the beginning of the array of configuration words.
+pub(crate) fn between<'a>() -> &'a [u8]
+    ensures { result.now ≡ c_between }
+{
+    b"};\n\nstatic const uint64_t "
+}
+
+/// The rest of its name, and its size.
+pub(crate) fn words_size<'a>(limit: Limit) -> &'a [u8]
+    ensures { result.now ≡ c_words_size limit }
 {
     match limit {
-        Limit::Sixteen => b"};\n\nstatic const uint64_t pmpcfg[2] = {\n",
-        Limit::SixtyFour => b"};\n\nstatic const uint64_t pmpcfg[8] = {\n",
+        Limit::Sixteen => b"cfg[2] = {\n",
+        Limit::SixtyFour => b"cfg[8] = {\n",
     }
+}
+
+/// The end of the arrays, and what stands before the number of entries.
+pub(crate) fn count_begin<'a>() -> &'a [u8]
+    ensures { result.now ≡ c_count_begin }
+{
+    b"};
+
+/* How many entries are in use; those after them are off. */
+enum { "
+}
+
+/// What stands between the name of the number of entries and that number.
+pub(crate) fn count_is<'a>() -> &'a [u8]
+    ensures { result.now ≡ c_count_is }
+{
+    b"_count = "
+}
+
+/// A number in decimal.
+pub(crate) fn number_text(number: usize) -> Line
+    ensures { result.items ≡ decimal number }
+{
+    let mut line = ArrayVec::new();
+    push_decimal(&mut line, number as u64);
+    line
+}
+
+/// What is said of the function that writes the registers.
+pub(crate) fn loader_note<'a>() -> &'a [u8]
+    ensures { result.now ≡ c_loader_note }
+{
+    b" };
+
+#ifdef __riscv
+/*
+ * Writes all of them. Machine mode calls it on each hart, with mstatus.MPRV = 0.
+ * The addresses are written first, so that no configuration word switches an entry
+ * on that has an address of an older list. Until that word is written an older entry
+ * may have a new address. This lets nobody in: no other mode runs on this hart before
+ * machine mode leaves, and an entry that is not locked does not bind machine mode.
+ * After sfence.vma nothing that was checked against the older list is used.
+ */
+static inline void "
+}
+
+/// The rest of that function's name, and what stands before the array of address registers.
+pub(crate) fn load_addresses<'a>() -> &'a [u8]
+    ensures { result.now ≡ c_load_addresses }
+{
+    b"_load(void)\n{\n    const uint64_t *addr = "
+}
+
+/// What stands before the array of configuration words.
+pub(crate) fn load_words<'a>() -> &'a [u8]
+    ensures { result.now ≡ c_load_words }
+{
+    b"addr;\n    const uint64_t *cfg = "
+}
+
+/// What stands before the instructions.
+pub(crate) fn load_begin<'a>() -> &'a [u8]
+    ensures { result.now ≡ c_load_begin }
+{
+    b"cfg;\n\n"
 }
 
 /// A row for each address register.
@@ -98,6 +165,57 @@ impl Rows for Words<'_> {
         push_text(&mut front, b", /* pmpcfg");
         push_decimal(&mut front, k as u64);
         push_text(&mut front, b" */\n");
+        Row {
+            front,
+            back: ArrayVec::new(),
+        }
+    }
+}
+
+/// An instruction for each address register.
+#[derive(Drop)]
+pub(crate) struct AddressWrites;
+
+impl Rows for AddressWrites {
+    ghost use Rattle.std.specs.Prelude.{◌^◌};
+    ghost use Rattle.register_formats.specs.CTexts.{c_address_write};
+
+    ghost row_text = { λ rows. c_address_write };
+
+    ghost most = { λ rows. 2 ^ 64 };
+
+    fn row(&self, i: usize) -> Row {
+        let mut front = ArrayVec::new();
+        push_text(&mut front, b"    __asm__ volatile(\"csrw pmpaddr");
+        push_decimal(&mut front, i as u64);
+        push_text(&mut front, b", %0\" : : \"r\"(addr[");
+        push_decimal(&mut front, i as u64);
+        push_text(&mut front, b"]));\n");
+        Row {
+            front,
+            back: ArrayVec::new(),
+        }
+    }
+}
+
+/// An instruction for each configuration word.
+#[derive(Drop)]
+pub(crate) struct WordWrites;
+
+impl Rows for WordWrites {
+    ghost use Rattle.register_formats.specs.CTexts.{c_word_write};
+
+    ghost row_text = { λ rows. c_word_write };
+
+    ghost most = { λ rows. 8 };
+
+    fn row(&self, i: usize) -> Row {
+        let mut front = ArrayVec::new();
+        push_text(&mut front, b"    __asm__ volatile(\"csrw pmpcfg");
+        push_decimal(&mut front, (2 * i) as u64);
+        push_text(&mut front, b", %0\" : : \"r\"(cfg[");
+        push_decimal(&mut front, i as u64);
+        push_text(&mut front, b"]));\n");
         Row {
             front,
             back: ArrayVec::new(),

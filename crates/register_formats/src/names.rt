@@ -1,8 +1,8 @@
 //! Entries as people read them.
 
-ghost use Rattle.std.specs.Prelude.{◌≡◌, ◌≤◌, ◌<◌, ◌+◌, ◌^◌, ◌++◌, slice_get};
+ghost use Rattle.std.specs.Prelude.{◌≡◌, ◌≤◌, ◌<◌, ◌+◌, ◌^◌, ◌++◌, option_map, slice_get};
 ghost use Rattle.arrayvec.specs.ArrayVec.{array_vec_len};
-ghost use Rattle.register_formats.specs.Names.{address_or_zero, base_text, note_text, region_or_off, region_text, size_and_perm_text};
+ghost use Rattle.register_formats.specs.Names.{address_or_zero, array_link, base_text, note_text, prefix_of, region_or_off, region_text, size_and_perm_text};
 
 use pmp_encoding::Entry;
 use printed_lines::push_size;
@@ -86,4 +86,24 @@ pub(crate) fn entry_at(entries: &[Entry], i: usize) -> Option<Entry>
     ensures { result ≡ slice_get entries.now i }
 {
     entries.get(i).copied()
+}
+
+/// What the names in C begin with: the name that is given, and otherwise `pmp`.
+pub(crate) fn prefix_of<'a>(name: Option<&'a str>) -> &'a [u8]
+    ensures { result.now ≡ prefix_of (option_map (λ s. s.now) name.entry) }
+{
+    match name {
+        Some(name) => name.as_bytes(),
+        None => b"pmp",
+    }
+}
+
+/// What stands after it in the names of the arrays.
+pub(crate) fn array_link<'a>(name: Option<&str>) -> &'a [u8]
+    ensures { result.now ≡ array_link (option_map (λ s. s.now) name.entry) }
+{
+    match name {
+        Some(_) => b"_pmp",
+        None => b"",
+    }
 }

@@ -1,6 +1,7 @@
 //! Rows of a text, written one after another.
 
-ghost use Rattle.std.specs.Prelude.{◌≡◌, ◌<◌, ◌≤◌, ◌++◌, List, ℕ};
+ghost use Rattle.std.specs.Prelude.{◌≡◌, ◌<◌, ◌≤◌, ◌++◌, List, ℕ, map};
+ghost use Rattle.std.specs.List.{concat};
 ghost use Rattle.byte_streams.specs.Writings.{writing, Prints};
 ghost use Rattle.register_formats.specs.Rows.{rows_text};
 
@@ -63,6 +64,34 @@ pub(crate) fn print_section<R: Rows, W: Sink>(
         (writing W.contents W.failures W.stalls out.old out.new) result }
 {
     write_whole(out, text)?;
+    print_rows(rows, count, out)?;
+    Ok(())
+}
+
+/// Writes texts, one after another.
+pub(crate) fn print_texts<W: Sink>(texts: &[&[u8]], out: &mut W) -> Result<(), DeviceFault>
+    ensures { Prints (concat (map (λ s. s.now) texts.now))
+        (writing W.contents W.failures W.stalls out.old out.new) result }
+{
+    for &text in texts {
+        write_whole(out, text)?;
+    }
+    Ok(())
+}
+
+/// Writes texts one after another, and rows after them.
+pub(crate) fn print_titled<R: Rows, W: Sink>(
+    texts: &[&[u8]],
+    rows: &R,
+    count: usize,
+    out: &mut W,
+) -> Result<(), DeviceFault>
+    requires most { count ≤ R.most rows.now }
+    ensures { Prints (concat (map (λ s. s.now) texts.now)
+        ++ rows_text (R.row_text rows.now) 0 count)
+        (writing W.contents W.failures W.stalls out.old out.new) result }
+{
+    print_texts(texts, out)?;
     print_rows(rows, count, out)?;
     Ok(())
 }

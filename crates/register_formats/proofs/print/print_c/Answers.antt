@@ -1,70 +1,47 @@
-use Rattle.std.proofs.Common.{◌++◌, ◌/◌, refl, codes}
+use Rattle.std.proofs.Common.{decimal, length, option_map, refl}
 use Rattle.std.proofs.lemmas.Result.{err_from_is_err_and}
-use Rattle.pmp_encoding.specs.Limits.{limit_number}
 use Rattle.byte_streams.specs.Writings.{Breaks, TakesAll, writing}
-use Rattle.register_formats.specs.Heads.{head_text}
-use Rattle.register_formats.specs.Rows.{rows_text}
-use Rattle.register_formats.specs.CTexts.{c_text, c_addresses_begin, c_address_row, c_words_begin, c_word_row}
-use Rattle.register_formats.proofs.Four.{all_four, in_first, in_second, in_third, in_fourth}
+use Rattle.byte_streams.proofs.Writings.{breaks_after, breaks_before, takes_then}
+use Rattle.register_formats.specs.CTexts.{c_arrays, c_loader, c_text}
+use Rattle.register_formats.specs.Names.{array_link, prefix_of}
 use Rattle.register_formats.proofs.print.print_c.Goals as goal
 
-pub returns-in_err-write_whole : goal.returns-in_err-write_whole
-returns-in_err-write_whole g c =
+pub returns-in_err-print_arrays : goal.returns-in_err-print_arrays
+returns-in_err-print_arrays g c =
+    let name = option_map (λ s. s.now) c.args.name in
     let limit = c.args.limit in
     let entries = c.args.entries.now in
     let bank = c.of-bank.result in
+    let first : Breaks (c_arrays (prefix_of name) (array_link name) limit entries bank) (writing g.W.Sink.contents g.W.Sink.failures g.W.Sink.stalls c.args.out.now c.print_arrays.new.out) = rw c.array_link-link.ensures at (rw c.prefix_of-prefix.ensures at c.in_err-print_arrays.ensures) in
     rw (err_from_is_err_and c.from_residual.result c.from_residual.ensures.1).1 (
-      c_text limit entries bank,
+      c_text name limit entries bank,
       record { bank = bank; is_bank = c.of-bank.ensures.registers; lines = refl },
-      in_first g.W.Sink.contents g.W.Sink.failures g.W.Sink.stalls head_text (c_addresses_begin limit ++ rows_text (c_address_row entries) 0 (limit_number limit)) (c_words_begin limit ++ rows_text (c_word_row bank) 0 (limit_number limit / 8)) (codes "};\n") (rw c.head.ensures at c.in_err-write_whole.ensures),
+      breaks_before g.W.Sink.contents g.W.Sink.failures g.W.Sink.stalls (c_loader (prefix_of name) (array_link name) limit (decimal (length entries))) first,
     )
 
-pub returns-in_err-print_section : goal.returns-in_err-print_section
-returns-in_err-print_section g c =
+pub returns-in_err-print_loader : goal.returns-in_err-print_loader
+returns-in_err-print_loader g c =
+    let name = option_map (λ s. s.now) c.args.name in
     let limit = c.args.limit in
     let entries = c.args.entries.now in
     let bank = c.of-bank.result in
-    let second : Breaks (c_addresses_begin limit ++ rows_text (c_address_row entries) 0 (limit_number limit)) (writing g.W.Sink.contents g.W.Sink.failures g.W.Sink.stalls c.write_whole.new.sink c.print_section.new.out) = rw c.addresses_begin.ensures at (rw c.number.ensures.value at c.in_err-print_section.ensures) in
-    rw (err_from_is_err_and c.from_residual-in_err-print_section.result c.from_residual-in_err-print_section.ensures.1).1 (
-      c_text limit entries bank,
+    let first : TakesAll (c_arrays (prefix_of name) (array_link name) limit entries bank) (writing g.W.Sink.contents g.W.Sink.failures g.W.Sink.stalls c.args.out.now c.print_arrays.new.out) = rw c.array_link-link.ensures at (rw c.prefix_of-prefix.ensures at c.in_ok-print_arrays.ensures) in
+    let second : Breaks (c_loader (prefix_of name) (array_link name) limit (decimal (length entries))) (writing g.W.Sink.contents g.W.Sink.failures g.W.Sink.stalls c.print_arrays.new.out c.print_loader.new.out) = rw c.array_link-link.ensures at (rw c.prefix_of-prefix.ensures at (rw c.number_text-count.ensures at (rw c.as_slice.ensures.value at c.in_err-print_loader.ensures))) in
+    rw (err_from_is_err_and c.from_residual-in_err-print_loader.result c.from_residual-in_err-print_loader.ensures.1).1 (
+      c_text name limit entries bank,
       record { bank = bank; is_bank = c.of-bank.ensures.registers; lines = refl },
-      in_second g.W.Sink.contents g.W.Sink.failures g.W.Sink.stalls head_text (c_addresses_begin limit ++ rows_text (c_address_row entries) 0 (limit_number limit)) (c_words_begin limit ++ rows_text (c_word_row bank) 0 (limit_number limit / 8)) (codes "};\n") (rw c.head.ensures at c.in_ok-write_whole.ensures) second,
-    )
-
-pub returns-in_err-print_section-2 : goal.returns-in_err-print_section-2
-returns-in_err-print_section-2 g c =
-    let limit = c.args.limit in
-    let entries = c.args.entries.now in
-    let bank = c.of-bank.result in
-    let second : TakesAll (c_addresses_begin limit ++ rows_text (c_address_row entries) 0 (limit_number limit)) (writing g.W.Sink.contents g.W.Sink.failures g.W.Sink.stalls c.write_whole.new.sink c.print_section.new.out) = rw c.addresses_begin.ensures at (rw c.number.ensures.value at c.in_ok-print_section.ensures) in
-    let third : Breaks (c_words_begin limit ++ rows_text (c_word_row bank) 0 (limit_number limit / 8)) (writing g.W.Sink.contents g.W.Sink.failures g.W.Sink.stalls c.print_section.new.out c.print_section-2.new.out) = rw c.words_begin.ensures at (rw c.words.ensures.value at c.in_err-print_section-2.ensures) in
-    rw (err_from_is_err_and c.from_residual-in_err-print_section-2.result c.from_residual-in_err-print_section-2.ensures.1).1 (
-      c_text limit entries bank,
-      record { bank = bank; is_bank = c.of-bank.ensures.registers; lines = refl },
-      in_third g.W.Sink.contents g.W.Sink.failures g.W.Sink.stalls head_text (c_addresses_begin limit ++ rows_text (c_address_row entries) 0 (limit_number limit)) (c_words_begin limit ++ rows_text (c_word_row bank) 0 (limit_number limit / 8)) (codes "};\n") (rw c.head.ensures at c.in_ok-write_whole.ensures) second third,
-    )
-
-pub returns-in_err-write_whole-2 : goal.returns-in_err-write_whole-2
-returns-in_err-write_whole-2 g c =
-    let limit = c.args.limit in
-    let entries = c.args.entries.now in
-    let bank = c.of-bank.result in
-    let second : TakesAll (c_addresses_begin limit ++ rows_text (c_address_row entries) 0 (limit_number limit)) (writing g.W.Sink.contents g.W.Sink.failures g.W.Sink.stalls c.write_whole.new.sink c.print_section.new.out) = rw c.addresses_begin.ensures at (rw c.number.ensures.value at c.in_ok-print_section.ensures) in
-    let third : TakesAll (c_words_begin limit ++ rows_text (c_word_row bank) 0 (limit_number limit / 8)) (writing g.W.Sink.contents g.W.Sink.failures g.W.Sink.stalls c.print_section.new.out c.print_section-2.new.out) = rw c.words_begin.ensures at (rw c.words.ensures.value at c.in_ok-print_section-2.ensures) in
-    rw (err_from_is_err_and c.from_residual-in_err-write_whole-2.result c.from_residual-in_err-write_whole-2.ensures.1).1 (
-      c_text limit entries bank,
-      record { bank = bank; is_bank = c.of-bank.ensures.registers; lines = refl },
-      in_fourth g.W.Sink.contents g.W.Sink.failures g.W.Sink.stalls head_text (c_addresses_begin limit ++ rows_text (c_address_row entries) 0 (limit_number limit)) (c_words_begin limit ++ rows_text (c_word_row bank) 0 (limit_number limit / 8)) (codes "};\n") (rw c.head.ensures at c.in_ok-write_whole.ensures) second third c.in_err-write_whole-2.ensures,
+      breaks_after g.W.Sink.contents g.W.Sink.failures g.W.Sink.stalls first second,
     )
 
 pub returns : goal.returns
 returns g c =
+    let name = option_map (λ s. s.now) c.args.name in
     let limit = c.args.limit in
     let entries = c.args.entries.now in
     let bank = c.of-bank.result in
-    let second : TakesAll (c_addresses_begin limit ++ rows_text (c_address_row entries) 0 (limit_number limit)) (writing g.W.Sink.contents g.W.Sink.failures g.W.Sink.stalls c.write_whole.new.sink c.print_section.new.out) = rw c.addresses_begin.ensures at (rw c.number.ensures.value at c.in_ok-print_section.ensures) in
-    let third : TakesAll (c_words_begin limit ++ rows_text (c_word_row bank) 0 (limit_number limit / 8)) (writing g.W.Sink.contents g.W.Sink.failures g.W.Sink.stalls c.print_section.new.out c.print_section-2.new.out) = rw c.words_begin.ensures at (rw c.words.ensures.value at c.in_ok-print_section-2.ensures) in (
-      c_text limit entries bank,
+    let first : TakesAll (c_arrays (prefix_of name) (array_link name) limit entries bank) (writing g.W.Sink.contents g.W.Sink.failures g.W.Sink.stalls c.args.out.now c.print_arrays.new.out) = rw c.array_link-link.ensures at (rw c.prefix_of-prefix.ensures at c.in_ok-print_arrays.ensures) in
+    let second : TakesAll (c_loader (prefix_of name) (array_link name) limit (decimal (length entries))) (writing g.W.Sink.contents g.W.Sink.failures g.W.Sink.stalls c.print_arrays.new.out c.print_loader.new.out) = rw c.array_link-link.ensures at (rw c.prefix_of-prefix.ensures at (rw c.number_text-count.ensures at (rw c.as_slice.ensures.value at c.in_ok-print_loader.ensures))) in (
+      c_text name limit entries bank,
       record { bank = bank; is_bank = c.of-bank.ensures.registers; lines = refl },
-      all_four g.W.Sink.contents g.W.Sink.failures g.W.Sink.stalls head_text (c_addresses_begin limit ++ rows_text (c_address_row entries) 0 (limit_number limit)) (c_words_begin limit ++ rows_text (c_word_row bank) 0 (limit_number limit / 8)) (codes "};\n") (rw c.head.ensures at c.in_ok-write_whole.ensures) second third c.in_ok-write_whole-2.ensures,
+      takes_then g.W.Sink.contents g.W.Sink.failures g.W.Sink.stalls first second,
     )
