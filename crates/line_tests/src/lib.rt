@@ -10,4 +10,6 @@ mod failures;
 #[cfg(test)]
 mod lines;
 #[cfg(test)]
+mod registers;
+#[cfg(test)]
 mod streams;

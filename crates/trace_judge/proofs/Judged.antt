@@ -1,26 +1,24 @@
--- The bank judges every line alike, so that no state is left to tell of.
+-- Every line is judged alike, so that no state is left to tell of.
 use Rattle.std.proofs.Common.{◌≡◌, ◌∙◌, ap}
 use Rattle.std.specs.Prelude.{Result, Ok, Err, IfOk}
-use Rattle.pmp_encoding.specs.declared.bank.Bank.{Bank}
-use Rattle.pmp_match.specs.SegmentedBank.{bank_of}
 use Rattle.text_lines.specs.declared.fault.RunFault.{RunFault}
 use Rattle.text_lines.specs.LineLoop.{Meaning}
 use Rattle.text_lines.proofs.Mapped.{Follows}
-use Rattle.trace_judge.specs.declared.judge.Judge.{Judge}
-use Rattle.trace_judge.specs.Answers.{judged_by}
+use Rattle.trace_judge.specs.declared.judge.LineJudge.{LineJudge}
+use Rattle.trace_judge.specs.Answers.{Outcomes, answered_by}
 
--- by one bank
-abbrev pub Keeps : Bank → Judge → Type 0
-Keeps bank judge = bank_of judge.segments ≡ bank
+-- by one judge
+abbrev pub Keeps : {J : Type 0} → J → LineJudge J → Type 0
+Keeps by lines = lines.by.now ≡ by
 
-abbrev pub judges : Meaning Judge
-judges = λ old n line answer new. judged_by (bank_of old.segments) tt n line answer tt × (new ≡ old)
+abbrev pub judges : {J : Type 0} → (J → Outcomes) → Meaning (LineJudge J)
+judges outcomes = λ old n line answer new. answered_by (outcomes old.by.now) tt n line answer tt × (new ≡ old)
 
-abbrev pub stateless : Judge → Unit {0}
-stateless judge = tt
+abbrev pub stateless : {J : Type 0} → LineJudge J → Unit {0}
+stateless lines = tt
 
-pub follows : (bank : Bank) → Follows (Keeps bank) stateless judges (judged_by bank)
-follows bank s n line said t h d = (ap (λ (j : Judge). bank_of j.segments) d.1 ∙ h, rw h at d.0)
+pub follows : {J : Type 0} (outcomes : J → Outcomes) (by : J) → Follows (Keeps by) stateless (judges outcomes) (answered_by (outcomes by))
+follows {J} outcomes by s n line said t h d = (ap (λ (j : LineJudge J). j.by.now) d.1 ∙ h, rw h at d.0)
 
 pub if_ok : {A B : Type 0} (r : Result (Unit {0}) RunFault) → (A → B) → IfOk r (λ _. A) → IfOk r (λ _. B)
 if_ok (Ok done) f a = f a

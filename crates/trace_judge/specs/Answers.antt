@@ -28,15 +28,26 @@ only_access (Some (Some (hart, _))) = None
 abbrev pub access_on : List ℕ → Option (Option Access)
 access_on line = only_access (meaning_of 0 line)
 
--- the answer after n others: none without an access, otherwise its judgement by the list that a bank's registers mean
-abbrev pub IsAnswer : Bank → ℕ → Option Access → Option (List ℕ) → Type 0
-IsAnswer bank n None answer = answer ≡ None
-IsAnswer bank n (Some access) answer = (result : Result (Unit {0}) Cause)
-    × ((entries : List Entry) → HasList bank entries → Judges entries access result) × (answer ≡ Some (answer_text (n + 1) result))
+-- what accesses come to: each access with its outcome
+abbrev pub Outcomes : Type 1
+Outcomes = Access → Result (Unit {0}) Cause → Type 0
+
+-- the answer after n others: none without an access, otherwise its outcome
+abbrev pub IsAnswer : Outcomes → ℕ → Option Access → Option (List ℕ) → Type 0
+IsAnswer outcomes n None answer = answer ≡ None
+IsAnswer outcomes n (Some access) answer = (result : Result (Unit {0}) Cause) × outcomes access result × (answer ≡ Some (answer_text (n + 1) result))
 
 -- a line is an access or has no words, and has that answer; nothing else comes of it
+abbrev pub answered_by : Outcomes → Meaning (Unit {0})
+answered_by outcomes = λ old n line answer new. (access : Option Access) × (access_on line ≡ Some access) × IsAnswer outcomes n access answer
+
+-- what accesses come to by the list that a bank's registers mean
+abbrev pub by_list : Bank → Outcomes
+by_list bank = λ access result. (entries : List Entry) → HasList bank entries → Judges entries access result
+
+-- the answers by that list
 abbrev pub judged_by : Bank → Meaning (Unit {0})
-judged_by bank = λ old n line answer new. (access : Option Access) × (access_on line ≡ Some access) × IsAnswer bank n access answer
+judged_by bank = answered_by (by_list bank)
 
 -- a line is no access, and has words
 abbrev pub is_no_access : Unit {0} → List ℕ → Type 0

@@ -1,10 +1,11 @@
-//! The accesses of a trace, judged by a bank.
+//! The accesses of a trace, judged line by line.
 
 ghost use Rattle.std.specs.Prelude.{◌≡◌, ℕ, ◌+◌, ◌-◌, ◌^◌, ◌<◌, Some, Err, IfOk, IfSome};
 ghost use Rattle.std.specs.Result.{result_ok};
 ghost use Rattle.text_lines.specs.LineLoop.{CountsReads, CountsWrites, DoesAll, StopsAt, StopsReading, StopsTooLong, StopsWriting};
-ghost use Rattle.trace_judge.specs.Answers.{access_on, is_no_access, judged_by};
+ghost use Rattle.trace_judge.specs.Answers.{access_on, answered_by, is_no_access, judged_by};
 
+use crate::access_judge::AccessJudge;
 use crate::answers::push_answer;
 use byte_streams::{Sink, Source};
 use hart_trace::{Event, parse_by_words, plain_access};
@@ -49,18 +50,18 @@ fn access_in(line: &[u8]) -> Result<Option<Access>, NotUnderstood>
     }
 }
 
-/// What judges the access of each line by a bank.
+/// What answers the access of each line.
 #[derive(Drop)]
-struct Judge<'a> {
-    segments: Segments<'a>,
+struct LineJudge<'a, J> {
+    by: &'a J,
 }
 
-impl Interpreter for Judge<'_> {
+impl<J: AccessJudge> Interpreter for LineJudge<'_, J> {
     ghost use Rattle.std.specs.Prelude.{◌≡◌};
-    ghost use Rattle.pmp_match.specs.SegmentedBank.{bank_of};
-    ghost use Rattle.trace_judge.specs.Answers.{is_no_access, judged_by};
+    ghost use Rattle.trace_judge.specs.Answers.{answered_by, is_no_access};
 
-    ghost does = { λ old n line answer new. judged_by (bank_of old.segments) tt n line answer tt × (new ≡ old) };
+    ghost does = { λ old n line answer new.
+        answered_by (J.outcomes old.by.now) tt n line answer tt × (new ≡ old) };
 
     ghost refuses = { λ now line. is_no_access tt line };
 
@@ -70,7 +71,7 @@ impl Interpreter for Judge<'_> {
 
     fn interpret(&mut self, line: &[u8], count: u64, answer: &mut Line) -> Result<bool, Refusal> {
         if let Some(access) = plain_access_in(line) {
-            push_answer(answer, count + 1, self.segments.judge(&access));
+            push_answer(answer, count + 1, self.by.outcome(&access));
             return Ok(true);
         }
         let Ok(found) = access_in(line) else {
@@ -79,13 +80,44 @@ impl Interpreter for Judge<'_> {
         let Some(access) = found else {
             return Ok(false);
         };
-        push_answer(answer, count + 1, self.segments.judge(&access));
+        push_answer(answer, count + 1, self.by.outcome(&access));
         Ok(true)
     }
 }
 
-/// Judges the accesses of a trace by a bank: the first three forms of trace lines alone, without `@H`. A store changes
-/// nothing. The answer to each line is written before the next line is read. It takes no memory.
+/// Judges the accesses of a trace: the first three forms of trace lines alone, without `@H`. A store changes nothing. The
+/// answer to each line is written before the next line is read. It takes no memory.
+pub fn judge_lines<J: AccessJudge, R: Source, W: Sink>(
+    by: &J,
+    source: &mut R,
+    sink: &mut W,
+) -> Result<(), RunFault>
+    ensures all { IfOk result (λ _.
+        DoesAll (answered_by (J.outcomes by.now)) tt tt (R.remaining source.old)
+        (R.remaining source.new) (W.contents sink.old) (W.contents sink.new)) }
+    ensures line { (n : ℕ) → result ≡ Err (RunFault.Line n)
+        → StopsAt n (answered_by (J.outcomes by.now)) is_no_access tt tt
+        (R.remaining source.old) (R.remaining source.new) (W.contents sink.old)
+        (W.contents sink.new) }
+    ensures too_long { result ≡ Err RunFault.TooLong
+        → StopsTooLong (answered_by (J.outcomes by.now)) tt tt (R.remaining source.old)
+        (R.remaining source.new) (W.contents sink.old) (W.contents sink.new) }
+    ensures read { result ≡ Err RunFault.Read
+        → StopsReading (answered_by (J.outcomes by.now)) tt tt (R.remaining source.old)
+        (R.remaining source.new) (W.contents sink.old) (W.contents sink.new) }
+    ensures write { result ≡ Err RunFault.Write
+        → StopsWriting (answered_by (J.outcomes by.now)) tt tt (R.remaining source.old)
+        (R.remaining source.new) (W.contents sink.old) (W.contents sink.new) }
+    ensures no_memory { result ≡ Err RunFault.Memory → ⊥ }
+    ensures reads { CountsReads result (R.failures source.old) (R.failures source.new) }
+    ensures writes { CountsWrites result (W.failures sink.old)
+        (W.failures sink.new) (W.stalls sink.old) (W.stalls sink.new) }
+{
+    let mut lines = LineJudge { by };
+    interpret_lines(&mut lines, source, sink)
+}
+
+/// Judges the accesses of a trace by a bank, as [`judge_lines`] does.
 pub fn judge_trace<R: Source, W: Sink>(
     bank: &Bank,
     source: &mut R,
@@ -112,6 +144,5 @@ pub fn judge_trace<R: Source, W: Sink>(
         (W.failures sink.new) (W.stalls sink.old) (W.stalls sink.new) }
 {
     let segments = Segments::of(bank);
-    let mut by_bank = Judge { segments };
-    interpret_lines(&mut by_bank, source, sink)
+    judge_lines(&segments, source, sink)
 }

@@ -1,8 +1,8 @@
-//! The accesses of a trace, judged by a bank of PMP entries.
+//! The accesses of a trace, judged line by line.
 //!
-//! For the layer above: [`judge_trace`] answers each access of a trace by the judgement of the list that the bank's registers
-//! mean, in a line that is written before the next is read, and tells the first line that is not understood and each fault of
-//! a device. Nothing here takes memory.
+//! For the layer above: [`judge_lines`] answers each access of a trace by what an [`AccessJudge`] says of it, in a line that is
+//! written before the next is read, and tells the first line that is not understood and each fault of a device.
+//! [`judge_trace`] does so by the list that a bank's registers mean. Nothing here takes memory.
 //!
 //! ```text
 //! let bank = Bank::of(plan.entries(), Limit::Sixteen);
@@ -10,8 +10,10 @@
 //! ```
 #![tactic(auto)]
 
+mod access_judge;
 mod answers;
 mod judge;
 
+pub use access_judge::AccessJudge;
 pub use answers::{answer_line, push_answer};
-pub use judge::judge_trace;
+pub use judge::{judge_lines, judge_trace};

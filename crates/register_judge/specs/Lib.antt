@@ -1,0 +1,4 @@
+pub mod Decision
+pub mod Judgement
+pub mod Answers
+pub mod Listings

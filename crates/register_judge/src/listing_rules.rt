@@ -1,0 +1,79 @@
+//! The rules of a listing.
+
+ghost use Rattle.std.specs.Prelude.{◌≡◌, ℕ, ◌-◌, ◌^◌, ◌<◌, ◌++◌, Err, IfOk, List, Some, length};
+ghost use Rattle.register_audit.specs.Texts.{passed_text};
+ghost use Rattle.register_text.specs.Listings.{IsFirstUnknown, listed};
+ghost use Rattle.register_judge.specs.declared.listing_rules.RulesFault as RulesFault;
+ghost use Rattle.register_judge.specs.Listings.{IsRuled};
+
+use crate::rules::Rules;
+use register_audit::{passed_line, reserved_line, smepmp_line};
+use register_text::{Listing, listing_of};
+use std::alloc::{AllocError, Global};
+use text_lines::Line;
+
+/// Why a listing was not read.
+#[derive(Clone, Copy, PartialEq, Eq, Debug)]
+pub enum RulesFault {
+    /// The line of this number, from 1, is not understood.
+    Line(u64),
+    /// Memory was refused.
+    Memory,
+}
+
+/// What a listing has.
+#[derive(Drop)]
+pub enum Ruled {
+    /// Registers that judge accesses.
+    Rules(Rules),
+    /// Others, and the text that says why they judge none.
+    Refused(Vec<u8>),
+}
+
+/// A line, and the comment on lines that are passed over. The only error is out of memory.
+fn text_of(alloc: Global, line: &Line, passed: Option<u64>) -> Result<Vec<u8>, AllocError>
+    ensures { IfOk result (λ text. text.items ≡ line.now.items ++ passed_text passed) }
+{
+    let mut text = Vec::new(alloc);
+    text.extend_from_slice(line.as_slice())?;
+    let comment = passed_line(passed);
+    text.extend_from_slice(comment.as_slice())?;
+    Ok(text)
+}
+
+/// The rules of what a listing leaves. The only error is out of memory.
+fn ruled_by(alloc: Global, listing: &Listing) -> Result<Ruled, AllocError>
+    ensures { (bytes : List ℕ) → listed bytes ≡ Some listing.now
+        → IfOk result (IsRuled bytes) }
+{
+    if listing.mseccfg != 0 {
+        let text = text_of(alloc, &smepmp_line(listing.mseccfg), listing.passed)?;
+        return Ok(Ruled::Refused(text));
+    }
+    match Rules::of(&listing.registers) {
+        Ok(rules) => Ok(Ruled::Rules(rules)),
+        Err(found) => {
+            let line = reserved_line(&listing.registers, &found);
+            let text = text_of(alloc, &line, listing.passed)?;
+            Ok(Ruled::Refused(text))
+        }
+    }
+}
+
+/// The rules of the registers that a listing leaves, or the text that says why they judge nothing: an entry with a reserved
+/// value, or Smepmp.
+pub fn rules_in(alloc: Global, listing: &[u8]) -> Result<Ruled, RulesFault>
+    requires { length listing.now < 2 ^ 64 - 1 }
+    ensures ruled { IfOk result (IsRuled listing.now) }
+    ensures line { (n : ℕ) → result ≡ Err (RulesFault.Line n)
+        → IsFirstUnknown listing.now n }
+{
+    let leaves = match listing_of(listing) {
+        Ok(leaves) => leaves,
+        Err(number) => return Err(RulesFault::Line(number)),
+    };
+    match ruled_by(alloc, &leaves) {
+        Ok(ruled) => Ok(ruled),
+        Err(_) => Err(RulesFault::Memory),
+    }
+}
