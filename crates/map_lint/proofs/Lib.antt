@@ -2,3 +2,4 @@ mod Appended
 mod FirstLine
 mod Followed
 mod Named
+pub mod Denied

@@ -1,22 +1,23 @@
 -- Settings that are named or left, one after another.
-use Rattle.std.proofs.Common.{ℕ, List, [], ◌∷◌, ◌≡◌, ◌∙◌, ◌+◌, ◌-◌, ◌++◌, ◌<◌, ap, append_assoc, arith, drop, get_or, length, subst, sym, take}
+use Rattle.std.proofs.Common.{Bool, ℕ, List, [], ◌∷◌, ◌≡◌, ◌∙◌, ◌+◌, ◌-◌, ◌++◌, ◌<◌, ap, append_assoc, arith, drop, get_or, length, subst, sym, take}
 use Rattle.std.proofs.lemmas.Grind.{common_steps}
 use Rattle.std.proofs.lemmas.List.{drop_more}
 use Rattle.permission_map.specs.declared.runs.Run.{Run}
 use Rattle.map_lint.specs.declared.idle.Numbered.{Numbered}
-use Rattle.map_lint.specs.Settings.{AreNamed, LeadElsewhere, SetTo, idle, needed}
+use Rattle.map_lint.specs.Settings.{AreNamed, IsSaidAnyway, LeadElsewhere, Named, SetTo, idle, needed}
 
 -- `&settings[i..]` is read as its whole length from there
 pub rest_from : (i : ℕ) (settings : List Numbered) → take (length settings - i) (drop i settings) ≡ drop i settings
 rest_from i settings = grind (arith, common_steps)
 
 pub name_it :
-    (whole : List Run) (kept settings : List Numbered) (i : ℕ) (d : Numbered) (named left : List Numbered) → i < length settings → SetTo [] (kept ++ drop (i + 1) settings) whole
-    → AreNamed whole kept (drop (i + 1) settings) named left → AreNamed whole kept (drop i settings) (get_or settings i d ∷ named) left
-name_it whole kept settings i d named left less set are = rw (drop_more settings i d less) (idle (get_or settings i d) set are)
+    (whole : List Run) (kept settings : List Numbered) (i : ℕ) (d : Numbered) (named : List Named) (left : List Numbered) (anyway : Bool) → i < length settings
+    → IsSaidAnyway kept (get_or settings i d).setting anyway → SetTo [] (kept ++ drop (i + 1) settings) whole → AreNamed whole kept (drop (i + 1) settings) named left
+    → AreNamed whole kept (drop i settings) (record { line = (get_or settings i d).line; anyway = anyway } ∷ named) left
+name_it whole kept settings i d named left anyway less said set are = rw (drop_more settings i d less) (idle (get_or settings i d) anyway said set are)
 
 pub keep_it :
-    (whole : List Run) (kept settings : List Numbered) (i : ℕ) (d : Numbered) (named left : List Numbered) → i < length settings → LeadElsewhere (kept ++ drop (i + 1) settings) whole
+    (whole : List Run) (kept settings : List Numbered) (i : ℕ) (d : Numbered) (named : List Named) (left : List Numbered) → i < length settings → LeadElsewhere (kept ++ drop (i + 1) settings) whole
     → AreNamed whole (kept ++ get_or settings i d ∷ []) (drop (i + 1) settings) named left → AreNamed whole kept (drop i settings) named left
 keep_it whole kept settings i d named left less elsewhere are = rw (drop_more settings i d less) (needed (get_or settings i d) elsewhere are)
 

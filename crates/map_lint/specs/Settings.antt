@@ -1,6 +1,8 @@
 -- The settings of a map's lines, and the maps to which they lead.
 use Rattle.std.specs.Prelude.{◌≡◌, ◌⊎◌, ◌≢◌, ℕ, ◌+◌, ◌^◌, ◌<◌, ◌≤◌, Bool, true, false, List, [], ◌∷◌, ◌++◌, length, codes, Option, Some}
+use Rattle.pmp_encoding.specs.declared.perm.Perm.TheVariants.{NoAccess}
 use Rattle.permission_map.specs.declared.runs.Run.{Run}
+use Rattle.permission_map.specs.Runs.{end_of, view_of_runs}
 use Rattle.map_text.specs.MapFile.{Sets, SetsTooMany, raw_says}
 use Rattle.map_lint.specs.declared.idle.Numbered.{Numbered}
 use Rattle.map_lint.specs.Pieces.{place_text}
@@ -30,29 +32,53 @@ IsTooManyAfter n before (numbered ∷ settings) =
 abbrev pub LeadElsewhere : List Numbered → List Run → Type 0
 LeadElsewhere settings whole = ((other : List Run) × SetTo [] settings other × (other ≢ whole)) ⊎ ((n : ℕ) × IsTooManyAfter n [] settings)
 
+-- each page of a setting has no permission
+abbrev pub IsDeniedOn : List Run → Run → Type 0
+IsDeniedOn map setting = (page : ℕ) → setting.first ≤ page → page < end_of setting → view_of_runs map page ≡ NoAccess
+
+-- some page of a setting has a permission
+abbrev pub IsAllowedOn : List Run → Run → Type 0
+IsAllowedOn map setting = (page : ℕ) × (setting.first ≤ page) × (page < end_of setting) × (view_of_runs map page ≢ NoAccess)
+
+-- whether a setting after others says what holds anyway: it denies its pages, to none of which those others give a permission
+pub data IsSaidAnyway (kept : List Numbered) (setting : Run) : Bool → Type 0 where
+  denied : (before : List Run) → SetTo [] kept before → setting.perm ≡ NoAccess → IsDeniedOn before setting → IsSaidAnyway kept setting true
+  allowed : (before : List Run) → SetTo [] kept before → IsAllowedOn before setting → IsSaidAnyway kept setting false
+  allows : setting.perm ≢ NoAccess → IsSaidAnyway kept setting false
+
+-- a line that is named, and whether it says what holds anyway
+pub record Named : Type 0 where
+  pub line : ℕ
+  pub anyway : Bool
+
 -- which settings are named, from first to last, and which are left of all: `kept` are those left of the ones before. A setting
 -- is named exactly where all that are still left lead to the whole map without it; from then on it is left out
-pub data AreNamed (whole : List Run) : List Numbered → List Numbered → List Numbered → List Numbered → Type 0 where
+pub data AreNamed (whole : List Run) : List Numbered → List Numbered → List Named → List Numbered → Type 0 where
   end : {kept : List Numbered} → AreNamed whole kept [] [] kept
   idle :
-      {kept rest named left : List Numbered} → (numbered : Numbered)
-      → SetTo [] (kept ++ rest) whole → AreNamed whole kept rest named left → AreNamed whole kept (numbered ∷ rest) (numbered ∷ named) left
+      {kept rest left : List Numbered} → {named : List Named} → (numbered : Numbered) → (anyway : Bool) → IsSaidAnyway kept numbered.setting anyway
+      → SetTo [] (kept ++ rest) whole → AreNamed whole kept rest named left
+      → AreNamed whole kept (numbered ∷ rest) (record { line = numbered.line; anyway = anyway } ∷ named) left
   needed :
-      {kept rest named left : List Numbered} → (numbered : Numbered)
+      {kept rest left : List Numbered} → {named : List Named} → (numbered : Numbered)
       → LeadElsewhere (kept ++ rest) whole → AreNamed whole (kept ++ numbered ∷ []) rest named left → AreNamed whole kept (numbered ∷ rest) named left
 
--- the warning of a line that is named
-abbrev pub idle_text : List ℕ → ℕ → List ℕ
-idle_text name n = place_text name n ++ codes "1: warning: the line changes nothing of the whole map; it can go\n"
+-- what is said of a line that is named, by whether it says what holds anyway
+abbrev pub idle_reason : Bool → List ℕ
+idle_reason true = codes "1: note: the line says what holds anyway; its pages have no permission without it\n"
+idle_reason false = codes "1: warning: the line changes nothing of the whole map; it can go\n"
 
--- the warnings of the named lines, one after another
-abbrev pub idle_texts : List ℕ → List Numbered → List ℕ
+abbrev pub idle_text : List ℕ → ℕ → Bool → List ℕ
+idle_text name n anyway = place_text name n ++ idle_reason anyway
+
+-- the same of each named line, one after another
+abbrev pub idle_texts : List ℕ → List Named → List ℕ
 idle_texts name [] = []
-idle_texts name (numbered ∷ named) = idle_text name numbered.line ++ idle_texts name named
+idle_texts name (it ∷ named) = idle_text name it.line it.anyway ++ idle_texts name named
 
--- a warning of each named line; without all of them together, the settings that are left lead to the same map
+-- a warning or a note of each named line; without all of them together, the settings that are left lead to the same map
 pub record AreWarnings (name : List ℕ) (settings : List Numbered) (whole : List Run) (text : List ℕ) : Type 0 where
-  pub named : List Numbered
+  pub named : List Named
   pub left : List Numbered
   pub are_named : AreNamed whole [] settings named left
   pub same : SetTo [] left whole

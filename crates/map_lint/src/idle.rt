@@ -1,11 +1,14 @@
 //! Lines without which the whole map is the same, all of them together, and the line after which there are too many ranges.
 
-ghost use Rattle.std.specs.Prelude.{◌≡◌, ◌≢◌, ◌++◌, ℕ, IfNone, IfOk, IfSome, List, OnOk, Ok, [], false, true};
+ghost use Rattle.std.specs.Prelude.{◌≡◌, ◌≢◌, ◌≤◌, ◌^◌, ◌++◌, ℕ, IfNone, IfOk, IfSome, List, OnOk, Ok, [], false, true};
 ghost use Rattle.std.specs.List.{All};
-ghost use Rattle.map_lint.specs.Settings.{AreWarnings, IsInside, IsTail, IsTooManyAfter, LeadElsewhere, SetTo, idle_text, too_many_text};
+ghost use Rattle.pmp_encoding.specs.declared.perm.Perm.TheVariants.{NoAccess};
+ghost use Rattle.permission_map.specs.Runs.{end_of};
+ghost use Rattle.map_lint.specs.Settings.{AreWarnings, IsAllowedOn, IsDeniedOn, IsInside, IsSaidAnyway, IsTail, IsTooManyAfter, LeadElsewhere, SetTo, idle_reason, idle_text, too_many_text};
 
 use crate::texts::{push, push_place};
 use permission_map::{MapBuilder, MapFault, Memory, PermissionMap, Run};
+use pmp_encoding::Perm;
 use std::alloc::{AllocError, Global};
 
 /// How many settings a file may have to be looked at for lines that can be left out.
@@ -68,15 +71,71 @@ fn is_same(one: &PermissionMap, other: &PermissionMap) -> bool
     one.ranges() == other.ranges()
 }
 
-/// Appends the warning of a line without which the map is the same.
-fn push_idle(text: &mut Vec<u8>, name: &str, line: u64) -> Result<(), Memory>
-    ensures { OnOk result (text.new.items ≡ text.old.items ++ idle_text name.now line) }
+/// What is said of a line without which the map is the same.
+fn idle_reason(anyway: bool) -> &'static str
+    ensures { result.now ≡ idle_reason anyway }
+{
+    if anyway {
+        "1: note: the line says what holds anyway; its pages have no permission without it\n"
+    } else {
+        "1: warning: the line changes nothing of the whole map; it can go\n"
+    }
+}
+
+/// Appends what is said of a line without which the map is the same.
+fn push_idle(text: &mut Vec<u8>, name: &str, line: u64, anyway: bool) -> Result<(), Memory>
+    ensures { OnOk result (text.new.items ≡ text.old.items ++ idle_text name.now line anyway) }
 {
     push_place(text, name, line)?;
-    push(
-        text,
-        "1: warning: the line changes nothing of the whole map; it can go\n",
-    )
+    push(text, idle_reason(anyway))
+}
+
+/// Whether a setting takes each permission away.
+fn denies(setting: &Run) -> bool
+    ensures yes { result ≡ true → setting.now.perm ≡ NoAccess }
+    ensures no { result ≡ false → setting.now.perm ≢ NoAccess }
+{
+    setting.perm == Perm::NoAccess
+}
+
+/// Whether no page of a setting has a permission.
+fn is_denied(map: &PermissionMap, setting: &Run) -> bool
+    requires { end_of setting.now ≤ 2 ^ 44 }
+    ensures yes { result ≡ true → IsDeniedOn map.now setting.now }
+    ensures no { result ≡ false → IsAllowedOn map.now setting.now }
+{
+    let Some(run) = map.next_run(setting.first) else {
+        return true;
+    };
+    run.first.max(setting.first) >= setting.first + setting.count
+}
+
+/// The map of settings that lead to one.
+fn map_of_kept(alloc: Global, kept: &[Numbered]) -> Result<PermissionMap, Memory>
+    requires inside { All IsInside kept.now }
+    requires made { (map : List Run) × SetTo [] kept.now map }
+    ensures { IfOk result (SetTo [] kept.now) }
+{
+    let mut map = MapBuilder::new(alloc);
+    if let Some(_) = follow(&mut map, kept)? {
+        unreachable!();
+    }
+    let map = map.finish()?;
+    Ok(map)
+}
+
+/// Whether a setting after others says what holds anyway.
+fn is_said_anyway(alloc: Global, kept: &[Numbered], setting: &Run) -> Result<bool, Memory>
+    requires setting { end_of setting.now ≤ 2 ^ 44 }
+    requires inside { All IsInside kept.now }
+    requires made { (map : List Run) × SetTo [] kept.now map }
+    ensures { IfOk result (IsSaidAnyway kept.now setting.now) }
+{
+    if !denies(setting) {
+        return Ok(false);
+    }
+    let map = map_of_kept(alloc, kept)?;
+    Ok(is_denied(&map, setting))
 }
 
 /// Appends the line after which there are too many ranges.
@@ -108,7 +167,7 @@ fn is_whole(
     Ok(is_same(&other, whole))
 }
 
-/// Appends a warning of each setting without which those that are left lead to the whole map. It is left out from then on.
+/// Appends a warning or a note of each setting without which those that are left lead to the whole map. It is left out from then on.
 fn push_warnings(
     alloc: Global,
     text: &mut Vec<u8>,
@@ -125,7 +184,8 @@ fn push_warnings(
     let mut kept = Vec::new(alloc);
     for (i, numbered) in settings.iter().enumerate() {
         if is_whole(alloc, kept.as_slice(), &settings[i + 1..], whole)? {
-            push_idle(text, name, numbered.line)?;
+            let anyway = is_said_anyway(alloc, kept.as_slice(), &numbered.setting)?;
+            push_idle(text, name, numbered.line, anyway)?;
         } else {
             kept.push(*numbered)?;
         }

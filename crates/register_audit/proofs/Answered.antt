@@ -1,5 +1,5 @@
 -- What a verdict says of the registers.
-use Rattle.std.proofs.Common.{ℕ, ◌≡◌, ◌≢◌, ◌∙◌, ◌⊎◌, inl, inr, List, Bool, true, false, sym, subst, arith}
+use Rattle.std.proofs.Common.{ℕ, ◌≡◌, ◌≢◌, ◌∙◌, ◌⊎◌, ◌&&◌, inl, inr, List, Bool, true, false, sym, subst, arith}
 use Rattle.pmp_encoding.specs.declared.extent.Extent.{Extent}
 use Rattle.page_views.specs.Views.{View}
 use Rattle.pmp_registers.specs.declared.registers.Registers.{Registers}
@@ -13,7 +13,7 @@ use Rattle.register_audit.specs.declared.verdict.Verdict.TheVariants as verdicts
 use Rattle.register_audit.specs.Findings.{IsFirstDifference}
 use Rattle.register_text.specs.declared.listing.Listing.{Listing}
 use Rattle.register_audit.specs.Audits.{IsAnswer, judged, unmodelled}
-use Rattle.register_audit.specs.Verdicts.{IsVerdict, IsWritable, is_meant}
+use Rattle.register_audit.specs.Verdicts.{IsVerdict, IsWritable, is_difference, is_meant}
 use Rattle.register_audit.proofs.Cut.{cut_not}
 
 differs_not : (view : View) (registers : Registers) (xs : List Extent) (s : Stretch) → AreExtents registers xs → IsFirstDifference view xs s → ¬ ExtentsMean xs view
@@ -40,6 +40,16 @@ verdict_no view registers (verdicts.Differs stretch) is no' = same_not view regi
 verdict_no view registers (verdicts.Cuts entry at) is no' = same_not view registers is.0 is.1 (cut_not view is.0 entry at is.2.first.cut.cut)
 verdict_no view registers (verdicts.NoMeaning found) is no' = λ m. all_defined registers m.extents m.are_extents found.place is.inside found.value is.value.has
 
+-- registers with a stretch that differs have extents
+pub extents_given :
+    (view : View) (registers : Registers) (all : Bool) (v : Verdict) → IsVerdict view registers v → (all && is_difference v) ≡ true
+    → (extents : List Extent) × AreExtents registers extents
+extents_given view registers false v is e = absurd cc
+extents_given view registers true (verdicts.Means count) is e = absurd cc
+extents_given view registers true (verdicts.Differs stretch) is e = (is.0, is.1)
+extents_given view registers true (verdicts.Cuts entry at) is e = absurd cc
+extents_given view registers true (verdicts.NoMeaning found) is e = absurd cc
+
 pub writable : (view : View) (registers : Registers) (v : Verdict) → IsVerdict view registers v → IsWritable v
 writable view registers (verdicts.Means count) is = tt
 writable view registers (verdicts.Differs stretch) is = let s = is.2.stretch in omega (arith, s.some)
@@ -47,12 +57,12 @@ writable view registers (verdicts.Cuts entry at) is = let c = is.2.first.cut.cut
 writable view registers (verdicts.NoMeaning found) is = is.inside
 
 -- what an answer says of the registers
-pub answer_yes : (view : View) (fewest : ℕ) (listing : Listing) (line : List ℕ) (means : Bool) → IsAnswer view fewest listing line means → means ≡ true
+pub answer_yes : (view : View) (fewest : ℕ) (all : Bool) (listing : Listing) (text : List ℕ) (means : Bool) → IsAnswer view fewest all listing text means → means ≡ true
     → (listing.mseccfg ≡ 0) × RegistersMean listing.registers view
-answer_yes view fewest listing line means (judged none verdict is) told = (none, verdict_yes view listing.registers verdict is (sym told))
-answer_yes view fewest listing line means (unmodelled other) told = absurd cc
+answer_yes view fewest all listing _ means (judged none verdict is text said) told = (none, verdict_yes view listing.registers verdict is (sym told))
+answer_yes view fewest all listing text means (unmodelled other) told = absurd cc
 
-pub answer_no : (view : View) (fewest : ℕ) (listing : Listing) (line : List ℕ) (means : Bool) → IsAnswer view fewest listing line means → means ≡ false
+pub answer_no : (view : View) (fewest : ℕ) (all : Bool) (listing : Listing) (text : List ℕ) (means : Bool) → IsAnswer view fewest all listing text means → means ≡ false
     → (listing.mseccfg ≢ 0) ⊎ (¬ RegistersMean listing.registers view)
-answer_no view fewest listing line means (judged none verdict is) told = inr (verdict_no view listing.registers verdict is (sym told))
-answer_no view fewest listing line means (unmodelled other) told = inl other
+answer_no view fewest all listing _ means (judged none verdict is text said) told = inr (verdict_no view listing.registers verdict is (sym told))
+answer_no view fewest all listing text means (unmodelled other) told = inl other

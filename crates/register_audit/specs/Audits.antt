@@ -1,22 +1,31 @@
 -- An audit of a listing.
-use Rattle.std.specs.Prelude.{◌≡◌, ◌≢◌, ℕ, List, ◌++◌, Bool, false, Some}
+use Rattle.std.specs.Prelude.{◌≡◌, ◌≢◌, ℕ, List, ◌++◌, ◌&&◌, Bool, true, false, Some}
 use Rattle.page_views.specs.Views.{View}
+use Rattle.pmp_registers.specs.declared.registers.Registers.{Registers}
 use Rattle.register_text.specs.declared.listing.Listing.{Listing}
 use Rattle.register_text.specs.Listings.{listed}
 use Rattle.register_audit.specs.declared.verdict.Verdict.{Verdict}
-use Rattle.register_audit.specs.Verdicts.{IsVerdict, is_meant}
+use Rattle.register_audit.specs.Differences.{AreDifferences}
+use Rattle.register_audit.specs.Verdicts.{IsVerdict, is_difference, is_meant}
 use Rattle.register_audit.specs.Texts.{passed_text, smepmp_text, verdict_text}
 
--- the line of what a listing leaves and its answer: the verdict on the registers; and a no where mseccfg is not zero, since its
--- bits change what the entries mean
-pub data IsAnswer (view : View) (fewest : ℕ) (listing : Listing) : List ℕ → Bool → Type 0 where
-  judged : listing.mseccfg ≡ 0 → (verdict : Verdict) → IsVerdict view listing.registers verdict → IsAnswer view fewest listing (verdict_text fewest listing.registers verdict) (is_meant verdict)
-  unmodelled : listing.mseccfg ≢ 0 → IsAnswer view fewest listing (smepmp_text listing.mseccfg) false
+-- what is said of a verdict: its line; but where it is a stretch that differs and all are asked for, a line for each
+pub data IsSaid (view : View) (fewest : ℕ) (all : Bool) (registers : Registers) (verdict : Verdict) : List ℕ → Type 0 where
+  line : (all && is_difference verdict) ≡ false → IsSaid view fewest all registers verdict (verdict_text fewest registers verdict)
+  each : (all && is_difference verdict) ≡ true → (text : List ℕ) → AreDifferences view registers text → IsSaid view fewest all registers verdict text
 
--- the text is the answer's line, and after it a comment on lines that are passed over
-pub record IsAudit (view : View) (fewest : ℕ) (listing text : List ℕ) (means : Bool) : Type 0 where
+-- what is said of what a listing leaves and its answer: the verdict on the registers; and a no where mseccfg is not zero, since
+-- its bits change what the entries mean
+pub data IsAnswer (view : View) (fewest : ℕ) (all : Bool) (listing : Listing) : List ℕ → Bool → Type 0 where
+  judged :
+      listing.mseccfg ≡ 0 → (verdict : Verdict) → IsVerdict view listing.registers verdict → (text : List ℕ) → IsSaid view fewest all listing.registers verdict text
+      → IsAnswer view fewest all listing text (is_meant verdict)
+  unmodelled : listing.mseccfg ≢ 0 → IsAnswer view fewest all listing (smepmp_text listing.mseccfg) false
+
+-- the text is what is said of the listing, and after it a comment on lines that are passed over
+pub record IsAudit (view : View) (fewest : ℕ) (all : Bool) (listing text : List ℕ) (means : Bool) : Type 0 where
   pub leaves : Listing
   pub listed_as : listed listing ≡ Some leaves
-  pub line : List ℕ
-  pub answer : IsAnswer view fewest leaves line means
-  pub lines : text ≡ line ++ passed_text leaves.passed
+  pub said : List ℕ
+  pub answer : IsAnswer view fewest all leaves said means
+  pub lines : text ≡ said ++ passed_text leaves.passed

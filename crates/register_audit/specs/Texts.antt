@@ -7,6 +7,7 @@ use Rattle.pmp_registers.specs.declared.reserved.Reserved.{Reserved}
 use Rattle.pmp_registers.specs.declared.reserved.ReservedAt.{ReservedAt}
 use Rattle.pmp_registers.specs.declared.reserved.Reserved.TheVariants.{Permission, Bits}
 use Rattle.pmp_registers.specs.Registers.{address_at, cfg_at}
+use Rattle.stretches.specs.declared.stretch.Stretch.{Stretch}
 use Rattle.register_audit.specs.declared.verdict.Verdict.{Verdict}
 use Rattle.register_audit.specs.declared.verdict.Verdict.TheVariants as verdicts
 
@@ -30,6 +31,11 @@ enough n = if n == 1 then codes " is enough" else codes " are enough"
 abbrev pub differs_text : ℕ → ℕ → List ℕ
 differs_text first last = codes "differs 0x" ++ hex 16 first ++ codes " 0x" ++ hex 16 last ++ codes ": "
 
+-- the line of a stretch on which the map and the registers differ
+abbrev pub stretch_text : Stretch → List ℕ
+stretch_text stretch =
+    differs_text stretch.first (stretch.end - 1) ++ codes "map " ++ letters_of stretch.wanted ++ codes ", " ++ sayer stretch.entry ++ codes " " ++ letters_of stretch.given ++ codes "\n"
+
 -- `pair N 0xCC 0xAAAAAAAAAAAAAAAA: NAME`, an entry that has a reserved value
 abbrev pub reserved_text : Registers → ReservedAt → List ℕ
 reserved_text registers f =
@@ -39,8 +45,7 @@ reserved_text registers f =
 abbrev pub verdict_text : ℕ → Registers → Verdict → List ℕ
 verdict_text fewest registers (verdicts.Means count) =
     codes "means the map: " ++ decimal count ++ entries_named count ++ codes " where " ++ decimal fewest ++ enough fewest ++ codes "\n"
-verdict_text fewest registers (verdicts.Differs stretch) =
-    differs_text stretch.first (stretch.end - 1) ++ codes "map " ++ letters_of stretch.wanted ++ codes ", " ++ sayer stretch.entry ++ codes " " ++ letters_of stretch.given ++ codes "\n"
+verdict_text fewest registers (verdicts.Differs stretch) = stretch_text stretch
 verdict_text fewest registers (verdicts.Cuts entry at) =
     differs_text at (at + 7) ++ sayer (Some entry) ++ codes " cuts an access of 8 bytes\n"
 verdict_text fewest registers (verdicts.NoMeaning found) = reserved_text registers found

@@ -25,6 +25,11 @@ abbrev pub is_meant : Verdict → Bool
 is_meant (verdicts.Means count) = true
 is_meant _ = false
 
+-- whether a verdict is a stretch that differs
+abbrev pub is_difference : Verdict → Bool
+is_difference (verdicts.Differs stretch) = true
+is_difference _ = false
+
 -- a verdict whose numbers can be written
 abbrev pub IsWritable : Verdict → Type 0
 IsWritable (verdicts.Means count) = ⊤

@@ -27,7 +27,7 @@ pub enum Finding {
     },
 }
 
-fn is_odd(stretch: &Stretch) -> bool
+pub(crate) fn is_odd(stretch: &Stretch) -> bool
     ensures odd { result ≡ true → stretch.now.wanted ≢ stretch.now.given }
     ensures same { result ≡ false → agrees stretch.now }
 {

@@ -1,20 +1,22 @@
 //! The audit of a listing.
 
-ghost use Rattle.std.specs.Prelude.{◌≡◌, ◌≢◌, ◌⊎◌, ◌-◌, ◌^◌, ◌<◌, ◌++◌, ℕ, Bool, Err, Ok, Some, List, IfOk, OnOk, length, true, false};
+ghost use Rattle.std.specs.Prelude.{◌≡◌, ◌≢◌, ◌⊎◌, ◌-◌, ◌^◌, ◌<◌, ◌++◌, ◌&&◌, ℕ, Bool, Err, Ok, Some, List, IfOk, OnOk, length, true, false};
 ghost use Rattle.byte_streams.specs.Writings.{writing, Breaks, TakesAll};
 ghost use Rattle.permission_map.specs.Runs.{view_of_runs};
 ghost use Rattle.pmp_registers.specs.Decision.{RegistersMean};
 ghost use Rattle.register_text.specs.declared.listing.Listing.{Listing};
 ghost use Rattle.register_text.specs.Listings.{IsFirstUnknown, listed};
 ghost use Rattle.register_audit.specs.declared.listing_audit.AuditFault as AuditFault;
-ghost use Rattle.register_audit.specs.Audits.{IsAnswer, IsAudit};
+ghost use Rattle.register_audit.specs.Audits.{IsAnswer, IsAudit, IsSaid};
 ghost use Rattle.register_audit.specs.Texts.{passed_text};
-ghost use Rattle.register_audit.specs.Verdicts.{is_meant};
+ghost use Rattle.register_audit.specs.Verdicts.{IsVerdict, is_difference, is_meant};
 
+use crate::differences::differences_of;
 use crate::texts::{passed_line, smepmp_line, verdict_line};
 use crate::verdict::{Verdict, verdict_of};
 use byte_streams::{Sink, write_whole};
 use permission_map::{Memory, PermissionMap};
+use pmp_registers::Registers;
 use register_text::{Listing, listing_of};
 use std::alloc::Global;
 use text_lines::Line;
@@ -30,10 +32,10 @@ pub enum AuditFault {
     Device,
 }
 
-/// The line of an answer, and whether it is a yes.
+/// What is said of a listing, and whether it is a yes.
 #[derive(Drop)]
 struct Answer {
-    line: Line,
+    text: Vec<u8>,
     means: bool,
 }
 
@@ -43,54 +45,89 @@ fn is_meant(verdict: &Verdict) -> bool
     matches!(verdict, Verdict::Means { .. })
 }
 
+/// Whether a verdict is a stretch that differs, and each of them is asked for.
+fn is_each(all: bool, verdict: &Verdict) -> bool
+    ensures { result ≡ (all && is_difference verdict.now) }
+{
+    all && matches!(verdict, Verdict::Differs(_))
+}
+
+/// A line as a text of its own. The only error is out of memory.
+fn text_of_line(alloc: Global, line: &Line) -> Result<Vec<u8>, Memory>
+    ensures { IfOk result (λ text. text.items ≡ line.now.items) }
+{
+    let mut text = Vec::new(alloc);
+    text.extend_from_slice(line.as_slice())?;
+    Ok(text)
+}
+
+/// What is said of a verdict. The only error is out of memory.
+fn text_of(
+    alloc: Global,
+    map: &PermissionMap,
+    fewest: u64,
+    registers: &Registers,
+    verdict: &Verdict,
+    all: bool,
+) -> Result<Vec<u8>, Memory>
+    requires { IsVerdict (view_of_runs map.now) registers.now verdict.now }
+    ensures { IfOk result (λ text. IsSaid (view_of_runs map.now) fewest all registers.now
+        verdict.now text.items) }
+{
+    if is_each(all, verdict) {
+        let text = differences_of(alloc, map, registers)?;
+        return Ok(text);
+    }
+    let text = text_of_line(alloc, &verdict_line(fewest, registers, verdict))?;
+    Ok(text)
+}
+
 /// The answer on what a listing leaves. The only error is out of memory.
 fn answer_of(
     alloc: Global,
     map: &PermissionMap,
     fewest: u64,
     listing: &Listing,
+    all: bool,
 ) -> Result<Answer, Memory>
-    ensures { IfOk result (λ answer.
-        IsAnswer (view_of_runs map.now) fewest listing.now answer.line.items answer.means) }
+    ensures { IfOk result (λ answer. IsAnswer (view_of_runs map.now) fewest all listing.now
+        answer.text.items answer.means) }
 {
     if listing.mseccfg != 0 {
-        return Ok(Answer {
-            line: smepmp_line(listing.mseccfg),
-            means: false,
-        });
+        let text = text_of_line(alloc, &smepmp_line(listing.mseccfg))?;
+        return Ok(Answer { text, means: false });
     }
-    let verdict = verdict_of(alloc, map, &listing.registers)?;
+    let registers = &listing.registers;
+    let verdict = verdict_of(alloc, map, registers)?;
+    let text = text_of(alloc, map, fewest, registers, &verdict, all)?;
     Ok(Answer {
-        line: verdict_line(fewest, &listing.registers, &verdict),
+        text,
         means: is_meant(&verdict),
     })
 }
 
-/// The line of an answer and the comment after it. The only error is out of memory.
-fn text_of(alloc: Global, line: &Line, passed: Option<u64>) -> Result<Vec<u8>, Memory>
-    ensures { IfOk result (λ text. text.items ≡ line.now.items ++ passed_text passed) }
+/// Appends the comment on lines that are passed over.
+fn push_passed(text: &mut Vec<u8>, passed: Option<u64>) -> Result<(), Memory>
+    ensures { IfOk result (λ _. text.new.items ≡ text.old.items ++ passed_text passed) }
 {
-    let mut text = Vec::new(alloc);
-    text.extend_from_slice(line.as_slice())?;
-    let comment = passed_line(passed);
-    text.extend_from_slice(comment.as_slice())?;
-    Ok(text)
+    text.extend_from_slice(passed_line(passed).as_slice())
 }
 
-/// Reads a listing of registers and writes, in one line, whether they mean the map, and where they do not; and after it a
-/// comment where lines of other registers are passed over. `fewest` is how many entries are enough for the map. Where a line
-/// is not understood or memory is refused, nothing is written; where the device failed, or took none of some bytes, a
+/// Reads a listing of registers and writes, in one line, whether they mean the map, and where they do not first, or with `all`
+/// in a line for each stretch that differs; and after it a comment where lines of other registers are passed over. `fewest` is
+/// how many entries are enough for the map. Where a line is not understood or memory is refused, nothing is written; where the device failed, or took none of some bytes, a
 /// beginning of the text was written, not all of it.
 pub fn audit<W: Sink>(
     alloc: Global,
     map: &PermissionMap,
     fewest: u64,
     listing: &[u8],
+    all: bool,
     out: &mut W,
 ) -> Result<bool, AuditFault>
     requires short { length listing.now < 2 ^ 64 - 1 }
     ensures written { IfOk result (λ means.
-        (text : List ℕ) × IsAudit (view_of_runs map.now) fewest listing.now text means
+        (text : List ℕ) × IsAudit (view_of_runs map.now) fewest all listing.now text means
         × TakesAll text (writing W.contents W.failures W.stalls out.old out.new)) }
     ensures means { result ≡ Ok true
         → (leaves : Listing) × (listed listing.now ≡ Some leaves) × (leaves.mseccfg ≡ 0)
@@ -102,20 +139,20 @@ pub fn audit<W: Sink>(
         → IsFirstUnknown listing.now n × (out.new ≡ out.old) }
     ensures untouched { result ≡ Err AuditFault.Memory → out.new ≡ out.old }
     ensures broken { result ≡ Err AuditFault.Device → (text : List ℕ) × (means : Bool)
-        × IsAudit (view_of_runs map.now) fewest listing.now text means
+        × IsAudit (view_of_runs map.now) fewest all listing.now text means
         × Breaks text (writing W.contents W.failures W.stalls out.old out.new) }
 {
     let listing = match listing_of(listing) {
         Ok(listing) => listing,
         Err(number) => return Err(AuditFault::Line(number)),
     };
-    let Ok(answer) = answer_of(alloc, map, fewest, &listing) else {
+    let Ok(mut answer) = answer_of(alloc, map, fewest, &listing, all) else {
         return Err(AuditFault::Memory);
     };
-    let Ok(text) = text_of(alloc, &answer.line, listing.passed) else {
+    let Ok(()) = push_passed(&mut answer.text, listing.passed) else {
         return Err(AuditFault::Memory);
     };
-    let Ok(()) = write_whole(out, text.as_slice()) else {
+    let Ok(()) = write_whole(out, answer.text.as_slice()) else {
         return Err(AuditFault::Device);
     };
     Ok(answer.means)

@@ -4,7 +4,7 @@ ghost use Rattle.std.specs.Prelude.{◌≡◌, ℕ, ◌+◌, ◌^◌, ◌++◌, 
 ghost use Rattle.pmp_registers.specs.declared.registers.Registers.{Registers};
 ghost use Rattle.register_audit.specs.declared.verdict.Verdict as Verdict;
 ghost use Rattle.arrayvec.specs.ArrayVec.{array_vec_len};
-ghost use Rattle.register_audit.specs.Texts.{differs_text, enough, entries_named, passed_text, reserved_name, reserved_text, sayer, smepmp_text, verdict_text};
+ghost use Rattle.register_audit.specs.Texts.{differs_text, enough, entries_named, passed_text, reserved_name, reserved_text, sayer, smepmp_text, stretch_text, verdict_text};
 ghost use Rattle.register_audit.specs.Verdicts.{IsWritable};
 
 use crate::verdict::Verdict;
@@ -82,10 +82,10 @@ fn means_line(fewest: u64, count: usize) -> Line
     line
 }
 
-fn stretch_line(stretch: &Stretch) -> Line
+/// The line of a stretch on which the map and the registers differ.
+pub(crate) fn stretch_line(stretch: &Stretch) -> Line
     requires { 0 < stretch.now.end }
-    ensures { (fewest : ℕ) (registers : Registers)
-        → result.items ≡ verdict_text fewest registers (Verdict.Differs stretch.now) }
+    ensures { result.items ≡ stretch_text stretch.now }
 {
     let mut line = differs_line(stretch.first, stretch.end - 1);
     push_text(&mut line, b"map ");

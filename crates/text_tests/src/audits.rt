@@ -28,9 +28,24 @@ fn expect_audit(
     line: &str,
 ) {
     let mut out = PieceSink::new(7, None);
-    let answer = audit(alloc, map, fewest, listing.as_bytes(), &mut out);
+    let answer = audit(alloc, map, fewest, listing.as_bytes(), false, &mut out);
     assert!(rt; answer == Ok(means));
     assert_eq!(rt; out.written(), line.as_bytes());
+}
+
+/// That the audit of the listing that asks for each difference has this answer and writes this text.
+fn expect_each(
+    rt: &impl Abort,
+    alloc: Global,
+    map: &PermissionMap,
+    listing: &str,
+    means: bool,
+    text: &str,
+) {
+    let mut out = PieceSink::new(7, None);
+    let answer = audit(alloc, map, 3, listing.as_bytes(), true, &mut out);
+    assert!(rt; answer == Ok(means));
+    assert_eq!(rt; out.written(), text.as_bytes());
 }
 
 #[test]
@@ -100,6 +115,31 @@ fn a_board_whose_registers_mean_its_map_or_not(rt: HostRuntime) -> Result<(), Fa
         ),
     ] {
         expect_audit(&rt, alloc, &map, 3, listing, means, line);
+    }
+    Ok(())
+}
+
+#[test]
+fn each_stretch_that_differs(rt: HostRuntime) -> Result<(), Fail> {
+    let alloc = rt.alloc();
+    let ranges = [
+        (0x80000, 0x8000, Perm::ReadWriteExecute),
+        (0x80000, 0x200, Perm::NoAccess),
+        (0x10000, 1, Perm::ReadWrite),
+    ];
+    let map = map_of(&rt, alloc, ranges.as_slice());
+    let differs = (
+        "pmpaddr2 0x20ffffff\npmpcfg0 0x1f0000\nmstatus 0\n",
+        false,
+        "differs 0x0000000010000000 0x0000000010000fff: map rw-, no entry ---\ndiffers 0x0000000080000000 0x00000000801fffff: map ---, entry 2 rwx\n# lines of other registers are passed over, line 3 first\n",
+    );
+    let means = (
+        "pmpaddr2 0x20ffffff\npmpaddr1 0x2003ffff\npmpaddr0 0x40001ff\npmpcfg0 0x1f181b\n",
+        true,
+        "means the map: 3 entries where 3 are enough\n",
+    );
+    for (listing, means, text) in [differs, means] {
+        expect_each(&rt, alloc, &map, listing, means, text);
     }
     Ok(())
 }
@@ -204,11 +244,11 @@ fn entries_below_a_page_by_what_they_mean(rt: HostRuntime) -> Result<(), Fail> {
 fn a_line_and_a_device_that_fail(rt: HostRuntime) {
     let map = PermissionMap::new(rt.alloc());
     let mut out = PieceSink::new(7, None);
-    let unknown = audit(rt.alloc(), &map, 0, b"pmpaddr0 1\nwhat\n", &mut out);
+    let unknown = audit(rt.alloc(), &map, 0, b"pmpaddr0 1\nwhat\n", false, &mut out);
     assert!(rt; unknown == Err(AuditFault::Line(2)));
     assert_eq!(rt; out.written().len(), 0);
     let mut failing = PieceSink::new(7, Some(2));
-    let stopped = audit(rt.alloc(), &map, 0, b"", &mut failing);
+    let stopped = audit(rt.alloc(), &map, 0, b"", false, &mut failing);
     assert!(rt; stopped == Err(AuditFault::Device));
     assert_eq!(rt; failing.written(), b"means t".as_slice());
 }

@@ -49,7 +49,7 @@ fn behind_head(sink: &PieceSink) -> &[u8] {
 #[test]
 fn c_of_a_board(rt: HostRuntime) {
     let mut sink = PieceSink::new(7, None);
-    assert!(rt; print_c(board(&rt).as_slice(), Limit::Sixteen, &mut sink).is_ok());
+    assert!(rt; print_c(None, board(&rt).as_slice(), Limit::Sixteen, &mut sink).is_ok());
     let text = b"#if defined(__riscv) && __riscv_xlen != 64
 #error \"these are the registers of RV64\"
 #endif
@@ -79,14 +79,96 @@ static const uint64_t pmpcfg[2] = {
     0x00000000001f181b, /* pmpcfg0 */
     0x0000000000000000, /* pmpcfg2 */
 };
+
+/* How many entries are in use; those after them are off. */
+enum { pmp_count = 3 };
+
+#ifdef __riscv
+/*
+ * Writes all of them. Machine mode calls it on each hart, with mstatus.MPRV = 0.
+ * The addresses are written first, so that no configuration word switches an entry
+ * on that has an address of an older list. Until that word is written an older entry
+ * may have a new address. This lets nobody in: no other mode runs on this hart before
+ * machine mode leaves, and an entry that is not locked does not bind machine mode.
+ * After sfence.vma nothing that was checked against the older list is used.
+ */
+static inline void pmp_load(void)
+{
+    const uint64_t *addr = pmpaddr;
+    const uint64_t *cfg = pmpcfg;
+
+    __asm__ volatile(\"csrw pmpaddr0, %0\" : : \"r\"(addr[0]));
+    __asm__ volatile(\"csrw pmpaddr1, %0\" : : \"r\"(addr[1]));
+    __asm__ volatile(\"csrw pmpaddr2, %0\" : : \"r\"(addr[2]));
+    __asm__ volatile(\"csrw pmpaddr3, %0\" : : \"r\"(addr[3]));
+    __asm__ volatile(\"csrw pmpaddr4, %0\" : : \"r\"(addr[4]));
+    __asm__ volatile(\"csrw pmpaddr5, %0\" : : \"r\"(addr[5]));
+    __asm__ volatile(\"csrw pmpaddr6, %0\" : : \"r\"(addr[6]));
+    __asm__ volatile(\"csrw pmpaddr7, %0\" : : \"r\"(addr[7]));
+    __asm__ volatile(\"csrw pmpaddr8, %0\" : : \"r\"(addr[8]));
+    __asm__ volatile(\"csrw pmpaddr9, %0\" : : \"r\"(addr[9]));
+    __asm__ volatile(\"csrw pmpaddr10, %0\" : : \"r\"(addr[10]));
+    __asm__ volatile(\"csrw pmpaddr11, %0\" : : \"r\"(addr[11]));
+    __asm__ volatile(\"csrw pmpaddr12, %0\" : : \"r\"(addr[12]));
+    __asm__ volatile(\"csrw pmpaddr13, %0\" : : \"r\"(addr[13]));
+    __asm__ volatile(\"csrw pmpaddr14, %0\" : : \"r\"(addr[14]));
+    __asm__ volatile(\"csrw pmpaddr15, %0\" : : \"r\"(addr[15]));
+    __asm__ volatile(\"csrw pmpcfg0, %0\" : : \"r\"(cfg[0]));
+    __asm__ volatile(\"csrw pmpcfg2, %0\" : : \"r\"(cfg[1]));
+    __asm__ volatile(\"sfence.vma\" : : : \"memory\");
+}
+#endif
 ";
     assert!(rt; took(&sink, HEAD, text.as_slice()));
+}
+
+/// How often a text stands in another.
+fn times(text: &[u8], part: &[u8]) -> usize {
+    let mut count: usize = 0;
+    for i in 0..text.len() {
+        if text.get(i..).unwrap_or_default().starts_with(part) {
+            count = count.saturating_add(1);
+        }
+    }
+    count
+}
+
+#[test]
+fn c_has_the_name_that_is_given(rt: HostRuntime) {
+    let mut sink = PieceSink::new(4096, None);
+    let name = Some("_uart9");
+    assert!(rt; print_c(name, board(&rt).as_slice(), Limit::Sixteen, &mut sink).is_ok());
+    let text = behind_head(&sink);
+    assert_eq!(rt; times(text, b"uint64_t _uart9_pmpaddr[16] = {"), 1);
+    assert_eq!(rt; times(text, b"uint64_t _uart9_pmpcfg[2] = {"), 1);
+    assert_eq!(rt; times(text, b"enum { _uart9_count = 3 };"), 1);
+    assert_eq!(rt; times(text, b"static inline void _uart9_load(void)"), 1);
+    assert_eq!(rt; times(text, b"*addr = _uart9_pmpaddr;"), 1);
+    assert_eq!(rt; times(text, b"*cfg = _uart9_pmpcfg;"), 1);
+    assert_eq!(rt; times(text, b"_uart9_"), 6);
+    assert_eq!(rt; times(text, b"csrw pmpaddr"), 16);
+    assert_eq!(rt; times(text, b"csrw pmpaddr15, %0\" : : \"r\"(addr[15])"), 1);
+    assert_eq!(rt; times(text, b"csrw pmpcfg2, %0\" : : \"r\"(cfg[1])"), 1);
+}
+
+#[test]
+fn assembly_with_a_name_is_a_routine(rt: HostRuntime) {
+    let mut plain = PieceSink::new(4096, None);
+    assert!(rt; print_asm(None, board(&rt).as_slice(), Limit::Sixteen, &mut plain).is_ok());
+    let mut sink = PieceSink::new(4096, None);
+    let name = Some("uart");
+    assert!(rt; print_asm(name, board(&rt).as_slice(), Limit::Sixteen, &mut sink).is_ok());
+    let body = behind_head(&plain);
+    assert!(rt; behind_head(&sink).starts_with(b"uart_load:\n/* Only t0 is changed. */\n"));
+    assert!(rt; behind_head(&sink).ends_with(b"    sfence.vma\n    ret\n"));
+    assert_eq!(rt; times(behind_head(&sink), body), 1);
+    assert_eq!(rt; behind_head(&sink).len(), body.len() + 11 + 8);
 }
 
 #[test]
 fn assembly_of_a_board(rt: HostRuntime) {
     let mut sink = PieceSink::new(4096, None);
-    assert!(rt; print_asm(board(&rt).as_slice(), Limit::Sixteen, &mut sink).is_ok());
+    assert!(rt; print_asm(None, board(&rt).as_slice(), Limit::Sixteen, &mut sink).is_ok());
     let text = b"/* Only t0 is changed. */
     addiw   zero, zero, 0 /* an assembler for RV32 refuses this */
     li      t0, 0x00000000040001ff /* 0: 0x0000000010000000, 4 KiB, rw */
@@ -147,7 +229,7 @@ fn a_list_that_fits_no_bank_has_no_words(rt: HostRuntime) {
 #[test]
 fn no_entries_are_a_list_too(rt: HostRuntime) {
     let mut sink = PieceSink::new(4096, None);
-    assert!(rt; print_asm(&[], Limit::Sixteen, &mut sink).is_ok());
+    assert!(rt; print_asm(None, &[], Limit::Sixteen, &mut sink).is_ok());
     let text = b"/* Only t0 is changed. */
     addiw   zero, zero, 0 /* an assembler for RV32 refuses this */
     li      t0, 0x0000000000000000
@@ -174,7 +256,7 @@ fn sizes_are_told_in_their_largest_unit(rt: HostRuntime) {
         entry(&rt, 0, 56, Perm::Read),
     ];
     let mut sink = PieceSink::new(4096, None);
-    assert!(rt; print_asm(entries.as_slice(), Limit::SixtyFour, &mut sink).is_ok());
+    assert!(rt; print_asm(None, entries.as_slice(), Limit::SixtyFour, &mut sink).is_ok());
     let front = b"/* Only t0 is changed. */
     addiw   zero, zero, 0 /* an assembler for RV32 refuses this */
     li      t0, 0x0000000000000800 /* 0: 0x0000000000002000, 4 B, r */
@@ -204,9 +286,9 @@ fn each_write_that_fails_ends_it(rt: HostRuntime) {
     let entries = board(&rt);
     for k in 1..8u64 {
         let mut sink = PieceSink::new(4096, Some(k));
-        assert!(rt; print_c(entries.as_slice(), Limit::Sixteen, &mut sink).is_err());
+        assert!(rt; print_c(None, entries.as_slice(), Limit::Sixteen, &mut sink).is_err());
         let mut sink = PieceSink::new(4096, Some(k));
-        assert!(rt; print_asm(entries.as_slice(), Limit::Sixteen, &mut sink).is_err());
+        assert!(rt; print_asm(None, entries.as_slice(), Limit::Sixteen, &mut sink).is_err());
         let mut sink = PieceSink::new(4096, Some(k));
         assert!(rt; print_json("a.map", entries.as_slice(), Limit::Sixteen, &mut sink).is_err());
         assert_eq!(rt; sink.failures, 1);

@@ -84,6 +84,19 @@ fn a_map_without_fault_and_lines_that_change_nothing(rt: HostRuntime) -> Result<
 }
 
 #[test]
+fn a_line_that_denies_what_no_line_allows_is_a_note(rt: HostRuntime) -> Result<(), Fail> {
+    let alloc = rt.alloc();
+    let kept = b"0x80000000 0x8000000 rwx\n0x10000000 0x1000 none\n";
+    let note =
+        "m:2:1: note: the line says what holds anyway; its pages have no permission without it\n";
+    expect_lint(&rt, alloc, kept.as_slice(), true, note);
+    let partly = b"0 0x1000 r\n0 0x2000 none\n0 0x1000 r\n";
+    let warnings = "m:1:1: warning: the line changes nothing of the whole map; it can go\nm:2:1: note: the line says what holds anyway; its pages have no permission without it\n";
+    expect_lint(&rt, alloc, partly.as_slice(), true, warnings);
+    Ok(())
+}
+
+#[test]
 fn lines_that_are_named_can_all_be_left_out(rt: HostRuntime) -> Result<(), Fail> {
     let alloc = rt.alloc();
     let twice = b"0 0x1000 r\n0 0x1000 r\n";

@@ -1,10 +1,18 @@
-use Rattle.std.proofs.Common.{◌∙◌, ◌+◌, ◌++◌, [], ◌∷◌, Ok, ap, append_assoc, append-nil, refl, sym}
+use Rattle.std.proofs.Common.{drop, ◌∙◌, ◌+◌, ◌++◌, [], ◌∷◌, Ok, ap, append_assoc, append-nil, refl, sym}
 use Rattle.std.proofs.Math.ListN.{drop_of_length-le}
 use Rattle.std.proofs.lemmas.List.Elements.{All-push}
 use Rattle.map_lint.specs.Settings.{IsInside, end, idle_texts}
+use Rattle.map_lint.proofs.Followed.{set_first}
 use Rattle.map_lint.proofs.Named.{keep_it, move_it, name_it, rest_from}
 use Rattle.map_lint.proofs.idle.push_warnings.Goals as goal
-use Rattle.map_lint.proofs.idle.push_warnings.Goals.{then-branch+in_ok-push_idle, else-branch+in_ok-push}
+use Rattle.map_lint.proofs.idle.push_warnings.Goals.{then-branch+in_ok-anyway+in_ok-push_idle, else-branch+in_ok-push}
+
+pub is_said_anyway-requires-clause-made : goal.is_said_anyway-requires-clause-made
+is_said_anyway-requires-clause-made c =
+    let settings = c.args.settings.now in
+    let i = c.loop-i.i in
+    let set = rw (c.as_slice.ensures.value, rest_from (i + 1) settings) at c.in_ok-is_whole.ensures.yes (ap (λ b. Ok b) c.if-branch.true) in
+    rw c.as_slice-then-branch.ensures.value (set_first c.loop-i.kept.items (drop (i + 1) settings) [] c.args.whole.now set)
 
 pub loop-i-preserved : goal.loop-i-preserved
 loop-i-preserved c =
@@ -15,14 +23,14 @@ loop-i-preserved c =
     let i = c.loop-i.i in
     let less = c.loop-i-test.true in
     elim c.if-branch.branch [
-      | then-branch+in_ok-push_idle w ↦
+      | then-branch+in_ok-anyway+in_ok-push_idle w ↦
           let set = rw (c.as_slice.ensures.value, rest_from (i + 1) settings) at c.in_ok-is_whole.ensures.yes (ap (λ b. Ok b) w.if-branch.true) in
           rw (w.kept-is, w.text-is)
           (record {
             inside = c.loop-i.invariant.inside;
             whole = set;
             named = λ named left are.
-                let all = c.loop-i.invariant.named (_ ∷ named) left (name_it whole kept settings i _ named left less set are) in
+                let all = c.loop-i.invariant.named (_ ∷ named) left (name_it whole kept settings i _ named left _ less (rw w.as_slice-then-branch.ensures.value at w.in_ok-anyway.ensures) set are) in
                 (all.0, all.1, ap (λ t. t ++ idle_texts name named) w.in_ok-push_idle.ensures ∙ (append_assoc c.loop-i.text.items _ (idle_texts name named) ∙ all.2));
           })
       | else-branch+in_ok-push w ↦

@@ -1,0 +1,31 @@
+-- Each stretch on which registers give another permission than a view, with its line.
+use Rattle.std.specs.Prelude.{◌≡◌, ◌≢◌, ℕ, ◌^◌, List, [], ◌∷◌, ◌++◌}
+use Rattle.pmp_encoding.specs.declared.extent.Extent.{Extent}
+use Rattle.page_views.specs.Views.{View}
+use Rattle.pmp_registers.specs.declared.registers.Registers.{Registers}
+use Rattle.pmp_registers.specs.Matching.{AreExtents}
+use Rattle.stretches.specs.declared.stretch.Stretch.{Stretch}
+use Rattle.stretches.specs.Stretches.{AreStretches}
+use Rattle.register_audit.specs.Findings.{agrees}
+use Rattle.register_audit.specs.Texts.{stretch_text}
+
+-- of a list of stretches those that do not agree, in its order
+pub data AreOdd : List Stretch → List Stretch → Type 0 where
+  end : AreOdd [] []
+  same : {all odd : List Stretch} → (s : Stretch) → agrees s → AreOdd all odd → AreOdd (s ∷ all) odd
+  other : {all odd : List Stretch} → (s : Stretch) → s.wanted ≢ s.given → AreOdd all odd → AreOdd (s ∷ all) (s ∷ odd)
+
+-- the lines of stretches, one after another
+abbrev pub differences_text : List Stretch → List ℕ
+differences_text [] = []
+differences_text (s ∷ odd) = stretch_text s ++ differences_text odd
+
+-- the text is a line for each stretch of the space on which registers give another permission than a view
+pub record AreDifferences (view : View) (registers : Registers) (text : List ℕ) : Type 0 where
+  pub extents : List Extent
+  pub are_extents : AreExtents registers extents
+  pub all : List Stretch
+  pub stretches : AreStretches view extents 0 all (2 ^ 56)
+  pub odd : List Stretch
+  pub are_odd : AreOdd all odd
+  pub text_is : text ≡ differences_text odd
