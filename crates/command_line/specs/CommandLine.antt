@@ -42,9 +42,17 @@ format_rule = option_rule (codes "format") (codes "text" ∷ [])
 abbrev pub measure_rule : Rule
 measure_rule = record (new_rule (codes "measure")) { long = Some (codes "measure"); action = Some SetTrue }
 
+-- `--name`, which has no value where it is not given
+abbrev pub name_rule : Rule
+name_rule = option_rule (codes "name") []
+
 -- `--registers`, which takes no value
 abbrev pub registers_rule : Rule
 registers_rule = record (new_rule (codes "registers")) { long = Some (codes "registers"); action = Some SetTrue }
+
+-- `--all`, which takes no value
+abbrev pub all_rule : Rule
+all_rule = record (new_rule (codes "all")) { long = Some (codes "all"); action = Some SetTrue }
 
 abbrev pub run_app : App
 run_app = with_rule
@@ -55,15 +63,17 @@ abbrev pub plan_app : App
 plan_app = with_rule
     (with_rule
     (with_rule
+    (with_rule
     (with_rule (with_rule (new_app (codes "plan")) (file_rule (codes "MAP") true)) (file_rule (codes "CERT") false))
     entries_rule)
     at_most_rule)
-    format_rule
+    format_rule)
+    name_rule
 
 abbrev pub judge_app : App
 judge_app = with_rule
-    (with_rule (with_rule (new_app (codes "judge")) (file_rule (codes "MAP") true)) (file_rule (codes "TRACE") true))
-    entries_rule
+    (with_rule (with_rule (with_rule (new_app (codes "judge")) (file_rule (codes "MAP") true)) (file_rule (codes "TRACE") true)) entries_rule)
+    registers_rule
 
 abbrev pub check_app : App
 check_app = with_rule (with_rule (new_app (codes "check")) (file_rule (codes "MAP") true)) (file_rule (codes "CERT") true)
@@ -74,7 +84,9 @@ show_app = with_rule
     registers_rule
 
 abbrev pub audit_app : App
-audit_app = with_rule (with_rule (new_app (codes "audit")) (file_rule (codes "MAP") true)) (file_rule (codes "REGISTERS") true)
+audit_app = with_rule
+    (with_rule (with_rule (new_app (codes "audit")) (file_rule (codes "MAP") true)) (file_rule (codes "REGISTERS") true))
+    all_rule
 
 abbrev pub map_app : App
 map_app = with_rule (new_app (codes "map")) (file_rule (codes "REGISTERS") true)

@@ -2,7 +2,7 @@
 
 ghost use Rattle.std.specs.Prelude.{◌≡◌, false};
 ghost use Rattle.clap.specs.Words.{rule_of};
-ghost use Rattle.command_line.specs.CommandLine.{at_most_rule, entries_rule, file_rule, format_rule, measure_rule, registers_rule};
+ghost use Rattle.command_line.specs.CommandLine.{all_rule, at_most_rule, entries_rule, file_rule, format_rule, measure_rule, name_rule, registers_rule};
 ghost use Rattle.command_line.specs.ClapModel.{rule_by};
 
 use clap::{Arg, ArgAction};
@@ -23,8 +23,12 @@ pub enum Argument<'a> {
     Format,
     /// `--measure`, whether measurements are asked for.
     Measure,
+    /// `--name`, what names in C and assembly begin with.
+    Name,
     /// `--registers`, whether a file has registers in place of a map.
     Registers,
+    /// `--all`, whether each stretch that differs is asked for.
+    All,
 }
 
 impl<'a> Argument<'a> {
@@ -40,7 +44,9 @@ impl<'a> Argument<'a> {
             Argument::AtMost => at_most_arg(alloc),
             Argument::Format => format_arg(alloc),
             Argument::Measure => measure_arg(alloc),
+            Argument::Name => name_arg(alloc),
             Argument::Registers => registers_arg(alloc),
+            Argument::All => all_arg(alloc),
         }
     }
 }
@@ -94,6 +100,18 @@ fn format_arg<'a>(alloc: Global) -> Arg<'a>
         .default_value("text")
 }
 
+/// The option that names what C and assembly define.
+fn name_arg<'a>(alloc: Global) -> Arg<'a>
+    ensures rule { rule_of result ≡ name_rule }
+    ensures local { result.global ≡ false }
+{
+    Arg::new(alloc, "name")
+        .long("name")
+        .value_name("NAME")
+        .help("What the names in C and assembly begin with")
+        .action(ArgAction::Set)
+}
+
 /// The flag that asks for measurements.
 fn measure_arg<'a>(alloc: Global) -> Arg<'a>
     ensures rule { rule_of result ≡ measure_rule }
@@ -112,6 +130,17 @@ fn registers_arg<'a>(alloc: Global) -> Arg<'a>
 {
     Arg::new(alloc, "registers")
         .long("registers")
-        .help("Read MAP as a listing of registers, and say what they mean")
+        .help("Read MAP as a listing of registers, which are taken as they stand")
+        .action(ArgAction::SetTrue)
+}
+
+/// The flag that asks for each difference.
+fn all_arg<'a>(alloc: Global) -> Arg<'a>
+    ensures rule { rule_of result ≡ all_rule }
+    ensures local { result.global ≡ false }
+{
+    Arg::new(alloc, "all")
+        .long("all")
+        .help("Print each stretch that differs, not the first alone")
         .action(ArgAction::SetTrue)
 }

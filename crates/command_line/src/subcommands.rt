@@ -39,20 +39,6 @@ fn command<'a>(
     Ok(command)
 }
 
-/// A subcommand as a user enters it, for its usage.
-fn bin_name(subcommand: Subcommand) -> &'static str {
-    match subcommand {
-        Subcommand::Run => "pmpmon run",
-        Subcommand::Plan => "pmpmon plan",
-        Subcommand::Judge => "pmpmon judge",
-        Subcommand::Check => "pmpmon check",
-        Subcommand::Show => "pmpmon show",
-        Subcommand::Audit => "pmpmon audit",
-        Subcommand::Map => "pmpmon map",
-        Subcommand::Lint => "pmpmon lint",
-    }
-}
-
 /// A subcommand as `clap` takes it.
 fn subcommand_command<'a>(alloc: Global, subcommand: Subcommand) -> Result<Command<'a>, AllocError>
     ensures { IfOk result (IsCommandOf (app_by subcommand)) }
@@ -91,6 +77,7 @@ fn plan_command<'a>(alloc: Global) -> Result<Command<'a>, AllocError>
         Argument::Entries,
         Argument::AtMost,
         Argument::Format,
+        Argument::Name,
     ];
     command(alloc, Subcommand::Plan.name(), about, PLAN_HELP, &arguments)
 }
@@ -98,11 +85,16 @@ fn plan_command<'a>(alloc: Global) -> Result<Command<'a>, AllocError>
 fn judge_command<'a>(alloc: Global) -> Result<Command<'a>, AllocError>
     ensures { IfOk result (IsCommandOf (app_by Subcommand.Judge)) }
 {
-    let about = "Load a map's entries and judge the accesses of a trace by them";
+    let about =
+        "Load a map's entries, or take registers as they stand, and judge the accesses of a trace by them";
     let arguments = [
-        Argument::File("MAP", "The map file"),
+        Argument::File(
+            "MAP",
+            "The map file, or with --registers the listing of registers",
+        ),
         Argument::File("TRACE", "The trace of accesses"),
         Argument::Entries,
+        Argument::Registers,
     ];
     command(
         alloc,
@@ -154,6 +146,7 @@ fn audit_command<'a>(alloc: Global) -> Result<Command<'a>, AllocError>
     let arguments = [
         Argument::File("MAP", "The map file"),
         Argument::File("REGISTERS", "The listing of the registers"),
+        Argument::All,
     ];
     command(
         alloc,
@@ -208,5 +201,5 @@ pub fn subcommand_named<'a>(alloc: Global, name: &str) -> Result<Command<'a>, Al
     let Some(subcommand) = Subcommand::of(name) else {
         return program(alloc);
     };
-    subcommand_command(alloc, subcommand)?.bin_name(bin_name(subcommand))
+    subcommand_command(alloc, subcommand)?.bin_name(subcommand.usage_name())
 }

@@ -18,11 +18,11 @@ pub const RUN_HELP: &str =
 
 /// After those of `plan`.
 pub const PLAN_HELP: &str =
-    "Prints 'entries N', each entry as 'I 0xCC 0xAAAAAAAAAAAAAAAA' (configuration byte and address register),\nand the configuration words where the entries fit. The certificate shows that no shorter list means the map.\n\nA map file has lines 'BASE SIZE PERM', in bytes: whole pages of 4096 bytes, and one of none, r, rw, x, rx, rwx.\n\nWith --format c, asm or json the same registers are printed as C arrays, as assembly that loads them, or as one JSON\nobject.\n\nExample:\n  pmpmon plan map.txt map.pmpc --entries 64";
+    "Prints 'entries N', each entry as 'I 0xCC 0xAAAAAAAAAAAAAAAA' (configuration byte and address register),\nand the configuration words where the entries fit. The certificate shows that no shorter list means the map.\n\nA map file has lines 'BASE SIZE PERM', in bytes: whole pages of 4096 bytes, and one of none, r, rw, x, rx, rwx.\n\nWith --format c, asm or json the same registers are printed as C arrays and a function that loads them, as assembly\nthat loads them, or as one JSON object. --name NAME is what the names in C and assembly begin with.\n\nExamples:\n  pmpmon plan map.txt map.pmpc --entries 64\n  pmpmon plan map.txt --format c --name board";
 
 /// After those of `audit`.
 pub const AUDIT_HELP: &str =
-    "REGISTERS is what 'plan' prints, or lines 'pmpaddrN VALUE' and 'pmpcfgK VALUE' in any order; a later line overrides an\nearlier one, and what no line sets is zero.\n\nPrints 'means the map: 5 entries where 3 are enough'; or, with status 1, the first stretch that differs, what the map and\nthe registers say there and which entry says it, or the first pair that no entry has. Lines of other\nregisters are passed over, which a comment says. Where mseccfg is not zero there is no verdict, with status 1.\n\nExample:\n  pmpmon audit map.txt registers.txt";
+    "REGISTERS is what 'plan' prints, or lines 'pmpaddrN VALUE' and 'pmpcfgK VALUE' in any order; a later line overrides an\nearlier one, and what no line sets is zero.\n\nPrints 'means the map: 5 entries where 3 are enough'; or, with status 1, the first stretch that differs (with --all each),\nwhat the map and the registers say there and which entry says it, or the first pair that no entry has. Lines of other\nregisters are passed over, which a comment says. Where mseccfg is not zero there is no verdict, with status 1.\n\nExample:\n  pmpmon audit map.txt registers.txt";
 
 /// After those of `map`.
 pub const MAP_HELP: &str =
@@ -30,7 +30,7 @@ pub const MAP_HELP: &str =
 
 /// After those of `lint`.
 pub const LINT_HELP: &str =
-    "Prints a line for each line of the file that is at fault: 'MAP:LINE:COLUMN:', what is wrong with it, and how to fix\nit; in a map without fault, a warning for each line that can go, all of them together. A file whose name ends in\n'.toml' should be a platform: the first thing that it breaks is printed.\n\nStatus 0 where the file is a map, with warnings too, or a platform, and 1 where it is none.\n\nExample:\n  pmpmon lint map.txt";
+    "Prints a line for each line of the file that is at fault: 'MAP:LINE:COLUMN:', what is wrong with it, and how to fix\nit; in a map without fault, a warning for each line that can go, all of them together, or a note where the line says what\nholds anyway. A file whose name ends in '.toml' should be a platform: the first thing that it breaks is printed.\n\nStatus 0 where the file is a map, with warnings too, or a platform, and 1 where it is none.\n\nExample:\n  pmpmon lint map.txt";
 
 /// After those of `show`.
 pub const SHOW_HELP: &str =
@@ -38,7 +38,7 @@ pub const SHOW_HELP: &str =
 
 /// After those of `judge`.
 pub const JUDGE_HELP: &str =
-    "A trace has a line for each access, with M s or u, and SIZE 1, 2, 4 or 8 (for a fetch 2 or 4):\n\n  fetch M SIZE ADDR\n  load M SIZE ADDR\n  store M SIZE ADDR VALUE\n\nEach is answered by 'N ok' or 'N fault CAUSE'.\n\nExample, with a file trace.txt that holds the line 'load s 8 0x80000ff8':\n  pmpmon judge map.txt trace.txt";
+    "A trace has a line for each access, with M s or u, and SIZE 1, 2, 4 or 8 (for a fetch 2 or 4):\n\n  fetch M SIZE ADDR\n  load M SIZE ADDR\n  store M SIZE ADDR VALUE\n\nEach is answered by 'N ok' or 'N fault CAUSE'.\n\nWith --registers MAP is a listing of registers, as audit takes it: OFF, TOR, NA4 and NAPOT, locked or not. --entries says\nnothing then. Registers with reserved values, or beside an mseccfg that is not zero, judge nothing: one line says why,\nwith status 1.\n\nExamples, with a file trace.txt that holds the line 'load s 8 0x80000ff8':\n  pmpmon judge map.txt trace.txt\n  pmpmon judge --registers board.txt trace.txt";
 
 /// After those of `check`.
 pub const CHECK_HELP: &str =

@@ -15,11 +15,12 @@ use Rattle.pmp_match.specs.Meaning.{View, IsFewest}
 use Rattle.pmp_match.specs.Bounds.{BoundTree}
 use Rattle.permission_map.specs.declared.runs.Run.{Run}
 use Rattle.permission_map.specs.Runs.{view_of_runs}
+use Rattle.pmp_registers.specs.declared.registers.Registers.{Registers}
 use Rattle.prefix_tree.specs.TreeOf.{tree_of}
 use Rattle.entry_planner.specs.Choice.{AreChosen}
 use Rattle.entry_planner.specs.Order.{AreInOrder}
 use Rattle.text_lines.specs.declared.fault.RunFault.{RunFault}
-use Rattle.text_lines.specs.LineLoop.{CountsReads, CountsWrites, DoesAll}
+use Rattle.text_lines.specs.LineLoop.{CountsReads, CountsWrites, DoesAll, Meaning}
 use Rattle.map_text.specs.declared.map_file.MapFileFault.{MapFileFault}
 use Rattle.map_text.specs.MapFile.{Makes}
 use Rattle.enclave_table.specs.Platform.{Layout}
@@ -37,6 +38,8 @@ use Rattle.register_formats.specs.AsmTexts.{IsAsmText}
 use Rattle.register_formats.specs.CTexts.{IsCText}
 use Rattle.register_formats.specs.JsonTexts.{IsJsonText}
 use Rattle.register_audit.specs.Audits.{IsAudit}
+use Rattle.register_judge.specs.Answers.{judged_by_registers}
+use Rattle.register_judge.specs.Listings.{HasRules, IsRefused}
 use Rattle.register_map.specs.Maps.{AreTooFine, IsMapFile}
 use Rattle.register_table.specs.Tables.{IsRegisterTable}
 use Rattle.register_text.specs.declared.listing.Listing.{Listing}
@@ -160,12 +163,12 @@ most_entries limit at_most formats.Json = at_most
 most_entries limit None format = Some (limit_number limit)
 most_entries limit (Some n) format = Some (min n (limit_number limit))
 
--- the text of a plan in a format, of the map of that name
-abbrev pub IsPrinted : Format → List ℕ → Limit → List Entry → List ℕ → Type 0
-IsPrinted formats.Text map limit entries text = IsPlanText limit entries text
-IsPrinted formats.C map limit entries text = IsCText limit entries text
-IsPrinted formats.Asm map limit entries text = IsAsmText limit entries text
-IsPrinted formats.Json map limit entries text = IsJsonText map limit entries text
+-- the text of a plan in a format, of the map of that name; C and assembly have the other name, where one is given
+abbrev pub IsPrinted : Format → List ℕ → Option (List ℕ) → Limit → List Entry → List ℕ → Type 0
+IsPrinted formats.Text map name limit entries text = IsPlanText limit entries text
+IsPrinted formats.C map name limit entries text = IsCText name limit entries text
+IsPrinted formats.Asm map name limit entries text = IsAsmText name limit entries text
+IsPrinted formats.Json map name limit entries text = IsJsonText map limit entries text
 
 -- the plan of a map has more entries than may be
 pub record NeedsMore (view : View) (most : Option ℕ) (trouble : Trouble) : Type 0 where
@@ -181,23 +184,23 @@ pub data IsUnplanned {C : Type 0} (view : View) (limit : Limit) (most : Option �
   uncertified : BreaksCertificate view limit most file cert trouble → IsUnplanned view limit most file cert trouble
 
 -- `plan`: the map is read, the certificate is written where one is asked for, and the plan after it
-pub data Plans {R C W : Type 0} (map : Bor (List ℕ)) (file : Option (Bor (List ℕ))) (limit : Limit) (at_most : Option ℕ) (format : Format) (first : Reading R) (cert : Placing C) (out : Writing W) : Result ℕ Trouble → Type 0 where
+pub data Plans {R C W : Type 0} (map : Bor (List ℕ)) (file : Option (Bor (List ℕ))) (limit : Limit) (at_most : Option ℕ) (format : Format) (name : Option (List ℕ)) (first : Reading R) (cert : Placing C) (out : Writing W) : Result ℕ Trouble → Type 0 where
   planned :
       (runs : List Run) (entries : List Entry) (text : List ℕ) → HasMap first runs → IsPlanned (view_of_runs runs) (most_entries limit at_most format) entries
-      → IsCertified (view_of_runs runs) limit entries file cert → IsPrinted format map.now limit entries text → TakesAll text out
-      → Plans map file limit at_most format first cert out (Ok 0)
-  no_map : (trouble : Trouble) → HasNoMap map first trouble → IsUnwritten cert.sink → IsUnwritten out → Plans map file limit at_most format first cert out (Err trouble)
-  no_memory : (runs : List Run) → HasMap first runs → IsUnwritten cert.sink → IsUnwritten out → Plans map file limit at_most format first cert out (Err Memory)
+      → IsCertified (view_of_runs runs) limit entries file cert → IsPrinted format map.now name limit entries text → TakesAll text out
+      → Plans map file limit at_most format name first cert out (Ok 0)
+  no_map : (trouble : Trouble) → HasNoMap map first trouble → IsUnwritten cert.sink → IsUnwritten out → Plans map file limit at_most format name first cert out (Err trouble)
+  no_memory : (runs : List Run) → HasMap first runs → IsUnwritten cert.sink → IsUnwritten out → Plans map file limit at_most format name first cert out (Err Memory)
   too_many :
       (runs : List Run) (trouble : Trouble) → HasMap first runs → NeedsMore (view_of_runs runs) (most_entries limit at_most format) trouble → IsUnwritten cert.sink → IsUnwritten out
-      → Plans map file limit at_most format first cert out (Err trouble)
+      → Plans map file limit at_most format name first cert out (Err trouble)
   no_certificate :
       (runs : List Run) (trouble : Trouble) → HasMap first runs → BreaksCertificate (view_of_runs runs) limit (most_entries limit at_most format) file cert trouble → IsUnwritten out
-      → Plans map file limit at_most format first cert out (Err trouble)
+      → Plans map file limit at_most format name first cert out (Err trouble)
   no_output :
       (runs : List Run) (entries : List Entry) (text : List ℕ) → HasMap first runs → IsPlanned (view_of_runs runs) (most_entries limit at_most format) entries
-      → IsCertified (view_of_runs runs) limit entries file cert → IsPrinted format map.now limit entries text → Breaks text out
-      → Plans map file limit at_most format first cert out (Err Output)
+      → IsCertified (view_of_runs runs) limit entries file cert → IsPrinted format map.now name limit entries text → Breaks text out
+      → Plans map file limit at_most format name first cert out (Err Output)
 
 -- `show`: the map is read, and the table of its stretches is printed
 pub data Shows {R W : Type 0} (map : Bor (List ℕ)) (limit : Limit) (at_most : Option ℕ) (first : Reading R) (out : Writing W) : Result ℕ Trouble → Type 0 where
@@ -249,6 +252,33 @@ pub data Judges {R W : Type 0} (map trace : Bor (List ℕ)) (limit : Limit) (fir
       → CountsReads (Err fault) second.failures second.failed → CountsWrites (Err fault) out.failures out.failed out.stalls out.stalled
       → Judges map trace limit first second out (Err (run_trouble trace fault))
 
+-- a trace is judged line by line, to its end or until it stops
+pub data JudgesTrace {R W : Type 0} (does : Meaning (Unit {0})) (trace : Bor (List ℕ)) (second : Reading R) (out : Writing W) : Result ℕ Trouble → Type 0 where
+  to_its_end : DoesAll does tt tt second.before second.after out.before out.after → second.failed ≡ second.failures → IsWell out → JudgesTrace does trace second out (Ok 0)
+  until :
+      (fault : RunFault) → Stops does is_no_access (λ old line new. ⊥) tt tt second.before second.after out.before out.after fault
+      → CountsReads (Err fault) second.failures second.failed → CountsWrites (Err fault) out.failures out.failed out.stalls out.stalled
+      → JudgesTrace does trace second out (Err (run_trouble trace fault))
+
+-- `judge --registers`: the listing of registers is read, and then the trace is judged by them line by line; where they judge nothing
+-- the trace is not read, and why is printed
+pub data JudgesByRegisters {R W : Type 0} (listing trace : Bor (List ℕ)) (first second : Reading R) (out : Writing W) : Result ℕ Trouble → Type 0 where
+  ruled :
+      (bytes : List ℕ) (registers : Registers) (result : Result ℕ Trouble) → HasBytes (2 ^ 20) first bytes → HasRules bytes registers
+      → JudgesTrace (judged_by_registers registers) trace second out result → JudgesByRegisters listing trace first second out result
+  refused : (bytes text : List ℕ) → HasBytes (2 ^ 20) first bytes → IsRefused bytes text → IsUnread second → TakesAll text out → JudgesByRegisters listing trace first second out (Ok 1)
+  no_bytes : (trouble : Trouble) → HasNoBytes (2 ^ 20) listing first trouble → IsUnread second → IsUnwritten out → JudgesByRegisters listing trace first second out (Err trouble)
+  no_memory : (bytes : List ℕ) → HasBytes (2 ^ 20) first bytes → IsUnread second → IsUnwritten out → JudgesByRegisters listing trace first second out (Err Memory)
+  not_understood :
+      (bytes : List ℕ) (n : ℕ) → HasBytes (2 ^ 20) first bytes → IsFirstUnknown bytes n → IsUnread second → IsUnwritten out
+      → JudgesByRegisters listing trace first second out (Err (NotUnderstood listing n))
+  no_output : (bytes text : List ℕ) → HasBytes (2 ^ 20) first bytes → IsRefused bytes text → IsUnread second → Breaks text out → JudgesByRegisters listing trace first second out (Err Output)
+
+-- `judge`, with `--registers` or without
+abbrev pub JudgesAs : {R W : Type 0} → Bool → Bor (List ℕ) → Bor (List ℕ) → Limit → Reading R → Reading R → Writing W → Result ℕ Trouble → Type 0
+JudgesAs true file trace limit first second out done = JudgesByRegisters file trace first second out done
+JudgesAs false file trace limit first second out done = Judges file trace limit first second out done
+
 -- `check`: the map is read, then the certificate, and the line of the verdict is written
 pub data Checks {R W : Type 0} (map cert : Bor (List ℕ)) (first second : Reading R) (out : Writing W) : Result ℕ Trouble → Type 0 where
   checked :
@@ -270,20 +300,21 @@ pub record IsAudited {R : Type 0} (first second : Reading R) (view : View) (list
   pub is_fewest : IsFewest view entries
   pub count : length entries ≡ fewest
 
--- `audit`: the map is read, then the listing of registers, and the line of the verdict is printed
-pub data Audits {R W : Type 0} (map registers : Bor (List ℕ)) (first second : Reading R) (out : Writing W) : Result ℕ Trouble → Type 0 where
+-- `audit`: the map is read, then the listing of registers, and the line of the verdict is printed, or with `--all` a line
+-- for each stretch that differs
+pub data Audits {R W : Type 0} (map registers : Bor (List ℕ)) (all : Bool) (first second : Reading R) (out : Writing W) : Result ℕ Trouble → Type 0 where
   audited :
-      (view : View) (listing text : List ℕ) (fewest : ℕ) (means : Bool) → IsAudited first second view listing fewest → IsAudit view fewest listing text means
-      → TakesAll text out → Audits map registers first second out (Ok (answer_status means))
-  no_map : (trouble : Trouble) → HasNoMap map first trouble → IsUnread second → IsUnwritten out → Audits map registers first second out (Err trouble)
-  no_registers : (runs : List Run) (trouble : Trouble) → HasMap first runs → HasNoBytes (2 ^ 20) registers second trouble → IsUnwritten out → Audits map registers first second out (Err trouble)
-  no_memory : (runs : List Run) (listing : List ℕ) → HasMap first runs → HasBytes (2 ^ 20) second listing → IsUnwritten out → Audits map registers first second out (Err Memory)
+      (view : View) (listing text : List ℕ) (fewest : ℕ) (means : Bool) → IsAudited first second view listing fewest → IsAudit view fewest all listing text means
+      → TakesAll text out → Audits map registers all first second out (Ok (answer_status means))
+  no_map : (trouble : Trouble) → HasNoMap map first trouble → IsUnread second → IsUnwritten out → Audits map registers all first second out (Err trouble)
+  no_registers : (runs : List Run) (trouble : Trouble) → HasMap first runs → HasNoBytes (2 ^ 20) registers second trouble → IsUnwritten out → Audits map registers all first second out (Err trouble)
+  no_memory : (runs : List Run) (listing : List ℕ) → HasMap first runs → HasBytes (2 ^ 20) second listing → IsUnwritten out → Audits map registers all first second out (Err Memory)
   not_understood :
       (view : View) (listing : List ℕ) (fewest n : ℕ) → IsAudited first second view listing fewest → IsFirstUnknown listing n → IsUnwritten out
-      → Audits map registers first second out (Err (NotUnderstood registers n))
+      → Audits map registers all first second out (Err (NotUnderstood registers n))
   no_output :
-      (view : View) (listing text : List ℕ) (fewest : ℕ) (means : Bool) → IsAudited first second view listing fewest → IsAudit view fewest listing text means → Breaks text out
-      → Audits map registers first second out (Err Output)
+      (view : View) (listing text : List ℕ) (fewest : ℕ) (means : Bool) → IsAudited first second view listing fewest → IsAudit view fewest all listing text means → Breaks text out
+      → Audits map registers all first second out (Err Output)
 
 -- a file whose name ends in `.toml` should be a platform, and any other one a map
 abbrev pub names_platform : List ℕ → Bool

@@ -14,7 +14,7 @@ mod verdicts;
 
 pub use audit::do_audit;
 pub use check::do_check;
-pub use judge::do_judge;
+pub use judge::do_judge_as;
 pub use lint::do_lint;
 pub use map::do_map;
 pub use plan::{Asked, do_plan};

@@ -1,21 +1,21 @@
 -- What a task comes to, and what is said of it.
-use Rattle.std.specs.Prelude.{◌≡◌, ℕ, Result, Ok, Err}
+use Rattle.std.specs.Prelude.{◌≡◌, ℕ, Result, Ok, Err, option_map}
 use Rattle.std.specs.Io.KnownBytes.{Appends}
 use Rattle.byte_streams.specs.Writings.{Breaks, IsUnwritten, Writing}
 use Rattle.program_tasks.specs.declared.task.Task.{Task}
 use Rattle.program_tasks.specs.declared.task.Task.TheVariants as tasks
 use Rattle.program_troubles.specs.declared.trouble.Trouble.{Trouble}
 use Rattle.program_troubles.specs.Troubles.{status_of, trouble_text}
-use Rattle.map_commands.specs.Commands.{Audits, Checks, IsUnread, Judges, Lints, Maps, Placing, Plans, Reading, ShowsAs}
+use Rattle.map_commands.specs.Commands.{Audits, Checks, IsUnread, JudgesAs, Lints, Maps, Placing, Plans, Reading, ShowsAs}
 use Rattle.monitor_cli.specs.Runs.{Runs}
 
 -- what a task comes to: what its command does not use stays as it was
 abbrev pub Performs : {R C W : Type 0} → Task → Reading R → Reading R → Placing C → Writing W → Result ℕ Trouble → Type 0
 Performs (tasks.Run platform trace measure) first second cert out done = Runs platform trace measure first second out done × IsUnwritten cert.sink
-Performs (tasks.Plan map file limit at_most format) first second cert out done = Plans map file limit at_most format first cert out done × IsUnread second
-Performs (tasks.Judge map trace limit) first second cert out done = Judges map trace limit first second out done × IsUnwritten cert.sink
+Performs (tasks.Plan map file limit at_most format name) first second cert out done = Plans map file limit at_most format (option_map (λ s. s.now) name) first cert out done × IsUnread second
+Performs (tasks.Judge file trace limit registers) first second cert out done = JudgesAs registers file trace limit first second out done × IsUnwritten cert.sink
 Performs (tasks.Check map file) first second cert out done = Checks map file first second out done × IsUnwritten cert.sink
-Performs (tasks.Audit map registers) first second cert out done = Audits map registers first second out done × IsUnwritten cert.sink
+Performs (tasks.Audit map registers all) first second cert out done = Audits map registers all first second out done × IsUnwritten cert.sink
 Performs (tasks.Map registers) first second cert out done = Maps registers first out done × IsUnread second × IsUnwritten cert.sink
 Performs (tasks.Lint map) first second cert out done = Lints map first out done × IsUnread second × IsUnwritten cert.sink
 Performs (tasks.Show map limit at_most registers) first second cert out done = ShowsAs registers map limit at_most first out done × IsUnread second × IsUnwritten cert.sink
@@ -27,7 +27,7 @@ pub data Tells {E : Type 0} (err : Writing E) : Result ℕ Trouble → Type 0 wh
   cut : (trouble : Trouble) → Breaks (trouble_text trouble) err → Tells err (Err trouble)
 
 -- a task was done or came to trouble, which standard error is told of. The status is 0 where it was done, 1 where the checker,
--- `audit` or `lint` refused, or registers have no table or mean no map, 2 for bad input, 3 for a device, 4 for memory, and it does not depend on standard error
+-- `audit` or `lint` refused, or registers have no table, mean no map or judge nothing, 2 for bad input, 3 for a device, 4 for memory, and it does not depend on standard error
 pub record Ends {R C W E : Type 0} (task : Task) (first second : Reading R) (cert : Placing C) (out : Writing W) (err : Writing E) (status : ℕ) : Type 0 where
   pub done : Result ℕ Trouble
   pub performed : Performs task first second cert out done

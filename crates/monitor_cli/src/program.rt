@@ -8,7 +8,7 @@ ghost use Rattle.program_troubles.specs.Troubles.{status_of};
 
 use crate::commands::do_run;
 use byte_streams::{Sink, Source};
-use map_commands::{Asked, do_audit, do_check, do_judge, do_lint, do_map, do_plan, do_show_as};
+use map_commands::{Asked, do_audit, do_check, do_judge_as, do_lint, do_map, do_plan, do_show_as};
 use program_files::WholeSink;
 use program_tasks::Task;
 use program_troubles::Trouble;
@@ -54,20 +54,29 @@ fn run_task<'a, R: Source, C: WholeSink, W: Sink>(
             limit,
             at_most,
             format,
+            name,
         } => {
             let asked = Asked {
                 cert: *file,
                 limit: *limit,
                 at_most: *at_most,
                 format: *format,
+                name: *name,
             };
             do_plan(alloc, *map, asked, first, cert, out)
         }
-        Task::Judge { map, trace, limit } => {
-            do_judge(alloc, *map, *trace, *limit, first, second, out)
-        }
+        Task::Judge {
+            map,
+            trace,
+            limit,
+            registers,
+        } => do_judge_as(alloc, *registers, *map, *trace, *limit, first, second, out),
         Task::Check { map, cert } => do_check(alloc, *map, *cert, first, second, out),
-        Task::Audit { map, registers } => { do_audit(alloc, *map, *registers, first, second, out) }
+        Task::Audit {
+            map,
+            registers,
+            all,
+        } => do_audit(alloc, *map, *registers, *all, first, second, out),
         Task::Map { registers } => do_map(alloc, *registers, first, out),
         Task::Lint { map } => do_lint(alloc, *map, first, out),
         Task::Show {

@@ -1,5 +1,5 @@
 -- The program's subcommands: the word that names each, and which of them a task is.
-use Rattle.std.specs.Prelude.{ℕ, List, codes}
+use Rattle.std.specs.Prelude.{ℕ, List, ◌++◌, codes}
 use Rattle.program_tasks.specs.declared.subcommand.Subcommand.{Subcommand}
 use Rattle.program_tasks.specs.declared.subcommand.Subcommand.TheVariants as subcommands
 use Rattle.program_tasks.specs.declared.task.Task.{Task}
@@ -20,14 +20,18 @@ subcommand_word subcommands.Audit = codes "audit"
 subcommand_word subcommands.Map = codes "map"
 subcommand_word subcommands.Lint = codes "lint"
 
+-- the program's word and the subcommand's, as a user enters them
+abbrev pub usage_words : Subcommand → Text
+usage_words subcommand = codes "pmpmon " ++ subcommand_word subcommand
+
 -- the subcommand that a task is
 abbrev pub subcommand_of : Task → Subcommand
 subcommand_of (Run platform trace measure) = subcommands.Run
-subcommand_of (Plan map cert limit at_most format) = subcommands.Plan
-subcommand_of (Judge map trace limit) = subcommands.Judge
+subcommand_of (Plan map cert limit at_most format name) = subcommands.Plan
+subcommand_of (Judge map trace limit registers) = subcommands.Judge
 subcommand_of (Check map cert) = subcommands.Check
 subcommand_of (Show map limit at_most registers) = subcommands.Show
-subcommand_of (Audit map registers) = subcommands.Audit
+subcommand_of (Audit map registers all) = subcommands.Audit
 subcommand_of (Map registers) = subcommands.Map
 subcommand_of (Lint map) = subcommands.Lint
 

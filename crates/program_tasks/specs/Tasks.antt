@@ -1,5 +1,6 @@
 -- What the program can be asked to do: which task a subcommand with its values is.
-use Rattle.std.specs.Prelude.{ℕ, true, false, Option, Some, None, codes, ◌≡◌, ◌≢◌, option_map}
+use Rattle.std.specs.Prelude.{ℕ, ◌==◌, ◌&&◌, ◌||◌, nat_lt, Bool, true, false, [], ◌∷◌, length, Option, Some, None, IfSome, codes, ◌≡◌, ◌≢◌, option_map}
+use Rattle.std.specs.List.{list_all}
 use Rattle.pmp_encoding.specs.declared.limit.Limit.{Limit}
 use Rattle.pmp_encoding.specs.declared.limit.Limit.TheVariants.{Sixteen, SixtyFour}
 use Rattle.text_lines.specs.Numbers.{number_of}
@@ -27,6 +28,19 @@ abbrev pub Counts : Option Text → Option ℕ → Type 0
 Counts None count = count ≡ None
 Counts (Some word) count = (n : ℕ) × (number_of word ≡ Some n) × (count ≡ Some n)
 
+-- a letter of ASCII or an underscore
+abbrev pub is_letter : ℕ → Bool
+is_letter b = (nat_lt 64 b && nat_lt b 91) || (nat_lt 96 b && nat_lt b 123) || b == 95
+
+-- such a letter, or a decimal digit
+abbrev pub is_letter_or_digit : ℕ → Bool
+is_letter_or_digit b = is_letter b || (nat_lt 47 b && nat_lt b 58)
+
+-- an identifier of C, of at most 32 bytes
+abbrev pub is_identifier : Text → Bool
+is_identifier [] = false
+is_identifier (first ∷ rest) = is_letter first && list_all is_letter_or_digit rest && nat_lt (length rest) 32
+
 -- the task has these values: of its arguments and of its flags, by their names
 abbrev pub HasValues : (Text → Option Text) → (Text → Option Text) → Task → Type 0
 HasValues value flag (Run platform trace measure) =
@@ -34,16 +48,19 @@ HasValues value flag (Run platform trace measure) =
     × (value (codes "TRACE") ≡ Some trace.now)
     × (flag (codes "measure") ≡ Some (codes "true") → measure ≡ true)
     × (flag (codes "measure") ≡ Some (codes "false") → measure ≡ false)
-HasValues value flag (Plan map cert limit at_most format) =
+HasValues value flag (Plan map cert limit at_most format name) =
     (value (codes "MAP") ≡ Some map.now)
     × (value (codes "CERT") ≡ option_map (λ s. s.now) cert)
     × (value (codes "entries") ≡ Some (limit_word limit))
     × Counts (value (codes "at-most")) at_most
     × (value (codes "format") ≡ Some (format_word format))
-HasValues value flag (Judge map trace limit) =
+    × (value (codes "name") ≡ option_map (λ s. s.now) name)
+HasValues value flag (Judge map trace limit registers) =
     (value (codes "MAP") ≡ Some map.now)
     × (value (codes "TRACE") ≡ Some trace.now)
     × (value (codes "entries") ≡ Some (limit_word limit))
+    × (flag (codes "registers") ≡ Some (codes "true") → registers ≡ true)
+    × (flag (codes "registers") ≡ Some (codes "false") → registers ≡ false)
 HasValues value flag (Check map cert) =
     (value (codes "MAP") ≡ Some map.now)
     × (value (codes "CERT") ≡ Some cert.now)
@@ -53,9 +70,11 @@ HasValues value flag (Show map limit at_most registers) =
     × Counts (value (codes "at-most")) at_most
     × (flag (codes "registers") ≡ Some (codes "true") → registers ≡ true)
     × (flag (codes "registers") ≡ Some (codes "false") → registers ≡ false)
-HasValues value flag (Audit map registers) =
+HasValues value flag (Audit map registers all) =
     (value (codes "MAP") ≡ Some map.now)
     × (value (codes "REGISTERS") ≡ Some registers.now)
+    × (flag (codes "all") ≡ Some (codes "true") → all ≡ true)
+    × (flag (codes "all") ≡ Some (codes "false") → all ≡ false)
 HasValues value flag (Map registers) = value (codes "REGISTERS") ≡ Some registers.now
 HasValues value flag (Lint map) = value (codes "MAP") ≡ Some map.now
 
@@ -63,11 +82,11 @@ HasValues value flag (Lint map) = value (codes "MAP") ≡ Some map.now
 abbrev pub input_word : Text
 input_word = codes "-"
 
--- standard input is read once at most, and a certificate never takes the place of its map
+-- standard input is read once at most, a certificate never takes the place of its map, and a name is an identifier
 abbrev pub IsSound : Task → Type 0
-IsSound (Plan map cert limit at_most format) = option_map (λ s. s.now) cert ≢ Some map.now
-IsSound (Judge map trace limit) = ¬ ((map.now ≡ input_word) × (trace.now ≡ input_word))
-IsSound (Audit map registers) = ¬ ((map.now ≡ input_word) × (registers.now ≡ input_word))
+IsSound (Plan map cert limit at_most format name) = (option_map (λ s. s.now) cert ≢ Some map.now) × IfSome name (λ s. is_identifier s.now ≡ true)
+IsSound (Judge map trace limit registers) = ¬ ((map.now ≡ input_word) × (trace.now ≡ input_word))
+IsSound (Audit map registers all) = ¬ ((map.now ≡ input_word) × (registers.now ≡ input_word))
 IsSound task = Unit {0}
 
 -- no sound task is that subcommand with these values

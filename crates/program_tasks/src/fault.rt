@@ -16,6 +16,8 @@ pub enum Fault<'a> {
     Format(&'a str),
     /// `--at-most` has one.
     AtMost(&'a str),
+    /// `--name` has one.
+    Name(&'a str),
     /// Standard input is named twice.
     InputTwice,
     /// The certificate would take the place of the map of this name.
@@ -42,6 +44,11 @@ impl Fault<'_> {
             Fault::AtMost(word) => {
                 format!(in alloc;
                     "invalid value '{word}' for '--at-most <N>': no number below 2^64"
+                )
+            }
+            Fault::Name(word) => {
+                format!(in alloc;
+                    "invalid value '{word}' for '--name <NAME>': no C identifier of at most 32 bytes"
                 )
             }
             Fault::InputTwice => format!(in alloc; "standard input, '-', cannot be read twice"),

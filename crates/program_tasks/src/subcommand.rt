@@ -2,7 +2,7 @@
 
 ghost use Rattle.std.specs.Prelude.{◌≡◌, ◌≢◌, IfSome, None};
 ghost use Rattle.program_tasks.specs.declared.subcommand.Subcommand.{Subcommand};
-ghost use Rattle.program_tasks.specs.Subcommands.{subcommand_word};
+ghost use Rattle.program_tasks.specs.Subcommands.{subcommand_word, usage_words};
 
 /// A subcommand of the program.
 #[derive(Clone, Copy, Debug, PartialEq, Eq)]
@@ -51,6 +51,22 @@ impl Subcommand {
             Subcommand::Audit => "audit",
             Subcommand::Map => "map",
             Subcommand::Lint => "lint",
+        }
+    }
+
+    /// The words by which a user enters it, for its usage.
+    pub fn usage_name(self) -> &'static str
+        ensures { result.now ≡ usage_words self }
+    {
+        match self {
+            Subcommand::Run => "pmpmon run",
+            Subcommand::Plan => "pmpmon plan",
+            Subcommand::Judge => "pmpmon judge",
+            Subcommand::Check => "pmpmon check",
+            Subcommand::Show => "pmpmon show",
+            Subcommand::Audit => "pmpmon audit",
+            Subcommand::Map => "pmpmon map",
+            Subcommand::Lint => "pmpmon lint",
         }
     }
 

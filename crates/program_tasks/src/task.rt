@@ -39,15 +39,19 @@ pub enum Task<'a> {
         at_most: Option<u64>,
         /// How the plan is printed.
         format: Format,
+        /// The C identifier that names in C and assembly begin with, where one is given.
+        name: Option<&'a str>,
     },
-    /// Load a map's entries, and judge the accesses of a trace by them.
+    /// Load a map's entries, or take registers as they stand, and judge the accesses of a trace by them.
     Judge {
-        /// The map file.
+        /// The map file, or the listing of the registers.
         map: &'a str,
         /// The trace.
         trace: &'a str,
         /// How many entries the register file has.
         limit: Limit,
+        /// Whether the file is a listing of registers.
+        registers: bool,
     },
     /// Check a certificate against a map.
     Check {
@@ -62,6 +66,8 @@ pub enum Task<'a> {
         map: &'a str,
         /// The listing of the registers.
         registers: &'a str,
+        /// Whether each stretch that differs is asked for, or the first alone.
+        all: bool,
     },
     /// Print the map that registers mean.
     Map {

@@ -1,12 +1,13 @@
 //! The task that a subcommand with its values is.
 
-ghost use Rattle.std.specs.Prelude.{◌≡◌, ◌≢◌, ◌↔◌, [], ◌∷◌, IfErr, IfOk, IfSome, Option, None, Some, codes, true, option_map};
+ghost use Rattle.std.specs.Prelude.{◌≡◌, ◌≢◌, ◌↔◌, [], ◌∷◌, IfErr, IfOk, IfSome, Option, None, Some, codes, false, true, option_map};
+ghost use Rattle.std.specs.List.{list_all};
 ghost use Rattle.pmp_encoding.specs.declared.limit.Limit.{Limit};
 ghost use Rattle.program_tasks.specs.declared.task.Format.{Format};
 ghost use Rattle.program_tasks.specs.Faults.{Breaks, IsFaultOf, IsFirst, RefusesTask};
-ghost use Rattle.program_tasks.specs.Faults.Demand.{counts, has, names_limit, names_format};
+ghost use Rattle.program_tasks.specs.Faults.Demand.{counts, has, identifies, names_limit, names_format};
 ghost use Rattle.program_tasks.specs.Subcommands.{word_of};
-ghost use Rattle.program_tasks.specs.Tasks.{limit_word, format_word, input_word, Counts, HasValues, IsSound, IsTaskOf, NamesNone};
+ghost use Rattle.program_tasks.specs.Tasks.{limit_word, format_word, input_word, is_identifier, is_letter, is_letter_or_digit, Counts, HasValues, IsSound, IsTaskOf, NamesNone};
 
 use crate::fault::Fault;
 use crate::given::Values;
@@ -111,6 +112,52 @@ fn at_most_in<'a, V: Values<'a>>(given: &V) -> Result<Option<u64>, Fault<'a>>
     }
 }
 
+fn is_letter(byte: u8) -> bool
+    ensures { result ≡ is_letter byte }
+{
+    matches!(byte, b'A'..=b'Z' | b'a'..=b'z' | b'_')
+}
+
+fn is_letter_or_digit(byte: u8) -> bool
+    ensures { result ≡ is_letter_or_digit byte }
+{
+    is_letter(byte) || matches!(byte, b'0'..=b'9')
+}
+
+fn are_letters_or_digits(bytes: &[u8]) -> bool
+    ensures { result ≡ list_all is_letter_or_digit bytes.now }
+{
+    bytes.iter().all(|byte| is_letter_or_digit(*byte))
+}
+
+/// Whether a word is an identifier of C, of at most 32 bytes.
+fn is_identifier(word: &[u8]) -> bool
+    ensures { result ≡ is_identifier word.now }
+{
+    let [first, rest @ ..] = word else {
+        return false;
+    };
+    is_letter(*first) && are_letters_or_digits(rest) && rest.len() < 32
+}
+
+/// The value of `--name`, where it is given.
+fn name_in<'a, V: Values<'a>>(given: &V) -> Result<Option<&'a str>, Fault<'a>>
+    ensures value { IfOk result (λ name. V.value given.now (codes "name") ≡ option_map (λ s.
+        s.now) name) }
+    ensures identifier { IfOk result (λ name. IfSome name (λ s. is_identifier s.now ≡ true)) }
+    ensures fault { IfErr result (Breaks (V.value given.now) identifies) }
+{
+    match given.value("name") {
+        None => Ok(None),
+        Some(word) => {
+            if !is_identifier(word.as_bytes()) {
+                return Err(Fault::Name(word));
+            }
+            Ok(Some(word))
+        }
+    }
+}
+
 /// Whether a word stands for standard input.
 fn is_input(word: &str) -> bool
     ensures { (result ≡ true) ↔ (word.now ≡ input_word) }
@@ -164,12 +211,14 @@ fn plan_in<'a, V: Values<'a>>(given: &V) -> Result<Task<'a>, Fault<'a>>
     let limit = limit_in(given)?;
     let at_most = at_most_in(given)?;
     let format = format_in(given)?;
+    let name = name_in(given)?;
     Ok(Task::Plan {
         map,
         cert,
         limit,
         at_most,
         format,
+        name,
     })
 }
 
@@ -196,7 +245,13 @@ fn judge_in<'a, V: Values<'a>>(given: &V) -> Result<Task<'a>, Fault<'a>>
     let trace = value_in(given, "TRACE")?;
     let limit = limit_in(given)?;
     once(map, trace)?;
-    Ok(Task::Judge { map, trace, limit })
+    let registers = given.is_given("registers");
+    Ok(Task::Judge {
+        map,
+        trace,
+        limit,
+        registers,
+    })
 }
 
 fn check_in<'a, V: Values<'a>>(given: &V) -> Result<Task<'a>, Fault<'a>>
@@ -237,7 +292,12 @@ fn audit_in<'a, V: Values<'a>>(given: &V) -> Result<Task<'a>, Fault<'a>>
     let map = value_in(given, "MAP")?;
     let registers = value_in(given, "REGISTERS")?;
     once(map, registers)?;
-    Ok(Task::Audit { map, registers })
+    let all = given.is_given("all");
+    Ok(Task::Audit {
+        map,
+        registers,
+        all,
+    })
 }
 
 fn map_in<'a, V: Values<'a>>(given: &V) -> Result<Task<'a>, Fault<'a>>

@@ -86,6 +86,41 @@ fn other_lines_are_not_understood_behind_the_answers_before_them(
 }
 
 #[test]
+fn accesses_are_judged_by_registers_as_they_stand(rt: HostRuntime) -> Result<(), Fail> {
+    let words = ["pmpmon", "judge", "--registers", "board.txt", "trace.txt"];
+    let tor = b"pmpaddr0 0x400\npmpaddr1 0x800\npmpcfg0 0x8b00\nmstatus 0x1800\n";
+    let trace = b"load u 8 0xff8\nload u 8 0x1000\nstore s 4 0x1ffc 1\nfetch s 4 0x1000\n";
+    let answers = "1 fault 5\n2 ok\n3 ok\n4 fault 1\n";
+    prints(&rt, rt.alloc(), &words, tor, trace, answers)?;
+    let reserved = b"mstatus 0x1800\n1 0x1a 0x400\n";
+    let why =
+        "pair 1 0x1a 0x0000000000000400: W without R\n# lines of other registers are passed over, line 1 first\n";
+    denies(&rt, rt.alloc(), &words, reserved, b"what", why)?;
+    let smepmp = b"0 0x1f 0x400\nmseccfg 0x1\n";
+    let why = "mseccfg 0x0000000000000001: no verdict, Smepmp is not modelled\n";
+    denies(&rt, rt.alloc(), &words, smepmp, b"what", why)?;
+    let said = "pmpmon: board.txt: line 1 is not understood\n";
+    refuses(
+        &rt,
+        rt.alloc(),
+        &words,
+        b"0x80000000 0x1000 rwx\n",
+        trace,
+        said,
+    )?;
+    let said = "pmpmon: trace.txt: line 2 is not understood\n";
+    stops(
+        &rt,
+        rt.alloc(),
+        &words,
+        tor,
+        b"load u 8 0x1000\nirq\n",
+        "1 ok\n",
+        said,
+    )
+}
+
+#[test]
 fn a_map_that_needs_more_entries_than_there_are_is_not_loaded(rt: HostRuntime) -> Result<(), Fail> {
     let map = pages(rt.alloc(), 17)?;
     refuses(

@@ -12,23 +12,26 @@ use program_troubles::Trouble;
 use register_audit::{AuditFault, audit};
 use std::alloc::Global;
 
-/// Audits registers against a map, and answers the status 0 where they mean it and 1 where they don't.
+/// Audits registers against a map, and answers the status 0 where they mean it and 1 where they don't. With `all` there is a
+/// line for each stretch that differs, otherwise for the first alone.
 pub fn do_audit<'a, R: Source, W: Sink>(
     alloc: Global,
     map: &'a str,
     registers: &'a str,
+    all: bool,
     first: &mut R,
     second: &mut R,
     out: &mut W,
 ) -> Result<u8, Trouble<'a>>
     ensures { let source = reading R.remaining R.failures in
-        Audits map.entry registers.entry (source first.old first.new) (source second.old second.new)
-        (writing W.contents W.failures W.stalls out.old out.new) result }
+        Audits map.entry registers.entry all (source first.old first.new)
+        (source second.old second.new) (writing W.contents W.failures W.stalls out.old out.new)
+        result }
 {
     let map = map_in(alloc, map, first)?;
     let listing = bytes_in(alloc, registers, second, REGISTER_BYTES)?;
     let fewest = fewest_in(alloc, &map)?;
-    match audit(alloc, &map, fewest, listing.as_slice(), out) {
+    match audit(alloc, &map, fewest, listing.as_slice(), all, out) {
         Ok(means) => Ok(answer_status(means)),
         Err(AuditFault::Line(line)) => Err(Trouble::NotUnderstood {
             file: registers,

@@ -1,6 +1,6 @@
 //! `plan`: the fewest entries of a map, and their certificate.
 
-ghost use Rattle.std.specs.Prelude.{◌≡◌, ◌-◌, ◌^◌, ◌<◌, ℕ, List, Option, IfErr, IfOk, length};
+ghost use Rattle.std.specs.Prelude.{◌≡◌, ◌-◌, ◌^◌, ◌<◌, ℕ, List, Option, IfErr, IfOk, length, option_map};
 ghost use Rattle.map_commands.specs.Commands.{most_entries, placing, reading, IsPrinted, IsWithin, Plans};
 ghost use Rattle.byte_streams.specs.Writings.{writing, PrintsOne};
 
@@ -26,6 +26,8 @@ pub struct Asked<'a> {
     pub at_most: Option<u64>,
     /// How it is printed.
     pub format: Format,
+    /// What the names in C and assembly begin with.
+    pub name: Option<&'a str>,
 }
 
 /// How many entries a plan may have, where there is a bound: C and assembly are printed of a whole bank alone.
@@ -48,19 +50,21 @@ fn most(limit: Limit, at_most: Option<u64>, format: Format) -> Option<u64>
 fn print_as<W: Sink>(
     format: Format,
     map: &str,
+    name: Option<&str>,
     entries: &[Entry],
     limit: Limit,
     out: &mut W,
 ) -> Result<(), DeviceFault>
     requires fits { (at_most : Option ℕ) × IsWithin (most_entries limit at_most format)
         (length entries.now) }
-    ensures { PrintsOne (IsPrinted format map.now limit entries.now)
+    ensures { PrintsOne (IsPrinted format map.now
+        (option_map (λ s. s.now) name.entry) limit entries.now)
         (writing W.contents W.failures W.stalls out.old out.new) result }
 {
     match format {
         Format::Text => print_plan(entries, limit, out),
-        Format::C => print_c(entries, limit, out),
-        Format::Asm => print_asm(entries, limit, out),
+        Format::C => print_c(name, entries, limit, out),
+        Format::Asm => print_asm(name, entries, limit, out),
         Format::Json => print_json(map, entries, limit, out),
     }
 }
@@ -75,7 +79,7 @@ pub fn do_plan<'a, R: Source, C: WholeSink, W: Sink>(
     out: &mut W,
 ) -> Result<u8, Trouble<'a>>
     ensures { Plans map.entry asked.entry.cert asked.entry.limit asked.entry.at_most
-        asked.entry.format
+        asked.entry.format (option_map (λ s. s.now) asked.entry.name)
         (reading R.remaining R.failures first.old first.new)
         (placing C.contents C.failures C.stalls C.stands certificate.old certificate.new)
         (writing W.contents W.failures W.stalls out.old out.new) result }
@@ -85,12 +89,13 @@ pub fn do_plan<'a, R: Source, C: WholeSink, W: Sink>(
         limit,
         at_most,
         format,
+        name,
     } = asked;
-    let name = map;
-    let map = map_in(alloc, name, first)?;
+    let file = map;
+    let map = map_in(alloc, file, first)?;
     let most = most(limit, at_most, format);
     let plan = plan_and_certify(alloc, &map, limit, most, cert, certificate)?;
-    match print_as(format, name, plan.entries(), limit, out) {
+    match print_as(format, file, name, plan.entries(), limit, out) {
         Ok(()) => Ok(0),
         Err(DeviceFault) => Err(Trouble::Output),
     }
