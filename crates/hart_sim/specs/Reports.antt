@@ -22,7 +22,7 @@ use Rattle.hart_sim.specs.Texts.{reply_text, report_text}
 abbrev pub harts_of : Machine → ℕ
 harts_of machine = (state_of machine).table.layout.harts
 
--- what a line does behind so many replies: nothing where it has no words; else its event happens, and the reply is told
+-- what a line does after so many replies: nothing where it has no words; else its event happens, and the reply is told
 abbrev pub DoesLine : Machine → ℕ → List ℕ → Option (List ℕ) → Machine → Type 0
 DoesLine old count line None new = (meaning_of (harts_of old) line ≡ Some None) × (new ≡ old)
 DoesLine old count line (Some text) new =

@@ -28,7 +28,7 @@ abbrev pub IsAnsweredBy : Reply → Refusal → Type 0
 IsAnsweredBy reply refusal = (value world used : ℕ) × (reply ≡ replies.Call (below_zero (refusal_number refusal)) value world used)
 
 -- a call that passes its other checks is refused for want of entries only where a view after it would need more than there are;
--- and where one would, it is refused, for want of entries or of memory
+-- and where one would, it is refused, for want of entries or out of memory
 abbrev pub IsRefusedExactlyWhere : Type 0 → Reply → Type 0
 IsRefusedExactlyWhere Outgrows reply = (IsAnsweredBy reply NoEntries → Outgrows) × (Outgrows → IsAnsweredBy reply NoEntries ⊎ IsAnsweredBy reply NoMemory)
 

@@ -54,13 +54,13 @@ pub fn platform_law()
 {}
 
 /// A creation that passes its other checks is refused for want of entries only where the host's view after it, or the
-/// new enclave's, would need more than there are; and where one would, it is refused, for want of entries or of memory.
+/// new enclave's, would need more than there are; and where one would, it is refused, for want of entries or out of memory.
 pub fn creation_law()
     ensures { CreatesByNeed }
 {}
 
 /// A destruction that passes its other checks is refused for want of entries only where the host's view after it would
-/// need more than there are; and where it would, it is refused, for want of entries or of memory.
+/// need more than there are; and where it would, it is refused, for want of entries or out of memory.
 pub fn destruction_law()
     ensures { DestroysByNeed }
 {}

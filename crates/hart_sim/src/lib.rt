@@ -5,7 +5,7 @@
 //! by the words that are loaded on the hart, and by nothing else. [`run`] does so for each line of a trace and writes a
 //! line for each reply.
 //!
-//! For the layer above: each reply and the state behind it are a step of the small machine in `specs/Steps`, which has no
+//! For the layer above: each reply and the state after it are a step of the small machine in `specs/Steps`, which has no
 //! PMP entries in it; after boot and after every event the list of each hart that is not marked means what its world may
 //! do, and no list of entries of any regions in any order that means it is shorter. A hart is marked where another hart's
 //! call changed the host's view: it loads the host's entries before its next event. The laws say what follows for whole

@@ -17,7 +17,7 @@ const LOWER_HALF: [u8; 47] = [
     0, 7, 0, 0, // leaves
 ];
 
-/// The header, and how many bytes are left behind the root.
+/// The header, and how many bytes are left after the root.
 fn read_whole(bytes: &[u8]) -> Result<(Header, usize), ReadFault> {
     let mut reader = Reader::new(bytes);
     let header = reader.header()?;

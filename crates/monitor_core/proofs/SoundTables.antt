@@ -28,7 +28,7 @@ use Rattle.monitor_core.proofs.Currents.{none_live}
 same : (table new : EnclaveTable) → new ≡ table → IsTable table → IsTable new
 same table new is t = subst IsTable (sym is) t
 
--- one more enclave, behind all checks
+-- one more enclave, after all checks
 created : (pages : ℕ → List ℕ) (old : EnclaveTable) (world : World) (asked : Create) (id : ℕ) (new : EnclaveTable) → Creates pages old world asked id new → IsTable old → IsTable new
 created pages old world asked id new x t =
     same (with_enclave old id (Some (fresh pages (parts_of asked)))) new x.added

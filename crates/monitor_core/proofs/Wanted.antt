@@ -55,7 +55,7 @@ done_says that value pages answer zero new x = ap (λ a. a.status) x.told
 not_refused : (refusal : Refusal) (answer : Answer) → answer.status ≡ pos 0 → IsAnsweredBy answer refusal → ⊥
 not_refused refusal answer x y = let z : pos 0 ≡ below_zero (refusal_number refusal) = sym x ∙ y in cc
 
--- want of memory is another answer than want of entries
+-- out of memory is another answer than want of entries
 not_both : (answer : Answer) → IsAnsweredBy answer NoMemory → IsAnsweredBy answer NoEntries → ⊥
 not_both answer x y = let z : 108 ≡ 107 = ap under_zero (sym x ∙ y) in absurd (omega (arith, z))
 
@@ -123,7 +123,7 @@ destroys_by_need id s hart answer zero new pass (inl x) = (
   (λ out. absurd (fits_not_more s.table.layout.limit (host_view (with_enclave s.table id None)) (subst (λ t. FitsIn t.layout.limit (host_view t)) x.2.removed x.2.host_fits) out)),
 )
 
--- an answer to a call that is neither want of entries nor want of memory
+-- an answer to a call that is neither want of entries nor out of memory
 record Neither (answer : Answer) : Type 0 where
   entries : IsAnsweredBy answer NoEntries → ⊥
   memory : IsAnsweredBy answer NoMemory → ⊥

@@ -42,7 +42,7 @@ Outgrows (Some (calls.Destroy id)) table = NeedsMore table.layout.limit (host_vi
 Outgrows _ table = ⊥
 
 -- a call is refused for want of entries only where it is one of these, and a view after it would need more entries than there are;
--- where one would, it is refused, for want of entries or of memory. Nothing else is refused so
+-- where one would, it is refused, for want of entries or out of memory. Nothing else is refused so
 pub record IsRefusedByNeed (call : Option Call) (table : EnclaveTable) (world : World) (IsAnswered : Refusal → Type 0) : Type 0 where
   pub entries : IsAnswered NoEntries → PassesOthers call table world × Outgrows call table
   pub outgrown : PassesOthers call table world → Outgrows call table → IsAnswered NoEntries ⊎ IsAnswered NoMemory
