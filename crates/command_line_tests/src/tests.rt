@@ -45,7 +45,8 @@ fn plan_takes_a_map_and_maybe_a_certificate(rt: HostRuntime) -> Result<(), Fail>
             cert: None,
             limit: Limit::Sixteen,
             at_most: None,
-            format: Format::Text
+            format: Format::Text,
+            name: None,
         }
     );
     let written = command_of(rt.alloc(), &["pmpmon", "plan", "map.txt", "out.pmpc"])?;
@@ -56,7 +57,8 @@ fn plan_takes_a_map_and_maybe_a_certificate(rt: HostRuntime) -> Result<(), Fail>
             cert: Some("out.pmpc"),
             limit: Limit::Sixteen,
             at_most: None,
-            format: Format::Text
+            format: Format::Text,
+            name: None,
         }
     );
     let named = command_of(
@@ -75,7 +77,8 @@ fn plan_takes_a_map_and_maybe_a_certificate(rt: HostRuntime) -> Result<(), Fail>
             cert: Some("out.pmpc"),
             limit: Limit::SixtyFour,
             at_most: None,
-            format: Format::Text
+            format: Format::Text,
+            name: None,
         }
     );
     Ok(())
@@ -89,7 +92,8 @@ fn judge_takes_a_map_and_a_trace(rt: HostRuntime) -> Result<(), Fail> {
         Task::Judge {
             map: "map.txt",
             trace: "trace.txt",
-            limit: Limit::Sixteen
+            limit: Limit::Sixteen,
+            registers: false,
         }
     );
     let named = command_of(
@@ -106,7 +110,8 @@ fn judge_takes_a_map_and_a_trace(rt: HostRuntime) -> Result<(), Fail> {
         Task::Judge {
             map: "map.txt",
             trace: "trace.txt",
-            limit: Limit::SixtyFour
+            limit: Limit::SixtyFour,
+            registers: false,
         }
     );
     Ok(())
@@ -119,7 +124,8 @@ fn audit_takes_a_map_and_registers(rt: HostRuntime) -> Result<(), Fail> {
         task,
         Task::Audit {
             map: "map.txt",
-            registers: "-"
+            registers: "-",
+            all: false,
         }
     );
     Ok(())
@@ -242,7 +248,8 @@ fn plan_and_show_take_options(rt: HostRuntime) -> Result<(), Fail> {
             cert: Some("out.pmpc"),
             limit: Limit::Sixteen,
             at_most: Some(8),
-            format: Format::Asm
+            format: Format::Asm,
+            name: None,
         }
     );
     let formats = [

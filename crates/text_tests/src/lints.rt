@@ -91,7 +91,8 @@ fn a_line_that_denies_what_no_line_allows_is_a_note(rt: HostRuntime) -> Result<(
         "m:2:1: note: the line says what holds anyway; its pages have no permission without it\n";
     expect_lint(&rt, alloc, kept.as_slice(), true, note);
     let partly = b"0 0x1000 r\n0 0x2000 none\n0 0x1000 r\n";
-    let warnings = "m:1:1: warning: the line changes nothing of the whole map; it can go\nm:2:1: note: the line says what holds anyway; its pages have no permission without it\n";
+    let warnings =
+        "m:1:1: warning: the line changes nothing of the whole map; it can go\nm:2:1: note: the line says what holds anyway; its pages have no permission without it\n";
     expect_lint(&rt, alloc, partly.as_slice(), true, warnings);
     Ok(())
 }
