@@ -10,6 +10,10 @@ mod calls;
 #[cfg(test)]
 mod digests;
 #[cfg(test)]
+mod failing_runs;
+#[cfg(test)]
+mod machines;
+#[cfg(test)]
 mod runs;
 #[cfg(test)]
 mod served;

@@ -1,0 +1,74 @@
+//! Runs whose source or sink fails.
+
+use crate::machines::{example_machine, x};
+use byte_streams::fakes::{PieceSink, PieceSource};
+use hart_sim::{Machine, RunFault, run};
+use std::alloc::Global;
+use std::process::Abort;
+use std::test::Fail;
+
+fn fails(
+    machine: &mut Machine,
+    trace: &[u8],
+    read: Option<u64>,
+    write: Option<u64>,
+    report: &[u8],
+) -> Option<RunFault> {
+    let mut source = PieceSource::new(trace, 1, read);
+    let mut sink = PieceSink::new(1, write);
+    let end = run(machine, &mut source, &mut sink);
+    if sink.written() == report {
+        return end.err();
+    }
+    None
+}
+
+/// The same on a new machine.
+fn fails_anew(
+    alloc: Global,
+    trace: &[u8],
+    read: Option<u64>,
+    write: Option<u64>,
+    report: &[u8],
+) -> Result<Option<RunFault>, Fail> {
+    let mut machine = example_machine(alloc, 1)?;
+    Ok(fails(&mut machine, trace, read, write, report))
+}
+
+#[test]
+fn a_failing_device_ends_a_run_behind_what_it_took(rt: HostRuntime) -> Result<(), Fail> {
+    let none: Option<u64> = None;
+    let rows: [(&[u8], Option<u64>, Option<u64>, RunFault, &[u8]); 4] = [
+        (
+            b"irq\nirq\n",
+            none,
+            Some(14),
+            RunFault::Write,
+            b"1 irq 0 3\n2 i",
+        ),
+        (b"irq\nir", Some(7), none, RunFault::Read, b"1 irq 0 3\n"),
+        (b"irq", Some(4), none, RunFault::Read, b""),
+        (b"irq\nirq\n", none, Some(1), RunFault::Write, b""),
+    ];
+    for (trace, read, write, end, report) in rows {
+        let ended = fails_anew(rt.alloc(), trace, read, write, report)?;
+        assert_eq!(rt; ended, Some(end));
+    }
+    Ok(())
+}
+
+/// The sink fails in the second reply, and the second event has happened.
+fn is_cut_in_a_reply(rt: &impl Abort, machine: &mut Machine) {
+    let mut source = PieceSource::new(b"reg x5 7\nreg x5 8\nreg x5 9\n", 100, None);
+    let mut sink = PieceSink::new(1, Some(8));
+    assert_eq!(rt; run(machine, &mut source, &mut sink), Err(RunFault::Write));
+    assert_eq!(rt; sink.written(), b"1 ok\n2 ".as_slice());
+    assert_eq!(rt; x(machine, 0, 5), 8);
+}
+
+#[test]
+fn an_event_whose_reply_is_cut_has_happened(rt: HostRuntime) -> Result<(), Fail> {
+    let mut machine = example_machine(rt.alloc(), 1)?;
+    is_cut_in_a_reply(&rt, &mut machine);
+    Ok(())
+}

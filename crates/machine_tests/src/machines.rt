@@ -1,0 +1,101 @@
+//! Machines of the example platform, what runs on them answer, and what they hold.
+
+use byte_streams::fakes::{PieceSink, PieceSource};
+use enclave_table::{Platform, PlatformFault};
+use hart_sim::{Machine, RunFault, run};
+use pmp_encoding::{Bank, Perm};
+use std::alloc::Global;
+use std::test::Fail;
+
+/// The example platform.
+pub fn example_platform() -> Result<Platform, PlatformFault> {
+    Platform::new(
+        (0x8000_0000, 0x20_0000),
+        [(0x8000_0000, 0x800_0000)].as_slice(),
+        [(0x1000_0000, 0x1000, Perm::ReadWrite)].as_slice(),
+    )
+}
+
+/// The machine of the example platform, with that many harts.
+pub fn example_machine(alloc: Global, harts: u8) -> Result<Machine, Fail> {
+    let platform = example_platform()?.with_harts(harts)?;
+    let machine = Machine::boot(alloc, platform)?;
+    Ok(machine)
+}
+
+/// Whether a run of a trace ends so, and writes this report.
+pub fn ends(machine: &mut Machine, trace: &[u8], end: Result<(), RunFault>, report: &[u8]) -> bool {
+    let mut source = PieceSource::new(trace, 100, None);
+    let mut sink = PieceSink::new(100, None);
+    run(machine, &mut source, &mut sink) == end && sink.written() == report
+}
+
+/// Whether a trace, which is understood to its end, is answered by this report.
+pub fn answers(machine: &mut Machine, trace: &[u8], report: &[u8]) -> bool {
+    ends(machine, trace, Ok(()), report)
+}
+
+/// Whether a run of a trace on a new machine ends so, and writes this report.
+pub fn ends_anew(
+    alloc: Global,
+    harts: u8,
+    trace: &[u8],
+    end: Result<(), RunFault>,
+    report: &[u8],
+) -> Result<bool, Fail> {
+    let mut machine = example_machine(alloc, harts)?;
+    Ok(ends(&mut machine, trace, end, report))
+}
+
+/// Whether a trace on a new machine, which is understood to its end, is answered by this report.
+pub fn answers_anew(alloc: Global, trace: &[u8], report: &[u8]) -> Result<bool, Fail> {
+    ends_anew(alloc, 1, trace, Ok(()), report)
+}
+
+/// A register of a hart; 0 where there is none.
+pub fn x(machine: &Machine, hart: u8, n: usize) -> u64 {
+    if hart < 4 && n <= 31 {
+        return machine.registers(hart).get(n);
+    }
+    0
+}
+
+/// The program counter of a hart.
+pub fn pc(machine: &Machine, hart: u8) -> u64 {
+    if hart < 4 {
+        return machine.registers(hart).pc();
+    }
+    0
+}
+
+/// The words in a0 and a1 of the first hart, and its program counter.
+pub fn a0_a1_pc(machine: &Machine) -> [u64; 3] {
+    [x(machine, 0, 10), x(machine, 0, 11), pc(machine, 0)]
+}
+
+/// Whether the first and the second hart are marked.
+pub fn marks(machine: &Machine) -> (bool, bool) {
+    (machine.marked(0), machine.marked(1))
+}
+
+/// A word of an enclave's digest.
+pub fn word(machine: &Machine, id: u64, k: u64) -> u64 {
+    machine.table().word(id, k).unwrap_or(0)
+}
+
+/// The digest of an enclave, as four words.
+pub fn digest(machine: &Machine, id: u64) -> [u64; 4] {
+    [
+        word(machine, id, 0),
+        word(machine, id, 1),
+        word(machine, id, 2),
+        word(machine, id, 3),
+    ]
+}
+
+/// Puts a bank in place on the first hart.
+pub fn put(machine: &mut Machine, bank: Bank) {
+    if bank.limit().number() == machine.table().limit().number() {
+        machine.set_bank(0, bank);
+    }
+}
