@@ -13,6 +13,8 @@ mod lints;
 #[cfg(test)]
 mod listings;
 #[cfg(test)]
+mod maps;
+#[cfg(test)]
 mod platform_lints;
 #[cfg(test)]
 mod platforms;

@@ -51,6 +51,10 @@ fn keys_and_values_of_tables_are_named(rt: HostRuntime) -> Result<(), Fail> {
             "p: ram is no array of tables; write its name in double brackets\n",
         ),
         (
+            b"device = 1\nmonitor = { base = 0, size = 4096 }\nram = [{ base = 0, size = 4096 }]\n",
+            "p: device is no array of tables; write its name in double brackets\n",
+        ),
+        (
             b"monitor = { base = 0, size = 4096 }\nram = [{ base = 0, size = 4096 }, { base = 8192 }]\n",
             "p: ram 2: the key size is missing\n",
         ),

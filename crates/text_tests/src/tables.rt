@@ -41,8 +41,8 @@ all else                                       ---  no entry
 
 #[test]
 fn registers_that_mean_nothing(rt: HostRuntime) -> Result<(), Fail> {
-    let smepmp = "mseccfg 0x0000000000000003: no verdict, Smepmp is not modelled\n";
-    expect_table(&rt, rt.alloc(), "pmpcfg0 0xff\nmseccfg 3\n", false, smepmp);
+    let smepmp = "mseccfg 0x0000000000000001: no verdict, Smepmp is not modelled\n";
+    expect_table(&rt, rt.alloc(), "pmpcfg0 0xff\nmseccfg 1\n", false, smepmp);
     let reserved = "pair 1 0x1a 0x0000000000000005: W without R\n";
     expect_table(&rt, rt.alloc(), "1 0x1a 5\n2 0x60 0\n", false, reserved);
     let mut out = PieceSink::new(7, None);
