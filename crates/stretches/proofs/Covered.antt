@@ -1,8 +1,8 @@
--- The extents of a list one after another, as far as what they say of the bytes from one on stays the same.
-use Rattle.std.proofs.Common.{◌≡◌, ◌≢◌, ◌∙◌, ℕ, zero, suc, ◌+◌, ◌-◌, ◌^◌, ◌<◌, ◌≤◌, min, List, [], ◌∷◌, length, drop, get_or, Bool, true, false, Option, None, Some, ⊎_elim, nat_le, nat_lt, ◌&&◌, ap, sym, refl, arith, if◌then◌else◌}
-use Rattle.std.proofs.lemmas.Bool.{cases_lt}
+-- What extents say of the bytes from one on, as far as it stays the same.
+use Rattle.std.proofs.Common.{◌≡◌, ◌≢◌, ◌∙◌, ℕ, zero, suc, ◌+◌, ◌^◌, ◌<◌, ◌≤◌, List, [], ◌∷◌, All, length, get_or, Bool, true, false, Option, None, Some, ⊎_elim, nat_le, nat_lt, ◌&&◌, ap, sym, refl, arith, if◌then◌else◌}
+use Rattle.std.proofs.lemmas.Bool.{cases_Bool, cases_lt}
 use Rattle.std.proofs.lemmas.Bool.Decides.{nat_tests}
-use Rattle.std.proofs.lemmas.List.{drop_all, drop_more}
+use Rattle.std.proofs.lemmas.List.{get_or_past}
 use Rattle.std.proofs.lemmas.Option.{same_Some}
 use Rattle.pmp_encoding.specs.declared.perm.Perm.{Perm}
 use Rattle.pmp_encoding.specs.declared.perm.Perm.TheVariants.{NoAccess}
@@ -10,16 +10,13 @@ use Rattle.pmp_encoding.specs.declared.extent.Extent.{Extent}
 use Rattle.pmp_registers.specs.Bytes.{has_byte, perm_at}
 use Rattle.pmp_registers.specs.Decision.{IsWords}
 use Rattle.pmp_registers.specs.Tor.{nowhere}
-use Rattle.stretches.specs.Meetings.{IsNextMeeting, MissesAll, meets}
+use Rattle.stretches.specs.Meetings.{IsCut, IsNextMeeting, MissesAll, meets}
 use Rattle.stretches.specs.Stretches.{decider, decider_from}
 
 -- ---- a byte and an extent
 
 between : (first end byte : ℕ) → first ≤ byte → byte < end → (nat_le first byte && nat_lt byte end) ≡ true
 between first end byte low high = grind (arith, nat_tests)
-
-below : (first end byte : ℕ) → byte < first → (nat_le first byte && nat_lt byte end) ≡ false
-below first end byte low = grind (arith, nat_tests)
 
 behind : (first end byte : ℕ) → end ≤ byte → (nat_le first byte && nat_lt byte end) ≡ false
 behind first end byte high = grind (arith, nat_tests)
@@ -47,186 +44,170 @@ least : (n : ℕ) (extents : List Extent) (byte k : ℕ) → decider_from n exte
 least n [] byte k e = absurd cc
 least n (d ∷ extents) byte k e = least_step n k (has_byte d byte) (decider_from (n + 1) extents byte) (λ s. least (n + 1) extents byte k s) e
 
--- ---- the extents before one
-
--- the extents before number i have no byte from `at` to before `end`, and one of them decides the byte `end`
-pub record Passed (extents : List Extent) (i at end : ℕ) : Type 0 where
-  pub decided : (byte : ℕ) → at ≤ byte → byte < end → decider extents byte ≡ decider_from i (drop i extents) byte
-  pub given : (byte : ℕ) → at ≤ byte → byte < end → perm_at extents byte ≡ perm_at (drop i extents) byte
-  pub turned : end < 2 ^ 56 → (k : ℕ) × (k < i) × (decider extents end ≡ Some k)
-
-pub passed_none : (extents : List Extent) (at : ℕ) → Passed extents 0 at (2 ^ 56)
-passed_none extents at = record { decided = λ byte low high. refl; given = λ byte low high. refl; turned = λ small. absurd (omega arith) }
-
--- one more extent, none of whose bytes is among these
-more :
-    (extents : List Extent) (i at end to : ℕ) (e : Extent) → drop i extents ≡ e ∷ drop (i + 1) extents → to ≤ end
-    → ((byte : ℕ) → at ≤ byte → byte < to → has_byte e byte ≡ false)
-    → (to < 2 ^ 56 → (k : ℕ) × (k < i + 1) × (decider extents to ≡ Some k))
-    → Passed extents i at end → Passed extents (i + 1) at to
-more extents i at end to e split shorter lacks turned passed = record {
-  decided =
-      λ byte low high.
-      passed.decided byte low (omega arith) ∙ ap (λ es. decider_from i es byte) split ∙ left i e (drop (i + 1) extents) byte (lacks byte low high);
-  given =
-      λ byte low high.
-      passed.given byte low (omega arith) ∙ ap (λ es. perm_at es byte) split ∙ passed_on e (drop (i + 1) extents) byte (lacks byte low high);
-  turned = turned;
-}
-
--- an extent that begins after a byte has one
-pub long : (x : Extent) (at : ℕ) → IsWords x → at < x.base → x.base < x.end
-long x at words later = ⊎_elim (λ more. more) (λ none. absurd (omega (arith, none.0, later))) words.some
-
--- an extent that begins after `at`
-pub passed_later :
-    (extents : List Extent) (i at end to last : ℕ) (e : Extent) → drop i extents ≡ e ∷ drop (i + 1) extents → last ≡ e.end → e.base < last → at < e.base → to ≡ min end e.base
-    → Passed extents i at end → Passed extents (i + 1) at to
-passed_later extents i at end to last e split is some later shorter passed =
-    more extents i at end to e split (omega arith)
-    (λ byte low high. below e.base e.end byte (omega arith))
-    (λ small.
+-- an extent that decides a byte has it
+has_decider : (n : ℕ) (extents : List Extent) (k byte : ℕ) → decider_from n extents byte ≡ Some (n + k) → has_byte (get_or extents k nowhere) byte ≡ true
+has_decider n [] k byte e = absurd cc
+has_decider n (x ∷ extents) zero byte e =
     ⊎_elim
-    (λ begins.
-    let same : to ≡ e.base = omega arith in (
-      i,
-      omega arith,
-      ap (decider extents) same
-          ∙ passed.decided e.base (omega arith) begins
-          ∙ ap (λ es. decider_from i es e.base) split
-          ∙ taken i e (drop (i + 1) extents) e.base (between e.base e.end e.base (omega arith) (rw (sym is) some)),
-    ))
-    (λ over.
-    let same : to ≡ end = omega arith in
-    let before = passed.turned (omega arith) in
-    (before.0, omega (arith, before.1), ap (decider extents) same ∙ before.2))
-    (cases_lt e.base end))
-    passed
+    (λ has. has)
+    (λ lacks. absurd (omega (arith, least (n + 1) extents byte (n + 0) (sym (left n x extents byte lacks) ∙ e))))
+    (cases_Bool (has_byte x byte))
+has_decider n (x ∷ extents) (suc k) byte e =
+    ⊎_elim
+    (λ has. absurd (omega (arith, same_Some n (n + suc k) (sym (taken n x extents byte has) ∙ e))))
+    (λ lacks. has_decider (n + 1) extents k byte (sym (left n x extents byte lacks) ∙ e ∙ ap (λ j. Some j) (omega arith)))
+    (cases_Bool (has_byte x byte))
 
--- an extent that has ended
-pub passed_ended :
-    (extents : List Extent) (i at end last : ℕ) (e : Extent) → drop i extents ≡ e ∷ drop (i + 1) extents → last ≡ e.end → last ≤ at
-    → Passed extents i at end → Passed extents (i + 1) at end
-passed_ended extents i at end last e split is ended passed =
-    more extents i at end end e split (omega arith)
-    (λ byte low high. behind e.base e.end byte (rw (sym is) (omega (arith, ended, low))))
-    (λ small. let before = passed.turned small in (before.0, omega (arith, before.1), before.2))
-    passed
+nowhere_lacks : (byte : ℕ) → has_byte nowhere byte ≡ false
+nowhere_lacks byte = grind (arith, nat_tests)
+
+-- a byte that an extent has and none before it
+decided_by :
+    (n : ℕ) (extents : List Extent) (i byte : ℕ) → has_byte (get_or extents i nowhere) byte ≡ true → ((k : ℕ) → k < i → has_byte (get_or extents k nowhere) byte ≡ false)
+    → (decider_from n extents byte ≡ Some (n + i)) × (perm_at extents byte ≡ (get_or extents i nowhere).perm)
+decided_by n [] i byte has before = absurd (let e : true ≡ false = sym has ∙ nowhere_lacks byte in cc)
+decided_by n (x ∷ extents) zero byte has before = (taken n x extents byte has ∙ ap (λ j. Some j) (omega arith), given x extents byte has)
+decided_by n (x ∷ extents) (suc i) byte has before =
+    let first : has_byte x byte ≡ false = before 0 (omega arith) in
+    let rest = decided_by (n + 1) extents i byte has (λ k low. before (suc k) (omega (arith, low))) in
+    (left n x extents byte first ∙ rest.0 ∙ ap (λ j. Some j) (omega arith), passed_on x extents byte first ∙ rest.1)
+
+-- a byte that no extent has
+undecided :
+    (n : ℕ) (extents : List Extent) (byte : ℕ) → ((k : ℕ) → k < length extents → has_byte (get_or extents k nowhere) byte ≡ false)
+    → (decider_from n extents byte ≡ None) × (perm_at extents byte ≡ NoAccess)
+undecided n [] byte lacks = (refl, refl)
+undecided n (x ∷ extents) byte lacks =
+    let first : has_byte x byte ≡ false = lacks 0 (omega arith) in
+    let rest = undecided (n + 1) extents byte (λ k low. lacks (suc k) (omega (arith, low))) in
+    (left n x extents byte first ∙ rest.0, passed_on x extents byte first ∙ rest.1)
+
+-- a byte that an extent has: it decides, or one before it
+decided_up_to : (n : ℕ) (extents : List Extent) (k byte : ℕ) → has_byte (get_or extents k nowhere) byte ≡ true → (j : ℕ) × (j ≤ k) × (decider_from n extents byte ≡ Some (n + j))
+decided_up_to n [] k byte has = absurd (let e : true ≡ false = sym has ∙ nowhere_lacks byte in cc)
+decided_up_to n (x ∷ extents) zero byte has = (0, omega arith, taken n x extents byte has ∙ ap (λ j. Some j) (omega arith))
+decided_up_to n (x ∷ extents) (suc k) byte has =
+    ⊎_elim
+    (λ first. (0, omega arith, taken n x extents byte first ∙ ap (λ j. Some j) (omega arith)))
+    (λ lacks.
+    let rest = decided_up_to (n + 1) extents k byte has in
+    (suc (rest.0), omega (arith, rest.1), left n x extents byte lacks ∙ rest.2 ∙ ap (λ j. Some j) (omega arith)))
+    (cases_Bool (has_byte x byte))
+
+-- ---- an extent and a piece
 
 -- an extent that does not meet the bytes has none of them
 none_of : (x : Extent) (at end byte : ℕ) → meets x at end ≡ false → at ≤ byte → byte < end → has_byte x byte ≡ false
 none_of x at end byte h low high = grind (arith, nat_tests)
 
--- one extent more, that does not meet the bytes
-passed_one :
-    (extents : List Extent) (i at end : ℕ) (e : Extent) → drop i extents ≡ e ∷ drop (i + 1) extents → meets e at end ≡ false
-    → Passed extents i at end → Passed extents (i + 1) at end
-passed_one extents i at end e split misses passed =
-    more extents i at end end e split (omega arith)
-    (λ byte low high. none_of e at end byte misses low high)
-    (λ small. let before = passed.turned small in (before.0, omega (arith, before.1), before.2))
-    passed
+-- one that does not have the byte `at`, and meets the piece from there on, begins later
+begins_later : (x : Extent) (at end : ℕ) → meets x at (at + 1) ≡ false → meets x at end ≡ true → at < x.base
+begins_later x at end misses met = grind (arith, nat_tests)
 
-passed_by :
-    (extents : List Extent) (i n at end : ℕ) → i + n ≤ length extents → MissesAll extents i (i + n) at end → Passed extents i at end → Passed extents (i + n) at end
-passed_by extents i zero at end inside misses passed = let same : i + 0 ≡ i = omega arith in rw same passed
-passed_by extents i (suc n) at end inside misses passed =
-    let next : i + 1 + n ≡ i + suc n = omega arith in
-    let first : Passed extents (i + 1) at end =
-    passed_one extents i at end (get_or extents i nowhere) (drop_more extents i nowhere (omega (arith, inside))) (misses i (omega arith) (omega arith)) passed in
-    let rest : Passed extents (i + 1 + n) at end =
-    passed_by extents (i + 1) n at end (omega (arith, inside)) (λ k low high. misses k (omega (arith, low)) (omega (arith, high))) first in
-    rw (sym next) rest
+begins_before : (x : Extent) (at : ℕ) → meets x at (at + 1) ≡ true → x.base ≤ at
+begins_before x at met = grind (arith, nat_tests)
 
--- all extents up to one that does meet them
-pub passed_to :
-    (extents : List Extent) (i j at end : ℕ) → i ≤ j → j ≤ length extents → MissesAll extents i j at end → Passed extents i at end → Passed extents j at end
-passed_to extents i j at end low inside misses passed =
-    let same : i + (j - i) ≡ j = omega (arith, low) in
-    let to : Passed extents (i + (j - i)) at end =
-    passed_by extents i (j - i) at end (omega (arith, low, inside)) (λ k begun high. misses k begun (omega (arith, low, high))) passed in
-    rw (sym same) to
+ends_after : (x : Extent) (at end : ℕ) → meets x at end ≡ true → at < x.end
+ends_after x at end met = grind (arith, nat_tests)
 
--- what the extents say from `at` to before `to`
+-- one that ends after some byte has its first
+has_first : (x : Extent) (at : ℕ) → IsWords x → at < x.end → has_byte x x.base ≡ true
+has_first x at words later =
+    ⊎_elim
+    (λ some. between x.base x.end x.base (omega arith) some)
+    (λ none. absurd (omega (arith, none.1, later)))
+    words.some
+
+-- ---- where an extent begins before number `bound`
+
+-- none has a byte before the cut
+lacks_before : (extents : List Extent) (bound at end cut k byte : ℕ) → IsCut extents bound at end cut → k < bound → at ≤ byte → byte < cut → has_byte (get_or extents k nowhere) byte ≡ false
+lacks_before extents bound at end cut k byte is below low high = none_of (get_or extents k nowhere) at cut byte (is.missed k (omega arith) below) low high
+
+-- the cut lies after `at`
+cut_later : (extents : List Extent) (bound at end cut : ℕ) → MissesAll extents 0 bound at (at + 1) → at < end → IsCut extents bound at end cut → at < cut
+cut_later extents bound at end cut misses some is =
+    ⊎_elim
+    (λ nearer.
+    let begun = is.begun nearer in
+    omega (arith, begins_later (get_or extents begun.0 nowhere) at end (misses begun.0 (omega arith) begun.1) begun.2, begun.3))
+    (λ there. omega (arith, some, there))
+    (cases_lt cut end)
+
+words_at : (extents : List Extent) (k at end : ℕ) → All IsWords extents → meets (get_or extents k nowhere) at end ≡ true → IsWords (get_or extents k nowhere)
+words_at extents k at end words met =
+    ⊎_elim
+    (λ inside. words k nowhere inside)
+    (λ outside. absurd (omega (arith, ends_after (get_or extents k nowhere) at end met, ap (λ x. x.end) (get_or_past extents k nowhere outside))))
+    (cases_lt k (length extents))
+
+-- the byte at a cut before the end is decided by an extent before number `bound`
+cut_turns :
+    (extents : List Extent) (bound at end cut : ℕ) → All IsWords extents → IsCut extents bound at end cut → cut < end
+    → (j : ℕ) × (j < bound) × (decider extents cut ≡ Some (0 + j))
+cut_turns extents bound at end cut words is nearer =
+    let begun = is.begun nearer in
+    let x : Extent = get_or extents begun.0 nowhere in
+    let has : has_byte x cut ≡ true = ap (has_byte x) (sym begun.3) ∙ has_first x at (words_at extents begun.0 at end words begun.2) (ends_after x at end begun.2) in
+    let first = decided_up_to 0 extents begun.0 cut has in
+    (first.0, omega (arith, first.1, begun.1), first.2)
+
+-- ---- what the extents say from `at` to before `to`
+
 pub record Says (extents : List Extent) (at to : ℕ) (entry : Option ℕ) (perm : Perm) : Type 0 where
+  pub some : at < to
+  pub inside : to ≤ 2 ^ 56
   pub decided : (byte : ℕ) → at ≤ byte → byte < to → decider extents byte ≡ entry
   pub given : (byte : ℕ) → at ≤ byte → byte < to → perm_at extents byte ≡ perm
   pub changes : to < 2 ^ 56 → decider extents to ≢ entry
 
--- an extent that has the byte `at`
+-- an extent is the first that has the byte `at`
 pub says_first :
-    (extents : List Extent) (i at end to last : ℕ) (e : Extent) → drop i extents ≡ e ∷ drop (i + 1) extents → last ≡ e.end → e.base ≤ at → at < last → to ≡ min end last
-    → Passed extents i at end → Says extents at to (Some i) e.perm
-says_first extents i at end to last e split is low_end high_end shorter passed =
-    let has : (byte : ℕ) → at ≤ byte → byte < to → has_byte e byte ≡ true =
-    λ byte low high. between e.base e.end byte (omega arith) (rw (sym is) (omega arith)) in
+    (extents : List Extent) (i at cut : ℕ) (x : Extent) → x ≡ get_or extents i nowhere → All IsWords extents
+    → IsNextMeeting extents 0 at (at + 1) i → IsCut extents i at x.end cut → Says extents at cut (Some i) x.perm
+says_first extents i at cut x is words next cuts =
+    let met : meets x at (at + 1) ≡ true = ap (λ y. meets y at (at + 1)) is ∙ next.met in
+    let low : x.base ≤ at = begins_before x at met in
+    let later : at < x.end = ends_after x at (at + 1) met in
+    let some : at < cut = cut_later extents i at x.end cut next.before later cuts in
+    let whole : IsWords x = rw is (words i nowhere next.inside) in
+    let has : (byte : ℕ) → at ≤ byte → byte < cut → has_byte (get_or extents i nowhere) byte ≡ true =
+    λ byte begun ends. ap (λ y. has_byte y byte) (sym is) ∙ between x.base x.end byte (omega (arith, low, begun)) (omega (arith, ends, cuts.most)) in
+    let says : (byte : ℕ) → at ≤ byte → byte < cut → (decider extents byte ≡ Some (0 + i)) × (perm_at extents byte ≡ (get_or extents i nowhere).perm) =
+    λ byte begun ends. decided_by 0 extents i byte (has byte begun ends) (λ k before. lacks_before extents i at x.end cut k byte cuts before begun ends) in
     record {
-      decided =
-          λ byte low high.
-          passed.decided byte low (omega arith) ∙ ap (λ es. decider_from i es byte) split ∙ taken i e (drop (i + 1) extents) byte (has byte low high);
-      given =
-          λ byte low high.
-          passed.given byte low (omega arith) ∙ ap (λ es. perm_at es byte) split ∙ given e (drop (i + 1) extents) byte (has byte low high);
+      some = some;
+      inside = omega (arith, cuts.most, whole.inside);
+      decided = λ byte begun ends. (says byte begun ends).0 ∙ ap (λ j. Some j) (omega arith);
+      given = λ byte begun ends. (says byte begun ends).1 ∙ ap (λ y. y.perm) (sym is);
       changes =
           λ small same.
           ⊎_elim
-          (λ ends.
-          let there : to ≡ last = omega arith in
-          let rest : decider_from (i + 1) (drop (i + 1) extents) last ≡ Some i =
-          sym (left i e (drop (i + 1) extents) last (behind e.base e.end last (omega (arith, is))))
-          ∙ sym (ap (λ es. decider_from i es last) split)
-          ∙ sym (passed.decided last (omega arith) ends)
-          ∙ sym (ap (decider extents) there)
-          ∙ same in
-          absurd (omega (arith, least (i + 1) (drop (i + 1) extents) last i rest)))
-          (λ over.
-          let there : to ≡ end = omega arith in
-          let before = passed.turned (omega arith) in
-          absurd (omega (arith, before.1, same_Some _ _ (sym before.2 ∙ sym (ap (decider extents) there) ∙ same))))
-          (cases_lt last end);
+          (λ nearer.
+          let turns = cut_turns extents i at x.end cut words cuts nearer in
+          absurd (omega (arith, turns.1, same_Some (0 + turns.0) i (sym turns.2 ∙ same))))
+          (λ there.
+          let ends : cut ≡ x.end = omega (arith, there, cuts.most) in
+          let decided : has_byte (get_or extents i nowhere) cut ≡ true = has_decider 0 extents i cut (same ∙ ap (λ j. Some j) (omega arith)) in
+          let lacks : has_byte x cut ≡ false = behind x.base x.end cut (omega (arith, ends)) in
+          absurd (let e : true ≡ false = sym decided ∙ ap (λ y. has_byte y cut) (sym is) ∙ lacks in cc))
+          (cases_lt cut x.end);
     }
 
--- where no extent is left
-pub says_none : (extents : List Extent) (i at end : ℕ) → length extents ≤ i → Passed extents i at end → Says extents at end None NoAccess
-says_none extents i at end all passed =
-    let none : drop i extents ≡ [] = drop_all i extents all in
+-- no extent has the byte `at`
+pub says_none :
+    (extents : List Extent) (at cut : ℕ) → at < 2 ^ 56 → All IsWords extents → MissesAll extents 0 (length extents) at (at + 1) → IsCut extents (length extents) at (2 ^ 56) cut
+    → Says extents at cut None NoAccess
+says_none extents at cut small words misses cuts =
+    let says : (byte : ℕ) → at ≤ byte → byte < cut → (decider extents byte ≡ None) × (perm_at extents byte ≡ NoAccess) =
+    λ byte begun ends. undecided 0 extents byte (λ k before. lacks_before extents (length extents) at (2 ^ 56) cut k byte cuts before begun ends) in
     record {
-      decided = λ byte low high. passed.decided byte low high ∙ ap (λ es. decider_from i es byte) none;
-      given = λ byte low high. passed.given byte low high ∙ ap (λ es. perm_at es byte) none;
-      changes = λ small same. let before = passed.turned small in absurd (let e = sym before.2 ∙ same in cc);
+      some = cut_later extents (length extents) at (2 ^ 56) cut misses small cuts;
+      inside = cuts.most;
+      decided = λ byte begun ends. (says byte begun ends).0;
+      given = λ byte begun ends. (says byte begun ends).1;
+      changes =
+          λ nearer same.
+          let turns = cut_turns extents (length extents) at (2 ^ 56) cut words cuts nearer in
+          absurd (let e = sym turns.2 ∙ same in cc);
     }
-
--- ---- the next extent that meets the bytes from `at` to before `end`
-
-meets_begins : (x : Extent) (at end : ℕ) → meets x at end ≡ true → x.base < end
-meets_begins x at end h = grind (arith, nat_tests)
-
-meets_ends : (x : Extent) (at end : ℕ) → meets x at end ≡ true → at < x.end
-meets_ends x at end h = grind (arith, nat_tests)
-
--- it has the byte `at`
-pub says_met :
-    (extents : List Extent) (from i at end to : ℕ) (e : Extent) → e ≡ get_or extents i nowhere → IsNextMeeting extents from at end i → e.base ≤ at → to ≡ min end e.end
-    → Passed extents from at end → Says extents at to (Some i) e.perm
-says_met extents from i at end to e is next low shorter passed =
-    says_first extents i at end to e.end e (rw is (drop_more extents i nowhere next.inside)) refl low
-    (meets_ends e at end (rw is next.met)) shorter
-    (passed_to extents from i at end next.later (omega (arith, next.inside)) next.before passed)
-
--- it begins after the byte `at`
-pub passed_met :
-    (extents : List Extent) (from i at end : ℕ) (e : Extent) → e ≡ get_or extents i nowhere → IsNextMeeting extents from at end i → IsWords e → at < e.base
-    → Passed extents from at end → (e.base < end) × Passed extents (i + 1) at e.base
-passed_met extents from i at end e is next words later passed =
-    let begins : e.base < end = meets_begins e at end (rw is next.met) in (
-      begins,
-      passed_later extents i at end e.base e.end e (rw is (drop_more extents i nowhere next.inside)) refl (long e at words later) later (omega (arith, begins))
-          (passed_to extents from i at end next.later (omega (arith, next.inside)) next.before passed),
-    )
-
--- there is none
-pub says_rest :
-    (extents : List Extent) (from at end : ℕ) → from ≤ length extents → MissesAll extents from (length extents) at end
-    → Passed extents from at end → Says extents at end None NoAccess
-says_rest extents from at end within misses passed =
-    says_none extents (length extents) at end (omega arith) (passed_to extents from (length extents) at end within (omega arith) misses passed)

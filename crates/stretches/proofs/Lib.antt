@@ -1,3 +1,4 @@
 pub mod Covered
 pub mod Joined
+pub mod Leaves
 pub mod Nested

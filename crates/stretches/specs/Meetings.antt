@@ -17,3 +17,10 @@ pub record IsNextMeeting (extents : List Extent) (from first end number : ℕ) :
   pub inside : number < length extents
   pub met : meets (get_or extents number nowhere) first end ≡ true
   pub before : MissesAll extents from number first end
+
+-- no extent before number `bound` meets the piece up to the cut; where the cut is before `end`, one that meets the piece
+-- up to `end` begins there
+pub record IsCut (extents : List Extent) (bound first end cut : ℕ) : Type 0 where
+  pub most : cut ≤ end
+  pub missed : MissesAll extents 0 bound first cut
+  pub begun : cut < end → (k : ℕ) × (k < bound) × (meets (get_or extents k nowhere) first end ≡ true) × ((get_or extents k nowhere).base ≡ cut)

@@ -16,7 +16,8 @@ pub(crate) struct Covering {
     pub(crate) given: Perm,
 }
 
-/// What the extents say from the byte on, as far as it stays the same.
+/// What the extents say from the byte on, as far as it stays the same: to the end of the first extent that has the byte,
+/// or to where one before it begins.
 pub(crate) fn covering_from(extents: &ExtentTree, at: u64) -> Covering
     requires at { at < 2 ^ 56 }
     requires words { All IsWords extents.now }
@@ -28,24 +29,19 @@ pub(crate) fn covering_from(extents: &ExtentTree, at: u64) -> Covering
         → perm_at extents.now byte ≡ result.given }
     ensures changes { result.end < 2 ^ 56 → decider extents.now result.end ≢ result.entry }
 {
-    let mut end = SPACE_SIZE;
-    let mut from = 0;
-    while let Some(i) = extents.next_meeting(from, at, end) {
-        let extent = extents.extents()[i];
-        let last = extent.end;
-        if extent.base <= at {
-            return Covering {
-                end: end.min(last),
-                entry: Some(i),
-                given: extent.perm,
-            };
-        }
-        end = extent.base;
-        from = i + 1;
-    }
+    let Some(i) = extents.next_meeting(0, at, at + 1) else {
+        let end = extents.next_cut(extents.extents().len(), at, SPACE_SIZE);
+        return Covering {
+            end,
+            entry: None,
+            given: Perm::NoAccess,
+        };
+    };
+    let extent = extents.extents()[i];
+    let end = extents.next_cut(i, at, extent.end);
     Covering {
         end,
-        entry: None,
-        given: Perm::NoAccess,
+        entry: Some(i),
+        given: extent.perm,
     }
 }

@@ -15,6 +15,7 @@
 
 mod covering;
 mod extent_tree;
+mod hull_tree;
 mod standing;
 mod stretch;
 

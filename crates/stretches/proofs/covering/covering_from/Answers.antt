@@ -1,39 +1,40 @@
--- The first extent that has the byte decides; one before it ends the stretch where it begins.
-use Rattle.std.proofs.Common.{ap, arith, get_or}
-use Rattle.pmp_registers.specs.Decision.{IsWords}
+-- The first extent that has the byte decides up to its end, or to where one before it begins.
+use Rattle.std.proofs.Common.{Option, None, Some, ap, get_or, length}
+use Rattle.pmp_encoding.specs.declared.perm.Perm.TheVariants.{NoAccess}
 use Rattle.pmp_registers.specs.Tor.{nowhere}
-use Rattle.stretches.proofs.Covered.{passed_met, says_met, says_rest}
+use Rattle.stretches.specs.Meetings.{IsCut}
+use Rattle.stretches.proofs.Covered.{Says, says_first, says_none}
 use Rattle.stretches.proofs.covering.covering_from.Goals as goal
 
-pub returns-then-extent-at-clause-decided : goal.returns-then-extent-at-clause-decided
-returns-then-extent-at-clause-decided c =
-    let e = get_or c.extents.result.now c.in-Some.i nowhere in
-    (says_met c.args.extents.now c.loop-i.from c.in-Some.i c.args.at c.loop-i.end c.min.result e (ap (λ xs. get_or xs c.in-Some.i nowhere) c.extents.ensures) c.in-Some.ensures c.if-extent-at.true c.min.ensures c.loop-i.invariant.passed).decided
+nothing : (c : goal.After-next_cut-end) → Says c.args.extents.now c.args.at c.next_cut-end.result None NoAccess
+nothing c = says_none c.args.extents.now c.args.at c.next_cut-end.result c.requires.at c.requires.words c.in_default.ensures (rw c.extents.ensures at c.next_cut-end.ensures)
 
-pub returns-then-extent-at-clause-given : goal.returns-then-extent-at-clause-given
-returns-then-extent-at-clause-given c =
-    let e = get_or c.extents.result.now c.in-Some.i nowhere in
-    (says_met c.args.extents.now c.loop-i.from c.in-Some.i c.args.at c.loop-i.end c.min.result e (ap (λ xs. get_or xs c.in-Some.i nowhere) c.extents.ensures) c.in-Some.ensures c.if-extent-at.true c.min.ensures c.loop-i.invariant.passed).given
+first : (c : goal.After-next_cut-end-2) → Says c.args.extents.now c.args.at c.next_cut-end-2.result (Some c.in-Some.i) (get_or c.extents-2.result.now c.in-Some.i nowhere).perm
+first c = says_first c.args.extents.now c.in-Some.i c.args.at c.next_cut-end-2.result (get_or c.extents-2.result.now c.in-Some.i nowhere) (ap (λ xs. get_or xs c.in-Some.i nowhere) c.extents-2.ensures) c.requires.words c.in-Some.ensures c.next_cut-end-2.ensures
 
-pub returns-then-extent-at-clause-changes : goal.returns-then-extent-at-clause-changes
-returns-then-extent-at-clause-changes c =
-    let e = get_or c.extents.result.now c.in-Some.i nowhere in
-    (says_met c.args.extents.now c.loop-i.from c.in-Some.i c.args.at c.loop-i.end c.min.result e (ap (λ xs. get_or xs c.in-Some.i nowhere) c.extents.ensures) c.in-Some.ensures c.if-extent-at.true c.min.ensures c.loop-i.invariant.passed).changes
+pub returns-in_default-clause-some : goal.returns-in_default-clause-some
+returns-in_default-clause-some c = (nothing c).some
 
-pub loop-i-preserved : goal.loop-i-preserved
-loop-i-preserved c =
-    let e = get_or c.extents.result.now c.in-Some.i nowhere in
-    let words : IsWords e = rw c.extents.ensures (c.requires.words c.in-Some.i nowhere c.in-Some.ensures.inside) in
-    let passed = passed_met c.args.extents.now c.loop-i.from c.in-Some.i c.args.at c.loop-i.end e (ap (λ xs. get_or xs c.in-Some.i nowhere) c.extents.ensures) c.in-Some.ensures words c.if-extent-at.false c.loop-i.invariant.passed in
-    record {
-      some = c.if-extent-at.false;
-      inside = omega (arith, passed.0, c.loop-i.invariant.inside);
-      within = omega (arith, c.in-Some.ensures.inside);
-      passed = passed.1;
-    }
+pub returns-in_default-clause-decided : goal.returns-in_default-clause-decided
+returns-in_default-clause-decided c = (nothing c).decided
+
+pub returns-in_default-clause-given : goal.returns-in_default-clause-given
+returns-in_default-clause-given c = (nothing c).given
+
+pub returns-in_default-clause-changes : goal.returns-in_default-clause-changes
+returns-in_default-clause-changes c = (nothing c).changes
+
+pub returns-clause-some : goal.returns-clause-some
+returns-clause-some c = (first c).some
+
+pub returns-clause-inside : goal.returns-clause-inside
+returns-clause-inside c = (first c).inside
 
 pub returns-clause-decided : goal.returns-clause-decided
-returns-clause-decided c = (says_rest c.args.extents.now c.loop-i.from c.args.at c.loop-i.end c.loop-i.invariant.within c.in_default.ensures c.loop-i.invariant.passed).decided
+returns-clause-decided c = (first c).decided
 
 pub returns-clause-given : goal.returns-clause-given
-returns-clause-given c = (says_rest c.args.extents.now c.loop-i.from c.args.at c.loop-i.end c.loop-i.invariant.within c.in_default.ensures c.loop-i.invariant.passed).given
+returns-clause-given c = (first c).given
+
+pub returns-clause-changes : goal.returns-clause-changes
+returns-clause-changes c = (first c).changes

@@ -1,55 +1,62 @@
--- A node that misses the piece is left behind with all that lies below it.
-use Rattle.std.proofs.Common.{◌≡◌, ◌∙◌, ◌+◌, ◌*◌, ◌/◌, ◌%◌, ◌^◌, ◌<◌, true, ap, sym, arith}
-use Rattle.stretches.specs.Hulls.{misses_hull, node_at}
-use Rattle.stretches.proofs.Nested.{all_missed, beyond, level, lower, near, wide}
+-- A leaf that is found has a lower number than the best, and is the best where its number is sought.
+use Rattle.std.proofs.Common.{ℕ, ◌+◌, ap, get_or, length, arith}
+use Rattle.std.specs.List.Sorted.{IsPermutation}
+use Rattle.stretches.specs.Hulls.{IsNextLeaf, no_hull, numbered}
+use Rattle.stretches.proofs.Leaves.{IsMet, met_leaf, missed_all, past_number, past_to}
 use Rattle.stretches.proofs.extent_tree.ExtentTree.next_meeting.Goals as goal
 
-pub overflow_shr-number : goal.overflow_shr-number
-overflow_shr-number c = level c.loop-leaf.height c.loop-leaf.leaf c.loop-leaf.invariant.some (omega (arith, c.loop-leaf.auto.leaf-fits))
-
-pub overflow_shl-leaf : goal.overflow_shl-leaf
-overflow_shl-leaf c = level c.loop-leaf.height c.loop-leaf.leaf c.loop-leaf.invariant.some (omega (arith, c.loop-leaf.auto.leaf-fits))
-
-pub overflow_add-height : goal.overflow_add-height
-overflow_add-height c =
-    let small : c.loop-leaf.height < 64 = level c.loop-leaf.height c.loop-leaf.leaf c.loop-leaf.invariant.some (omega (arith, c.loop-leaf.auto.leaf-fits)) in
-    omega (arith, small)
-
-pub loop-leaf-preserved-then-number-gt1 : goal.loop-leaf-preserved-then-number-gt1
-loop-leaf-preserved-then-number-gt1 c =
-    let leaf = c.loop-leaf.leaf in
-    let height = c.loop-leaf.height in
+pub loop-found-preserved-then-from-number : goal.loop-found-preserved-then-from-number
+loop-found-preserved-then-from-number c =
     let extents = c.args.self.now in
-    let hulls = c.self.inside.hulls.items in
-    let next = (leaf / 2 ^ height + 1) * 2 ^ height in
-    let whole : next % 18446744073709551616 ≡ next = omega (arith, near leaf height c.loop-leaf.invariant.some, c.loop-leaf-test.true, c.self.inside.extents.small) in
-    let missed : misses_hull (node_at hulls extents (leaf / 2 ^ height)) c.args.first c.args.end ≡ true =
-    ap (λ h. misses_hull h c.args.first c.args.end) (sym (rw (c.as_slice.ensures.value, c.as_slice-in-loop-leaf.ensures.value, c.self.view_is) at c.node-hull.ensures)) ∙ sym c.misses.ensures ∙ c.if-misses.true in
-    let nested = rw (c.self.view_is) at c.self.invariant.nested in
-    rw whole
+    let leaves = c.self.inside.tree in
+    let found = c.in-Some.found in
+    let place = c.loop-found.place in
+    let best = c.loop-found.best in
+    let h = get_or leaves found no_hull in
+    let same : IsPermutation (numbered 0 extents) leaves = rw c.self.view_is at c.self.invariant in
+    let next : IsNextLeaf leaves place best c.args.first c.args.end found = c.in-Some.ensures in
+    let is : IsMet extents h best c.args.first c.args.end c.args.end = met_leaf extents leaves place found best c.args.first c.args.end c.args.end same (omega arith) next in
+    let sought = rw c.leaves.ensures at c.if-from-number.true in
+    rw c.leaves.ensures
     (record {
-      begun = omega (arith, c.loop-leaf.invariant.begun, beyond leaf height);
-      some = wide leaf height c.if-number-gt1.true;
-      missed = all_missed hulls extents c.args.from leaf height c.args.first c.args.end nested c.loop-leaf.invariant.begun c.loop-leaf.invariant.some missed c.loop-leaf.invariant.missed;
+      within = omega (arith, next.inside);
+      most = omega (arith, is.inside);
+      met = λ inside. (sought, is.met);
+      past =
+          past_to leaves c.args.from place found best h.number c.args.first c.args.end c.args.end (omega (arith, is.number)) (omega arith) c.loop-found.invariant.past next.before
+              (λ low. past_number h h.number c.args.first c.args.end (omega arith));
     })
 
-pub loop-leaf-preserved-else-number-gt1 : goal.loop-leaf-preserved-else-number-gt1
-loop-leaf-preserved-else-number-gt1 c =
-    let leaf = c.loop-leaf.leaf in
-    let height = c.loop-leaf.height in
-    let extents = c.args.self.now in
-    let hulls = c.self.inside.hulls.items in
-    let next = (leaf / 2 ^ height + 1) * 2 ^ height in
-    let whole : next % 18446744073709551616 ≡ next = omega (arith, near leaf height c.loop-leaf.invariant.some, c.loop-leaf-test.true, c.self.inside.extents.small) in
-    let missed : misses_hull (node_at hulls extents (leaf / 2 ^ height)) c.args.first c.args.end ≡ true =
-    ap (λ h. misses_hull h c.args.first c.args.end) (sym (rw (c.as_slice.ensures.value, c.as_slice-in-loop-leaf.ensures.value, c.self.view_is) at c.node-hull.ensures)) ∙ sym c.misses.ensures ∙ c.if-misses.true in
-    let nested = rw (c.self.view_is) at c.self.invariant.nested in
-    rw whole
-    (record {
-      begun = omega (arith, c.loop-leaf.invariant.begun, beyond leaf height);
-      some = omega (arith, c.loop-leaf.invariant.some, beyond leaf height);
-      missed = all_missed hulls extents c.args.from leaf height c.args.first c.args.end nested c.loop-leaf.invariant.begun c.loop-leaf.invariant.some missed c.loop-leaf.invariant.missed;
-    })
+pub loop-found-preserved : goal.loop-found-preserved
+loop-found-preserved c =
+    let leaves = c.self.inside.tree in
+    let found = c.in-Some.found in
+    let place = c.loop-found.place in
+    let best = c.loop-found.best in
+    let next : IsNextLeaf leaves place best c.args.first c.args.end found = c.in-Some.ensures in
+    let early = rw c.leaves.ensures at c.if-from-number.false in
+    record {
+      within = omega (arith, next.inside);
+      most = c.loop-found.invariant.most;
+      met = c.loop-found.invariant.met;
+      past =
+          past_to leaves c.args.from place found best best c.args.first c.args.end c.args.end (omega arith) (omega arith) c.loop-found.invariant.past next.before
+              (λ low. absurd (omega (arith, low, early)));
+    }
 
-pub loop-leaf-preserved : goal.loop-leaf-preserved
-loop-leaf-preserved c = record { begun = c.loop-leaf.invariant.begun; some = lower c.loop-leaf.height c.loop-leaf.leaf c.loop-leaf.invariant.some; missed = c.loop-leaf.invariant.missed }
+pub returns-then-best-count : goal.returns-then-best-count
+returns-then-best-count c =
+    let met = c.loop-found.invariant.met (omega (arith, c.if-best-count.true, c.len-count.ensures, ap (λ xs. length xs) c.self.view_is)) in
+    record {
+      later = met.0;
+      inside = omega (arith, c.if-best-count.true, c.len-count.ensures, ap (λ xs. length xs) c.self.view_is);
+      met = met.1;
+      before =
+          missed_all c.args.self.now c.self.inside.tree c.args.from c.loop-found.place c.loop-found.best c.args.first c.args.end (rw c.self.view_is at c.self.invariant)
+              c.loop-found.invariant.past c.in_default.ensures;
+    }
+
+pub returns : goal.returns
+returns c = λ k low high.
+    missed_all c.args.self.now c.self.inside.tree c.args.from c.loop-found.place c.loop-found.best c.args.first c.args.end (rw c.self.view_is at c.self.invariant)
+    c.loop-found.invariant.past c.in_default.ensures k low (omega (arith, high, c.if-best-count.false, c.len-count.ensures, ap (λ xs. length xs) c.self.view_is))

@@ -1,14 +1,17 @@
--- No extent before the leaf meets the piece.
-use Rattle.std.proofs.Common.{◌≤◌, ◌+◌, ◌*◌, ◌-◌, ◌^◌, length}
-use Rattle.stretches.specs.Meetings.{MissesAll}
+-- The extents of the leaves so far are before `from`, or past the best of them.
+use Rattle.std.proofs.Common.{◌≡◌, ◌<◌, ◌≤◌, ◌-◌, get_or, length, true}
+use Rattle.pmp_registers.specs.Tor.{nowhere}
+use Rattle.stretches.specs.Meetings.{meets}
+use Rattle.stretches.proofs.Leaves.{ArePast}
 use Rattle.stretches.proofs.extent_tree.ExtentTree.next_meeting.Given as goal
 
-abbrev pub invariant-loop-leaf : goal.invariant-loop-leaf
-invariant-loop-leaf l = record {
-  begun : length l.self + l.from ≤ l.leaf;
-  some : 2 ^ l.height ≤ l.leaf;
-  missed : MissesAll l.self l.from (l.leaf - length l.self) l.first l.end;
+abbrev pub invariant-loop-found : goal.invariant-loop-found
+invariant-loop-found l = record {
+  within : l.place ≤ length l.self-inside.tree;
+  most : l.best ≤ length l.self;
+  met : l.best < length l.self → (l.from ≤ l.best) × (meets (get_or l.self l.best nowhere) l.first l.end ≡ true);
+  past : ArePast l.self-inside.tree l.from l.place l.best l.first l.end;
 }
 
-abbrev pub decreases-loop-leaf : goal.decreases-loop-leaf
-decreases-loop-leaf l = 2 * (2 * length l.self - l.leaf) + l.height
+abbrev pub decreases-loop-found : goal.decreases-loop-found
+decreases-loop-found l = length l.self-inside.tree - l.place

@@ -1,13 +1,13 @@
 -- The hulls of the nodes from i on are nested.
 use Rattle.std.proofs.Common.{◌≡◌, ◌≤◌, length}
 use Rattle.stretches.specs.Hulls.{AreNestedFrom}
-use Rattle.stretches.proofs.extent_tree.hulls_of.Given as goal
+use Rattle.stretches.proofs.hull_tree.hulls_of.Given as goal
 
 abbrev pub invariant-loop-i : goal.invariant-loop-i
 invariant-loop-i l = record {
-  same : length l.hulls.items ≡ length l.extents;
-  inside : l.i ≤ length l.extents;
-  nested : AreNestedFrom l.i l.hulls.items l.extents;
+  same : length l.hulls.items ≡ length l.leaves;
+  inside : l.i ≤ length l.leaves;
+  nested : AreNestedFrom l.i l.hulls.items l.leaves;
 }
 
 abbrev pub decreases-loop-i : goal.decreases-loop-i
