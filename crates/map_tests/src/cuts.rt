@@ -5,7 +5,7 @@ use pmp_encoding::{Entry, Perm, Region, SPACE_SIZE};
 use std::alloc::Global;
 use std::process::Abort;
 use std::test::Fail;
-use stretches::{Stretch, stretches_by_entries};
+use stretches::{ExtentTree, Stretch, extents_of, stretches_by_entries};
 
 /// The entry of that block.
 fn entry(rt: &impl Abort, base: u64, log2: u32, perm: Perm) -> Entry {
@@ -90,5 +90,28 @@ fn four_bytes_of_a_page_and_a_run_without_entry(rt: HostRuntime) -> Result<(), F
         nothing(0x3000, SPACE_SIZE),
     ];
     expect_stretches(&rt, alloc, &map, entries.as_slice(), wanted.as_slice());
+    Ok(())
+}
+
+#[test]
+fn next_entry_that_meets_a_piece(rt: HostRuntime) -> Result<(), Fail> {
+    let alloc = rt.alloc();
+    let entries = [
+        entry(&rt, 0x3000, 12, Perm::Read),
+        entry(&rt, 0x1000, 12, Perm::Read),
+        entry(&rt, 0x8000, 12, Perm::Read),
+        entry(&rt, 0x2000, 13, Perm::Read),
+        entry(&rt, 0, 14, Perm::Read),
+    ];
+    let extents = extents_of(alloc, entries.as_slice()).expect(&rt, "memory");
+    let tree = ExtentTree::new(alloc, extents.as_slice()).expect(&rt, "memory");
+    assert_eq!(rt; tree.next_meeting(0, 0x3000, 0x3001), Some(0));
+    assert_eq!(rt; tree.next_meeting(1, 0x3000, 0x3001), Some(3));
+    assert_eq!(rt; tree.next_meeting(4, 0x3000, 0x3001), Some(4));
+    assert_eq!(rt; tree.next_meeting(5, 0x3000, 0x3001), None);
+    assert_eq!(rt; tree.next_meeting(0, 0x4000, 0x8000), None);
+    assert_eq!(rt; tree.next_meeting(0, 0x4000, 0x8001), Some(2));
+    assert_eq!(rt; tree.next_meeting(0, 0x8fff, 0x9000), Some(2));
+    assert_eq!(rt; tree.next_meeting(0, 0x9000, 0xa000), None);
     Ok(())
 }

@@ -11,7 +11,7 @@ use Rattle.pmp_encoding.specs.declared.extent.Extent.{Extent}
 use Rattle.pmp_registers.specs.Tor.{nowhere}
 use Rattle.stretches.specs.declared.hull_tree.Hull.{Hull}
 use Rattle.stretches.specs.Hulls.{AllPast, IsNextLeaf, hull_of, is_past, no_hull, numbered}
-use Rattle.stretches.specs.Meetings.{IsCut, IsNextMeeting, MissesAll, meets}
+use Rattle.stretches.specs.Meetings.{MissesAll, meets}
 
 -- ---- the extents with their numbers
 

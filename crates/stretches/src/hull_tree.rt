@@ -107,13 +107,7 @@ impl HullTree {
 
     /// The place of the first leaf, from place `from` on, with a number below `bound`, that begins before byte `end` and
     /// ends after byte `first`; nothing where there is none. A node that is past these is passed with all leaves below it.
-    pub(crate) fn next_leaf(
-        &self,
-        from: usize,
-        bound: usize,
-        first: u64,
-        end: u64,
-    ) -> Option<usize>
+    pub(crate) fn next_leaf(&self, from: usize, bound: usize, first: u64, end: u64) -> Option<usize>
         ensures { MatchOption result (AllPast self.now from (length self.now) bound first end)
             (λ place. IsNextLeaf self.now from bound first end place) }
     {

@@ -1,8 +1,7 @@
 -- The first extent that has the byte decides up to its end, or to where one before it begins.
-use Rattle.std.proofs.Common.{Option, None, Some, ap, get_or, length}
+use Rattle.std.proofs.Common.{None, Some, ap, get_or}
 use Rattle.pmp_encoding.specs.declared.perm.Perm.TheVariants.{NoAccess}
 use Rattle.pmp_registers.specs.Tor.{nowhere}
-use Rattle.stretches.specs.Meetings.{IsCut}
 use Rattle.stretches.proofs.Covered.{Says, says_first, says_none}
 use Rattle.stretches.proofs.covering.covering_from.Goals as goal
 

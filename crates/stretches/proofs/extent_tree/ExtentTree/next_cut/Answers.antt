@@ -1,5 +1,5 @@
 -- A leaf that is found is nearer than the cut, and is the next cut.
-use Rattle.std.proofs.Common.{ℕ, ◌+◌, get_or, length, arith}
+use Rattle.std.proofs.Common.{get_or, arith}
 use Rattle.std.specs.List.Sorted.{IsPermutation}
 use Rattle.stretches.specs.Hulls.{IsNextLeaf, no_hull, numbered}
 use Rattle.stretches.proofs.Leaves.{IsMet, met_leaf, missed_all, past_base, past_to}
@@ -23,7 +23,7 @@ loop-found-preserved c =
       begun = λ nearer. (h.number, is.number, is.met, is.base);
       past =
           past_to leaves 0 place found c.args.bound c.args.bound c.args.first c.loop-found.cut h.base (omega arith) (omega (arith, is.nearer)) c.loop-found.invariant.past next.before
-              (λ low. past_base h c.args.bound c.args.first h.base (omega arith));
+          (λ low. past_base h c.args.bound c.args.first h.base (omega arith));
     })
 
 pub returns : goal.returns
@@ -31,6 +31,6 @@ returns c = record {
   most = c.loop-found.invariant.most;
   missed =
       missed_all c.args.self.now c.self.inside.tree 0 c.loop-found.place c.args.bound c.args.first c.loop-found.cut (rw c.self.view_is at c.self.invariant) c.loop-found.invariant.past
-          c.in_default.ensures;
+      c.in_default.ensures;
   begun = c.loop-found.invariant.begun;
 }

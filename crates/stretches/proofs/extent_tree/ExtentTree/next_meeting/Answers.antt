@@ -1,5 +1,5 @@
 -- A leaf that is found has a lower number than the best, and is the best where its number is sought.
-use Rattle.std.proofs.Common.{ℕ, ◌+◌, ap, get_or, length, arith}
+use Rattle.std.proofs.Common.{ap, get_or, length, arith}
 use Rattle.std.specs.List.Sorted.{IsPermutation}
 use Rattle.stretches.specs.Hulls.{IsNextLeaf, no_hull, numbered}
 use Rattle.stretches.proofs.Leaves.{IsMet, met_leaf, missed_all, past_number, past_to}
@@ -24,7 +24,7 @@ loop-found-preserved-then-from-number c =
       met = λ inside. (sought, is.met);
       past =
           past_to leaves c.args.from place found best h.number c.args.first c.args.end c.args.end (omega (arith, is.number)) (omega arith) c.loop-found.invariant.past next.before
-              (λ low. past_number h h.number c.args.first c.args.end (omega arith));
+          (λ low. past_number h h.number c.args.first c.args.end (omega arith));
     })
 
 pub loop-found-preserved : goal.loop-found-preserved
@@ -41,7 +41,7 @@ loop-found-preserved c =
       met = c.loop-found.invariant.met;
       past =
           past_to leaves c.args.from place found best best c.args.first c.args.end c.args.end (omega arith) (omega arith) c.loop-found.invariant.past next.before
-              (λ low. absurd (omega (arith, low, early)));
+          (λ low. absurd (omega (arith, low, early)));
     }
 
 pub returns-then-best-count : goal.returns-then-best-count
@@ -53,7 +53,7 @@ returns-then-best-count c =
       met = met.1;
       before =
           missed_all c.args.self.now c.self.inside.tree c.args.from c.loop-found.place c.loop-found.best c.args.first c.args.end (rw c.self.view_is at c.self.invariant)
-              c.loop-found.invariant.past c.in_default.ensures;
+          c.loop-found.invariant.past c.in_default.ensures;
     }
 
 pub returns : goal.returns
