@@ -41,7 +41,7 @@ fn is_past(hull: Hull, bound: usize, first: u64, end: u64) -> bool
     bound <= hull.number || end <= hull.base || hull.end <= first
 }
 
-/// The node of that number: a leaf, or what has all bytes of its two children.
+/// The node of that index: a leaf, or what has all bytes of its two children.
 fn node(hulls: &[Hull], leaves: &[Hull], index: usize) -> Hull
     requires hulls { length hulls.now ≡ length leaves.now }
     requires inside { index < 2 * length leaves.now }

@@ -21,7 +21,7 @@ loop-found-preserved-then-from-number c =
     (record {
       within = omega (arith, next.inside);
       most = omega (arith, is.inside);
-      met = λ inside. (sought, is.met);
+      met = λ inside. (omega (arith, sought), is.met);
       past =
           past_to leaves c.args.from place found best h.number c.args.first c.args.end c.args.end (omega (arith, is.number)) (omega arith) c.loop-found.invariant.past next.before
           (λ low. past_number h h.number c.args.first c.args.end (omega arith));
