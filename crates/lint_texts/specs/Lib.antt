@@ -1,0 +1,4 @@
+pub mod Columns
+pub mod Numbers
+pub mod Marks
+pub mod Pieces

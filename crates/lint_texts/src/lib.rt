@@ -1,0 +1,16 @@
+//! What the lints of files share: where the words of a line stand, what is wrong with a line or a number that any of these
+//! files may have, and the texts that findings are put together from.
+//!
+//! For the layer above: [`next_word`] gives the words of a line one by one, each with how many bytes stand before it;
+//! [`split_line`] gives the lines of a file.
+#![tactic(auto)]
+
+mod columns;
+mod lines;
+mod numbers;
+mod texts;
+
+pub use columns::{Placed, len_before, next_word, word_from};
+pub use lines::{allowed_len, are_allowed, content_of, has_mark, split_line};
+pub use numbers::{looks_like_number, no_number};
+pub use texts::{push, push_address, push_column, push_number, push_place, push_quoted};

@@ -1,0 +1,62 @@
+//! The lines of a file, and what may stand in them.
+
+ghost use Rattle.std.specs.Prelude.{◌≡◌, ◌∷◌, ◌<◌, ◌≤◌, length};
+ghost use Rattle.std.specs.List.{list_all, prefix_len};
+ghost use Rattle.text_lines.specs.Lines.{raw_lines};
+ghost use Rattle.text_lines.specs.Words.{content_of, is_allowed};
+ghost use Rattle.lint_texts.specs.Marks.{has_mark};
+
+use crate::columns::len_before;
+
+/// The first line, and what stands after its LF.
+pub fn split_line(bytes: &[u8]) -> (&[u8], &[u8])
+    requires { 0 < length bytes.now }
+    ensures lines { raw_lines bytes.now ≡ result.0.now ∷ raw_lines result.1.now }
+    ensures shorter { length result.1.now < length bytes.now }
+{
+    let len = len_before(b'\n', bytes);
+    if len == bytes.len() {
+        return (bytes, &[]);
+    }
+    (&bytes[..len], &bytes[len + 1..])
+}
+
+fn is_allowed(byte: u8) -> bool
+    ensures { result ≡ is_allowed byte }
+{
+    byte == b'\t' || (byte >= 32 && byte <= 126)
+}
+
+/// How many bytes stand before the first that may not stand outside a comment.
+pub fn allowed_len(line: &[u8]) -> usize
+    ensures within { result ≤ length line.now }
+    ensures len { result ≡ prefix_len is_allowed line.now }
+{
+    for (i, byte) in line.iter().enumerate() {
+        if !is_allowed(*byte) {
+            return i;
+        }
+    }
+    line.len()
+}
+
+/// Whether each byte may stand outside a comment.
+pub fn are_allowed(text: &[u8]) -> bool
+    ensures { result ≡ list_all is_allowed text.now }
+{
+    text.iter().all(|byte| is_allowed(*byte))
+}
+
+/// The line without its comment.
+pub fn content_of(line: &[u8]) -> &[u8]
+    ensures { result.now ≡ content_of line.now }
+{
+    &line[..len_before(b'#', line)]
+}
+
+/// Whether a line begins with a byte order mark.
+pub fn has_mark(raw: &[u8]) -> bool
+    ensures { result ≡ has_mark raw.now }
+{
+    matches!(raw, [0xEF, 0xBB, 0xBF, ..])
+}

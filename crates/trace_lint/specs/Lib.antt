@@ -1,0 +1,6 @@
+pub mod Findings
+pub mod Forms
+pub mod Keywords
+pub mod Lints
+pub mod Registers
+pub mod Texts

@@ -1,0 +1,20 @@
+//! Why a file is no trace: what is wrong with each of its lines at fault, and what would fix it.
+//!
+//! For the layer above: [`lint_trace`] answers whether each line of a file is one of a trace, exactly as `parse_line` takes
+//! it, and writes a line for each that is none. What is said of a line is true of it.
+//!
+//! ```text
+//! boot.trace:3:8: SIZE '3' is no size of a load; write 1, 2, 4 or 8
+//! ```
+#![tactic(auto)]
+
+mod event_finding;
+mod forms;
+mod keywords;
+mod line_finding;
+mod lint;
+mod reason;
+mod reason_texts;
+mod registers;
+
+pub use lint::{LintFault, lint_trace};

@@ -1,0 +1,80 @@
+//! The lint of a trace.
+
+ghost use Rattle.std.specs.Prelude.{◌≡◌, ◌-◌, ◌^◌, ◌<◌, Err, IfOk, Ok, ℕ, List, false, length, true};
+ghost use Rattle.byte_streams.specs.Writings.{writing, Breaks, TakesAll};
+ghost use Rattle.trace_lint.specs.declared.lint.LintFault as LintFault;
+ghost use Rattle.trace_lint.specs.Lints.{IsLintText, is_trace};
+
+use crate::line_finding::{is_line, line_finding};
+use crate::reason_texts::push_finding;
+use byte_streams::{Sink, write_whole};
+use lint_texts::split_line;
+use std::alloc::{AllocError, Global};
+
+/// Why a trace was not looked at to its end.
+#[derive(Clone, Copy, PartialEq, Eq, Debug)]
+pub enum LintFault {
+    /// Memory was refused.
+    Memory,
+    /// The device failed, or took none of some bytes.
+    Device,
+}
+
+/// A line for each line at fault, and whether there is none.
+fn findings(
+    alloc: Global,
+    name: &str,
+    bytes: &[u8],
+    harts: u8,
+) -> Result<(bool, Vec<u8>), AllocError>
+    requires { length bytes.now < 2 ^ 64 - 1 }
+    ensures trace { IfOk result (λ found. found.0 ≡ is_trace harts bytes.now) }
+    ensures text { IfOk result (λ found. IsLintText name.now harts bytes.now found.1.items) }
+{
+    let mut text = Vec::new(alloc);
+    let mut is_trace = true;
+    let mut rest = bytes;
+    let mut line: u64 = 0;
+    while !rest.is_empty() {
+        let (raw, behind) = split_line(rest);
+        line += 1;
+        if !is_line(raw, harts) {
+            is_trace = false;
+            push_finding(&mut text, name, harts, line, line_finding(raw, harts))?;
+        }
+        rest = behind;
+    }
+    Ok((is_trace, text))
+}
+
+/// Writes a line for each line of a file that is none of a trace on so many harts, and nothing where each is one. The answer is
+/// whether each is. Where memory is refused nothing was written.
+pub fn lint_trace<W: Sink>(
+    alloc: Global,
+    name: &str,
+    bytes: &[u8],
+    harts: u8,
+    out: &mut W,
+) -> Result<bool, LintFault>
+    requires { length bytes.now < 2 ^ 64 - 1 }
+    ensures trace { IfOk result (λ answer. answer ≡ is_trace harts bytes.now) }
+    ensures silent { result ≡ Ok true → out.new ≡ out.old }
+    ensures written { result ≡ Ok false → (text : List ℕ)
+        × IsLintText name.now harts bytes.now text
+        × TakesAll text (writing W.contents W.failures W.stalls out.old out.new) }
+    ensures untouched { result ≡ Err LintFault.Memory → out.new ≡ out.old }
+    ensures broken { result ≡ Err LintFault.Device → (is_trace harts bytes.now ≡ false)
+        × (text : List ℕ) × IsLintText name.now harts bytes.now text
+        × Breaks text (writing W.contents W.failures W.stalls out.old out.new) }
+{
+    let Ok((is_trace, text)) = findings(alloc, name, bytes, harts) else {
+        return Err(LintFault::Memory);
+    };
+    if is_trace {
+        return Ok(true);
+    }
+    let Ok(()) = write_whole(out, text.as_slice()) else {
+        return Err(LintFault::Device);
+    };
+    Ok(false)
+}

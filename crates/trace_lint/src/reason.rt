@@ -1,0 +1,34 @@
+//! What is wrong with a line, and where.
+
+use crate::forms::{EventKind, Slot};
+
+/// Why a line is none of a trace.
+#[derive(Clone, Copy, PartialEq, Eq, Debug)]
+pub enum Reason {
+    /// The line has more than 1023 bytes.
+    LongLine,
+    /// A byte order mark begins it.
+    ByteOrderMark,
+    /// A byte outside its comment may not stand there.
+    NoText,
+    /// The first word begins with `@` and names no hart.
+    NoHart,
+    /// No word stands after the hart.
+    NoEvent,
+    /// The word begins no event.
+    UnknownEvent,
+    /// The word is not what should stand there.
+    Misfit(Slot),
+    /// A word of the event is wanting.
+    Missing(EventKind, Slot),
+    /// The event has no such word any more.
+    Extra(EventKind),
+}
+
+/// A reason, the word at fault where there is one, and how many bytes of the line stand before it.
+#[derive(Clone, Copy)]
+pub struct Finding<'a> {
+    pub before: usize,
+    pub word: &'a [u8],
+    pub reason: Reason,
+}
