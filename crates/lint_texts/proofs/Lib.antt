@@ -1,2 +1,3 @@
+pub mod Appended
 pub mod FirstLine
 pub mod PlacedWords

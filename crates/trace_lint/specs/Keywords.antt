@@ -1,5 +1,5 @@
 -- The words that begin events, and what is near to one of them.
-use Rattle.std.specs.Prelude.{ℕ, ◌+◌, ◌==◌, ◌||◌, ◌&&◌, nat_le, Bool, true, false, List, [], ◌∷◌, length, Option, Some, None, if◌then◌else◌, codes}
+use Rattle.std.specs.Prelude.{ℕ, ◌+◌, ◌==◌, ◌||◌, ◌&&◌, nat_le, Bool, true, false, [], ◌∷◌, length, Option, Some, None, if◌then◌else◌, codes}
 use Rattle.hart_trace.specs.Events.{Word}
 use Rattle.trace_lint.specs.declared.forms.EventKind.{EventKind}
 use Rattle.trace_lint.specs.declared.forms.EventKind.TheVariants.{Fetch, Load, Store, Reg, Ecall, Irq}

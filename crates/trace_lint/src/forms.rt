@@ -7,6 +7,7 @@ ghost use Rattle.text_lines.specs.Numbers.{number_of};
 ghost use Rattle.hart_trace.specs.Events.{has_leading_zero, mode_of, register_of};
 ghost use Rattle.trace_lint.specs.Forms.{fits, may_end, size_fits, slots_of};
 
+use crate::keywords::is_text;
 use pmp_match::Kind;
 use text_lines::{number, numeral};
 
@@ -83,7 +84,7 @@ pub(crate) fn may_end(kind: EventKind) -> bool
 fn is_mode(word: &[u8]) -> bool
     ensures { result ≡ is_some (mode_of word.now) }
 {
-    word == b"s" || word == b"u"
+    is_text(word, b"s") || is_text(word, b"u")
 }
 
 fn has_size(kind: Kind, size: u64) -> bool

@@ -6,7 +6,8 @@ ghost use Rattle.trace_lint.specs.Keywords.{begins_alike, is_near, keyword, lowe
 
 use crate::forms::EventKind;
 
-fn is_text(word: &[u8], text: &[u8]) -> bool
+/// Whether a word is this text.
+pub(crate) fn is_text(word: &[u8], text: &[u8]) -> bool
     ensures { result ≡ bytes_eq word.now text.now }
 {
     word == text

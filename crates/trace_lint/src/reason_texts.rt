@@ -1,6 +1,6 @@
 //! What is said of a line at fault, and what would fix it.
 
-ghost use Rattle.std.specs.Prelude.{◌≡◌, ◌++◌, ◌-◌, ◌^◌, ◌<◌, OnOk, Some, codes, bytes_eq};
+ghost use Rattle.std.specs.Prelude.{◌≡◌, ◌++◌, ◌-◌, ◌^◌, ◌<◌, OnOk, Some, codes, true};
 ghost use Rattle.trace_lint.specs.Texts.{extra_fault, finding_text, form_text, hart_fault, is_at_digit, misfit_fault, mode_fault, no_size, reason_text, register_fault, size_fault, slot_name, unknown_fault};
 ghost use Rattle.trace_lint.specs.Keywords.{near_kind};
 ghost use Rattle.trace_lint.specs.Registers.{meant_register};
@@ -8,7 +8,7 @@ ghost use Rattle.text_lines.specs.Numbers.{number_of};
 ghost use Rattle.lint_texts.specs.Pieces.{quoted};
 
 use crate::forms::{EventKind, Slot};
-use crate::keywords::{keyword, near_kind};
+use crate::keywords::{is_text, keyword, near_kind};
 use crate::reason::{Finding, Reason};
 use crate::registers::meant_register;
 use lint_texts::{no_number, push, push_column, push_number, push_place, push_quoted};
@@ -65,21 +65,24 @@ fn size_fault(kind: Kind, word: &[u8]) -> &'static str
     }
 }
 
-fn is_machine(word: &[u8]) -> bool
-    ensures { result ≡ bytes_eq word.now (codes "m") }
-{
-    word == b"m"
-}
-
 /// What is said of a word that is no mode.
 fn mode_fault(word: &[u8]) -> &'static str
     ensures { result.now ≡ mode_fault word.now }
 {
-    if is_machine(word) {
+    if is_text(word, b"m") {
         " is machine mode; write s or u"
     } else {
         " is no mode; write s or u"
     }
+}
+
+/// Appends which register a word means.
+fn push_meant(text: &mut Vec<u8>, n: u64) -> Result<(), AllocError>
+    ensures { OnOk result (text.new.items ≡ text.old.items ++ register_fault (Some n)) }
+{
+    push(text, " is not written so; write x")?;
+    push_number(text, n)?;
+    Ok(())
 }
 
 /// Appends what is wrong with a word that is no register.
@@ -89,10 +92,7 @@ fn push_register(text: &mut Vec<u8>, word: &[u8]) -> Result<(), AllocError>
 {
     match meant_register(word) {
         None => push(text, " is no register; write x0 to x31"),
-        Some(n) => {
-            push(text, " is not written so; write x")?;
-            push_number(text, n)
-        }
+        Some(n) => push_meant(text, n),
     }
 }
 
@@ -115,16 +115,24 @@ fn is_at_digit(word: &[u8]) -> bool
     matches!(word, [b'@', b'0'..=b'9'])
 }
 
+/// Appends how many harts there are.
+fn push_none_of(text: &mut Vec<u8>, harts: u8) -> Result<(), AllocError>
+    ensures { OnOk result (text.new.items ≡ text.old.items ++ hart_fault harts true) }
+{
+    push(text, " is none of the harts; H is below ")?;
+    push_number(text, u64::from(harts))?;
+    Ok(())
+}
+
 /// Appends what is wrong with a word that names no hart.
 fn push_hart(text: &mut Vec<u8>, harts: u8, word: &[u8]) -> Result<(), AllocError>
     ensures { OnOk result (text.new.items
         ≡ text.old.items ++ hart_fault harts (is_at_digit word.now)) }
 {
-    if !is_at_digit(word) {
-        return push(text, " names no hart; write @ and one digit");
+    if is_at_digit(word) {
+        return push_none_of(text, harts);
     }
-    push(text, " is none of the harts; H is below ")?;
-    push_number(text, u64::from(harts))
+    push(text, " names no hart; write @ and one digit")
 }
 
 /// Appends what is wrong with a word that begins no event.
@@ -169,6 +177,17 @@ fn push_named(text: &mut Vec<u8>, slot: Slot, word: &[u8]) -> Result<(), AllocEr
     push_misfit(text, slot, word)
 }
 
+/// Appends which word of an event is wanting, and the event's form.
+fn push_missing(text: &mut Vec<u8>, kind: EventKind, slot: Slot) -> Result<(), AllocError>
+    ensures { OnOk result (text.new.items ≡ text.old.items
+        ++ (slot_name slot ++ (codes " is wanting; write " ++ form_text kind))) }
+{
+    push(text, slot_name(slot))?;
+    push(text, " is wanting; write ")?;
+    push(text, form_text(kind))?;
+    Ok(())
+}
+
 /// Appends what is said of a line, of `harts` harts.
 fn push_reason(text: &mut Vec<u8>, harts: u8, word: &[u8], reason: Reason) -> Result<(), AllocError>
     ensures { OnOk result (text.new.items
@@ -194,11 +213,7 @@ fn push_reason(text: &mut Vec<u8>, harts: u8, word: &[u8], reason: Reason) -> Re
             push_unknown(text, word)
         }
         Reason::Misfit(slot) => push_named(text, slot, word),
-        Reason::Missing(kind, slot) => {
-            push(text, slot_name(slot))?;
-            push(text, " is wanting; write ")?;
-            push(text, form_text(kind))
-        }
+        Reason::Missing(kind, slot) => push_missing(text, kind, slot),
         Reason::Extra(kind) => {
             push_quoted(text, word)?;
             push(text, extra_fault(kind))

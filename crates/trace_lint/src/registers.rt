@@ -3,13 +3,8 @@
 ghost use Rattle.std.specs.Prelude.{◌≡◌, ◌<◌, IfSome, bytes_eq};
 ghost use Rattle.trace_lint.specs.Registers.{meant_register, named_register, numbered_register};
 
+use crate::keywords::is_text;
 use text_lines::numeral;
-
-fn is_text(word: &[u8], text: &[u8]) -> bool
-    ensures { result ≡ bytes_eq word.now text.now }
-{
-    word == text
-}
 
 /// The register that a letter and a number mean, as `a0`.
 fn numbered_register(letter: u8, n: u64) -> Option<u64>

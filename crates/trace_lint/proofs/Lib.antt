@@ -1,0 +1,4 @@
+mod Complete
+mod EventWords
+mod Found
+mod SilentWords
