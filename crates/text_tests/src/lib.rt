@@ -1,4 +1,4 @@
-//! Worked rows of the texts that the program reads and prints, as tests alone: maps at fault, platforms, sizes and
+//! Worked rows of the texts that the program reads and prints, as tests alone: maps and traces at fault, platforms, sizes and
 //! permissions in words, audits, registers as C, assembly and JSON, and listings.
 //!
 //! They stand apart from the crates that they are of so that the gate proves each of these once.
@@ -20,5 +20,7 @@ mod platform_lints;
 mod platforms;
 #[cfg(test)]
 mod tables;
+#[cfg(test)]
+mod trace_lints;
 #[cfg(test)]
 mod words;
