@@ -1,5 +1,3 @@
-mod Appended
-mod FirstLine
 mod Followed
 mod Named
 pub mod Denied

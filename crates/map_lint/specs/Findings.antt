@@ -3,7 +3,7 @@ use Rattle.std.specs.Prelude.{◌≡◌, ℕ, ◌+◌, Bool, List, [], ◌∷◌
 use Rattle.permission_map.specs.declared.runs.Run.{Run}
 use Rattle.text_lines.specs.Lines.{raw_lines}
 use Rattle.map_text.specs.MapFile.{raw_says}
-use Rattle.map_lint.specs.Pieces.{place_text}
+use Rattle.lint_texts.specs.Pieces.{place_text}
 use Rattle.map_lint.specs.Reasons.{reason_of}
 use Rattle.map_lint.specs.Settings.{IsTail, settings_from}
 

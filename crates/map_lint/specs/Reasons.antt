@@ -1,24 +1,15 @@
 -- Why a line of a map file is not understood, with its column and what would fix it.
-use Rattle.std.specs.Prelude.{ℕ, ◌+◌, ◌-◌, ◌%◌, ◌^◌, ◌==◌, ◌||◌, ◌&&◌, not, nat_lt, if◌then◌else◌, Bool, true, false, List, [], ◌∷◌, ◌++◌, length, Option, Some, None, codes}
+use Rattle.std.specs.Prelude.{ℕ, ◌+◌, ◌-◌, ◌%◌, ◌^◌, ◌==◌, ◌||◌, ◌&&◌, not, nat_lt, if◌then◌else◌, Bool, true, false, List, ◌++◌, length, Option, Some, None, codes}
 use Rattle.std.specs.List.{list_all, list_any, prefix_len}
 use Rattle.pmp_encoding.specs.declared.perm.Perm.{Perm}
 use Rattle.text_lines.specs.Lines.{without_return}
 use Rattle.pmp_encoding.specs.Perms.{permission_of}
-use Rattle.text_lines.specs.Numbers.{is_numeral, number_of}
+use Rattle.text_lines.specs.Numbers.{number_of}
 use Rattle.text_lines.specs.Words.{content_of, is_allowed}
-use Rattle.map_lint.specs.Columns.{begin_from, end_from, word_from}
-use Rattle.map_lint.specs.Pieces.{address_text, column_text, quoted}
-
--- whether a word has the form of a number, however large
-abbrev pub looks_like_number : List ℕ → Bool
-looks_like_number [] = false
-looks_like_number (first ∷ []) = is_numeral 10 (first ∷ [])
-looks_like_number (first ∷ second ∷ digits) = if first == 48 && (second == 120 || second == 88) then is_numeral 16 digits else is_numeral 10 (first ∷ second ∷ digits)
-
--- what is wrong with a word that is no number
-abbrev pub no_number : Bool → List ℕ
-no_number true = codes " is too large; numbers are below 2^64"
-no_number false = codes " is no number; write decimal digits, or 0x and hexadecimal digits"
+use Rattle.lint_texts.specs.Columns.{begin_from, end_from, word_from}
+use Rattle.lint_texts.specs.Marks.{has_mark}
+use Rattle.lint_texts.specs.Numbers.{looks_like_number, no_number}
+use Rattle.lint_texts.specs.Pieces.{address_text, column_text, quoted}
 
 -- the column of a word, and its name
 abbrev pub named_text : List ℕ → ℕ → List ℕ
@@ -116,11 +107,6 @@ unfoldable pub line_text : List ℕ → List ℕ
 line_text line =
     if list_all is_allowed (content_of line) then words_text (content_of line)
     else column_text (prefix_len is_allowed line) ++ codes "a byte that is no visible ASCII character; write it behind a #"
-
--- the three bytes of a byte order mark at the front
-abbrev pub has_mark : List ℕ → Bool
-has_mark (first ∷ second ∷ third ∷ rest) = first == 239 && (second == 187 && third == 191)
-has_mark _ = false
 
 -- a line of at most 1023 bytes
 unfoldable pub short_reason : List ℕ → List ℕ

@@ -5,7 +5,7 @@ use Rattle.permission_map.specs.declared.runs.Run.{Run}
 use Rattle.permission_map.specs.Runs.{end_of, view_of_runs}
 use Rattle.map_text.specs.MapFile.{Sets, SetsTooMany, raw_says}
 use Rattle.map_lint.specs.declared.idle.Numbered.{Numbered}
-use Rattle.map_lint.specs.Pieces.{place_text}
+use Rattle.lint_texts.specs.Pieces.{place_text}
 
 -- what line n sets, where it sets something
 abbrev pub settings_by : ℕ → Option (Option Run) → List Numbered

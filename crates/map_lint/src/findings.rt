@@ -1,29 +1,14 @@
 //! The findings of a map file.
 
 ghost use Rattle.std.specs.Prelude.{◌≡◌, ◌∷◌, ◌-◌, ◌^◌, ◌<◌, IfOk, length};
-ghost use Rattle.text_lines.specs.Lines.{raw_lines};
 ghost use Rattle.map_lint.specs.Findings.{IsLintText};
 
-use crate::columns::len_before;
 use crate::idle::{Numbered, push_tail};
 use crate::reasons::push_reason;
-use crate::texts::{push, push_place};
+use lint_texts::{push, push_place, split_line};
 use map_text::raw_says;
 use permission_map::Memory;
 use std::alloc::Global;
-
-/// The first line, and what stands after its LF.
-fn split_line(bytes: &[u8]) -> (&[u8], &[u8])
-    requires { 0 < length bytes.now }
-    ensures lines { raw_lines bytes.now ≡ result.0.now ∷ raw_lines result.1.now }
-    ensures shorter { length result.1.now < length bytes.now }
-{
-    let len = len_before(b'\n', bytes);
-    if len == bytes.len() {
-        return (bytes, &[]);
-    }
-    (&bytes[..len], &bytes[len + 1..])
-}
 
 /// The findings of a file: each line at fault with its reason; otherwise the line after which there are too many ranges, or the
 /// lines of a map that change nothing.

@@ -6,7 +6,7 @@ ghost use Rattle.pmp_encoding.specs.declared.perm.Perm.TheVariants.{NoAccess};
 ghost use Rattle.permission_map.specs.Runs.{end_of};
 ghost use Rattle.map_lint.specs.Settings.{AreWarnings, IsAllowedOn, IsDeniedOn, IsInside, IsSaidAnyway, IsTail, IsTooManyAfter, LeadElsewhere, SetTo, idle_reason, idle_text, too_many_text};
 
-use crate::texts::{push, push_place};
+use lint_texts::{push, push_place};
 use permission_map::{MapBuilder, MapFault, Memory, PermissionMap, Run};
 use pmp_encoding::Perm;
 use std::alloc::{AllocError, Global};

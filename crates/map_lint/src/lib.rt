@@ -8,12 +8,10 @@
 //! ```
 #![tactic(auto)]
 
-mod columns;
 mod findings;
 mod idle;
 mod perms;
 mod reasons;
 mod report;
-mod texts;
 
 pub use report::{LintFault, lint};

@@ -4,7 +4,7 @@ ghost use Rattle.std.specs.Prelude.{◌≡◌, ◌++◌, ◌-◌, ◌^◌, ◌<�
 ghost use Rattle.std.specs.List.{list_all, list_any};
 ghost use Rattle.map_lint.specs.Reasons.{is_letter, is_perm_letter, letters_mend, perm_fault, perm_mend, perm_text};
 
-use crate::texts::{push, push_column, push_quoted};
+use lint_texts::{push, push_column, push_quoted};
 use permission_map::Memory;
 
 /// Whether a byte is a lower-case letter, in either case.

@@ -1,96 +1,17 @@
 //! Why a line is not understood.
 
 ghost use Rattle.std.specs.Prelude.{◌≡◌, ◌++◌, ◌-◌, ◌^◌, ◌<◌, ◌≤◌, OnOk, length, nat_lt};
-ghost use Rattle.std.specs.List.{list_all, prefix_len};
-ghost use Rattle.text_lines.specs.Words.{content_of, is_allowed};
-ghost use Rattle.text_lines.specs.Numbers.{digit_of, is_numeral};
-ghost use Rattle.map_lint.specs.Pieces.{column_text};
-ghost use Rattle.map_lint.specs.Reasons.{has_mark, line_text, looks_like_number, most_text, named_text, no_number, number_text, pages_mend, part_text, past_text, range_text, reason_of, short_reason, three_text, whole_text, words_text};
+ghost use Rattle.lint_texts.specs.Pieces.{column_text};
+ghost use Rattle.map_lint.specs.Reasons.{line_text, most_text, named_text, number_text, pages_mend, part_text, past_text, range_text, reason_of, short_reason, three_text, whole_text, words_text};
 
-use crate::columns::{Placed, len_before, word_from};
 use crate::perms::push_perm;
-use crate::texts::{push, push_address, push_column, push_quoted};
+use lint_texts::{
+    Placed, allowed_len, are_allowed, content_of, has_mark, no_number, push, push_address,
+    push_column, push_quoted, word_from,
+};
 use permission_map::Memory;
 use pmp_encoding::{Perm, SPACE_SIZE};
 use text_lines::{LONGEST, number, without_return};
-
-fn is_allowed(byte: u8) -> bool
-    ensures { result ≡ is_allowed byte }
-{
-    byte == b'\t' || (byte >= 32 && byte <= 126)
-}
-
-/// How many bytes stand before the first that may not stand outside a comment.
-fn allowed_len(line: &[u8]) -> usize
-    ensures within { result ≤ length line.now }
-    ensures len { result ≡ prefix_len is_allowed line.now }
-{
-    for (i, byte) in line.iter().enumerate() {
-        if !is_allowed(*byte) {
-            return i;
-        }
-    }
-    line.len()
-}
-
-fn is_digit(byte: u8) -> bool
-    ensures { result ≡ nat_lt (digit_of byte) 10 }
-{
-    matches!(byte, b'0'..=b'9')
-}
-
-fn is_hex_digit(byte: u8) -> bool
-    ensures { result ≡ nat_lt (digit_of byte) 16 }
-{
-    matches!(byte, b'0'..=b'9' | b'a'..=b'f' | b'A'..=b'F')
-}
-
-fn are_digits(text: &[u8]) -> bool
-    ensures { result ≡ list_all (λ b. nat_lt (digit_of b) 10) text.now }
-{
-    text.iter().all(|byte| is_digit(*byte))
-}
-
-fn are_hex_digits(text: &[u8]) -> bool
-    ensures { result ≡ list_all (λ b. nat_lt (digit_of b) 16) text.now }
-{
-    text.iter().all(|byte| is_hex_digit(*byte))
-}
-
-/// Whether a text is one or more decimal digits.
-fn is_decimal(text: &[u8]) -> bool
-    ensures { result ≡ is_numeral 10 text.now }
-{
-    text.len() > 0 && are_digits(text)
-}
-
-/// Whether a text is one or more hexadecimal digits.
-fn is_hex(text: &[u8]) -> bool
-    ensures { result ≡ is_numeral 16 text.now }
-{
-    text.len() > 0 && are_hex_digits(text)
-}
-
-/// Whether a word has the form of a number, however large.
-fn looks_like_number(word: &[u8]) -> bool
-    ensures { result ≡ looks_like_number word.now }
-{
-    match word {
-        [b'0', b'x' | b'X', digits @ ..] => is_hex(digits),
-        _ => is_decimal(word),
-    }
-}
-
-/// What is wrong with a word that is no number.
-fn no_number(word: &[u8]) -> &'static str
-    ensures { result.now ≡ no_number (looks_like_number word.now) }
-{
-    if looks_like_number(word) {
-        " is too large; numbers are below 2^64"
-    } else {
-        " is no number; write decimal digits, or 0x and hexadecimal digits"
-    }
-}
 
 /// Appends the column of a word, and its name.
 fn push_named(text: &mut Vec<u8>, name: &str, before: usize) -> Result<(), Memory>
@@ -273,19 +194,6 @@ fn push_words(text: &mut Vec<u8>, line: &[u8]) -> Result<(), Memory>
     push_three(text, base, size, perm)
 }
 
-fn are_allowed(text: &[u8]) -> bool
-    ensures { result ≡ list_all is_allowed text.now }
-{
-    text.iter().all(|byte| is_allowed(*byte))
-}
-
-/// The line without its comment.
-fn content_of(line: &[u8]) -> &[u8]
-    ensures { result.now ≡ content_of line.now }
-{
-    &line[..len_before(b'#', line)]
-}
-
 /// Appends what is wrong with a line that comes without its LF and its CR.
 #[tactic(auto, unfolding(crate::specs::Reasons::line_text))]
 fn push_line(text: &mut Vec<u8>, line: &[u8]) -> Result<(), Memory>
@@ -301,13 +209,6 @@ fn push_line(text: &mut Vec<u8>, line: &[u8]) -> Result<(), Memory>
         text,
         "a byte that is no visible ASCII character; write it behind a #",
     )
-}
-
-/// Whether a line begins with a byte order mark.
-fn has_mark(raw: &[u8]) -> bool
-    ensures { result ≡ has_mark raw.now }
-{
-    matches!(raw, [0xEF, 0xBB, 0xBF, ..])
 }
 
 /// Appends why a line of at most 1023 bytes is not understood.

@@ -1,5 +1,5 @@
 -- What is found of a part of a document is found of the document.
-use Rattle.std.proofs.Common.{arith, ℕ, true, false, List, [], ◌∷◌, ◌≡◌, ◌∙◌, ◌+◌, ◌-◌, Option, Some, None, option_map, IfSome, ap, refl, sym, if◌then◌else◌}
+use Rattle.std.proofs.Common.{arith, ℕ, true, [], ◌∷◌, ◌≡◌, ◌∙◌, ◌+◌, ◌-◌, Option, Some, None, option_map, IfSome, ap, if◌then◌else◌}
 use Rattle.std.specs.Prelude.{codes}
 use Rattle.std.specs.Option.{option_and_then}
 use Rattle.std.proofs.lemmas.Option.{same_Some}

@@ -1,8 +1,8 @@
 -- The items of an array, by their places, and what is made of all of them.
-use Rattle.std.proofs.Common.{ℕ, zero, suc, List, [], ◌∷◌, ◌≡◌, ◌∙◌, ◌+◌, ◌<◌, Option, Some, None, option_map, ap, sym, refl, length, drop, map, get_or}
+use Rattle.std.proofs.Common.{ℕ, List, ◌∷◌, ◌≡◌, ◌∙◌, ◌+◌, ◌<◌, Option, Some, option_map, ap, length, drop, get_or}
 use Rattle.std.specs.Option.{option_and_then}
-use Rattle.toml.specs.Data.{Data, Members, Items, no_items, item, get_item, as_table}
-use Rattle.toml.specs.View.{items_of, items_view, view}
+use Rattle.toml.specs.Data.{Members, as_table}
+use Rattle.toml.specs.View.{items_view, view}
 use Rattle.toml.specs.declared.value.Value.{Value}
 use Rattle.toml.proofs.Views.{items_view-drop}
 use Rattle.platform_file.specs.Document.{each}

@@ -4,10 +4,9 @@ ghost use Rattle.std.specs.Prelude.{◌≡◌, ◌++◌, OnOk, codes, decimal};
 ghost use Rattle.platform_lint.specs.Texts.{about, breach_text, keys_text, place_text, rule_text, table_text};
 
 use crate::breach::{Breach, Place};
-use arrayvec::ArrayVec;
 use enclave_table::PlatformFault;
+use lint_texts::{push, push_number};
 use std::alloc::AllocError;
-use text_lines::{Line, push_decimal};
 
 /// What is asked of a range.
 const PAGES: &str =
@@ -19,24 +18,6 @@ const PERMS: &str =
 
 /// What is asked of the ranges of memory, and of the devices.
 const ARRAY: &str = " is no array of tables; write its name in double brackets";
-
-/// Appends a text.
-pub(crate) fn push(text: &mut Vec<u8>, bytes: &str) -> Result<(), AllocError>
-    ensures { OnOk result (text.new.items ≡ text.old.items ++ bytes.now) }
-{
-    text.extend_from_slice(bytes.as_bytes())?;
-    Ok(())
-}
-
-/// Appends a number in decimal.
-pub(crate) fn push_number(text: &mut Vec<u8>, number: u64) -> Result<(), AllocError>
-    ensures { OnOk result (text.new.items ≡ text.old.items ++ decimal number) }
-{
-    let mut line: Line = ArrayVec::new();
-    push_decimal(&mut line, number);
-    text.extend_from_slice(line.as_slice())?;
-    Ok(())
-}
 
 /// Appends a name and a number, as `ram 1: `.
 fn push_numbered(text: &mut Vec<u8>, name: &str, number: u64) -> Result<(), AllocError>

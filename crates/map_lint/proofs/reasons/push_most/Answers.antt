@@ -1,6 +1,6 @@
 use Rattle.std.proofs.Common.{◌-◌, ◌^◌, codes}
-use Rattle.map_lint.specs.Pieces.{address_text}
-use Rattle.map_lint.proofs.Appended.{two}
+use Rattle.lint_texts.specs.Pieces.{address_text}
+use Rattle.lint_texts.proofs.Appended.{two}
 use Rattle.map_lint.proofs.reasons.push_most.Goals as goal
 
 pub returns : goal.returns

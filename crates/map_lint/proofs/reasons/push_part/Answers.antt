@@ -1,5 +1,5 @@
 use Rattle.map_lint.specs.Reasons.{named_text, whole_text}
-use Rattle.map_lint.proofs.Appended.{three}
+use Rattle.lint_texts.proofs.Appended.{three}
 use Rattle.map_lint.proofs.reasons.push_part.Goals as goal
 
 pub returns : goal.returns

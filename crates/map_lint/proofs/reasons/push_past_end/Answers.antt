@@ -1,6 +1,6 @@
-use Rattle.map_lint.specs.Pieces.{column_text}
+use Rattle.lint_texts.specs.Pieces.{column_text}
 use Rattle.map_lint.specs.Reasons.{most_text}
-use Rattle.map_lint.proofs.Appended.{two}
+use Rattle.lint_texts.proofs.Appended.{two}
 use Rattle.map_lint.proofs.reasons.push_past_end.Goals as goal
 
 pub returns : goal.returns

@@ -1,6 +1,6 @@
 use Rattle.std.proofs.Common.{codes}
-use Rattle.map_lint.specs.Pieces.{address_text}
-use Rattle.map_lint.proofs.Appended.{three}
+use Rattle.lint_texts.specs.Pieces.{address_text}
+use Rattle.lint_texts.proofs.Appended.{three}
 use Rattle.map_lint.proofs.reasons.push_whole.Goals as goal
 
 pub returns : goal.returns

@@ -1,6 +1,6 @@
-use Rattle.std.proofs.Common.{◌≡◌, ap, sym, ◌∙◌, None, Some}
+use Rattle.std.proofs.Common.{ap, sym, ◌∙◌}
 use Rattle.toml.specs.Data.{get_member}
-use Rattle.toml.specs.View.{table_view, view}
+use Rattle.toml.specs.View.{table_view}
 use Rattle.platform_file.specs.Document.{number_told}
 use Rattle.platform_lint.specs.Breaches.{no_number}
 use Rattle.platform_lint.proofs.first_breach.count_breach.Goals as goal

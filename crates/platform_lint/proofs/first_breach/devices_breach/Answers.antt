@@ -1,4 +1,4 @@
-use Rattle.std.proofs.Common.{ap, sym, ◌∙◌, Some, None}
+use Rattle.std.proofs.Common.{ap, sym, ◌∙◌, Some}
 use Rattle.std.specs.Option.{option_and_then}
 use Rattle.toml.specs.Data.{as_table}
 use Rattle.toml.specs.View.{view}

@@ -1,4 +1,3 @@
-use Rattle.std.proofs.Common.{ℕ, ◌≤◌, length}
 use Rattle.platform_file.specs.Document.{device_of}
 use Rattle.platform_lint.proofs.Items.{Makes}
 use Rattle.platform_lint.proofs.first_breach.devices_breach.Given as goal
