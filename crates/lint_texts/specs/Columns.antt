@@ -3,10 +3,11 @@ use Rattle.std.specs.Prelude.{ℕ, ◌+◌, ◌-◌, Bool, if◌then◌else◌, 
 use Rattle.std.specs.List.{position_or_len, prefix_len}
 use Rattle.text_lines.specs.Words.{is_blank}
 
--- how many bytes stand before the first word that begins at a place or after it, and how many before its end
+-- how many bytes stand before the first word that begins at a place or after it
 abbrev pub begin_from : List ℕ → ℕ → ℕ
 begin_from text at = at + prefix_len is_blank (drop at text)
 
+-- and how many before its end
 abbrev pub end_from : List ℕ → ℕ → ℕ
 end_from text at = begin_from text at + position_or_len is_blank (drop (begin_from text at) text)
 
@@ -37,6 +38,7 @@ placed_by blank at (b ∷ bytes) = if blank b then placed_by blank (at + 1) byte
 abbrev pub placed_at : List ℕ → ℕ → List PlacedWord
 placed_at text at = placed_by is_blank at (drop at text)
 
+-- the words of a text
 abbrev pub placed_words : List ℕ → List PlacedWord
 placed_words text = placed_by is_blank 0 text
 

@@ -16,6 +16,7 @@ use Rattle.trace_lint.specs.Forms.{fits, kind_of, may_end, slots_of}
 abbrev pub raw_says : ℕ → List ℕ → Option (Option (ℕ × Event))
 raw_says harts raw = if nat_le (length raw) 1023 then meaning_of harts (without_return raw) else None
 
+-- whether it is one
 abbrev pub is_line : ℕ → List ℕ → Bool
 is_line harts raw = is_some (raw_says harts raw)
 
@@ -51,8 +52,8 @@ BreaksWords harts words before word NoEvent = (first : PlacedWord) × (words ≡
 BreaksWords harts words before word reason = BreaksEvent (event_words harts words) before word reason
 
 -- a line that comes without its LF breaks this
-abbrev pub Breaks : ℕ → List ℕ → ℕ → Word → Reason → Type 0
-Breaks harts raw before word LongLine = (1023 < length raw) × (before ≡ 1023)
-Breaks harts raw before word ByteOrderMark = (has_mark raw ≡ true) × (before ≡ 0)
-Breaks harts raw before word NoText = (list_all is_allowed (content_of (without_return raw)) ≡ false) × (before ≡ prefix_len is_allowed (without_return raw))
-Breaks harts raw before word reason = BreaksWords harts (placed_words (content_of (without_return raw))) before word reason
+abbrev pub BreaksLine : ℕ → List ℕ → ℕ → Word → Reason → Type 0
+BreaksLine harts raw before word LongLine = (1023 < length raw) × (before ≡ 1023)
+BreaksLine harts raw before word ByteOrderMark = (has_mark raw ≡ true) × (before ≡ 0)
+BreaksLine harts raw before word NoText = (list_all is_allowed (content_of (without_return raw)) ≡ false) × (before ≡ prefix_len is_allowed (without_return raw))
+BreaksLine harts raw before word reason = BreaksWords harts (placed_words (content_of (without_return raw))) before word reason

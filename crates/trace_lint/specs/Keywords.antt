@@ -4,6 +4,7 @@ use Rattle.hart_trace.specs.Events.{Word}
 use Rattle.trace_lint.specs.declared.forms.EventKind.{EventKind}
 use Rattle.trace_lint.specs.declared.forms.EventKind.TheVariants.{Fetch, Load, Store, Reg, Ecall, Irq}
 
+-- the word that begins an event
 abbrev pub keyword : EventKind → Word
 keyword Fetch = codes "fetch"
 keyword Load = codes "load"

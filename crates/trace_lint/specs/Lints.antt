@@ -4,7 +4,7 @@ use Rattle.std.specs.List.{list_all}
 use Rattle.text_lines.specs.Lines.{raw_lines}
 use Rattle.hart_trace.specs.Events.{Word}
 use Rattle.trace_lint.specs.declared.reason.Reason.{Reason}
-use Rattle.trace_lint.specs.Findings.{Breaks, is_line}
+use Rattle.trace_lint.specs.Findings.{BreaksLine, is_line}
 use Rattle.trace_lint.specs.Texts.{finding_text}
 
 -- each line is one of a trace on so many harts
@@ -17,7 +17,7 @@ pub data AreFindings (name : List ℕ) (harts : ℕ) : ℕ → List (List ℕ) �
   end : {n : ℕ} → AreFindings name harts n [] []
   fine : {n : ℕ} {lines : List (List ℕ)} {text : List ℕ} (raw : List ℕ) → is_line harts raw ≡ true → AreFindings name harts (n + 1) lines text → AreFindings name harts n (raw ∷ lines) text
   fault :
-      {n : ℕ} {lines : List (List ℕ)} {text : List ℕ} (raw : List ℕ) (before : ℕ) (word : Word) (reason : Reason) → is_line harts raw ≡ false → Breaks harts raw before word reason
+      {n : ℕ} {lines : List (List ℕ)} {text : List ℕ} (raw : List ℕ) (before : ℕ) (word : Word) (reason : Reason) → is_line harts raw ≡ false → BreaksLine harts raw before word reason
       → AreFindings name harts (n + 1) lines text → AreFindings name harts n (raw ∷ lines) (finding_text name harts n before word reason ++ text)
 
 -- what is written of a file

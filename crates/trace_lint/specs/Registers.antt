@@ -25,11 +25,12 @@ named_register word =
     else if bytes_eq word (codes "fp") then Some 8
     else None
 
--- the register that a word means, by the number that stands after its first letter
+-- the register that a word means by the number after its first letter, where one stands there
 abbrev pub meant_by : Word → ℕ → Option ℕ → Option ℕ
 meant_by word letter (Some n) = numbered_register letter n
 meant_by word letter None = named_register word
 
+-- the register that a word means
 abbrev pub meant_register : Word → Option ℕ
 meant_register [] = None
 meant_register (letter ∷ digits) = meant_by (letter ∷ digits) letter (numeral_of 10 digits)

@@ -44,6 +44,7 @@ abbrev pub size_fault : Kind → Word → Option ℕ → List ℕ
 size_fault kind word None = no_number (looks_like_number word)
 size_fault kind word (Some size) = no_size kind
 
+-- a word that is no mode
 abbrev pub mode_fault : Word → List ℕ
 mode_fault word = if bytes_eq word (codes "m") then codes " is machine mode; write s or u" else codes " is no mode; write s or u"
 

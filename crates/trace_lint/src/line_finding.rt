@@ -4,7 +4,7 @@ ghost use Rattle.std.specs.Prelude.{◌≡◌, ◌≤◌, None, false, is_some, 
 ghost use Rattle.text_lines.specs.Words.{split_words};
 ghost use Rattle.hart_trace.specs.Events.{hart_of, said_by};
 ghost use Rattle.lint_texts.specs.Columns.{placed_words};
-ghost use Rattle.trace_lint.specs.Findings.{Breaks, BreaksWords, begins_with_at, is_line};
+ghost use Rattle.trace_lint.specs.Findings.{BreaksLine, BreaksWords, begins_with_at, is_line};
 
 use crate::event_finding::event_finding;
 use crate::reason::{Finding, Reason};
@@ -71,7 +71,7 @@ fn words_finding(text: &[u8], harts: u8) -> Finding<'_>
 /// What is wrong with a line that comes without its LF.
 pub(crate) fn line_finding(raw: &[u8], harts: u8) -> Finding<'_>
     requires { is_line harts raw.now ≡ false }
-    ensures found { Breaks harts raw.now result.before result.word.now result.reason }
+    ensures found { BreaksLine harts raw.now result.before result.word.now result.reason }
     ensures within { result.before ≤ length raw.now }
 {
     if raw.len() > LONGEST {
