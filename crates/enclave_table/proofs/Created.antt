@@ -9,10 +9,10 @@ use Rattle.permission_map.specs.Views.{SameView, overwritten}
 use Rattle.enclave_table.specs.Enclaves.{EnclaveTable, Live, with_enclave, IsNextId}
 use Rattle.enclave_table.specs.Requests.{parts_of, is_part, ArePartsApart}
 use Rattle.enclave_table.specs.Views.{host_view, enclave_view}
-use Rattle.enclave_table.specs.Refusals.{AllPass}
+use Rattle.enclave_table.specs.Refusals.{AllPass, RefusesBy}
 use Rattle.enclave_table.specs.Checks.{create_checks, IsClear}
 use Rattle.enclave_table.specs.Fewest.{FitsIn, IsWant, IsListOf}
-use Rattle.enclave_table.specs.Create.{fresh, RefusesCreate, Creates}
+use Rattle.enclave_table.specs.Create.{fresh, Creates, OutgrowsByCreate}
 use Rattle.enclave_table.specs.Tables.{IsSound}
 use Rattle.enclave_table.specs.declared.request.Create.{Create}
 use Rattle.enclave_table.specs.declared.enclave.Enclave.{Enclave}
@@ -46,7 +46,7 @@ fits_from limit view list is = (length list, needs_of view list is.fewest, is.ro
 pub host_want :
     (pages : ℕ → List ℕ) (old : EnclaveTable) (world : World) (asked parts : Create) (id : ℕ) (view : View) (refusal : Refusal) → parts ≡ parts_of asked
     → AllPass (create_checks old world parts) → IsNextId old id → SameView view (host_view (with_enclave old id (Some (fresh pages parts))))
-    → IsWant old.layout.limit view refusal → RefusesCreate pages old world asked refusal
+    → IsWant old.layout.limit view refusal → RefusesBy (create_checks old world (parts_of asked)) (OutgrowsByCreate pages old asked) refusal
 host_want pages old world asked parts id view refusal is passes next same want =
     let P : Create → Type 0 = λ p. AllPass (create_checks old world p) in
     let S : Create → Type 0 = λ p. SameView view (host_view (with_enclave old id (Some (fresh pages p)))) in
@@ -54,7 +54,7 @@ host_want pages old world asked parts id view refusal is passes next same want =
 
 pub enclave_want :
     (pages : ℕ → List ℕ) (old : EnclaveTable) (world : World) (asked parts : Create) (limit : Limit) (refusal : Refusal) → parts ≡ parts_of asked → limit ≡ old.layout.limit
-    → AllPass (create_checks old world parts) → IsWant limit (enclave_view parts) refusal → RefusesCreate pages old world asked refusal
+    → AllPass (create_checks old world parts) → IsWant limit (enclave_view parts) refusal → RefusesBy (create_checks old world (parts_of asked)) (OutgrowsByCreate pages old asked) refusal
 enclave_want pages old world asked parts limit refusal is same passes want =
     let P : Create → Type 0 = λ p. AllPass (create_checks old world p) in
     let W : Create → Type 0 = λ p. IsWant old.layout.limit (enclave_view p) refusal in

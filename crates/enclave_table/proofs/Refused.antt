@@ -7,11 +7,10 @@ use Rattle.permission_map.specs.Views.{SameView}
 use Rattle.enclave_table.specs.Enclaves.{EnclaveTable, with_enclave, IsNextId}
 use Rattle.enclave_table.specs.Requests.{parts_of}
 use Rattle.enclave_table.specs.Views.{host_view, enclave_view}
-use Rattle.enclave_table.specs.Refusals.{AllPass, FailsFirst}
+use Rattle.enclave_table.specs.Refusals.{AllPass, FailsFirst, RefusesBy}
 use Rattle.enclave_table.specs.Checks.{create_checks, host_checks, MayDestroy}
-use Rattle.enclave_table.specs.Fewest.{IsWant}
-use Rattle.enclave_table.specs.Create.{fresh, RefusesCreate}
-use Rattle.enclave_table.specs.Destroy.{RefusesDestroy}
+use Rattle.enclave_table.specs.Fewest.{IsWant, NeedsMore}
+use Rattle.enclave_table.specs.Create.{fresh, OutgrowsByCreate}
 use Rattle.enclave_table.specs.declared.request.Create.{Create}
 use Rattle.enclave_table.specs.declared.refusal.Refusal.{Refusal}
 use Rattle.enclave_table.specs.declared.refusal.Refusal.TheVariants.{NotHost, NotEnclave, BadCount, BadAddress, BadEntry, NotRam, Overlap, TableFull, NoEntries, NoMemory, BadId, BadState, BadWord}
@@ -34,7 +33,7 @@ unwanted (c ∷ cs) refusal none fails = ⊎_elim (λ here. ap is_want here.0 �
 
 pub create_fails :
     (pages : ℕ → List ℕ) (old : EnclaveTable) (world : World) (asked : Create) (refusal : Refusal) → FailsFirst (create_checks old world (parts_of asked)) refusal
-    → RefusesCreate pages old world asked refusal
+    → RefusesBy (create_checks old world (parts_of asked)) (OutgrowsByCreate pages old asked) refusal
 unfolding is_want none_want
 create_fails pages old world asked NoEntries fails = absurd (true≢false (unwanted (create_checks old world (parts_of asked)) NoEntries (refl, (refl, (refl, (refl, (refl, (refl, (refl, tt))))))) fails))
 create_fails pages old world asked NoMemory fails = absurd (true≢false (unwanted (create_checks old world (parts_of asked)) NoMemory (refl, (refl, (refl, (refl, (refl, (refl, (refl, tt))))))) fails))
@@ -50,7 +49,7 @@ create_fails pages old world asked BadId fails = fails
 create_fails pages old world asked BadState fails = fails
 create_fails pages old world asked BadWord fails = fails
 
-pub destroy_fails : (old : EnclaveTable) (world : World) (id : ℕ) (refusal : Refusal) → FailsFirst (host_checks MayDestroy old world id) refusal → RefusesDestroy old world id refusal
+pub destroy_fails : (old : EnclaveTable) (world : World) (id : ℕ) (refusal : Refusal) → FailsFirst (host_checks MayDestroy old world id) refusal → RefusesBy (host_checks MayDestroy old world id) (NeedsMore old.layout.limit (host_view (with_enclave old id None))) refusal
 unfolding is_want none_want
 destroy_fails old world id NoEntries fails = absurd (true≢false (unwanted (host_checks MayDestroy old world id) NoEntries (refl, (refl, (refl, tt))) fails))
 destroy_fails old world id NoMemory fails = absurd (true≢false (unwanted (host_checks MayDestroy old world id) NoMemory (refl, (refl, (refl, tt))) fails))
@@ -68,7 +67,7 @@ destroy_fails old world id BadWord fails = fails
 
 pub create_host_want :
     (pages : ℕ → List ℕ) (old : EnclaveTable) (world : World) (asked : Create) (id : ℕ) (view : View) (refusal : Refusal) → AllPass (create_checks old world (parts_of asked)) → IsNextId old id
-    → SameView view (host_view (with_enclave old id (Some (fresh pages (parts_of asked))))) → IsWant old.layout.limit view refusal → RefusesCreate pages old world asked refusal
+    → SameView view (host_view (with_enclave old id (Some (fresh pages (parts_of asked))))) → IsWant old.layout.limit view refusal → RefusesBy (create_checks old world (parts_of asked)) (OutgrowsByCreate pages old asked) refusal
 create_host_want pages old world asked id view NoEntries passes next same want =
     (passes, inl (id, next, more_same old.layout.limit view (host_view (with_enclave old id (Some (fresh pages (parts_of asked))))) same want))
 create_host_want pages old world asked id view NoMemory passes next same want = passes
@@ -86,7 +85,7 @@ create_host_want pages old world asked id view BadWord passes next same want = a
 
 pub create_enclave_want :
     (pages : ℕ → List ℕ) (old : EnclaveTable) (world : World) (asked : Create) (refusal : Refusal) → AllPass (create_checks old world (parts_of asked))
-    → IsWant old.layout.limit (enclave_view (parts_of asked)) refusal → RefusesCreate pages old world asked refusal
+    → IsWant old.layout.limit (enclave_view (parts_of asked)) refusal → RefusesBy (create_checks old world (parts_of asked)) (OutgrowsByCreate pages old asked) refusal
 create_enclave_want pages old world asked NoEntries passes want = (passes, inr want)
 create_enclave_want pages old world asked NoMemory passes want = passes
 create_enclave_want pages old world asked NotHost passes want = absurd want
@@ -103,7 +102,7 @@ create_enclave_want pages old world asked BadWord passes want = absurd want
 
 pub destroy_want :
     (old : EnclaveTable) (world : World) (id : ℕ) (view : View) (refusal : Refusal) → AllPass (host_checks MayDestroy old world id)
-    → SameView view (host_view (with_enclave old id None)) → IsWant old.layout.limit view refusal → RefusesDestroy old world id refusal
+    → SameView view (host_view (with_enclave old id None)) → IsWant old.layout.limit view refusal → RefusesBy (host_checks MayDestroy old world id) (NeedsMore old.layout.limit (host_view (with_enclave old id None))) refusal
 destroy_want old world id view NoEntries passes same want = (passes, more_same old.layout.limit view (host_view (with_enclave old id None)) same want)
 destroy_want old world id view NoMemory passes same want = passes
 destroy_want old world id view NotHost passes same want = absurd want

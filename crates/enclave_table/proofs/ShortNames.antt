@@ -1,5 +1,5 @@
 -- Short names of what definitions say at length.
-use Rattle.std.specs.Prelude.{ℕ, Bool, List, Option, option_map, unwrap_or, false}
+use Rattle.std.specs.Prelude.{ℕ, Bool, List, Option, option_map, unwrap_or}
 use Rattle.std.specs.List.{list_any}
 use Rattle.pmp_encoding.specs.declared.perm.Perm.{Perm}
 use Rattle.pmp_encoding.specs.declared.perm.Perm.TheVariants.{NoAccess}

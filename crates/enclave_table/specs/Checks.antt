@@ -41,16 +41,14 @@ host_checks Wanted table world id =
     ∷ ((BadState, (e : Enclave) → Live table id e → Wanted e.state)
     ∷ []))
 
--- destroy wants any state but Running; a first entry wants Fresh, and a resumption Stopped
+-- destroy wants any state but Running
 abbrev pub MayDestroy : State → Type 0
 MayDestroy state = state ≢ Running
 
+-- a first entry wants Fresh, and a resumption Stopped
 abbrev pub state_before : Entering → State
 state_before Run = Fresh
 state_before Resume = Stopped
-
-abbrev pub MayEnter : Entering → State → Type 0
-MayEnter entering state = state ≡ state_before entering
 
 -- stop and exit: an enclave asks
 abbrev pub leave_checks : World → List (Refusal × Type 0)

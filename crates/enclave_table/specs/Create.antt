@@ -4,14 +4,12 @@ use Rattle.worlds.specs.declared.world.World.{World}
 use Rattle.enclave_table.specs.Requests.{parts_of}
 use Rattle.enclave_table.specs.Enclaves.{EnclaveTable, with_enclave, IsNextId}
 use Rattle.enclave_table.specs.Views.{host_view, enclave_view}
-use Rattle.enclave_table.specs.Refusals.{AllPass, FailsFirst}
+use Rattle.enclave_table.specs.Refusals.{AllPass}
 use Rattle.enclave_table.specs.Checks.{create_checks}
 use Rattle.enclave_table.specs.Fewest.{FitsIn, NeedsMore}
 use Rattle.enclave_table.specs.Digests.{measured}
 use Rattle.enclave_table.specs.declared.enclave.Enclave.{Enclave}
 use Rattle.enclave_table.specs.declared.enclave.State.TheVariants.{Fresh}
-use Rattle.enclave_table.specs.declared.refusal.Refusal.{Refusal}
-use Rattle.enclave_table.specs.declared.refusal.Refusal.TheVariants.{NoEntries, NoMemory}
 use Rattle.enclave_table.specs.declared.request.Create.{Create}
 
 -- the enclave as it is made
@@ -31,12 +29,6 @@ abbrev pub OutgrowsByCreate : (ℕ → List ℕ) → EnclaveTable → Create →
 OutgrowsByCreate pages old asked =
     ((id : ℕ) × IsNextId old id × NeedsMore old.layout.limit (host_view (with_enclave old id (Some (fresh pages (parts_of asked))))))
     ⊎ NeedsMore old.layout.limit (enclave_view (parts_of asked))
-
--- why it is refused: for too few entries or out of memory only after all checks
-abbrev pub RefusesCreate : (ℕ → List ℕ) → EnclaveTable → World → Create → Refusal → Type 0
-RefusesCreate pages old world asked NoEntries = AllPass (create_checks old world (parts_of asked)) × OutgrowsByCreate pages old asked
-RefusesCreate pages old world asked NoMemory = AllPass (create_checks old world (parts_of asked))
-RefusesCreate pages old world asked refusal = FailsFirst (create_checks old world (parts_of asked)) refusal
 
 -- a digest is that of the private pages of a creation, where it passes its checks
 abbrev pub IsMeasured : EnclaveTable → World → Create → List ℕ → (ℕ → List ℕ) → Type 0

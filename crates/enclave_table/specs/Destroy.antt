@@ -3,12 +3,10 @@ use Rattle.std.specs.Prelude.{◌≡◌, ℕ, ◌+◌, ◌/◌, None}
 use Rattle.worlds.specs.declared.world.World.{World}
 use Rattle.enclave_table.specs.Enclaves.{EnclaveTable, Live, with_enclave}
 use Rattle.enclave_table.specs.Views.{host_view}
-use Rattle.enclave_table.specs.Refusals.{AllPass, FailsFirst}
+use Rattle.enclave_table.specs.Refusals.{AllPass}
 use Rattle.enclave_table.specs.Checks.{host_checks, MayDestroy}
-use Rattle.enclave_table.specs.Fewest.{FitsIn, NeedsMore}
+use Rattle.enclave_table.specs.Fewest.{FitsIn}
 use Rattle.enclave_table.specs.declared.enclave.Enclave.{Enclave}
-use Rattle.enclave_table.specs.declared.refusal.Refusal.{Refusal}
-use Rattle.enclave_table.specs.declared.refusal.Refusal.TheVariants.{NoEntries, NoMemory}
 use Rattle.page_views.specs.declared.pages.PageRange.{PageRange}
 
 -- destroy, where it is not refused: the enclave is gone, its private pages are to be zeroed, and the host fits
@@ -17,8 +15,3 @@ pub record Destroys (old : EnclaveTable) (world : World) (id : ℕ) (range : Pag
   pub pages : (e : Enclave) → Live old id e → range ≡ record { first = e.parts.base / 4096; count = e.parts.text_pages + e.parts.data_pages }
   pub removed : new ≡ with_enclave old id None
   pub host_fits : FitsIn new.layout.limit (host_view new)
-
-abbrev pub RefusesDestroy : EnclaveTable → World → ℕ → Refusal → Type 0
-RefusesDestroy old world id NoEntries = AllPass (host_checks MayDestroy old world id) × NeedsMore old.layout.limit (host_view (with_enclave old id None))
-RefusesDestroy old world id NoMemory = AllPass (host_checks MayDestroy old world id)
-RefusesDestroy old world id refusal = FailsFirst (host_checks MayDestroy old world id) refusal

@@ -4,14 +4,13 @@ use Rattle.worlds.specs.declared.world.World.{World}
 use Rattle.worlds.specs.declared.world.World.TheVariants.{Enclave as InEnclave}
 use Rattle.enclave_table.specs.Enclaves.{EnclaveTable, Live, with_enclave}
 use Rattle.enclave_table.specs.Refusals.{AllPass}
-use Rattle.enclave_table.specs.Checks.{host_checks, MayEnter, leave_checks}
+use Rattle.enclave_table.specs.Checks.{host_checks, state_before}
 use Rattle.enclave_table.specs.declared.enclave.Enclave.{Enclave}
 use Rattle.enclave_table.specs.declared.enclave.State.{State}
 use Rattle.enclave_table.specs.declared.enclave.State.TheVariants.{Running, Stopped, Exited}
 use Rattle.enclave_table.specs.declared.life.Entering.{Entering}
 use Rattle.enclave_table.specs.declared.life.Leaving.{Leaving}
 use Rattle.enclave_table.specs.declared.life.Leaving.TheVariants.{Stop, Exit}
-use Rattle.enclave_table.specs.declared.refusal.Refusal.{Refusal}
 
 -- the same table, but that the enclave is in that state
 abbrev pub Turns : EnclaveTable → ℕ → State → EnclaveTable → Type 0
@@ -19,7 +18,7 @@ Turns old id state new = (e : Enclave) × Live old id e × (new ≡ with_enclave
 
 -- run and resume
 pub record Enters (old : EnclaveTable) (world : World) (id : ℕ) (entering : Entering) (new : EnclaveTable) : Type 0 where
-  pub passes : AllPass (host_checks (MayEnter entering) old world id)
+  pub passes : AllPass (host_checks (λ state. state ≡ state_before entering) old world id)
   pub turned : Turns old id Running new
 
 -- what an enclave is after it was left
@@ -27,8 +26,7 @@ abbrev pub state_after : Leaving → State
 state_after Stop = Stopped
 state_after Exit = Exited
 
--- stop, exit, and an interrupt in an enclave: the id is that of the enclave that was left
-pub record Leaves (old : EnclaveTable) (world : World) (leaving : Leaving) (id : ℕ) (new : EnclaveTable) : Type 0 where
-  pub passes : AllPass (leave_checks world)
+-- stop, exit, and an interrupt in an enclave: the enclave that was left has this id, and is in that state after it
+pub record Leaves (old : EnclaveTable) (world : World) (state : State) (id : ℕ) (new : EnclaveTable) : Type 0 where
   pub left : world ≡ InEnclave id
-  pub turned : Turns old id (state_after leaving) new
+  pub turned : Turns old id state new

@@ -7,13 +7,7 @@ use Rattle.enclave_table.specs.declared.request.Create.{Create}
 abbrev pub parts_of : Create → Create
 parts_of asked = record asked { shared_base = cond (asked.shared_count == 0) 0 asked.shared_base }
 
--- its pages of text, of data right after the text, and both together: these are its own
-abbrev pub is_text : Create → ℕ → Bool
-is_text parts page = in_range (parts.base / 4096) parts.text_pages page
-
-abbrev pub is_data : Create → ℕ → Bool
-is_data parts page = in_range (parts.base / 4096 + parts.text_pages) parts.data_pages page
-
+-- its own pages: those of text, and those of data right after them
 abbrev pub is_private : Create → ℕ → Bool
 is_private parts page = in_range (parts.base / 4096) (parts.text_pages + parts.data_pages) page
 

@@ -1,11 +1,12 @@
 -- What the host and each enclave may do with each page.
-use Rattle.std.specs.Prelude.{ℕ, Bool, ◌||◌, cond, List, Option, None, Some, false, option_map, unwrap_or}
+use Rattle.std.specs.Prelude.{ℕ, ◌+◌, ◌/◌, Bool, ◌||◌, cond, Option, None, Some, false, option_map, unwrap_or}
 use Rattle.std.specs.List.{list_any}
 use Rattle.pmp_encoding.specs.declared.perm.Perm.{Perm}
 use Rattle.pmp_encoding.specs.declared.perm.Perm.TheVariants.{NoAccess, ReadWrite, ReadExecute}
+use Rattle.permission_map.specs.Runs.{in_range}
 use Rattle.worlds.specs.declared.world.World.{World}
 use Rattle.enclave_table.specs.Platform.{is_monitor, platform_perm}
-use Rattle.enclave_table.specs.Requests.{is_text, is_data, is_private, is_shared}
+use Rattle.enclave_table.specs.Requests.{is_private, is_shared}
 use Rattle.enclave_table.specs.Enclaves.{EnclaveTable, enclave_at}
 use Rattle.enclave_table.specs.declared.enclave.Enclave.{Enclave}
 use Rattle.enclave_table.specs.declared.owner.Owner.{Owner}
@@ -32,7 +33,9 @@ host_perm Host allowed = allowed
 
 -- an enclave: its text can be read and executed, its data and what it shares read and written, and nothing else
 abbrev pub enclave_view : Create → ℕ → Perm
-enclave_view parts page = cond (is_text parts page) ReadExecute (cond (is_data parts page || is_shared parts page) ReadWrite NoAccess)
+enclave_view parts page =
+    cond (in_range (parts.base / 4096) parts.text_pages page) ReadExecute
+    (cond (in_range (parts.base / 4096 + parts.text_pages) parts.data_pages page || is_shared parts page) ReadWrite NoAccess)
 
 -- the view of a world: that of the host, or that of the enclave which runs
 abbrev pub current_view : EnclaveTable → World → ℕ → Perm

@@ -2,9 +2,11 @@
 
 ghost use Rattle.std.specs.Prelude.{◌≡◌, ◌<◌, ◌-◌, IfOk, IfErr, OnErr, Some};
 ghost use Rattle.enclave_table.specs.Tables.{IsCurrent};
-ghost use Rattle.enclave_table.specs.Requests.{HasCounts, HasPlaces};
+ghost use Rattle.enclave_table.specs.Requests.{HasCounts, HasPlaces, parts_of};
 ghost use Rattle.enclave_table.specs.Digests.{measured};
-ghost use Rattle.enclave_table.specs.Create.{Creates, RefusesCreate};
+ghost use Rattle.enclave_table.specs.Create.{Creates, OutgrowsByCreate};
+ghost use Rattle.enclave_table.specs.Refusals.{RefusesBy};
+ghost use Rattle.enclave_table.specs.Checks.{create_checks};
 
 use crate::digest::{Pages, digest};
 use crate::enclave::{Enclave, State};
@@ -37,7 +39,7 @@ impl Table {
         ensures done { IfOk result (λ id.
             Creates (P.bytes_of pages.now) self.old.table world asked id self.new.table) }
         ensures refused { IfErr result (λ refusal.
-            RefusesCreate (P.bytes_of pages.now) self.old.table world asked refusal) }
+            RefusesBy (create_checks self.old.table world (parts_of asked)) (OutgrowsByCreate (P.bytes_of pages.now) self.old.table asked) refusal) }
         ensures kept { OnErr result (self.new ≡ self.old) }
     {
         self.cite_invariant();

@@ -2,7 +2,12 @@
 
 ghost use Rattle.std.specs.Prelude.{◌≡◌, ◌<◌, ◌-◌, IfOk, IfErr, OnErr, None};
 ghost use Rattle.enclave_table.specs.Tables.{IsCurrent};
-ghost use Rattle.enclave_table.specs.Destroy.{Destroys, RefusesDestroy};
+ghost use Rattle.enclave_table.specs.Destroy.{Destroys};
+ghost use Rattle.enclave_table.specs.Refusals.{RefusesBy};
+ghost use Rattle.enclave_table.specs.Checks.{host_checks, MayDestroy};
+ghost use Rattle.enclave_table.specs.Fewest.{NeedsMore};
+ghost use Rattle.enclave_table.specs.Views.{host_view};
+ghost use Rattle.enclave_table.specs.Enclaves.{with_enclave};
 
 use crate::entry_list::EntryList;
 use crate::refusal::Refusal;
@@ -18,7 +23,7 @@ impl Table {
         ensures done { IfOk result (λ range.
             Destroys self.old.table world id range self.new.table) }
         ensures refused { IfErr result (λ refusal.
-            RefusesDestroy self.old.table world id refusal) }
+            RefusesBy (host_checks MayDestroy self.old.table world id) (NeedsMore self.old.table.layout.limit (host_view (with_enclave self.old.table id None))) refusal) }
         ensures kept { OnErr result (self.new ≡ self.old) }
     {
         self.cite_invariant();

@@ -2,7 +2,7 @@
 
 ghost use Rattle.std.specs.Prelude.{◌≡◌, IfOk, OnOk, IfErr, OnErr, Some};
 ghost use Rattle.enclave_table.specs.Tables.{IsCurrent};
-ghost use Rattle.enclave_table.specs.Checks.{host_checks, leave_checks, state_before, MayEnter};
+ghost use Rattle.enclave_table.specs.Checks.{host_checks, leave_checks, state_before};
 ghost use Rattle.enclave_table.specs.Refusals.{FailsFirst};
 ghost use Rattle.enclave_table.specs.Lives.{state_after, Enters, Leaves};
 
@@ -60,7 +60,8 @@ impl Table {
         ensures done { OnOk result (Enters self.old.table world id entering self.new.table) }
         ensures lists { OnOk result (self.new ≡ record self.old { table = self.new.table }) }
         ensures refused { IfErr result (λ refusal.
-            FailsFirst (host_checks (MayEnter entering) self.old.table world id) refusal) }
+            FailsFirst (host_checks (λ state. state ≡ state_before entering) self.old.table world id)
+            refusal) }
         ensures kept { OnErr result (self.new ≡ self.old) }
     {
         if world != World::Host {
@@ -79,7 +80,8 @@ impl Table {
     /// Notes that the enclave which runs is left: stopped, by itself or by an interrupt, or ended. The answer is its id.
     pub fn leave(&mut self, world: World, leaving: Leaving) -> Result<u64, Refusal>
         requires { IsCurrent self.old.table world }
-        ensures done { IfOk result (λ id. Leaves self.old.table world leaving id self.new.table) }
+        ensures done { IfOk result (λ id. Leaves self.old.table world (state_after leaving) id
+            self.new.table) }
         ensures lists { OnOk result (self.new ≡ record self.old { table = self.new.table }) }
         ensures refused { IfErr result (λ refusal. FailsFirst (leave_checks world) refusal) }
         ensures kept { OnErr result (self.new ≡ self.old) }

@@ -5,8 +5,8 @@ ghost use Rattle.enclave_table.specs.Enclaves.{IsNextId, with_enclave};
 ghost use Rattle.enclave_table.specs.Tables.{IsCurrent};
 ghost use Rattle.enclave_table.specs.Requests.{HasCounts, HasPlaces, parts_of};
 ghost use Rattle.enclave_table.specs.Checks.{create_checks};
-ghost use Rattle.enclave_table.specs.Refusals.{AllPass};
-ghost use Rattle.enclave_table.specs.Create.{Creates, IsMeasured, RefusesCreate, measured_as};
+ghost use Rattle.enclave_table.specs.Refusals.{AllPass, RefusesBy};
+ghost use Rattle.enclave_table.specs.Create.{Creates, IsMeasured, measured_as, OutgrowsByCreate};
 
 use crate::enclave::{Enclave, State};
 use crate::fewest::enclave_list;
@@ -51,7 +51,7 @@ impl Table {
             → IsMeasured self.old.table world asked digest.now pages
             → Creates pages self.old.table world asked id self.new.table) }
         ensures refused { IfErr result (λ refusal.
-            (pages : ℕ → List ℕ) → RefusesCreate pages self.old.table world asked refusal) }
+            (pages : ℕ → List ℕ) → RefusesBy (create_checks self.old.table world (parts_of asked)) (OutgrowsByCreate pages self.old.table asked) refusal) }
         ensures kept { OnErr result (self.new ≡ self.old) }
     {
         self.cite_invariant();

@@ -16,7 +16,7 @@ use Rattle.hart_trace.specs.declared.event.Event.TheVariants as events
 use Rattle.hart_sim.specs.declared.reply.Reply.{Reply}
 use Rattle.hart_sim.specs.declared.reply.Reply.TheVariants as replies
 use Rattle.hart_sim.specs.Memory.{bytes_at, number_of, in_range}
-use Rattle.hart_sim.specs.States.{State, core_of, with_core, view_of, current_view, who_runs, running_registers}
+use Rattle.hart_sim.specs.States.{State, core_of, with_core, view_of, view_on, running_registers}
 use Rattle.enclave_table.proofs.ShortNames.{view_in}
 use Rattle.monitor_core.specs.Changes.{is_same, with_running}
 use Rattle.hart_sim.specs.Changes.{with_x, storing}
@@ -27,10 +27,10 @@ use Rattle.hart_sim.proofs.Bytes.{bytes_moved}
 use Rattle.hart_sim.proofs.Verdicts.{IsAllowed, allowed_by, some_held, page_of_byte}
 
 -- the view of an enclave that runs
-pub view_is : (s : State) (hart id : ℕ) (e : Enclave) → RunsOn s hart id e → current_view s hart ≡ enclave_view e.parts
+pub view_is : (s : State) (hart id : ℕ) (e : Enclave) → RunsOn s hart id e → view_on s hart ≡ enclave_view e.parts
 view_is s hart id e r = ap (λ w page. view_of s.table w page) r.world ∙ ap (λ o page. view_in o page) r.live
 
-runner_is : (s : State) (hart id : ℕ) (e : Enclave) → RunsOn s hart id e → who_runs s hart ≡ EnclaveOf id
+runner_is : (s : State) (hart id : ℕ) (e : Enclave) → RunsOn s hart id e → runner_of hart (s.worlds hart) ≡ EnclaveOf id
 runner_is s hart id e r = ap (runner_of hart) r.world
 
 -- where the mark is not there, taking it away changes nothing
@@ -167,8 +167,8 @@ follow_access s other new hart there id e f a value reply (Ok done) r q l v x = 
 set_is : (s new : State) (hart id n value : ℕ) (e : Enclave) → RunsOn s hart id e → new ≡ with_core (awoken s hart) (with_running (core_of (awoken s hart)) hart (with_x (running_registers s hart) n value)) → new.registers (EnclaveOf id) ≡ with_x (s.registers (EnclaveOf id)) n value
 set_is s new hart id n value e r is =
     let who = runner_is s hart id e r in
-    let at : new.registers (EnclaveOf id) ≡ (if is_same (EnclaveOf id) (who_runs s hart) then with_x (s.registers (who_runs s hart)) n value else s.registers (EnclaveOf id)) = ap (λ x. x.registers (EnclaveOf id)) is in
-    let there : (if is_same (EnclaveOf id) (who_runs s hart) then with_x (s.registers (who_runs s hart)) n value else s.registers (EnclaveOf id)) ≡ (if id == id then with_x (s.registers (EnclaveOf id)) n value else s.registers (EnclaveOf id)) =
+    let at : new.registers (EnclaveOf id) ≡ (if is_same (EnclaveOf id) (runner_of hart (s.worlds hart)) then with_x (s.registers (runner_of hart (s.worlds hart))) n value else s.registers (EnclaveOf id)) = ap (λ x. x.registers (EnclaveOf id)) is in
+    let there : (if is_same (EnclaveOf id) (runner_of hart (s.worlds hart)) then with_x (s.registers (runner_of hart (s.worlds hart))) n value else s.registers (EnclaveOf id)) ≡ (if id == id then with_x (s.registers (EnclaveOf id)) n value else s.registers (EnclaveOf id)) =
     ap (λ w. if is_same (EnclaveOf id) w then with_x (s.registers w) n value else s.registers (EnclaveOf id)) who in
     at ∙ there ∙ ap (λ b. if b then with_x (s.registers (EnclaveOf id)) n value else s.registers (EnclaveOf id)) (eq-eqb id id refl)
 
@@ -176,7 +176,7 @@ sets_own : (s new : State) (hart id n value : ℕ) (e : Enclave) → RunsOn s ha
 sets_own s new hart id n value e r is = subst (ChangesOwn id e s) (sym is) (record {
   table = refl;
   worlds = refl;
-  registers = λ who other. ap (λ b. if b then with_x (running_registers s hart) n value else s.registers who) (same_not who (who_runs s hart) (λ same. other (same ∙ runner_is s hart id e r)));
+  registers = λ who other. ap (λ b. if b then with_x (running_registers s hart) n value else s.registers who) (same_not who (runner_of hart (s.worlds hart)) (λ same. other (same ∙ runner_is s hart id e r)));
   bytes = λ b none. refl;
   written = λ p none. refl;
   marked = λ i h. unmarked s hart h r.unmarked i;
@@ -186,7 +186,7 @@ sets_own s new hart id n value e r is = subst (ChangesOwn id e s) (sym is) (reco
 follow : (s other new : State) (hart there id : ℕ) (e f : Enclave) (event : Event) (reply : Reply) → RunsOn s hart id e → RunsOn other there id f → LooksSame id e f s other → IsOwn event → Step s hart event reply new → Follows s other new hart there id e f event reply
 follow s other new hart there id e f (events.Access a value) reply r q l own x =
     let here = view_is s hart id e r in
-    let other_view : current_view other there ≡ enclave_view e.parts = view_is other there id f q ∙ ap enclave_view (sym l.parts) in
+    let other_view : view_on other there ≡ enclave_view e.parts = view_is other there id f q ∙ ap enclave_view (sym l.parts) in
     let x' : Accesses (verdict (enclave_view e.parts) a) (awoken s hart) a value reply new = subst (λ view. Accesses (verdict view a) (awoken s hart) a value reply new) here x in
     let t = follow_access s other new hart there id e f a value reply (verdict (enclave_view e.parts) a) r q l refl x' in
     (t.0, subst (λ view. Accesses (verdict view a) (awoken other there) a value reply t.0) (sym other_view) t.1, t.2, t.3, t.4)

@@ -14,10 +14,10 @@ use Rattle.enclave_table.specs.Tables.{Kept}
 use Rattle.enclave_table.proofs.SameViews.{fewest_same}
 use Rattle.monitor_core.proofs.Cases.{both}
 use Rattle.hart_sim.specs.declared.machine.Machine.{Machine}
-use Rattle.hart_sim.specs.Banks.{LoadsFewest, AreBanksRight, KeepsOtherBanks, MeetsList}
+use Rattle.hart_sim.specs.Banks.{LoadsFewest, AreBanksRight, MeetsList}
 use Rattle.hart_sim.specs.Machines.{state_of, bank_on}
 use Rattle.hart_sim.specs.Parts.{AreBanks}
-use Rattle.hart_sim.specs.States.{State, current_view}
+use Rattle.hart_sim.specs.States.{State, view_on}
 
 -- what is read at a place that there is
 pub at_place : (banks : List Bank) (n : ℕ) → n < length banks → (bank : Bank) × (slice_get banks n ≡ Some bank)
@@ -71,21 +71,21 @@ loads_same bank view other same l = record { list = l.list; loaded = l.loaded; f
 
 -- the banks are right where that of one hart is, and each other one that is not marked has the same view as before
 pub banks_after : (s new : State) (old now : ℕ → Option Bank) (hart : ℕ) → new.table.layout.harts ≡ s.table.layout.harts
-    → (new.marked hart ≡ false → (bank : Bank) × (now hart ≡ Some bank) × LoadsFewest bank (current_view new hart))
-    → KeepsOtherBanks old now hart
-    → ((i : ℕ) → i ≢ hart → i < s.table.layout.harts → new.marked i ≡ false → (s.marked i ≡ false) × SameView (current_view s i) (current_view new i))
+    → (new.marked hart ≡ false → (bank : Bank) × (now hart ≡ Some bank) × LoadsFewest bank (view_on new hart))
+    → ((other : ℕ) → other ≢ hart → now other ≡ old other)
+    → ((i : ℕ) → i ≢ hart → i < s.table.layout.harts → new.marked i ≡ false → (s.marked i ≡ false) × SameView (view_on s i) (view_on new i))
     → AreBanksRight s old → AreBanksRight new now
 banks_after s new old now hart harts here others stay right = λ i b low off has. both (i == hart)
     (λ e.
     let is : i ≡ hart = eqb-true i hart e in
     let there = here (ap new.marked (sym is) ∙ off) in
     let same : b ≡ there.0 = same_Some b there.0 (sym has ∙ ap now is ∙ there.1) in
-    subst (λ k. LoadsFewest b (current_view new k)) (sym is) (subst (λ x. LoadsFewest x (current_view new hart)) (sym same) there.2))
+    subst (λ k. LoadsFewest b (view_on new k)) (sym is) (subst (λ x. LoadsFewest x (view_on new hart)) (sym same) there.2))
     (λ e.
     let other : i ≢ hart = λ is. both_ways (i == hart) e (eq-eqb i hart is) in
     let under : i < s.table.layout.harts = subst (λ n. i < n) harts low in
     let was = stay i other under off in
-    loads_same b (current_view s i) (current_view new i) was.1 (right i b under was.0 (sym (others i other) ∙ has)))
+    loads_same b (view_on s i) (view_on new i) was.1 (right i b under was.0 (sym (others i other) ∙ has)))
 
 -- once a marked hart has loaded the host's entries, the list that an event meets is loaded
 pub met : (s : State) (kept : Kept) (old mid : ℕ → Option Bank) (hart : ℕ) (list : List Entry) → MeetsList s kept old hart list

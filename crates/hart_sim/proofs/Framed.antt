@@ -6,10 +6,10 @@ use Rattle.permission_map.specs.Views.{SameView}
 use Rattle.monitor_core.specs.Frames.{LoadsAnew}
 use Rattle.monitor_core.specs.Monitors.{kept_of}
 use Rattle.hart_sim.specs.declared.parts.Parts.{Parts}
-use Rattle.hart_sim.specs.Banks.{AreBanksRight, KeepsOtherBanks, LoadsFewest}
+use Rattle.hart_sim.specs.Banks.{AreBanksRight, LoadsFewest}
 use Rattle.hart_sim.specs.Frames.{IsOn, KeepsFrame}
 use Rattle.hart_sim.specs.Parts.{AreBanks, state_in, bank_in}
-use Rattle.hart_sim.specs.States.{State, core_of, view_of, current_view}
+use Rattle.hart_sim.specs.States.{State, core_of, view_of, view_on}
 use Rattle.monitor_core.proofs.Others.{KeepsOthers}
 use Rattle.hart_sim.proofs.BankPlaces.{at_place, loads_same, banks_after}
 
@@ -18,13 +18,13 @@ pub still_on : (old new : Parts) (hart : ℕ) → IsOn old hart → KeepsFrame o
 still_on old new hart on frame = record { known = subst (λ l. hart < l.harts) (sym frame.layout) on.known; limited = frame.limited }
 
 -- where table and world stay, so does the view
-same_view : (s new : State) (i : ℕ) → new.table ≡ s.table → new.worlds i ≡ s.worlds i → SameView (current_view s i) (current_view new i)
+same_view : (s new : State) (i : ℕ) → new.table ≡ s.table → new.worlds i ≡ s.worlds i → SameView (view_on s i) (view_on new i)
 same_view s new i table world = λ page small. ap₂ (λ t w. view_of t w page) (sym table) (sym world)
 
 -- banks that are right stay so where they, table, worlds and marks stay
 right_still : (s new : State) (old now : ℕ → Option Bank) → new.table ≡ s.table → ((i : ℕ) → new.worlds i ≡ s.worlds i) → ((i : ℕ) → new.marked i ≡ s.marked i) → ((i : ℕ) → now i ≡ old i) → AreBanksRight s old → AreBanksRight new now
 right_still s new old now table worlds marks banks right = λ i b low off has.
-    loads_same b (current_view s i) (current_view new i) (same_view s new i table (worlds i))
+    loads_same b (view_on s i) (view_on new i) (same_view s new i table (worlds i))
     (right i b (subst (λ t. i < t.layout.harts) table low) (sym (marks i) ∙ off) (sym (banks i) ∙ has))
 
 -- banks, table, worlds and marks stay
@@ -58,27 +58,27 @@ frame_after old mid new hart same stood kept awake x y = record {
 -- the hart whose mark was taken away has the fewest entries, and each other hart what it had
 pub frame_woken : (old new : Parts) (hart : ℕ) → (state_in old).marked hart ≡ true → AreBanks new.banks (state_in old).table.layout.limit
     → (state_in new).table ≡ (state_in old).table → ((i : ℕ) → (state_in new).worlds i ≡ (state_in old).worlds i) → ((i : ℕ) → i ≢ hart → (state_in new).marked i ≡ (state_in old).marked i)
-    → kept_of new.monitor ≡ kept_of old.monitor → KeepsOtherBanks (bank_in old) (bank_in new) hart
-    → (bank : Bank) × (bank_in new hart ≡ Some bank) × LoadsFewest bank (current_view (state_in old) hart) → KeepsFrame old new hart
+    → kept_of new.monitor ≡ kept_of old.monitor → ((other : ℕ) → other ≢ hart → bank_in new other ≡ bank_in old other)
+    → (bank : Bank) × (bank_in new hart ≡ Some bank) × LoadsFewest bank (view_on (state_in old) hart) → KeepsFrame old new hart
 frame_woken old new hart was limited table worlds marks kept others fewest = record {
   layout = ap (λ t. t.layout) table;
   limited = subst (λ t. AreBanks new.banks t.layout.limit) (sym table) limited;
   banks = λ right. banks_after (state_in old) (state_in new) (bank_in old) (bank_in new) hart (ap (λ t. t.layout.harts) table)
-      (λ off. (fewest.0, fewest.1, loads_same fewest.0 (current_view (state_in old) hart) (current_view (state_in new) hart) (same hart) fewest.2)) others
+      (λ off. (fewest.0, fewest.1, loads_same fewest.0 (view_on (state_in old) hart) (view_on (state_in new) hart) (same hart) fewest.2)) others
       (λ i other low off. (sym (marks i other) ∙ off, same i)) right;
   others = others;
   stays = λ off table world. absurd (both_ways ((state_in old).marked hart) off was);
   lists = λ table. kept;
 }
   where
-    same : (i : ℕ) → SameView (current_view (state_in old) i) (current_view (state_in new) i)
+    same : (i : ℕ) → SameView (view_on (state_in old) i) (view_on (state_in new) i)
     same i = same_view (state_in old) (state_in new) i table (worlds i)
 
 -- after the monitor served a call or an interrupt on a hart, and entries were loaded there where it asked for that
 pub frame_served : (old new : Parts) (hart : ℕ) (asked : Bool) → IsOn old hart → hart < 4 → (state_in old).marked hart ≡ false → KeepsOthers (core_of (state_in old)) (core_of (state_in new)) hart
     → LoadsAnew asked (core_of (state_in old)) (core_of (state_in new)) hart → (state_in new).table.layout ≡ (state_in old).table.layout → AreBanks new.banks (state_in new).table.layout.limit
-    → ((state_in new).table ≡ (state_in old).table → kept_of new.monitor ≡ kept_of old.monitor) → KeepsOtherBanks (bank_in old) (bank_in new) hart
-    → (asked ≡ true → (bank : Bank) × (bank_in new hart ≡ Some bank) × LoadsFewest bank (current_view (state_in new) hart))
+    → ((state_in new).table ≡ (state_in old).table → kept_of new.monitor ≡ kept_of old.monitor) → ((other : ℕ) → other ≢ hart → bank_in new other ≡ bank_in old other)
+    → (asked ≡ true → (bank : Bank) × (bank_in new hart ≡ Some bank) × LoadsFewest bank (view_on (state_in new) hart))
     → (asked ≡ false → new.banks ≡ old.banks) → KeepsFrame old new hart
 frame_served old new hart true on few awake keeps loads layout limited lists others fewest calm = record {
   layout = layout;
@@ -95,7 +95,7 @@ frame_served old new hart false on few awake keeps loads layout limited lists ot
   banks = λ right. banks_after (state_in old) (state_in new) (bank_in old) (bank_in new) hart (ap (λ l. l.harts) layout)
       (λ off.
       let b = at_place old.banks hart (omega (arith, on.limited.four, few)) in
-      (b.0, ap (λ bs. slice_get bs hart) (calm refl) ∙ b.1, loads_same b.0 (current_view (state_in old) hart) (current_view (state_in new) hart) (same_view (state_in old) (state_in new) hart loads.0 loads.1) (right hart b.0 on.known awake b.1)))
+      (b.0, ap (λ bs. slice_get bs hart) (calm refl) ∙ b.1, loads_same b.0 (view_on (state_in old) hart) (view_on (state_in new) hart) (same_view (state_in old) (state_in new) hart loads.0 loads.1) (right hart b.0 on.known awake b.1)))
       others (λ i other low off. (keeps.awake i other off, keeps.views i other low off)) right;
   others = others;
   stays = λ off table world. ap (λ bs. slice_get bs hart) (calm refl);

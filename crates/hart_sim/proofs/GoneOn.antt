@@ -1,5 +1,5 @@
 -- However a run of lines ends, the machine is the one after the events that its first lines say.
-use Rattle.std.proofs.Common.{◌≡◌, ◌∙◌, inl, inr, ℕ, ◌<◌, true, List, [], ◌∷◌, ◌++◌, length, Option, Some, Result, Ok, Err, refl, ap, sym, append_assoc}
+use Rattle.std.proofs.Common.{◌≡◌, ◌⊎◌, ◌∙◌, inl, inr, ℕ, ◌<◌, true, List, [], ◌∷◌, ◌++◌, length, Option, Some, Result, Ok, Err, refl, ap, sym, append_assoc}
 use Rattle.std.specs.Prelude.{IfOk}
 use Rattle.enclave_table.specs.Platform.{Layout}
 use Rattle.hart_trace.specs.declared.event.Event.{Event}
@@ -11,8 +11,8 @@ use Rattle.text_lines.specs.LineLoop.{Meaning, Does, none, silent, answer, ended
 use Rattle.hart_sim.specs.declared.machine.Machine.{Machine}
 use Rattle.hart_sim.specs.declared.reply.Reply.{Reply}
 use Rattle.hart_sim.specs.After.{After, Happens}
-use Rattle.hart_sim.specs.Reports.{harts_of, DoesLine, RefusesLine, StarvesLine, BeginsWith, GoesOn, one}
-use Rattle.hart_sim.proofs.Reported.{is_reported, one_more, way}
+use Rattle.hart_sim.specs.Reports.{DoesLine, RefusesLine, StarvesLine, GoesOn, one}
+use Rattle.hart_sim.proofs.Reported.{harts_of, is_reported, one_more, way}
 
 -- no line has an LF in it
 abbrev NoEnds : List (List ℕ) → Type 0
@@ -43,6 +43,10 @@ are_lines [] last h e some = (e, [], inr (some, refl, refl), refl)
 are_lines (line ∷ lines) last h e some = (h.0, ended lines ++ last, inl (append_assoc line (10 ∷ ended lines) last), are_lines lines last h.1 e some)
 
 -- with a line that stands in what came, what was read begins
+-- with these lines the bytes begin, each before its LF, or they are all of its lines
+abbrev BeginsWith : List ℕ → List (List ℕ) → Type 0
+BeginsWith bytes lines = ((rest : List ℕ) × (bytes ≡ ended lines ++ rest)) ⊎ AreLines bytes lines
+
 one_begins : (lines : List (List ℕ)) (bytes line : List ℕ) (after : Option (List ℕ)) → NoEnds lines → IsShortLine line → Stands bytes after line → BeginsWith (ended lines ++ bytes) (lines ++ line ∷ [])
 one_begins lines bytes line after h short (inl p) = inl (p.0, ap (λ xs. ended lines ++ xs) p.1 ∙ ended-rest lines line p.0)
 one_begins lines bytes line after h short (inr p) =

@@ -9,7 +9,7 @@ use Rattle.hart_sim.specs.Machines.{state_of, KeepsBanksRight}
 use Rattle.hart_sim.specs.States.{State, opening}
 use Rattle.hart_sim.specs.Steps.{Run, still, step}
 use Rattle.hart_sim.specs.After.{After, booted, happened, Happens}
-use Rattle.hart_sim.specs.Headline.{Moment, HeadlineHolds}
+use Rattle.hart_sim.specs.Headline.{Moment, Headline}
 use Rattle.hart_sim.proofs.BankPlaces.{some_bank}
 use Rattle.hart_sim.proofs.Layouts.{layout_stays}
 use Rattle.hart_sim.proofs.Promises.{promised}
@@ -101,7 +101,7 @@ moment_of platform _ _ m (happened {events} {replies} {old} a there that reply x
   | inr p ↦ further platform before p.0 after replies old m hart there event that reply (moment_of platform events replies old a before hart event p.0 p.2) x p.1
 ]
 
-pub headline : HeadlineHolds
+pub headline : (platform : Layout) (events : List (ℕ × Event)) (replies : List Reply) (machine : Machine) → After platform events replies machine → Headline platform events replies machine
 headline platform events replies m a =
     let run = run_of platform events replies m a in
     let layout = layout_of platform (state_of m) events replies run in

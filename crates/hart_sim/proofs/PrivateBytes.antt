@@ -11,7 +11,7 @@ use Rattle.pmp_match.specs.Kinds.{holds}
 use Rattle.permission_map.specs.Runs.{in_range}
 use Rattle.enclave_table.proofs.Places.{live_place}
 use Rattle.enclave_table.specs.Enclaves.{EnclaveTable, Live, enclave_at}
-use Rattle.enclave_table.specs.Requests.{is_text, is_data, is_private, is_shared, is_part}
+use Rattle.enclave_table.specs.Requests.{is_private, is_shared, is_part}
 use Rattle.enclave_table.specs.Views.{has_private, host_view, enclave_view}
 use Rattle.enclave_table.proofs.ShortNames.{any_private}
 use Rattle.enclave_table.specs.Platform.{is_monitor, platform_perm}
@@ -23,7 +23,7 @@ use Rattle.worlds.specs.declared.world.World.TheVariants.{Host, Enclave as InEnc
 use Rattle.hart_trace.specs.declared.event.Event.{Event}
 use Rattle.hart_trace.specs.declared.event.Event.TheVariants as events
 use Rattle.hart_sim.specs.declared.reply.Reply.{Reply}
-use Rattle.hart_sim.specs.States.{State, with_core, view_of, current_view}
+use Rattle.hart_sim.specs.States.{State, with_core, view_of, view_on}
 use Rattle.enclave_table.proofs.ShortNames.{view_in}
 use Rattle.hart_sim.specs.Changes.{is_zeroed, zeroing}
 use Rattle.hart_sim.specs.Steps.{Step, Accesses, TakesEffect, verdict}
@@ -73,7 +73,7 @@ none_held : (kind : Kind) → holds NoAccess kind ≡ true → ⊥
 none_held kind e = some_held NoAccess kind e refl
 
 -- what an enclave may do something with is a part of it
-part_held : (parts : Create) (page : ℕ) (kind : Kind) (text datum shared : Bool) → is_text parts page ≡ text → is_data parts page ≡ datum → is_shared parts page ≡ shared → holds (cond text ReadExecute (cond (datum || shared) ReadWrite NoAccess)) kind ≡ true → is_part parts page ≡ true
+part_held : (parts : Create) (page : ℕ) (kind : Kind) (text datum shared : Bool) → in_range (parts.base / 4096) parts.text_pages page ≡ text → in_range (parts.base / 4096 + parts.text_pages) parts.data_pages page ≡ datum → is_shared parts page ≡ shared → holds (cond text ReadExecute (cond (datum || shared) ReadWrite NoAccess)) kind ≡ true → is_part parts page ≡ true
 part_held parts page kind true datum shared t d s h = or_first (is_private parts page) (is_shared parts page) (wider (parts.base / 4096) parts.text_pages parts.data_pages page t)
 part_held parts page kind false true shared t d s h = or_first (is_private parts page) (is_shared parts page) (behind (parts.base / 4096) parts.text_pages parts.data_pages page d)
 part_held parts page kind false false true t d s h = or_second (is_private parts page) (is_shared parts page) s
@@ -88,7 +88,7 @@ only_itself table (InEnclave k) id page e kind right live p h = by_slot (enclave
     by_slot None is = absurd (none_held kind (ap (λ o. holds (view_in o page) kind) (sym is) ∙ h))
     by_slot (Some g) is =
         let held : holds (enclave_view g.parts page) kind ≡ true = ap (λ o. holds (view_in o page) kind) (sym is) ∙ h in
-        let part = part_held g.parts page kind (is_text g.parts page) (is_data g.parts page) (is_shared g.parts page) refl refl refl held in
+        let part = part_held g.parts page kind (in_range (g.parts.base / 4096) g.parts.text_pages page) (in_range (g.parts.base / 4096 + g.parts.text_pages) g.parts.data_pages page) (is_shared g.parts page) refl refl refl held in
         let same : k ≡ id = right.alone k id g e page is live part (or_first (is_private e.parts page) (is_shared e.parts page) p) in
         ap InEnclave same
 
@@ -103,19 +103,19 @@ test : {P : Type 0} (b : Bool) → (b ≡ true → P) → (b ≡ false → P) �
 test true when unless = when refl
 test false when unless = unless refl
 
-stored_there : (old new : State) (hart id byte value : ℕ) (a : Access) (e : Enclave) → IsTable old.table → Live old.table id e → is_private e.parts (byte / 4096) ≡ true → verdict (current_view old hart) a ≡ Ok tt → (kind : Kind) → a.kind ≡ kind → (reply : Reply) → TakesEffect kind (awoken old hart) a value reply new → Kept old new hart byte (events.Access a value) reply id
+stored_there : (old new : State) (hart id byte value : ℕ) (a : Access) (e : Enclave) → IsTable old.table → Live old.table id e → is_private e.parts (byte / 4096) ≡ true → verdict (view_on old hart) a ≡ Ok tt → (kind : Kind) → a.kind ≡ kind → (reply : Reply) → TakesEffect kind (awoken old hart) a value reply new → Kept old new hart byte (events.Access a value) reply id
 stored_there old new hart id byte value a e right live p v Fetch k reply x = inl (ap (λ y. y.bytes byte) x.1)
 stored_there old new hart id byte value a e right live p v Load k reply x = inl (ap (λ y. y.bytes byte) x.1)
 stored_there old new hart id byte value a e right live p v Store k reply (inr x) = inl (ap (λ y. y.bytes byte) x.2)
 stored_there old new hart id byte value a e right live p v Store k reply (inl x) = test (in_range a.address a.size byte)
     (λ yes.
     let w = within a.address a.size byte yes in
-    let ok = allowed_by (current_view old hart) a v in
-    let held : holds (current_view old hart (byte / 4096)) a.kind ≡ true = ap (λ q. holds (current_view old hart q) a.kind) (page_of_byte a byte ok.aligned w.0 w.1) ∙ ok.held in
+    let ok = allowed_by (view_on old hart) a v in
+    let held : holds (view_on old hart (byte / 4096)) a.kind ≡ true = ap (λ q. holds (view_on old hart q) a.kind) (page_of_byte a byte ok.aligned w.0 w.1) ∙ ok.held in
     inr (k, x.0, only_itself old.table (old.worlds hart) id (byte / 4096) e a.kind right live p held, v, w.0, w.1))
     (λ no. inl (ap (λ y. y.bytes byte) x.1 ∙ ap (λ b. if b then byte_of value (byte - a.address) else old.bytes byte) no))
 
-accessed : (old new : State) (hart id byte value : ℕ) (a : Access) (e : Enclave) (reply : Reply) (said : Result (Unit {0}) Cause) → IsTable old.table → Live old.table id e → is_private e.parts (byte / 4096) ≡ true → verdict (current_view old hart) a ≡ said → Accesses said (awoken old hart) a value reply new → Kept old new hart byte (events.Access a value) reply id
+accessed : (old new : State) (hart id byte value : ℕ) (a : Access) (e : Enclave) (reply : Reply) (said : Result (Unit {0}) Cause) → IsTable old.table → Live old.table id e → is_private e.parts (byte / 4096) ≡ true → verdict (view_on old hart) a ≡ said → Accesses said (awoken old hart) a value reply new → Kept old new hart byte (events.Access a value) reply id
 accessed old new hart id byte value a e reply (Err cause) right live p v x = inl (ap (λ y. y.bytes byte) x.1)
 accessed old new hart id byte value a e reply (Ok done) right live p v x = stored_there old new hart id byte value a e right live p v a.kind refl reply x
 
@@ -148,7 +148,7 @@ called s new before core pages id byte e f table is right live now p (inr x) =
 
 -- a step leaves each byte of a private page, but for the enclave's own stores
 pub keeps_private : (old : State) (hart : ℕ) (event : Event) (reply : Reply) (new : State) → IsTable old.table → Step old hart event reply new → KeepsPrivate old hart event reply new
-keeps_private old hart (events.Access a value) reply new right x = λ id byte e f live now p q. accessed old new hart id byte value a e reply (verdict (current_view old hart) a) right live p refl x
+keeps_private old hart (events.Access a value) reply new right x = λ id byte e f live now p q. accessed old new hart id byte value a e reply (verdict (view_on old hart) a) right live p refl x
 keeps_private old hart (events.Reg n value) reply new right x = λ id byte e f live now p q. inl (ap (λ y. y.bytes byte) x.1)
 keeps_private old hart (events.Ecall words) reply new right x = λ id byte e f live now p q.
     inl (called (awoken old hart) new (asked old hart words.items) x.2 x.1 id byte e f refl x.4 right live now p (cleared (named old hart words.items) (lent old) (asked old hart words.items) hart x.0 x.1 x.2 x.3))

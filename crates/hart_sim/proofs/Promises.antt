@@ -4,17 +4,18 @@ use Rattle.hart_trace.specs.declared.event.Event.{Event}
 use Rattle.hart_sim.specs.declared.reply.Reply.{Reply}
 use Rattle.hart_sim.specs.States.{State}
 use Rattle.hart_sim.specs.Steps.{Step}
-use Rattle.hart_sim.specs.Promises.{AnswersByView, StepsPromise}
+use Rattle.hart_sim.specs.Promises.{AnswersByView, Promises}
 use Rattle.hart_sim.proofs.PrivateBytes.{keeps_private}
 use Rattle.hart_sim.proofs.Promised.{allowed_by_view, denies_others, zeroes_destroyed}
 use Rattle.hart_sim.proofs.Wanted.{refuses_by_need}
 use Rattle.hart_sim.proofs.SoundTables.{table_step}
 use Rattle.hart_sim.proofs.Layouts.{layout_stays}
+use Rattle.enclave_table.specs.Tables.{IsTable}
 
 pub answers_by_view : (old : State) (hart : ℕ) (event : Event) (reply : Reply) (new : State) → Step old hart event reply new → AnswersByView old hart event reply
 answers_by_view old hart event reply new x = λ a value is aligned inside. allowed_by_view old hart a value reply new aligned inside (subst (λ e. Step old hart e reply new) is x)
 
-pub promised : StepsPromise
+pub promised : (old : State) (hart : ℕ) (event : Event) (reply : Reply) (new : State) → IsTable old.table → Step old hart event reply new → Promises old hart event reply new
 promised old hart event reply new t x = record {
   allowed = answers_by_view old hart event reply new x;
   private = keeps_private old hart event reply new t x;

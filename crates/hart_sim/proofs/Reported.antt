@@ -14,11 +14,15 @@ use Rattle.hart_sim.specs.Steps.{Run, still, step}
 use Rattle.hart_sim.specs.Texts.{reply_text, lines_from, report_text}
 use Rattle.enclave_table.specs.Platform.{Layout}
 use Rattle.hart_sim.specs.After.{After, happened, Happens}
-use Rattle.hart_sim.specs.Reports.{harts_of, DoesLine, none, blank, one, AreAnswered, AreElsewhere, LastOwn, Report, IsReported}
+use Rattle.hart_sim.specs.Reports.{DoesLine, none, blank, one, AreAnswered, AreElsewhere, LastOwn, Report, IsReported}
 use Rattle.hart_sim.proofs.Layouts.{layout_stays}
 use Rattle.hart_sim.proofs.Awake.{awake_then}
 use Rattle.monitor_core.proofs.Cases.{both}
 use Rattle.std.proofs.lemmas.Bool.{eq-eqb, eqb-true, both_ways}
+
+-- how many harts a line may name
+abbrev pub harts_of : Machine → ℕ
+harts_of machine = (state_of machine).table.layout.harts
 
 -- one reply more
 lines_from-snoc : (n : ℕ) (replies : List Reply) (reply : Reply) → lines_from n (replies ++ reply ∷ []) ≡ lines_from n replies ++ reply_text (n + length replies) reply

@@ -2,9 +2,9 @@
 use Rattle.std.proofs.Common.{◌≡◌, ◌∙◌, ℕ, true, false, if◌then◌else◌, refl, ap, sym}
 use Rattle.std.proofs.lemmas.Bool.{eqb-true}
 use Rattle.sbi_decode.specs.Registers.{RegisterFile}
-use Rattle.worlds.specs.Runners.{Runner, HostOf, EnclaveOf}
+use Rattle.worlds.specs.Runners.{Runner, HostOf, EnclaveOf, runner_of}
 use Rattle.monitor_core.specs.Changes.{is_same, with_running}
-use Rattle.monitor_core.specs.States.{State, who_runs, running_registers}
+use Rattle.monitor_core.specs.States.{State, running_registers}
 use Rattle.monitor_core.proofs.Cases.{both}
 use Rattle.monitor_core.proofs.Equal.{equal}
 
@@ -18,8 +18,8 @@ pub running_same : (s : State) (hart : ℕ) (file : RegisterFile) → file ≡ r
 running_same s hart file is = equal (record {
   table = refl;
   worlds = λ h. refl;
-  registers = λ who. both (is_same who (who_runs s hart))
-      (λ e. ap (λ b. if b then file else s.registers who) e ∙ is ∙ ap s.registers (sym (same_is who (who_runs s hart) e)))
+  registers = λ who. both (is_same who (runner_of hart (s.worlds hart)))
+      (λ e. ap (λ b. if b then file else s.registers who) e ∙ is ∙ ap s.registers (sym (same_is who (runner_of hart (s.worlds hart)) e)))
       (λ e. ap (λ b. if b then file else s.registers who) e);
   marked = λ h. refl;
 })

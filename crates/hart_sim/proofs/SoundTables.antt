@@ -6,7 +6,7 @@ use Rattle.monitor_core.proofs.SoundTables.{call_keeps_table, interrupt_keeps_ta
 use Rattle.hart_trace.specs.declared.event.Event.{Event}
 use Rattle.hart_trace.specs.declared.event.Event.TheVariants as events
 use Rattle.hart_sim.specs.declared.reply.Reply.{Reply}
-use Rattle.hart_sim.specs.States.{State, core_of, current_view}
+use Rattle.hart_sim.specs.States.{State, core_of, view_on}
 use Rattle.hart_sim.specs.Steps.{Step, Run, still, step, verdict}
 use Rattle.hart_sim.proofs.Asked.{awoken, named, asked, lent, core_access}
 
@@ -15,7 +15,7 @@ same : (table new : EnclaveTable) → new ≡ table → IsTable table → IsTabl
 same table new is t = subst IsTable (sym is) t
 
 pub table_step : (old : State) (hart : ℕ) (event : Event) (reply : Reply) (new : State) → Step old hart event reply new → IsTable old.table → IsTable new.table
-table_step old hart (events.Access a value) reply new x t = same old.table new.table (ap (λ c. c.table) (core_access (verdict (current_view old hart) a) (awoken old hart) a value reply new x)) t
+table_step old hart (events.Access a value) reply new x t = same old.table new.table (ap (λ c. c.table) (core_access (verdict (view_on old hart) a) (awoken old hart) a value reply new x)) t
 table_step old hart (events.Reg n value) reply new x t = same old.table new.table (ap (λ y. y.table) x.1) t
 table_step old hart (events.Ecall words) reply new x t =
     same x.2.table new.table (ap (λ y. y.table) x.4) (call_keeps_table (named old hart words.items) (lent old) (asked old hart words.items) hart x.0 x.1 x.2 x.3 t)

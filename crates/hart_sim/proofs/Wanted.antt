@@ -19,8 +19,8 @@ use Rattle.hart_trace.specs.declared.event.Event.{Event}
 use Rattle.hart_trace.specs.declared.event.Event.TheVariants as events
 use Rattle.hart_sim.specs.declared.reply.Reply.{Reply}
 use Rattle.hart_sim.specs.declared.reply.Reply.TheVariants as replies
-use Rattle.hart_sim.specs.Replies.{AnswersCall}
-use Rattle.hart_sim.specs.States.{State, core_of, current_view, page_bytes}
+use Rattle.hart_sim.specs.Replies.{RepliesWith}
+use Rattle.hart_sim.specs.States.{State, core_of, view_on, page_bytes}
 use Rattle.hart_sim.specs.Steps.{Step, Accesses, TakesEffect, verdict}
 use Rattle.hart_sim.specs.Wants.{IsAnsweredBy, CreatesByNeed, DestroysByNeed, RefusesByNeed}
 use Rattle.hart_sim.proofs.Asked.{awoken, named, asked, lent}
@@ -30,7 +30,7 @@ abbrev Says : Answer → Refusal → Type 0
 Says answer refusal = answer.status ≡ below_zero (refusal_number refusal)
 
 -- the reply has the status of the answer
-to_reply : (new : State) (hart : ℕ) (answer : Answer) (reply : Reply) (refusal : Refusal) → AnswersCall new hart answer reply → Says answer refusal → IsAnsweredBy reply refusal
+to_reply : (new : State) (hart : ℕ) (answer : Answer) (reply : Reply) (refusal : Refusal) → RepliesWith (replies.Call answer.status answer.value) new hart reply → Says answer refusal → IsAnsweredBy reply refusal
 to_reply new hart answer reply refusal told is =
     let world = world_number (new.worlds hart) in
     (answer.value, world, told.0, told.2 ∙ ap (λ status. replies.Call status answer.value world told.0) is)
@@ -39,7 +39,7 @@ abbrev status_of : Reply → ℤ
 status_of (replies.Call status value world used) = status
 status_of _ = pos 0
 
-to_answer : (new : State) (hart : ℕ) (answer : Answer) (reply : Reply) (refusal : Refusal) → AnswersCall new hart answer reply → IsAnsweredBy reply refusal → Says answer refusal
+to_answer : (new : State) (hart : ℕ) (answer : Answer) (reply : Reply) (refusal : Refusal) → RepliesWith (replies.Call answer.status answer.value) new hart reply → IsAnsweredBy reply refusal → Says answer refusal
 to_answer new hart answer reply refusal told is = ap status_of (sym told.2 ∙ is.3)
 
 pub creates_by_need : CreatesByNeed
@@ -57,7 +57,7 @@ destroys_by_need id s hart reply new pass x =
     )
 
 -- said of the answer, so of the reply
-replied : (call : Option Call) (table : EnclaveTable) (world : World) (new : State) (hart : ℕ) (answer : Answer) (reply : Reply) → AnswersCall new hart answer reply → IsRefusedByNeed call table world (Says answer) → IsRefusedByNeed call table world (IsAnsweredBy reply)
+replied : (call : Option Call) (table : EnclaveTable) (world : World) (new : State) (hart : ℕ) (answer : Answer) (reply : Reply) → RepliesWith (replies.Call answer.status answer.value) new hart reply → IsRefusedByNeed call table world (Says answer) → IsRefusedByNeed call table world (IsAnsweredBy reply)
 replied call table world new hart answer reply told n = record {
   entries = λ is. n.entries (to_answer new hart answer reply NoEntries told is);
   outgrown = λ pass out. elim (n.outgrown pass out) [ inl is ↦ inl (to_reply new hart answer reply NoEntries told is) | inr is ↦ inr (to_reply new hart answer reply NoMemory told is) ];
@@ -87,7 +87,7 @@ accessed (Ok done) table world s a value reply new x = effect a.kind table world
 
 -- an event is refused for want of entries just where a view would need more, and nothing but a creation or a destruction is
 pub refuses_by_need : (old : State) (hart : ℕ) (event : Event) (reply : Reply) (new : State) → IsTable old.table → Step old hart event reply new → RefusesByNeed old hart event reply
-refuses_by_need old hart (events.Access a value) reply new t x = accessed (verdict (current_view old hart) a) old.table (old.worlds hart) (awoken old hart) a value reply new x
+refuses_by_need old hart (events.Access a value) reply new t x = accessed (verdict (view_on old hart) a) old.table (old.worlds hart) (awoken old hart) a value reply new x
 refuses_by_need old hart (events.Reg n value) reply new t x = none old.table (old.worlds hart) reply replies.Done refl x.0
 refuses_by_need old hart (events.Ecall words) reply new t x =
     replied (named old hart words.items) old.table (old.worlds hart) new hart x.0 reply x.5 (core.call_refused_by_need (named old hart words.items) (lent old) (asked old hart words.items) hart x.0 x.1 x.2 t x.3)

@@ -5,18 +5,32 @@ use Rattle.monitor_core.proofs.WorldsKept.{AreWorlds as InCore, call_keeps_world
 use Rattle.hart_trace.specs.declared.event.Event.{Event}
 use Rattle.hart_trace.specs.declared.event.Event.TheVariants as events
 use Rattle.hart_sim.specs.declared.reply.Reply.{Reply}
-use Rattle.hart_sim.specs.States.{State, core_of, current_view, opening}
+use Rattle.hart_sim.specs.States.{State, core_of, view_on, opening}
 use Rattle.hart_sim.specs.Steps.{Step, Run, still, step, verdict}
 use Rattle.hart_sim.specs.Worlds.{AreWorlds, RunsKeepWorlds}
 use Rattle.hart_sim.proofs.Asked.{awoken, named, asked, lent, core_access}
 use Rattle.hart_sim.proofs.Awake.{off}
+use Rattle.enclave_table.specs.Enclaves.{EnclaveTable, Live}
+use Rattle.enclave_table.specs.Tables.{IsCurrent}
+use Rattle.enclave_table.specs.declared.enclave.Enclave.{Enclave}
+use Rattle.enclave_table.specs.declared.enclave.State.TheVariants.{Running}
+use Rattle.worlds.specs.declared.world.World.{World}
+use Rattle.worlds.specs.declared.world.World.TheVariants.{Host, Enclave as InEnclave}
+
+-- the enclave of a world is one that is Running
+abbrev RunsIn : EnclaveTable → World → Type 0
+RunsIn table world = (id : ℕ) → world ≡ InEnclave id → (e : Enclave) × Live table id e × (e.state ≡ Running)
+
+current_of : (table : EnclaveTable) (world : World) → RunsIn table world → IsCurrent table world
+current_of table Host runs = tt
+current_of table (InEnclave id) runs = runs id refl
 
 -- said of the state, or of the monitor's part
 below : (s : State) → AreWorlds s → InCore (core_of s)
-below s w = record { current = w.current; alone = w.alone; held = w.held; marked = w.marked }
+below s w = record { current = λ hart low. current_of s.table (s.worlds hart) (λ id is. w.current hart id low is); alone = w.alone; held = w.held; marked = w.marked }
 
 above : (s : State) (core : Core) → core_of s ≡ core → InCore core → AreWorlds s
-above s core is w = let v = subst InCore (sym is) w in record { current = v.current; alone = v.alone; held = v.held; marked = v.marked }
+above s core is w = let v = subst InCore (sym is) w in record { current = λ hart id low at. subst (IsCurrent s.table) at (v.current hart low); alone = v.alone; held = v.held; marked = v.marked }
 
 pub worlds_step : (s : State) (hart : ℕ) (event : Event) (reply : Reply) (n : State) → hart < s.table.layout.harts → Step s hart event reply n → AreWorlds s → AreWorlds n
 worlds_step s hart event reply n low x w = by_event event x
@@ -25,7 +39,7 @@ worlds_step s hart event reply n low x w = by_event event x
     first = waking_keeps_worlds (core_of s) hart (below s w)
 
     by_event : (event : Event) → Step s hart event reply n → AreWorlds n
-    by_event (events.Access a value) x = above n (core_of (awoken s hart)) (core_access (verdict (current_view s hart) a) (awoken s hart) a value reply n x) first
+    by_event (events.Access a value) x = above n (core_of (awoken s hart)) (core_access (verdict (view_on s hart) a) (awoken s hart) a value reply n x) first
     by_event (events.Reg k value) x = above n _ (ap core_of x.1) (putting_keeps_worlds (core_of (awoken s hart)) hart _ first)
     by_event (events.Ecall words) x = above n x.2 (ap core_of x.4)
         (call_keeps_worlds (named s hart words.items) (lent s) (asked s hart words.items) hart x.0 x.1 x.2 low (off s hart) x.3

@@ -1,11 +1,10 @@
 -- A machine, after boot made it of a platform and so many events happened to it.
-use Rattle.std.specs.Prelude.{◌≡◌, ℕ, ◌<◌, List, [], ◌∷◌, ◌++◌}
+use Rattle.std.specs.Prelude.{◌≡◌, ◌≢◌, ℕ, ◌<◌, List, [], ◌∷◌, ◌++◌}
 use Rattle.enclave_table.specs.Platform.{Layout, IsLayout}
 use Rattle.hart_trace.specs.declared.event.Event.{Event}
 use Rattle.hart_sim.specs.declared.machine.Machine.{Machine}
 use Rattle.hart_sim.specs.declared.reply.Reply.{Reply}
 use Rattle.hart_sim.specs.Machines.{state_of, bank_on, IsJudged, KeepsBanksRight}
-use Rattle.hart_sim.specs.Banks.{KeepsOtherBanks}
 use Rattle.hart_sim.specs.States.{opening}
 use Rattle.hart_sim.specs.Steps.{IsEvent, Step}
 
@@ -23,7 +22,7 @@ pub record Happens (old : Machine) (hart : ℕ) (event : Event) (reply : Reply) 
   pub possible : IsEvent event
   pub happened : Step (state_of old) hart event reply (state_of new)
   pub judged : IsJudged old hart event reply
-  pub others : KeepsOtherBanks (bank_on old) (bank_on new) hart
+  pub others : (other : ℕ) → other ≢ hart → bank_on new other ≡ bank_on old other
   pub kept : KeepsBanksRight new
 
 -- the machine after boot and these events, each with its hart, which were given these replies

@@ -1,12 +1,13 @@
--- The banks that are loaded on the harts, by their numbers: what they mean, and which of them stay.
-use Rattle.std.specs.Prelude.{◌≡◌, ◌≢◌, ◌⊎◌, ℕ, ◌<◌, true, false, List, Option, Some}
+-- The banks that are loaded on the harts, by their numbers: what they mean.
+use Rattle.std.specs.Prelude.{◌≡◌, ◌⊎◌, ℕ, ◌<◌, true, false, List, Option, Some}
 use Rattle.pmp_encoding.specs.declared.bank.Bank.{Bank}
 use Rattle.pmp_encoding.specs.declared.perm.Perm.{Perm}
 use Rattle.pmp_encoding.specs.declared.region.Entry.{Entry}
 use Rattle.pmp_encoding.specs.Banks.{HasList}
 use Rattle.pmp_match.specs.Meaning.{IsFewest}
 use Rattle.enclave_table.specs.Tables.{Kept}
-use Rattle.hart_sim.specs.States.{State, current_view}
+use Rattle.hart_sim.specs.States.{State}
+use Rattle.enclave_table.specs.Views.{current_view}
 
 -- the loaded list is one of the fewest that mean the view
 pub record LoadsFewest (bank : Bank) (view : ℕ → Perm) : Type 0 where
@@ -17,15 +18,7 @@ pub record LoadsFewest (bank : Bank) (view : ℕ → Perm) : Type 0 where
 -- the bank of each hart that is not marked means the view of its world by the fewest entries
 abbrev pub AreBanksRight : State → (ℕ → Option Bank) → Type 0
 AreBanksRight s banks =
-    (hart : ℕ) (bank : Bank) → hart < s.table.layout.harts → s.marked hart ≡ false → banks hart ≡ Some bank → LoadsFewest bank (current_view s hart)
-
--- only that hart's bank may have changed
-abbrev pub KeepsOtherBanks : (ℕ → Option Bank) → (ℕ → Option Bank) → ℕ → Type 0
-KeepsOtherBanks old new hart = (other : ℕ) → other ≢ hart → new other ≡ old other
-
--- where the hart is not marked, and neither the table nor its world change, its own bank stays
-abbrev pub KeepsOwnBank : State → (ℕ → Option Bank) → State → (ℕ → Option Bank) → ℕ → Type 0
-KeepsOwnBank s banks now new hart = s.marked hart ≡ false → now.table ≡ s.table → now.worlds hart ≡ s.worlds hart → new hart ≡ banks hart
+    (hart : ℕ) (bank : Bank) → hart < s.table.layout.harts → s.marked hart ≡ false → banks hart ≡ Some bank → LoadsFewest bank (current_view s.table (s.worlds hart))
 
 -- the list that an event on a hart meets: the host's where it is marked, for it loads them first; otherwise what is loaded
 abbrev pub MeetsList : State → Kept → (ℕ → Option Bank) → ℕ → List Entry → Type 0

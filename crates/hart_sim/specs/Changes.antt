@@ -12,13 +12,9 @@ abbrev pub with_words : RegisterFile → List ℕ → List ℕ → RegisterFile
 with_words file (n ∷ ns) (word ∷ words) = with_words (with_x file n word) ns words
 with_words file _ _ = file
 
--- a7, a6 and a0 to a5
-abbrev pub call_registers : List ℕ
-call_registers = 17 ∷ (16 ∷ (10 ∷ (11 ∷ (12 ∷ (13 ∷ (14 ∷ (15 ∷ [])))))))
-
--- the registers on a hart after a call with these words, which goes on past its instruction
+-- the registers on a hart after a call with these words, in a7, a6 and a0 to a5, which goes on past its instruction
 abbrev pub calling : State → ℕ → List ℕ → RegisterFile
-calling s hart words = past_call (with_words (running_registers s hart) call_registers words)
+calling s hart words = past_call (with_words (running_registers s hart) (17 ∷ (16 ∷ (10 ∷ (11 ∷ (12 ∷ (13 ∷ (14 ∷ (15 ∷ [])))))))) words)
 
 -- a value stored, and its page written
 abbrev pub storing : State → ℕ → ℕ → ℕ → State

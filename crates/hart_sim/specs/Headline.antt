@@ -8,11 +8,12 @@ use Rattle.hart_sim.specs.declared.machine.Machine.{Machine}
 use Rattle.hart_sim.specs.declared.reply.Reply.{Reply}
 use Rattle.hart_sim.specs.Machines.{state_of, bank_on}
 use Rattle.hart_sim.specs.Banks.{LoadsFewest}
-use Rattle.hart_sim.specs.States.{current_view, opening}
+use Rattle.hart_sim.specs.States.{opening}
 use Rattle.hart_sim.specs.Steps.{Run}
 use Rattle.hart_sim.specs.Worlds.{AreWorlds}
 use Rattle.hart_sim.specs.Promises.{Promises}
 use Rattle.hart_sim.specs.After.{After, Happens}
+use Rattle.enclave_table.specs.Views.{current_view}
 
 -- one of the events: the machine that those before it left, its reply, the machine that it left, and what it promises
 pub record Moment (platform : Layout) (before : List (ℕ × Event)) (hart : ℕ) (event : Event) (after : List (ℕ × Event)) (replies : List Reply) (machine : Machine) : Type 0 where
@@ -32,12 +33,8 @@ pub record Moment (platform : Layout) (before : List (ℕ × Event)) (hart : ℕ
 -- kept its promises. The worlds and the table are sound, and the platform is the one that was booted
 pub record Headline (platform : Layout) (events : List (ℕ × Event)) (replies : List Reply) (machine : Machine) : Type 0 where
   pub run : Run (opening platform) events replies (state_of machine)
-  pub banks : (hart : ℕ) → hart < platform.harts → (state_of machine).marked hart ≡ false → (bank : Bank) × (bank_on machine hart ≡ Some bank) × LoadsFewest bank (current_view (state_of machine) hart)
+  pub banks : (hart : ℕ) → hart < platform.harts → (state_of machine).marked hart ≡ false → (bank : Bank) × (bank_on machine hart ≡ Some bank) × LoadsFewest bank (current_view (state_of machine).table ((state_of machine).worlds hart))
   pub each : (before : List (ℕ × Event)) (hart : ℕ) (event : Event) (after : List (ℕ × Event)) → events ≡ before ++ (hart, event) ∷ after → Moment platform before hart event after replies machine
   pub worlds : AreWorlds (state_of machine)
   pub table : IsTable (state_of machine).table
   pub layout : (state_of machine).table.layout ≡ platform
-
--- so it is after every list of events
-abbrev pub HeadlineHolds : Type 0
-HeadlineHolds = (platform : Layout) (events : List (ℕ × Event)) (replies : List Reply) (machine : Machine) → After platform events replies machine → Headline platform events replies machine

@@ -7,7 +7,7 @@ use Rattle.pmp_match.specs.declared.access.Mode.TheVariants.{Machine}
 use Rattle.pmp_match.specs.declared.cause.Cause.{Cause}
 use Rattle.enclave_table.specs.Enclaves.{Live, enclave_at}
 use Rattle.enclave_table.specs.Requests.{is_private}
-use Rattle.enclave_table.specs.Views.{enclave_view}
+use Rattle.enclave_table.specs.Views.{enclave_view, current_view}
 use Rattle.enclave_table.specs.declared.enclave.Enclave.{Enclave}
 use Rattle.enclave_table.specs.declared.enclave.State.TheVariants.{Running}
 use Rattle.worlds.specs.declared.world.World.TheVariants.{Enclave as InEnclave}
@@ -16,7 +16,7 @@ use Rattle.hart_trace.specs.declared.event.Event.{Event}
 use Rattle.hart_trace.specs.declared.event.Event.TheVariants as events
 use Rattle.hart_sim.specs.declared.reply.Reply.{Reply}
 use Rattle.hart_sim.specs.declared.reply.Reply.TheVariants as replies
-use Rattle.hart_sim.specs.States.{State, current_view}
+use Rattle.hart_sim.specs.States.{State}
 use Rattle.hart_sim.specs.Steps.{Step, verdict}
 
 -- an enclave runs on a hart, which is then not marked
@@ -73,7 +73,7 @@ IsPrivate =
 -- the event is a store by that enclave that its view allowed, that was done, and that reached the byte
 abbrev pub StoresTo : State → ℕ → Event → Reply → ℕ → ℕ → Type 0
 StoresTo old hart (events.Access a value) reply id byte =
-    (a.kind ≡ Store) × (reply ≡ replies.Done) × (old.worlds hart ≡ InEnclave id) × (verdict (current_view old hart) a ≡ Ok tt) × (a.address ≤ byte) × (byte < a.address + a.size)
+    (a.kind ≡ Store) × (reply ≡ replies.Done) × (old.worlds hart ≡ InEnclave id) × (verdict (current_view old.table (old.worlds hart)) a ≡ Ok tt) × (a.address ≤ byte) × (byte < a.address + a.size)
 StoresTo old hart _ reply id byte = ⊥
 
 -- a byte of a page that is private to an enclave before and after an event stays, but for the enclave's own stores

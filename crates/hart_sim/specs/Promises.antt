@@ -9,16 +9,16 @@ use Rattle.hart_trace.specs.declared.event.Event.{Event}
 use Rattle.hart_trace.specs.declared.event.Event.TheVariants as events
 use Rattle.hart_sim.specs.declared.reply.Reply.{Reply}
 use Rattle.hart_sim.specs.declared.reply.Reply.TheVariants as replies
-use Rattle.hart_sim.specs.States.{State, current_view}
-use Rattle.hart_sim.specs.Steps.{Step}
+use Rattle.hart_sim.specs.States.{State}
 use Rattle.hart_sim.specs.Privacy.{KeepsPrivate, DeniesOthers, ZeroesDestroyed}
 use Rattle.hart_sim.specs.Wants.{RefusesByNeed}
+use Rattle.enclave_table.specs.Views.{current_view}
 
 -- an aligned access in the space is answered by no fault exactly where the current view of its hart holds its kind
 abbrev pub AnswersByView : State → ℕ → Event → Reply → Type 0
 AnswersByView old hart event reply =
     (access : Access) (value : ℕ) → event ≡ events.Access access value → IsAligned access → access.address < 2 ^ 56
-    → ((cause : Cause) → reply ≢ replies.Fault cause) ↔ (holds (current_view old hart (access.address / 4096)) access.kind ≡ true)
+    → ((cause : Cause) → reply ≢ replies.Fault cause) ↔ (holds (current_view old.table (old.worlds hart) (access.address / 4096)) access.kind ≡ true)
 
 -- what holds of one event, with the state before it, its reply and the state after it
 pub record Promises (old : State) (hart : ℕ) (event : Event) (reply : Reply) (new : State) : Type 0 where
@@ -29,7 +29,3 @@ pub record Promises (old : State) (hart : ℕ) (event : Event) (reply : Reply) (
   pub wants : RefusesByNeed old hart event reply
   pub table : IsTable new.table
   pub platform : new.table.layout ≡ old.table.layout
-
--- so it is of every step from a table that is sound
-abbrev pub StepsPromise : Type 0
-StepsPromise = (old : State) (hart : ℕ) (event : Event) (reply : Reply) (new : State) → IsTable old.table → Step old hart event reply new → Promises old hart event reply new

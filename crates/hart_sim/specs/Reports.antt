@@ -14,28 +14,24 @@ use Rattle.hart_sim.specs.declared.reply.Reply.TheVariants.{NoMemory}
 use Rattle.hart_sim.specs.Machines.{state_of, bank_on}
 use Rattle.hart_sim.specs.After.{After, Happens}
 use Rattle.hart_sim.specs.Banks.{LoadsFewest}
-use Rattle.hart_sim.specs.States.{current_view}
 use Rattle.hart_sim.specs.Steps.{Run}
 use Rattle.hart_sim.specs.Texts.{reply_text, report_text}
+use Rattle.enclave_table.specs.Views.{current_view}
 
--- how many harts a line may name
-abbrev pub harts_of : Machine → ℕ
-harts_of machine = (state_of machine).table.layout.harts
-
--- what a line does after so many replies: nothing where it has no words; else its event happens, and the reply is told
+-- what a line, which may name each hart of the platform, does after so many replies: nothing where it has no words; else its event happens, and the reply is told
 abbrev pub DoesLine : Machine → ℕ → List ℕ → Option (List ℕ) → Machine → Type 0
-DoesLine old count line None new = (meaning_of (harts_of old) line ≡ Some None) × (new ≡ old)
+DoesLine old count line None new = (meaning_of (state_of old).table.layout.harts line ≡ Some None) × (new ≡ old)
 DoesLine old count line (Some text) new =
-    (hart : ℕ) × (event : Event) × (reply : Reply) × (meaning_of (harts_of old) line ≡ Some (Some (hart, event)))
+    (hart : ℕ) × (event : Event) × (reply : Reply) × (meaning_of (state_of old).table.layout.harts line ≡ Some (Some (hart, event)))
     × Happens old hart event reply new × (reply ≢ NoMemory) × (text ≡ reply_text (count + 1) reply)
 
 -- a line that is not understood
 abbrev pub RefusesLine : Machine → List ℕ → Type 0
-RefusesLine machine line = meaning_of (harts_of machine) line ≡ None
+RefusesLine machine line = meaning_of (state_of machine).table.layout.harts line ≡ None
 
 -- a line whose event happens and wants memory that is refused
 abbrev pub StarvesLine : Machine → List ℕ → Machine → Type 0
-StarvesLine old line new = (hart : ℕ) × (event : Event) × (meaning_of (harts_of old) line ≡ Some (Some (hart, event))) × Happens old hart event NoMemory new
+StarvesLine old line new = (hart : ℕ) × (event : Event) × (meaning_of (state_of old).table.layout.harts line ≡ Some (Some (hart, event))) × Happens old hart event NoMemory new
 
 -- lines that say events or have no words, and the events with their harts, in their order
 pub data Spells (harts : ℕ) : List (List ℕ) → List (ℕ × Event) → Type 0 where
@@ -68,7 +64,7 @@ pub record LastOwn (old : Machine) (hart : ℕ) (events : List (ℕ × Event)) (
   pub until : Run (state_of old) (before ++ (hart, event) ∷ []) (answered ++ reply ∷ []) (state_of mid)
   pub since : Run (state_of mid) after rest (state_of new)
   pub elsewhere : AreElsewhere hart after
-  pub meant : (bank : Bank) → bank_on mid hart ≡ Some bank → LoadsFewest bank (current_view (state_of mid) hart)
+  pub meant : (bank : Bank) → bank_on mid hart ≡ Some bank → LoadsFewest bank (current_view (state_of mid).table ((state_of mid).worlds hart))
   pub stays : bank_on new hart ≡ bank_on mid hart
 
 -- the events that lines say are a run from one state to the other, the text tells the replies, none of which wanted memory,
@@ -77,7 +73,7 @@ pub record LastOwn (old : Machine) (hart : ℕ) (events : List (ℕ × Event)) (
 pub record Report (old : Machine) (lines : List (List ℕ)) (text : List ℕ) (new : Machine) : Type 0 where
   pub events : List (ℕ × Event)
   pub replies : List Reply
-  pub spelled : Spells (harts_of old) lines events
+  pub spelled : Spells (state_of old).table.layout.harts lines events
   pub run : Run (state_of old) events replies (state_of new)
   pub told : text ≡ report_text replies
   pub each : AreAnswered replies
@@ -89,17 +85,14 @@ pub record Report (old : Machine) (lines : List (List ℕ)) (text : List ℕ) (n
 abbrev pub IsReported : Type 0
 IsReported = (old new : Machine) (lines answers : List (List ℕ)) → Does DoesLine old lines answers new → Report old lines (concat answers) new
 
--- with these lines the bytes begin, each before its LF, or they are all of its lines
-abbrev pub BeginsWith : List ℕ → List (List ℕ) → Type 0
-BeginsWith bytes lines = ((rest : List ℕ) × (bytes ≡ ended lines ++ rest)) ⊎ AreLines bytes lines
-
--- of what was read the first lines say events, and the machine is the one after these and those before them
+-- of what was read the first lines, each before its LF, or all of its lines say events, and the machine is the one after these and those
+-- before them
 pub record GoesOn (platform : Layout) (events : List (ℕ × Event)) (replies : List Reply) (old new : Machine) (before after : Option (List ℕ)) : Type 0 where
   pub bytes : List ℕ
   pub consumed : Consumes before after bytes
   pub lines : List (List ℕ)
-  pub begins : BeginsWith bytes lines
+  pub begins : ((rest : List ℕ) × (bytes ≡ ended lines ++ rest)) ⊎ AreLines bytes lines
   pub more : List (ℕ × Event)
-  pub spelled : Spells (harts_of old) lines more
+  pub spelled : Spells (state_of old).table.layout.harts lines more
   pub answered : List Reply
   pub went : After platform (events ++ more) (replies ++ answered) new

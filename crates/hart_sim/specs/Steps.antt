@@ -12,16 +12,17 @@ use Rattle.page_views.specs.declared.pages.PageRange.{PageRange}
 use Rattle.sbi_decode.specs.Calls.{call_of}
 use Rattle.monitor_core.specs.declared.answer.Answer.{Answer}
 use Rattle.monitor_core.specs.States.{State as Core}
-use Rattle.monitor_core.specs.Changes.{with_running, without_mark}
+use Rattle.monitor_core.specs.Changes.{with_running}
 use Rattle.monitor_core.specs.Steps.{DoesCall, Interrupts}
 use Rattle.hart_trace.specs.declared.event.Event.{Event}
 use Rattle.hart_trace.specs.declared.event.Event.TheVariants as events
 use Rattle.hart_sim.specs.declared.reply.Reply.{Reply}
 use Rattle.hart_sim.specs.declared.reply.Reply.TheVariants as replies
 use Rattle.hart_sim.specs.Memory.{bytes_at, number_of}
-use Rattle.hart_sim.specs.States.{State, core_of, with_core, current_view, running_registers, page_bytes}
+use Rattle.hart_sim.specs.States.{State, core_of, with_core, running_registers, page_bytes}
 use Rattle.hart_sim.specs.Changes.{with_x, calling, storing, zeroing}
-use Rattle.hart_sim.specs.Replies.{AnswersCall, AnswersIrq}
+use Rattle.hart_sim.specs.Replies.{RepliesWith}
+use Rattle.enclave_table.specs.Views.{current_view}
 
 -- what a view says of an access: misaligned first, then outside the space of 2 ^ 56 bytes, then what the page's permission holds
 abbrev pub verdict : (ℕ → Perm) → Access → Result (Unit {0}) Cause
@@ -46,27 +47,26 @@ Accesses (Ok done) s a value reply new = TakesEffect a.kind s a value reply new
 -- the monitor serves a call: its state is the machine's then, the pages are zero that it says, and the reply is its answer
 abbrev pub Serves : (Answer → Option PageRange → Core → Type 0) → State → ℕ → Reply → State → Type 0
 Serves Does s hart reply new =
-    (answer : Answer) × (pages : Option PageRange) × (core : Core) × Does answer pages core × (new ≡ zeroing (with_core s core) pages) × AnswersCall new hart answer reply
+    (answer : Answer) × (pages : Option PageRange) × (core : Core) × Does answer pages core × (new ≡ zeroing (with_core s core) pages) × RepliesWith (replies.Call answer.status answer.value) new hart reply
 
 -- an event, on a hart that is not marked
 abbrev pub Does : Event → State → ℕ → Reply → State → Type 0
-Does (events.Access a value) s hart reply new = Accesses (verdict (current_view s hart) a) s a value reply new
+Does (events.Access a value) s hart reply new = Accesses (verdict (current_view s.table (s.worlds hart)) a) s a value reply new
 Does (events.Reg n value) s hart reply new = (reply ≡ replies.Done) × (new ≡ with_core s (with_running (core_of s) hart (with_x (running_registers s hart) n value)))
 Does (events.Ecall words) s hart reply new =
     let file = calling s hart words.items in
     Serves (DoesCall (call_of file) (page_bytes s) (with_running (core_of s) hart file) hart) s hart reply new
-Does events.Irq s hart reply new = (core : Core) × Interrupts (s.worlds hart) (core_of s) hart core × (new ≡ with_core s core) × AnswersIrq new hart reply
+Does events.Irq s hart reply new = (core : Core) × Interrupts (s.worlds hart) (core_of s) hart core × (new ≡ with_core s core) × RepliesWith replies.Irq new hart reply
 
 -- a step: the event first takes the mark of its hart away
 abbrev pub Step : State → ℕ → Event → Reply → State → Type 0
-Step old hart event reply new = Does event (with_core old (without_mark (core_of old) hart)) hart reply new
+Step old hart event reply new = Does event (record old { marked = λ h. if h == hart then false else old.marked h }) hart reply new
 
 -- what may happen on a hart: accesses by supervisor or user, settings of x0 to x31, calls of at most eight words, interrupts
 abbrev pub IsEvent : Event → Type 0
 IsEvent (events.Access a value) = a.mode ≢ Machine
 IsEvent (events.Reg n value) = n < 32
-IsEvent (events.Ecall words) = Unit {0}
-IsEvent events.Irq = Unit {0}
+IsEvent _ = Unit {0}
 
 -- a run: each event may happen, on a hart that there is, and each step goes on from the state that the one before it left
 pub data Run (old : State) : List (ℕ × Event) → List Reply → State → Type 0 where

@@ -1,5 +1,5 @@
 -- When a creation or a destruction is refused for want of entries.
-use Rattle.std.specs.Prelude.{◌≡◌, ◌⊎◌, ℕ, Option, None}
+use Rattle.std.specs.Prelude.{◌≡◌, ◌⊎◌, ℕ, None}
 use Rattle.enclave_table.specs.Requests.{parts_of}
 use Rattle.enclave_table.specs.Enclaves.{with_enclave}
 use Rattle.enclave_table.specs.Views.{host_view}
@@ -11,7 +11,6 @@ use Rattle.enclave_table.specs.declared.request.Create.{Create}
 use Rattle.enclave_table.specs.declared.refusal.Refusal.TheVariants.{NoEntries, NoMemory}
 use Rattle.enclave_table.specs.declared.refusal.Refusal.{Refusal}
 use Rattle.sbi_decode.specs.Calls.{call_of}
-use Rattle.sbi_decode.specs.declared.calls.Call.{Call}
 use Rattle.monitor_core.specs.Answers.{below_zero}
 use Rattle.monitor_core.specs.Steps.{DoesCreate, DoesDestroy}
 use Rattle.monitor_core.specs.Wants.{IsRefusedByNeed}
@@ -42,12 +41,8 @@ DestroysByNeed =
     (id : ℕ) (s : State) (hart : ℕ) (reply : Reply) (new : State) → AllPass (host_checks MayDestroy s.table (s.worlds hart) id) → Serves (DoesDestroy id (core_of s) hart) s hart reply new
     → IsRefusedExactlyWhere (NeedsMore s.table.layout.limit (host_view (with_enclave s.table id None))) reply
 
--- the call that an event makes, if it is one
-abbrev pub call_by : State → ℕ → Event → Option Call
-call_by s hart (events.Ecall words) = call_of (calling s hart words.items)
-call_by s hart _ = None
-
 -- the call that an event makes on a hart is refused for want of entries just where a view after it would need more; an event that is
 -- no call is never refused so
 abbrev pub RefusesByNeed : State → ℕ → Event → Reply → Type 0
-RefusesByNeed s hart event reply = IsRefusedByNeed (call_by s hart event) s.table (s.worlds hart) (IsAnsweredBy reply)
+RefusesByNeed s hart (events.Ecall words) reply = IsRefusedByNeed (call_of (calling s hart words.items)) s.table (s.worlds hart) (IsAnsweredBy reply)
+RefusesByNeed s hart _ reply = IsRefusedByNeed None s.table (s.worlds hart) (IsAnsweredBy reply)

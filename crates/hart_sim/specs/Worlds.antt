@@ -2,7 +2,6 @@
 use Rattle.std.specs.Prelude.{◌≡◌, ℕ, ◌<◌, List, true}
 use Rattle.enclave_table.specs.Platform.{Layout}
 use Rattle.enclave_table.specs.Enclaves.{Live}
-use Rattle.enclave_table.specs.Tables.{IsCurrent}
 use Rattle.enclave_table.specs.declared.enclave.Enclave.{Enclave}
 use Rattle.enclave_table.specs.declared.enclave.State.TheVariants.{Running}
 use Rattle.worlds.specs.declared.world.World.TheVariants.{Host, Enclave as InEnclave}
@@ -14,7 +13,7 @@ use Rattle.hart_sim.specs.Steps.{Run}
 -- each hart is in the host's world or in that of an enclave that is Running, no enclave runs on two, each that is Running runs on
 -- one, and a marked hart is in the host's world
 pub record AreWorlds (s : State) : Type 0 where
-  pub current : (hart : ℕ) → hart < s.table.layout.harts → IsCurrent s.table (s.worlds hart)
+  pub current : (hart id : ℕ) → hart < s.table.layout.harts → s.worlds hart ≡ InEnclave id → (e : Enclave) × Live s.table id e × (e.state ≡ Running)
   pub alone : (hart other id : ℕ) → hart < s.table.layout.harts → other < s.table.layout.harts → s.worlds hart ≡ InEnclave id → s.worlds other ≡ InEnclave id → hart ≡ other
   pub held : (id : ℕ) (e : Enclave) → Live s.table id e → e.state ≡ Running → (hart : ℕ) × (hart < s.table.layout.harts) × (s.worlds hart ≡ InEnclave id)
   pub marked : (hart : ℕ) → hart < s.table.layout.harts → s.marked hart ≡ true → s.worlds hart ≡ Host

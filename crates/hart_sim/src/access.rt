@@ -37,7 +37,7 @@ impl Parts {
     ghost use Rattle.hart_sim.specs.Banks.{AreBanksRight};
     ghost use Rattle.hart_sim.specs.Frames.{IsOn, KeepsFrame};
     ghost use Rattle.hart_sim.specs.Parts.{state_in, bank_in};
-    ghost use Rattle.hart_sim.specs.States.{current_view};
+    ghost use Rattle.hart_sim.specs.States.{view_on};
     ghost use Rattle.hart_sim.specs.Steps.{Accesses, verdict};
 
     /// An access on a hart that is not marked. By the bank that is loaded there it is a fault or not, on every machine;
@@ -54,7 +54,7 @@ impl Parts {
             → (result ≡ Reply.Fault cause) ↔ Judges list access.now (Err cause) }
         ensures step { AreBanksRight (state_in self.old) (bank_in self.old)
             → (let s = state_in self.old in
-            Accesses (verdict (current_view s hart) access.now) s access.now value result
+            Accesses (verdict (view_on s hart) access.now) s access.now value result
             (state_in self.new)) }
         ensures monitor { self.new.monitor ≡ self.old.monitor }
         ensures banks { self.new.banks ≡ self.old.banks }

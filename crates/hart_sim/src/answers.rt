@@ -8,7 +8,8 @@ impl Parts {
     ghost use Rattle.std.specs.Prelude.{◌≡◌, ◌<◌};
     ghost use Rattle.monitor_core.specs.Answers.{world_number};
     ghost use Rattle.hart_sim.specs.Parts.{state_in};
-    ghost use Rattle.hart_sim.specs.Replies.{AnswersCall, AnswersIrq};
+    ghost use Rattle.hart_sim.specs.Replies.{RepliesWith};
+    ghost use Rattle.hart_sim.specs.declared.reply.Reply.TheVariants as replies;
 
     /// The number of the world on a hart.
     fn world_number(&self, hart: u8) -> u64
@@ -24,7 +25,8 @@ impl Parts {
     /// The reply to a call with this answer.
     pub(crate) fn told(&self, hart: u8, answer: Answer) -> Reply
         requires { hart < 4 }
-        ensures { AnswersCall (state_in self.now) hart answer result }
+        ensures { RepliesWith (replies.Call answer.status answer.value) (state_in self.now) hart
+            result }
     {
         let world = self.world_number(hart);
         let used = self.monitor.used(hart);
@@ -39,7 +41,7 @@ impl Parts {
     /// The reply to an interrupt.
     pub(crate) fn told_of_irq(&self, hart: u8) -> Reply
         requires { hart < 4 }
-        ensures { AnswersIrq (state_in self.now) hart result }
+        ensures { RepliesWith replies.Irq (state_in self.now) hart result }
     {
         let world = self.world_number(hart);
         let used = self.monitor.used(hart);

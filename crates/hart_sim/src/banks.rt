@@ -4,16 +4,16 @@ use crate::parts::Parts;
 use pmp_encoding::Bank;
 
 impl Parts {
-    ghost use Rattle.std.specs.Prelude.{◌≡◌, ◌<◌, true, false, Some};
+    ghost use Rattle.std.specs.Prelude.{◌≡◌, ◌≢◌, ℕ, ◌<◌, true, false, Some};
     ghost use Rattle.pmp_encoding.specs.declared.bank.Bank.{Bank};
     ghost use Rattle.pmp_encoding.specs.Banks.{HasList, limit_of};
     ghost use Rattle.pmp_encoding.specs.Limits.{limit_number};
     ghost use Rattle.monitor_core.specs.Monitors.{kept_of, list_of};
     ghost use Rattle.monitor_core.specs.Changes.{without_mark};
-    ghost use Rattle.hart_sim.specs.Banks.{LoadsFewest, KeepsOtherBanks};
+    ghost use Rattle.hart_sim.specs.Banks.{LoadsFewest};
     ghost use Rattle.hart_sim.specs.Frames.{IsOn, KeepsFrame};
     ghost use Rattle.hart_sim.specs.Parts.{AreBanks, state_in, bank_in};
-    ghost use Rattle.hart_sim.specs.States.{current_view, core_of, with_core};
+    ghost use Rattle.hart_sim.specs.States.{view_on, core_of, with_core};
 
     /// The bank of a hart.
     pub(crate) fn bank(&self, hart: u8) -> &Bank
@@ -30,7 +30,8 @@ impl Parts {
         requires limit { limit_number (limit_of bank)
             ≡ limit_number (state_in self.old).table.layout.limit }
         ensures bank { bank_in self.new hart ≡ Some bank }
-        ensures others { KeepsOtherBanks (bank_in self.old) (bank_in self.new) hart }
+        ensures others { (other : ℕ) → other ≢ hart
+            → bank_in self.new other ≡ bank_in self.old other }
         ensures limited { AreBanks self.new.banks (state_in self.old).table.layout.limit }
         ensures monitor { self.new.monitor ≡ self.old.monitor }
         ensures memory { self.new.memory ≡ self.old.memory }
@@ -43,11 +44,12 @@ impl Parts {
         requires hart { hart < 4 }
         requires limited { AreBanks self.old.banks (state_in self.old).table.layout.limit }
         ensures fewest { (bank : Bank) × (bank_in self.new hart ≡ Some bank)
-            × LoadsFewest bank (current_view (state_in self.old) hart) }
+            × LoadsFewest bank (view_on (state_in self.old) hart) }
         ensures list { (bank : Bank) × (bank_in self.new hart ≡ Some bank)
             × HasList bank
             (list_of (kept_of self.old.monitor) ((state_in self.old).worlds hart)) }
-        ensures others { KeepsOtherBanks (bank_in self.old) (bank_in self.new) hart }
+        ensures others { (other : ℕ) → other ≢ hart
+            → bank_in self.new other ≡ bank_in self.old other }
         ensures limited { AreBanks self.new.banks (state_in self.old).table.layout.limit }
         ensures monitor { self.new.monitor ≡ self.old.monitor }
         ensures memory { self.new.memory ≡ self.old.memory }
@@ -61,9 +63,10 @@ impl Parts {
         requires hart { hart < 4 }
         requires limited { AreBanks self.old.banks (state_in self.old).table.layout.limit }
         ensures fewest { asked ≡ true → (bank : Bank) × (bank_in self.new hart ≡ Some bank)
-            × LoadsFewest bank (current_view (state_in self.old) hart) }
+            × LoadsFewest bank (view_on (state_in self.old) hart) }
         ensures calm { asked ≡ false → self.new.banks ≡ self.old.banks }
-        ensures others { KeepsOtherBanks (bank_in self.old) (bank_in self.new) hart }
+        ensures others { (other : ℕ) → other ≢ hart
+            → bank_in self.new other ≡ bank_in self.old other }
         ensures limited { AreBanks self.new.banks (state_in self.old).table.layout.limit }
         ensures monitor { self.new.monitor ≡ self.old.monitor }
         ensures memory { self.new.memory ≡ self.old.memory }

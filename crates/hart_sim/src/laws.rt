@@ -1,14 +1,17 @@
 //! Laws of the machine: the headline, and what else holds of every run.
 
-ghost use Rattle.std.specs.Prelude.{◌≡◌, ℕ};
+ghost use Rattle.std.specs.Prelude.{◌≡◌, ℕ, List};
 ghost use Rattle.enclave_table.specs.Tables.{IsTable};
 ghost use Rattle.hart_trace.specs.declared.event.Event.{Event};
 ghost use Rattle.hart_sim.specs.declared.reply.Reply.{Reply};
+ghost use Rattle.enclave_table.specs.Platform.{Layout};
+ghost use Rattle.hart_sim.specs.declared.machine.Machine.{Machine};
+ghost use Rattle.hart_sim.specs.After.{After};
 ghost use Rattle.hart_sim.specs.States.{State};
 ghost use Rattle.hart_sim.specs.Steps.{Step};
-ghost use Rattle.hart_sim.specs.Headline.{HeadlineHolds};
+ghost use Rattle.hart_sim.specs.Headline.{Headline};
 ghost use Rattle.hart_sim.specs.Privacy.{IsPrivate, KeepsPrivate};
-ghost use Rattle.hart_sim.specs.Promises.{StepsPromise};
+ghost use Rattle.hart_sim.specs.Promises.{Promises};
 ghost use Rattle.hart_sim.specs.Reports.{IsReported};
 ghost use Rattle.hart_sim.specs.Wants.{CreatesByNeed, DestroysByNeed};
 ghost use Rattle.hart_sim.specs.Worlds.{RunsKeepWorlds};
@@ -17,14 +20,19 @@ ghost use Rattle.hart_sim.specs.Worlds.{RunsKeepWorlds};
 /// on each hart that is not marked the loaded list means the view of its world and none that does so is shorter, each
 /// event was judged and answered as it should, and the worlds and the table are sound.
 pub fn headline_law()
-    ensures { HeadlineHolds }
+    ensures { (platform : Layout) (events : List (ℕ × Event)) (replies : List Reply)
+        (machine : Machine)
+        → After platform events replies machine
+        → Headline platform events replies machine }
 {}
 
 /// What holds of each step from a table that is sound: accesses are answered by the view, private bytes are kept, others'
 /// accesses of them are denied, destroyed pages are zero, entries are wanting only where they are, and the table is sound
 /// after it.
 pub fn step_law()
-    ensures { StepsPromise }
+    ensures { (old : State) (hart : ℕ) (event : Event) (reply : Reply) (new : State)
+        → IsTable old.table
+        → Step old hart event reply new → Promises old hart event reply new }
 {}
 
 /// What lines did in turn is a run of the events that they say, the text tells its replies, each bank is the one that the

@@ -19,7 +19,7 @@ pub struct Machine {
 }
 
 impl Machine {
-    ghost use Rattle.std.specs.Prelude.{◌≡◌, ℕ, ◌^◌, ◌<◌, ◌≤◌, List, [], ◌∷◌, ◌++◌, IfOk, IfErr, Some};
+    ghost use Rattle.std.specs.Prelude.{◌≡◌, ◌≢◌, ℕ, ◌^◌, ◌<◌, ◌≤◌, false, List, [], ◌∷◌, ◌++◌, IfOk, IfErr, Some};
     ghost use Rattle.pmp_encoding.specs.declared.bank.Bank.{Bank};
     ghost use Rattle.pmp_encoding.specs.declared.region.Entry.{Entry};
     ghost use Rattle.pmp_encoding.specs.Banks.{HasList, limit_of};
@@ -32,7 +32,7 @@ impl Machine {
     ghost use Rattle.hart_trace.specs.declared.event.Event.{Event};
     ghost use Rattle.hart_sim.specs.declared.reply.Reply.{Reply};
     ghost use Rattle.hart_sim.specs.Machines.{state_of, kept_of, bank_on, IsJudged, KeepsBanksRight};
-    ghost use Rattle.hart_sim.specs.Banks.{MeetsList, KeepsOtherBanks, KeepsOwnBank};
+    ghost use Rattle.hart_sim.specs.Banks.{MeetsList};
     ghost use Rattle.hart_sim.specs.Privacy.{KeepsPrivate, DeniesOthers, ZeroesDestroyed};
     ghost use Rattle.hart_sim.specs.After.{After};
     ghost use Rattle.hart_sim.specs.Promises.{AnswersByView};
@@ -111,7 +111,8 @@ impl Machine {
         requires limit { limit_number (limit_of bank)
             ≡ limit_number (state_of self.old).table.layout.limit }
         ensures bank { bank_on self.new hart ≡ Some bank }
-        ensures others { KeepsOtherBanks (bank_on self.old) (bank_on self.new) hart }
+        ensures others { (other : ℕ) → other ≢ hart
+            → bank_on self.new other ≡ bank_on self.old other }
         ensures state { state_of self.new ≡ state_of self.old }
         ensures table { kept_of self.new ≡ kept_of self.old }
     {
@@ -149,9 +150,12 @@ impl Machine {
         ensures step { KeepsBanksRight self.old
             → Step (state_of self.old) hart event result (state_of self.new) }
         ensures kept { KeepsBanksRight self.old → KeepsBanksRight self.new }
-        ensures others { KeepsOtherBanks (bank_on self.old) (bank_on self.new) hart }
-        ensures stays { KeepsOwnBank (state_of self.old) (bank_on self.old) (state_of self.new)
-            (bank_on self.new) hart }
+        ensures others { (other : ℕ) → other ≢ hart
+            → bank_on self.new other ≡ bank_on self.old other }
+        ensures stays { (state_of self.old).marked hart ≡ false
+            → (state_of self.new).table ≡ (state_of self.old).table
+            → (state_of self.new).worlds hart ≡ (state_of self.old).worlds hart
+            → bank_on self.new hart ≡ bank_on self.old hart }
         ensures lists { (state_of self.new).table ≡ (state_of self.old).table
             → kept_of self.new ≡ kept_of self.old }
         ensures platform { (state_of self.new).table.layout ≡ (state_of self.old).table.layout }

@@ -10,10 +10,7 @@ abbrev pub layout_bytes : Layout → List ℕ
 layout_bytes layout =
     little_bytes 8 layout.text_pages ++ little_bytes 8 layout.data_pages ++ little_bytes 8 layout.shared_count ++ little_bytes 8 layout.entry_offset
 
--- the measured bytes: the layout, then the bytes of each private page, by rising address
-abbrev pub measured_bytes : Layout → List (List ℕ) → List ℕ
-measured_bytes layout pages = layout_bytes layout ++ concat pages
-
--- the digest of an enclave of that layout and those pages (FIPS 180-4)
+-- the digest (FIPS 180-4) of an enclave of that layout and those pages: of the layout, and then the bytes of each private page, by rising
+-- address
 abbrev pub digest_of : Layout → List (List ℕ) → List ℕ
-digest_of layout pages = sha256 (measured_bytes layout pages)
+digest_of layout pages = sha256 (layout_bytes layout ++ concat pages)

@@ -8,7 +8,7 @@ use Rattle.sbi_decode.specs.declared.calls.Call.TheVariants as calls
 use Rattle.page_views.specs.declared.pages.PageRange.{PageRange}
 use Rattle.monitor_core.specs.declared.answer.Answer.{Answer}
 use Rattle.monitor_core.specs.States.{State}
-use Rattle.monitor_core.specs.Changes.{is_host, with_table, answering, marking_others}
+use Rattle.monitor_core.specs.Changes.{is_host, answering, marking_others}
 use Rattle.monitor_core.specs.Steps.{DoesCall, Interrupts}
 
 -- what a state after a hart's event says of its mark
@@ -24,10 +24,10 @@ own_mark s hart awake =
 pub call_leaves_awake : (call : Option Call) (pages : ℕ → List ℕ) (s : State) (hart : ℕ) (answer : Answer) (zero : Option PageRange) (new : State) → Off s hart → DoesCall call pages s hart answer zero new → Off new hart
 call_leaves_awake None pages s hart answer zero new awake x = ap (λ y. y.marked hart) x.state ∙ awake
 call_leaves_awake (Some (calls.Create base text_pages data_pages shared_base shared_count entry_offset)) pages s hart answer zero new awake (inl x) =
-    ap (λ y. y.marked hart) x.3.state ∙ own_mark (answering (with_table s x.1) hart 0 x.0) hart awake
+    ap (λ y. y.marked hart) x.3.state ∙ own_mark (answering (record s { table = x.1 }) hart 0 x.0) hart awake
 call_leaves_awake (Some (calls.Create base text_pages data_pages shared_base shared_count entry_offset)) pages s hart answer zero new awake (inr x) = ap (λ y. y.marked hart) x.2.state ∙ awake
 call_leaves_awake (Some (calls.Destroy id)) pages s hart answer zero new awake (inl x) =
-    ap (λ y. y.marked hart) x.3.state ∙ own_mark (answering (with_table s x.1) hart 0 0) hart awake
+    ap (λ y. y.marked hart) x.3.state ∙ own_mark (answering (record s { table = x.1 }) hart 0 0) hart awake
 call_leaves_awake (Some (calls.Destroy id)) pages s hart answer zero new awake (inr x) = ap (λ y. y.marked hart) x.2.state ∙ awake
 call_leaves_awake (Some (calls.Run id)) pages s hart answer zero new awake (inl x) = ap (λ y. y.marked hart) x.4.state ∙ awake
 call_leaves_awake (Some (calls.Run id)) pages s hart answer zero new awake (inr x) = ap (λ y. y.marked hart) x.2.state ∙ awake

@@ -6,15 +6,15 @@ use Rattle.pmp_match.specs.Meaning.{IsFewest}
 use Rattle.enclave_table.proofs.SameViews.{fewest_same}
 use Rattle.monitor_core.specs.Frames.{LoadsAnew}
 use Rattle.monitor_core.specs.Loads.{KeepsLoaded, LoadsAsTold}
-use Rattle.monitor_core.specs.States.{State, current_view, view_of}
+use Rattle.monitor_core.specs.States.{State, view_on, view_of}
 use Rattle.monitor_core.proofs.Cases.{both}
 
 -- the hart's own list, loaded anew or as it was
-own : (old new : State) (hart : ℕ) (load : Bool) (entries : List Entry) (before after : ℕ → List Entry) → LoadsAnew load old new hart → IsFewest (current_view new hart) entries → LoadsAsTold load hart entries before after
-    → IsFewest (current_view old hart) (before hart) → IsFewest (current_view new hart) (after hart)
-own old new hart true entries before after anew fewest does was = subst (IsFewest (current_view new hart)) (sym (does.told refl)) fewest
+own : (old new : State) (hart : ℕ) (load : Bool) (entries : List Entry) (before after : ℕ → List Entry) → LoadsAnew load old new hart → IsFewest (view_on new hart) entries → LoadsAsTold load hart entries before after
+    → IsFewest (view_on old hart) (before hart) → IsFewest (view_on new hart) (after hart)
+own old new hart true entries before after anew fewest does was = subst (IsFewest (view_on new hart)) (sym (does.told refl)) fewest
 own old new hart false entries before after anew fewest does was =
-    subst (IsFewest (current_view new hart)) (sym (does.kept refl))
+    subst (IsFewest (view_on new hart)) (sym (does.kept refl))
     (subst (λ t. IsFewest (view_of t (new.worlds hart)) (before hart)) (sym anew.0) (subst (λ w. IsFewest (view_of old.table w) (before hart)) (sym anew.1) was))
 
 pub keeps_loaded : KeepsLoaded
@@ -25,17 +25,17 @@ keeps_loaded = record {
       (λ e.
       let is : i ≡ hart = eqb-true i hart e in
       let at : hart < old.table.layout.harts = subst (λ n. n < old.table.layout.harts) is under in
-      subst (λ n. IsFewest (current_view new n) (after n)) (sym is) (own old new hart load entries before after anew fewest does (right hart at awake)))
+      subst (λ n. IsFewest (view_on new n) (after n)) (sym is) (own old new hart load entries before after anew fewest does (right hart at awake)))
       (λ e.
       let other : i ≢ hart = λ is. both_ways (i == hart) e (eq-eqb i hart is) in
-      subst (IsFewest (current_view new i)) (sym (does.others i other))
-      (fewest_same (current_view old i) (current_view new i) (before i) (others.views i other under off) (right i under (others.awake i other off))));
+      subst (IsFewest (view_on new i)) (sym (does.others i other))
+      (fewest_same (view_on old i) (view_on new i) (before i) (others.views i other under off) (right i under (others.awake i other off))));
   woken = λ old hart entries before after fewest does right i low off. both (i == hart)
       (λ e.
       let is : i ≡ hart = eqb-true i hart e in
-      subst (λ n. IsFewest (current_view old n) (after n)) (sym is) (subst (IsFewest (current_view old hart)) (sym (does.told refl)) fewest))
+      subst (λ n. IsFewest (view_on old n) (after n)) (sym is) (subst (IsFewest (view_on old hart)) (sym (does.told refl)) fewest))
       (λ e.
       let other : i ≢ hart = λ is. both_ways (i == hart) e (eq-eqb i hart is) in
-      subst (IsFewest (current_view old i)) (sym (does.others i other))
+      subst (IsFewest (view_on old i)) (sym (does.others i other))
       (right i low (sym (ap (λ b. if b then false else old.marked i) e) ∙ off)));
 }

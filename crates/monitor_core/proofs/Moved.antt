@@ -125,7 +125,7 @@ entering_turns kept now worlds after marks hart id world entering w en low off w
     }
 
 -- an enclave is left
-pub leaving_turns : (kept now : Kept) (worlds after : List World) (marks : List Bool) (hart id : ℕ) (leaving : Leaving) → HoldsTogether kept worlds marks → Leaves kept.table (world_in worlds hart) leaving id now.table → hart < kept.table.layout.harts
+pub leaving_turns : (kept now : Kept) (worlds after : List World) (marks : List Bool) (hart id : ℕ) (leaving : Leaving) → HoldsTogether kept worlds marks → Leaves kept.table (world_in worlds hart) (state_after leaving) id now.table → hart < kept.table.layout.harts
     → ((i : ℕ) → world_in after i ≡ (if i == hart then Host else world_in worlds i)) → Turning kept now worlds after marks hart id Host
 leaving_turns kept now worlds after marks hart id leaving w x low went = record {
   stage = state_after leaving;

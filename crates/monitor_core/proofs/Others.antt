@@ -5,7 +5,7 @@ use Rattle.page_views.specs.declared.pages.PageRange.{PageRange}
 use Rattle.permission_map.specs.Views.{SameView}
 use Rattle.enclave_table.specs.Enclaves.{EnclaveTable, Live, enclave_at, with_enclave}
 use Rattle.enclave_table.specs.Tables.{IsCurrent}
-use Rattle.enclave_table.specs.Lives.{Enters, Leaves}
+use Rattle.enclave_table.specs.Lives.{Enters, Leaves, state_after}
 use Rattle.enclave_table.specs.declared.enclave.Enclave.{Enclave}
 use Rattle.enclave_table.specs.declared.enclave.State.{State as Stage}
 use Rattle.enclave_table.specs.declared.enclave.State.TheVariants.{Fresh, Running, Stopped}
@@ -20,7 +20,7 @@ use Rattle.worlds.specs.declared.world.World.TheVariants.{Host, Enclave as InEnc
 use Rattle.sbi_decode.specs.declared.calls.Call.{Call}
 use Rattle.sbi_decode.specs.declared.calls.Call.TheVariants as calls
 use Rattle.monitor_core.specs.declared.answer.Answer.{Answer}
-use Rattle.monitor_core.specs.States.{State, view_of, current_view}
+use Rattle.monitor_core.specs.States.{State, view_of, view_on}
 use Rattle.monitor_core.specs.Changes.{is_host}
 pub use Rattle.monitor_core.specs.Frames.{KeepsOthers}
 use Rattle.monitor_core.specs.Steps.{DoesCall, DoesEnter, Interrupts}
@@ -28,7 +28,7 @@ use Rattle.monitor_core.specs.Worlds.{ArePlaced}
 use Rattle.monitor_core.proofs.Views.{view_other, view_turned}
 
 -- the view of a hart in another table, its world as it was
-there : (s new : State) (i : ℕ) (table : EnclaveTable) → new.table ≡ table → new.worlds i ≡ s.worlds i → SameView (view_of s.table (s.worlds i)) (view_of table (s.worlds i)) → SameView (current_view s i) (current_view new i)
+there : (s new : State) (i : ℕ) (table : EnclaveTable) → new.table ≡ table → new.worlds i ≡ s.worlds i → SameView (view_of s.table (s.worlds i)) (view_of table (s.worlds i)) → SameView (view_on s i) (view_on new i)
 there s new i table is world v = subst (λ t. SameView (view_of s.table (s.worlds i)) (view_of t (new.worlds i))) (sym is) (subst (λ w. SameView (view_of s.table (s.worlds i)) (view_of table w)) (sym world) v)
 
 -- table, worlds and marks stayed
@@ -87,7 +87,7 @@ enters FirstRun s hart id answer zero new w (inl x) =
 enters Resume s hart id answer zero new w (inl x) =
     moved s new hart id x.3.turned.0 _ (InEnclave id) x.3.turned.1 (λ i other low. entered_nowhere s id (s.worlds hart) Resume x.1 w x.3 i low) (ap (λ y. y.table) x.4.state ∙ x.3.turned.2) (λ i. ap (λ y. y.worlds i) x.4.state) (λ i. ap (λ y. y.marked i) x.4.state)
 
-left : (s new : State) (hart id : ℕ) (leaving : Leaving) (table : EnclaveTable) → hart < s.table.layout.harts → ArePlaced s → Leaves s.table (s.worlds hart) leaving id table
+left : (s new : State) (hart id : ℕ) (leaving : Leaving) (table : EnclaveTable) → hart < s.table.layout.harts → ArePlaced s → Leaves s.table (s.worlds hart) (state_after leaving) id table
     → new.table ≡ table → ((i : ℕ) → new.worlds i ≡ (if i == hart then Host else s.worlds i)) → ((i : ℕ) → new.marked i ≡ s.marked i) → KeepsOthers s new hart
 left s new hart id leaving table low w l is worlds marks =
     moved s new hart id l.turned.0 _ Host l.turned.1 (λ i other under at. other (w.alone i hart id under low at l.left)) (is ∙ l.turned.2) worlds marks
@@ -118,4 +118,4 @@ others_call (Some (calls.Measure id k)) pages s hart answer zero new low w (inr 
 pub others_irq : (world : World) (s : State) (hart : ℕ) (new : State) → s.worlds hart ≡ world → hart < s.table.layout.harts → ArePlaced s → Interrupts world s hart new → KeepsOthers s new hart
 others_irq Host s hart new at low w x = others_stay s new s hart x refl refl refl
 others_irq (InEnclave id) s hart new at low w x =
-    left s new hart id Stop x.0 low w (subst (λ v. Leaves s.table v Stop id x.0) (sym at) x.1) (ap (λ y. y.table) x.2) (λ i. ap (λ y. y.worlds i) x.2) (λ i. ap (λ y. y.marked i) x.2)
+    left s new hart id Stop x.0 low w (subst (λ v. Leaves s.table v Stopped id x.0) (sym at) x.1) (ap (λ y. y.table) x.2) (λ i. ap (λ y. y.worlds i) x.2) (λ i. ap (λ y. y.marked i) x.2)

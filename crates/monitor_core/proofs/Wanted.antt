@@ -1,23 +1,22 @@
 -- When a call is refused for want of entries, and when out of memory.
-use Rattle.std.proofs.Common.{◌≡◌, ◌⊎◌, ◌∙◌, inl, inr, ℕ, List, [], ◌∷◌, Option, None, Some, ℤ, pos, negsuc, ◌-◌, ap, sym, subst, arith}
+use Rattle.std.proofs.Common.{◌≡◌, ◌⊎◌, ◌∙◌, inl, inr, ℕ, List, [], ◌∷◌, Option, None, Some, ℤ, pos, negsuc, ◌-◌, ap, sym, subst, arith, cond}
 use Rattle.pmp_encoding.specs.declared.limit.Limit.{Limit}
 use Rattle.pmp_match.specs.Meaning.{View}
 use Rattle.pmp_match.proofs.Meant.{needs_one}
 use Rattle.page_views.specs.declared.pages.PageRange.{PageRange}
 use Rattle.enclave_table.specs.Enclaves.{EnclaveTable, with_enclave}
-use Rattle.enclave_table.specs.Requests.{parts_of}
+use Rattle.enclave_table.specs.Requests.{parts_of, is_private}
 use Rattle.enclave_table.specs.Views.{host_view, enclave_view}
-use Rattle.enclave_table.specs.Refusals.{AllPass, FailsFirst, refusal_number}
-use Rattle.enclave_table.specs.Checks.{create_checks, host_checks, MayDestroy, MayEnter, leave_checks, word_checks}
+use Rattle.enclave_table.specs.Refusals.{AllPass, FailsFirst, refusal_number, RefusesBy}
+use Rattle.enclave_table.specs.Checks.{create_checks, host_checks, MayDestroy, leave_checks, word_checks}
 use Rattle.enclave_table.specs.Fewest.{FitsIn, NeedsMore}
-use Rattle.enclave_table.specs.Create.{OutgrowsByCreate, RefusesCreate, fresh}
-use Rattle.enclave_table.specs.Destroy.{RefusesDestroy}
+use Rattle.enclave_table.specs.Create.{OutgrowsByCreate, fresh}
 use Rattle.enclave_table.specs.Enclaves.{IsNextId}
 use Rattle.enclave_table.specs.declared.request.Create.{Create}
 use Rattle.enclave_table.specs.declared.refusal.Refusal.{Refusal}
 use Rattle.enclave_table.specs.declared.refusal.Refusal.TheVariants.{NotHost, NotEnclave, BadCount, BadAddress, BadEntry, NotRam, Overlap, TableFull, NoEntries, NoMemory, BadId, BadState, BadWord}
 use Rattle.enclave_table.specs.Tables.{IsTable}
-use Rattle.enclave_table.specs.declared.life.Entering.TheVariants.{Run as FirstRun, Resume}
+use Rattle.enclave_table.specs.declared.enclave.State.TheVariants.{Fresh, Stopped}
 use Rattle.enclave_table.proofs.Placed.{free_place, host_added}
 use Rattle.enclave_table.proofs.SameViews.{more_same}
 use Rattle.permission_map.specs.Views.{SameView}
@@ -28,7 +27,17 @@ use Rattle.monitor_core.specs.declared.answer.Answer.{Answer}
 use Rattle.monitor_core.specs.Answers.{below_zero}
 use Rattle.monitor_core.specs.States.{State}
 use Rattle.monitor_core.specs.Steps.{Done, Refuses, DoesCreate, DoesDestroy, DoesCall}
-use Rattle.monitor_core.specs.Wants.{IsAnsweredBy, PassesOthers, Outgrows, IsRefusedByNeed, host_view_without}
+use Rattle.monitor_core.specs.Wants.{PassesOthers, Outgrows, IsRefusedByNeed}
+use Rattle.pmp_encoding.specs.declared.perm.Perm.{Perm}
+use Rattle.pmp_encoding.specs.declared.perm.Perm.TheVariants.{NoAccess}
+
+-- a call was answered with this refusal
+abbrev pub IsAnsweredBy : Answer → Refusal → Type 0
+IsAnsweredBy answer refusal = answer.status ≡ below_zero (refusal_number refusal)
+
+-- the host's view where the private pages of an enclave are closed to it
+abbrev closed_view : EnclaveTable → Create → ℕ → Perm
+closed_view table parts page = cond (is_private parts page) NoAccess (host_view table page)
 
 -- where all checks pass, none fails
 none_fails : (checks : List (Refusal × Type 0)) (refusal : Refusal) → AllPass checks → FailsFirst checks refusal → ⊥
@@ -68,7 +77,7 @@ abbrev ExactlyWhere : Type 0 → Answer → Type 0
 ExactlyWhere More answer = (IsAnsweredBy answer NoEntries → More) × (More → IsAnsweredBy answer NoEntries ⊎ IsAnsweredBy answer NoMemory)
 
 create_refused : (asked : Create) (pages : ℕ → List ℕ) (s : State) (hart : ℕ) (answer : Answer) (refusal : Refusal) → AllPass (create_checks s.table (s.worlds hart) (parts_of asked))
-    → RefusesCreate pages s.table (s.worlds hart) asked refusal → IsAnsweredBy answer refusal → ExactlyWhere (OutgrowsByCreate pages s.table asked) answer
+    → RefusesBy (create_checks s.table (s.worlds hart) (parts_of asked)) (OutgrowsByCreate pages s.table asked) refusal → IsAnsweredBy answer refusal → ExactlyWhere (OutgrowsByCreate pages s.table asked) answer
 create_refused asked pages s hart answer NoEntries pass why x = ((λ is. why.1), (λ out. inl x))
 create_refused asked pages s hart answer NoMemory pass why x = ((λ is. absurd (not_both answer x is)), (λ out. inr x))
 create_refused asked pages s hart answer NotHost pass why x = absurd (none_fails (create_checks s.table (s.worlds hart) (parts_of asked)) NotHost pass why)
@@ -100,7 +109,7 @@ creates_by_need asked pages s hart answer zero new pass (inl x) = (
 )
 
 destroy_refused : (id : ℕ) (s : State) (hart : ℕ) (answer : Answer) (refusal : Refusal) → AllPass (host_checks MayDestroy s.table (s.worlds hart) id)
-    → RefusesDestroy s.table (s.worlds hart) id refusal → IsAnsweredBy answer refusal → ExactlyWhere (NeedsMore s.table.layout.limit (host_view (with_enclave s.table id None))) answer
+    → RefusesBy (host_checks MayDestroy s.table (s.worlds hart) id) (NeedsMore s.table.layout.limit (host_view (with_enclave s.table id None))) refusal → IsAnsweredBy answer refusal → ExactlyWhere (NeedsMore s.table.layout.limit (host_view (with_enclave s.table id None))) answer
 destroy_refused id s hart answer NoEntries pass why x = ((λ is. why.1), (λ out. inl x))
 destroy_refused id s hart answer NoMemory pass why x = ((λ is. absurd (not_both answer x is)), (λ out. inr x))
 destroy_refused id s hart answer NotHost pass why x = absurd (none_fails (host_checks MayDestroy s.table (s.worlds hart) id) NotHost pass why)
@@ -200,10 +209,10 @@ fails_other (check ∷ checks) refusal o (inl x) = subst IsOther (sym x.0) o.0
 fails_other (check ∷ checks) refusal o (inr x) = fails_other checks refusal o.1 x.1
 
 -- the host's view of the table with the new enclave is the one with its private pages closed
-closes : (pages : ℕ → List ℕ) (table : EnclaveTable) (id : ℕ) (parts : Create) → IsTable table → IsNextId table id → SameView (host_view_without table parts) (host_view (with_enclave table id (Some (fresh pages parts))))
+closes : (pages : ℕ → List ℕ) (table : EnclaveTable) (id : ℕ) (parts : Create) → IsTable table → IsNextId table id → SameView (closed_view table parts) (host_view (with_enclave table id (Some (fresh pages parts))))
 closes pages table id parts t next = host_added table id (fresh pages parts) (free_place table id t next.free.0 next.free.1) next.free.2
 
-opens : (pages : ℕ → List ℕ) (table : EnclaveTable) (id : ℕ) (parts : Create) → IsTable table → IsNextId table id → SameView (host_view (with_enclave table id (Some (fresh pages parts)))) (host_view_without table parts)
+opens : (pages : ℕ → List ℕ) (table : EnclaveTable) (id : ℕ) (parts : Create) → IsTable table → IsNextId table id → SameView (host_view (with_enclave table id (Some (fresh pages parts)))) (closed_view table parts)
 opens pages table id parts t next page small = sym (closes pages table id parts t next page small)
 
 -- a call that succeeded or failed another check, which it then does not pass
@@ -219,13 +228,13 @@ create_failed asked s hart answer refusal why other x =
     otherwise (creates_of asked) s.table (s.worlds hart) answer (λ pass out. none_fails (create_checks s.table (s.worlds hart) (parts_of asked)) refusal pass why) (checked refusal answer other x)
 
 -- a creation that is refused, by its refusal
-create_by_need : (asked : Create) (pages : ℕ → List ℕ) (s : State) (hart : ℕ) (answer : Answer) (refusal : Refusal) → IsTable s.table → RefusesCreate pages s.table (s.worlds hart) asked refusal
+create_by_need : (asked : Create) (pages : ℕ → List ℕ) (s : State) (hart : ℕ) (answer : Answer) (refusal : Refusal) → IsTable s.table → RefusesBy (create_checks s.table (s.worlds hart) (parts_of asked)) (OutgrowsByCreate pages s.table asked) refusal
     → IsAnsweredBy answer refusal → ByNeed (creates_of asked) s.table (s.worlds hart) answer
 create_by_need asked pages s hart answer NoEntries t why x = record {
   entries = λ is. (
     why.0,
     elim why.1 [
-      | inl host ↦ inl (more_same s.table.layout.limit (host_view (with_enclave s.table host.0 (Some (fresh pages (parts_of asked))))) (host_view_without s.table (parts_of asked)) (opens pages s.table host.0 (parts_of asked) t host.1) host.2)
+      | inl host ↦ inl (more_same s.table.layout.limit (host_view (with_enclave s.table host.0 (Some (fresh pages (parts_of asked))))) (closed_view s.table (parts_of asked)) (opens pages s.table host.0 (parts_of asked) t host.1) host.2)
       | inr own ↦ inr own
     ],
   );
@@ -254,7 +263,7 @@ destroy_failed : (id : ℕ) (s : State) (hart : ℕ) (answer : Answer) (refusal 
 destroy_failed id s hart answer refusal why other x =
     otherwise (Some (calls.Destroy id)) s.table (s.worlds hart) answer (λ pass out. none_fails (host_checks MayDestroy s.table (s.worlds hart) id) refusal pass why) (checked refusal answer other x)
 
-destroy_by_need : (id : ℕ) (s : State) (hart : ℕ) (answer : Answer) (refusal : Refusal) → RefusesDestroy s.table (s.worlds hart) id refusal
+destroy_by_need : (id : ℕ) (s : State) (hart : ℕ) (answer : Answer) (refusal : Refusal) → RefusesBy (host_checks MayDestroy s.table (s.worlds hart) id) (NeedsMore s.table.layout.limit (host_view (with_enclave s.table id None))) refusal
     → IsAnsweredBy answer refusal → ByNeed (Some (calls.Destroy id)) s.table (s.worlds hart) answer
 destroy_by_need id s hart answer NoEntries why x = record {
   entries = λ is. (why.0, why.1);
@@ -293,7 +302,7 @@ call_refused_by_need (Some (calls.Create base text_pages data_pages shared_base 
     let made = with_enclave s.table x.0 (Some (fresh pages parts)) in
     otherwise (creates_of asked) s.table (s.worlds hart) answer
     (λ pass out. elim out [
-      | inl host ↦ fits_not_more s.table.layout.limit (host_view made) (subst (λ t. FitsIn t.layout.limit (host_view t)) x.2.added x.2.host_fits) (more_same s.table.layout.limit (host_view_without s.table parts) (host_view made) (closes pages s.table x.0 parts t x.2.next) host)
+      | inl host ↦ fits_not_more s.table.layout.limit (host_view made) (subst (λ t. FitsIn t.layout.limit (host_view t)) x.2.added x.2.host_fits) (more_same s.table.layout.limit (closed_view s.table parts) (host_view made) (closes pages s.table x.0 parts t x.2.next) host)
       | inr own ↦ fits_not_more s.table.layout.limit (enclave_view parts) (subst (λ t. FitsIn t.layout.limit (enclave_view parts)) x.2.added x.2.enclave_fits) own
     ])
     (well answer (done_says _ _ _ answer zero new x.3))
@@ -305,11 +314,11 @@ call_refused_by_need (Some (calls.Destroy id)) pages s hart answer zero new t (i
     (λ pass out. fits_not_more s.table.layout.limit (host_view (with_enclave s.table id None)) (subst (λ t. FitsIn t.layout.limit (host_view t)) x.2.removed x.2.host_fits) out) (well answer (done_says _ _ _ answer zero new x.3))
 call_refused_by_need (Some (calls.Destroy id)) pages s hart answer zero new t (inr x) = destroy_by_need id s hart answer x.0 x.1 (refused_says _ s hart answer zero new x.2)
 call_refused_by_need (Some (calls.Run id)) pages s hart answer zero new t (inl x) = never (Some (calls.Run id)) s.table (s.worlds hart) answer (λ none. none) (well answer (done_says _ _ _ answer zero new x.4))
-call_refused_by_need (Some (calls.Run id)) pages s hart answer zero new t (inr x) = refused_other (Some (calls.Run id)) (host_checks (MayEnter FirstRun) s.table (s.worlds hart) id) s hart answer x.0 (λ none. none) (tt, (tt, (tt, tt))) x.1 (refused_says _ s hart answer zero new x.2)
+call_refused_by_need (Some (calls.Run id)) pages s hart answer zero new t (inr x) = refused_other (Some (calls.Run id)) (host_checks (λ state. state ≡ Fresh) s.table (s.worlds hart) id) s hart answer x.0 (λ none. none) (tt, (tt, (tt, tt))) x.1 (refused_says _ s hart answer zero new x.2)
 call_refused_by_need (Some calls.Stop) pages s hart answer zero new t (inl x) = never (Some calls.Stop) s.table (s.worlds hart) answer (λ none. none) (well answer (done_says _ _ _ answer zero new x.3))
 call_refused_by_need (Some calls.Stop) pages s hart answer zero new t (inr x) = refused_other (Some calls.Stop) (leave_checks (s.worlds hart)) s hart answer x.0 (λ none. none) (tt, tt) x.1 (refused_says _ s hart answer zero new x.2)
 call_refused_by_need (Some (calls.Resume id)) pages s hart answer zero new t (inl x) = never (Some (calls.Resume id)) s.table (s.worlds hart) answer (λ none. none) (well answer (done_says _ _ _ answer zero new x.4))
-call_refused_by_need (Some (calls.Resume id)) pages s hart answer zero new t (inr x) = refused_other (Some (calls.Resume id)) (host_checks (MayEnter Resume) s.table (s.worlds hart) id) s hart answer x.0 (λ none. none) (tt, (tt, (tt, tt))) x.1 (refused_says _ s hart answer zero new x.2)
+call_refused_by_need (Some (calls.Resume id)) pages s hart answer zero new t (inr x) = refused_other (Some (calls.Resume id)) (host_checks (λ state. state ≡ Stopped) s.table (s.worlds hart) id) s hart answer x.0 (λ none. none) (tt, (tt, (tt, tt))) x.1 (refused_says _ s hart answer zero new x.2)
 call_refused_by_need (Some (calls.Exit value)) pages s hart answer zero new t (inl x) = never (Some (calls.Exit value)) s.table (s.worlds hart) answer (λ none. none) (well answer (done_says _ _ _ answer zero new x.3))
 call_refused_by_need (Some (calls.Exit value)) pages s hart answer zero new t (inr x) = refused_other (Some (calls.Exit value)) (leave_checks (s.worlds hart)) s hart answer x.0 (λ none. none) (tt, tt) x.1 (refused_says _ s hart answer zero new x.2)
 call_refused_by_need (Some (calls.Measure id k)) pages s hart answer zero new t (inl x) = never (Some (calls.Measure id k)) s.table (s.worlds hart) answer (λ none. none) (well answer (done_says _ _ _ answer zero new x.2))

@@ -193,7 +193,7 @@ entered s n hart id entering table low awake en is worlds marks w =
     moved s n hart id e Running (InEnclave id) low en.turned.1 awake (λ h under other. free h under) made worlds marks (record e { state = Running }, there, refl)
     (λ k to. let z : id ≡ k = cc in sym z) (λ runs. refl) (λ k at. let z : Host ≡ InEnclave k = sym en.passes.0 ∙ at in absurd cc) w
 
-left_behind : (s n : State) (hart id : ℕ) (leaving : Leaving) (table : EnclaveTable) → hart < s.table.layout.harts → s.marked hart ≡ false → Leaves s.table (s.worlds hart) leaving id table
+left_behind : (s n : State) (hart id : ℕ) (leaving : Leaving) (table : EnclaveTable) → hart < s.table.layout.harts → s.marked hart ≡ false → Leaves s.table (s.worlds hart) (state_after leaving) id table
     → n.table ≡ table → ((h : ℕ) → h < s.table.layout.harts → n.worlds h ≡ (if h == hart then Host else s.worlds h)) → ((h : ℕ) → h < s.table.layout.harts → n.marked h ≡ s.marked h) → AreWorlds s → AreWorlds n
 left_behind s n hart id leaving table low awake l is worlds marks w =
     moved s n hart id l.turned.0 (state_after leaving) Host low l.turned.1 awake
@@ -250,7 +250,7 @@ call_keeps_worlds (Some (calls.Measure id k)) pages s hart answer cleared n low 
 pub interrupt_keeps_worlds : (world : World) (s : State) (hart : ℕ) (n : State) → s.worlds hart ≡ world → hart < s.table.layout.harts → s.marked hart ≡ false → Interrupts world s hart n → AreWorlds s → AreWorlds n
 interrupt_keeps_worlds Host s hart n at low awake x w = worlds_same s n x w
 interrupt_keeps_worlds (InEnclave id) s hart n at low awake x w =
-    left_behind s n hart id Stop x.0 low awake (subst (λ v. Leaves s.table v Stop id x.0) (sym at) x.1) (ap (λ y. y.table) x.2) (λ h under. ap (λ y. y.worlds h) x.2) (λ h under. ap (λ y. y.marked h) x.2) w
+    left_behind s n hart id Stop x.0 low awake (subst (λ v. Leaves s.table v Stopped id x.0) (sym at) x.1) (ap (λ y. y.table) x.2) (λ h under. ap (λ y. y.worlds h) x.2) (λ h under. ap (λ y. y.marked h) x.2) w
 
 -- a mark is taken away
 pub waking_keeps_worlds : (s : State) (hart : ℕ) → AreWorlds s → AreWorlds (without_mark s hart)

@@ -5,7 +5,8 @@ use Rattle.page_views.specs.declared.pages.PageRange.{PageRange}
 use Rattle.enclave_table.specs.Platform.{Layout, is_monitor, is_ram}
 use Rattle.monitor_core.specs.declared.parts.Parts.{Parts}
 use Rattle.monitor_core.specs.Parts.{HoldsTogether}
-use Rattle.monitor_core.specs.States.{State, current_view}
+use Rattle.monitor_core.specs.States.{State}
+use Rattle.enclave_table.specs.Views.{current_view}
 
 -- the hart is one of the platform, and the parts belong together
 pub record IsOn (parts : Parts) (hart : ℕ) : Type 0 where
@@ -26,7 +27,7 @@ LoadsAnew true old new hart = new.table ≡ old.table → new.worlds hart ≡ ol
 -- every other hart that is not marked then was not marked before, and its view is the same: what is loaded there is right still
 pub record KeepsOthers (s new : State) (hart : ℕ) : Type 0 where
   pub awake : (i : ℕ) → i ≢ hart → new.marked i ≡ false → s.marked i ≡ false
-  pub views : (i : ℕ) → i ≢ hart → i < s.table.layout.harts → new.marked i ≡ false → SameView (current_view s i) (current_view new i)
+  pub views : (i : ℕ) → i ≢ hart → i < s.table.layout.harts → new.marked i ≡ false → SameView (current_view s.table (s.worlds i)) (current_view new.table (new.worlds i))
 
 -- the pages of a range are memory, and none is the monitor's
 pub record ClearsMemory (layout : Layout) (range : PageRange) : Type 0 where

@@ -28,13 +28,10 @@ opening layout = record {
   marked = λ hart. false;
 }
 
--- the current view of a hart: what the world that runs there may do on each page
-abbrev pub current_view : State → ℕ → ℕ → Perm
-current_view s hart page = view_of s.table (s.worlds hart) page
+-- the view of the world that runs on a hart
+abbrev pub view_on : State → ℕ → ℕ → Perm
+view_on s hart page = view_of s.table (s.worlds hart) page
 
--- who runs on a hart, and with which registers
-abbrev pub who_runs : State → ℕ → Runner
-who_runs s hart = runner_of hart (s.worlds hart)
-
+-- the registers of who runs on a hart
 abbrev pub running_registers : State → ℕ → RegisterFile
-running_registers s hart = s.registers (who_runs s hart)
+running_registers s hart = s.registers (runner_of hart (s.worlds hart))

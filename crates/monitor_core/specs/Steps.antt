@@ -1,17 +1,17 @@
 -- What a call or an interrupt on a hart may be answered, and the state that it leaves.
-use Rattle.std.specs.Prelude.{◌≡◌, ◌⊎◌, ℕ, ◌+◌, List, Option, None, Some}
-use Rattle.enclave_table.specs.Enclaves.{EnclaveTable, Live}
-use Rattle.enclave_table.specs.Refusals.{FailsFirst, refusal_number}
-use Rattle.enclave_table.specs.Create.{Creates, RefusesCreate}
-use Rattle.enclave_table.specs.Destroy.{Destroys, RefusesDestroy}
+use Rattle.std.specs.Prelude.{◌≡◌, ◌⊎◌, ℕ, ◌+◌, ◌-◌, ◌^◌, pos, List, Option, None, Some}
+use Rattle.enclave_table.specs.Enclaves.{EnclaveTable, Live, with_enclave}
+use Rattle.enclave_table.specs.Refusals.{FailsFirst, refusal_number, RefusesBy}
+use Rattle.enclave_table.specs.Create.{Creates, OutgrowsByCreate}
+use Rattle.enclave_table.specs.Destroy.{Destroys}
 use Rattle.enclave_table.specs.Lives.{Enters, Leaves}
-use Rattle.enclave_table.specs.Checks.{MayEnter, host_checks, leave_checks, word_checks}
+use Rattle.enclave_table.specs.Checks.{host_checks, leave_checks, word_checks, create_checks, MayDestroy, state_before}
 use Rattle.enclave_table.specs.Digests.{AnswersWord}
 use Rattle.enclave_table.specs.declared.request.Create.{Create}
 use Rattle.enclave_table.specs.declared.enclave.Enclave.{Enclave}
 use Rattle.enclave_table.specs.declared.life.Entering.{Entering}
 use Rattle.enclave_table.specs.declared.life.Entering.TheVariants as ways
-use Rattle.enclave_table.specs.declared.life.Leaving.TheVariants.{Stop, Exit}
+use Rattle.enclave_table.specs.declared.enclave.State.TheVariants.{Stopped, Exited}
 use Rattle.enclave_table.specs.declared.refusal.Refusal.{Refusal}
 use Rattle.page_views.specs.declared.pages.PageRange.{PageRange}
 use Rattle.worlds.specs.declared.world.World.{World}
@@ -20,20 +20,24 @@ use Rattle.sbi_decode.specs.declared.calls.Call.{Call}
 use Rattle.sbi_decode.specs.declared.calls.Call.TheVariants as calls
 use Rattle.worlds.specs.Runners.{EnclaveOf}
 use Rattle.monitor_core.specs.States.{State}
-use Rattle.monitor_core.specs.Changes.{first_registers, with_table, with_registers, answering, marking_others, back_to_host, into_enclave}
-use Rattle.monitor_core.specs.Answers.{done_with, refused_with, word_below_zero}
+use Rattle.monitor_core.specs.Changes.{in_world, with_registers, answering, marking_others, back_to_host}
+use Rattle.monitor_core.specs.Answers.{below_zero}
 use Rattle.monitor_core.specs.declared.answer.Answer.{Answer}
+use Rattle.enclave_table.specs.Requests.{parts_of}
+use Rattle.enclave_table.specs.Fewest.{NeedsMore}
+use Rattle.enclave_table.specs.Views.{host_view}
+use Rattle.sbi_decode.specs.Registers.{with_x, zeros}
 
 -- a call is done: this is the state after it, it is answered with 0 and a value, and these pages are to be made zero
 pub record Done (that : State) (value : ℕ) (pages : Option PageRange) (answer : Answer) (zero : Option PageRange) (new : State) : Type 0 where
   pub state : new ≡ that
-  pub told : answer ≡ done_with value
+  pub told : answer ≡ record { status = pos 0; value = value }
   pub zeroes : zero ≡ pages
 
 -- a call is refused with a number below zero: nothing changes but a0 and a1
 pub record Refuses (number : ℕ) (s : State) (hart : ℕ) (answer : Answer) (zero : Option PageRange) (new : State) : Type 0 where
-  pub state : new ≡ answering s hart (word_below_zero number) 0
-  pub told : answer ≡ refused_with number
+  pub state : new ≡ answering s hart (2 ^ 64 - number) 0
+  pub told : answer ≡ record { status = below_zero number; value = 0 }
   pub zeroes : zero ≡ None
 
 -- a call is refused, and this is why
@@ -44,40 +48,40 @@ Refused Why s hart answer zero new = (refusal : Refusal) × Why refusal × Refus
 abbrev pub DoesCreate : Create → (ℕ → List ℕ) → State → ℕ → Answer → Option PageRange → State → Type 0
 DoesCreate asked pages s hart answer zero new =
     ((id : ℕ) × (table : EnclaveTable) × Creates pages s.table (s.worlds hart) asked id table
-    × Done (marking_others (answering (with_table s table) hart 0 id) hart) id None answer zero new)
-    ⊎ Refused (RefusesCreate pages s.table (s.worlds hart) asked) s hart answer zero new
+    × Done (marking_others (answering (record s { table = table }) hart 0 id) hart) id None answer zero new)
+    ⊎ Refused (RefusesBy (create_checks s.table (s.worlds hart) (parts_of asked)) (OutgrowsByCreate pages s.table asked)) s hart answer zero new
 
 -- destroy: one enclave fewer, and its private pages are to be made zero
 abbrev pub DoesDestroy : ℕ → State → ℕ → Answer → Option PageRange → State → Type 0
 DoesDestroy id s hart answer zero new =
     ((range : PageRange) × (table : EnclaveTable) × Destroys s.table (s.worlds hart) id range table
-    × Done (marking_others (answering (with_table s table) hart 0 0) hart) 0 (Some range) answer zero new)
-    ⊎ Refused (RefusesDestroy s.table (s.worlds hart) id) s hart answer zero new
+    × Done (marking_others (answering (record s { table = table }) hart 0 0) hart) 0 (Some range) answer zero new)
+    ⊎ Refused (RefusesBy (host_checks MayDestroy s.table (s.worlds hart) id) (NeedsMore s.table.layout.limit (host_view (with_enclave s.table id None)))) s hart answer zero new
 
 -- what an enclave goes on with: at its entry and with its id for the first time, as it was stopped after that
 abbrev pub entering_with : Entering → State → ℕ → Enclave → State
-entering_with ways.Run s id e = with_registers s (EnclaveOf id) (first_registers (e.parts.base + e.parts.entry_offset) id)
+entering_with ways.Run s id e = with_registers s (EnclaveOf id) (with_x (record zeros { pc = e.parts.base + e.parts.entry_offset }) 10 id)
 entering_with ways.Resume s id e = s
 
 -- run and resume: the enclave goes on, and the host's registers wait
 abbrev pub DoesEnter : Entering → ℕ → State → ℕ → Answer → Option PageRange → State → Type 0
 DoesEnter entering id s hart answer zero new =
     ((e : Enclave) × (table : EnclaveTable) × Live s.table id e × Enters s.table (s.worlds hart) id entering table
-    × Done (into_enclave (entering_with entering (with_table s table) id e) hart id) 0 None answer zero new)
-    ⊎ Refused (FailsFirst (host_checks (MayEnter entering) s.table (s.worlds hart) id)) s hart answer zero new
+    × Done (in_world (entering_with entering (record s { table = table }) id e) hart (InEnclave id)) 0 None answer zero new)
+    ⊎ Refused (FailsFirst (host_checks (λ state. state ≡ state_before entering) s.table (s.worlds hart) id)) s hart answer zero new
 
 -- stop: the enclave will go on with 0 in a0 and a1, and the host goes on with 1 and 0 there
 abbrev pub DoesStop : State → ℕ → Answer → Option PageRange → State → Type 0
 DoesStop s hart answer zero new =
-    ((id : ℕ) × (table : EnclaveTable) × Leaves s.table (s.worlds hart) Stop id table
-    × Done (back_to_host (answering (with_table s table) hart 0 0) hart 1 0) 0 None answer zero new)
+    ((id : ℕ) × (table : EnclaveTable) × Leaves s.table (s.worlds hart) Stopped id table
+    × Done (back_to_host (answering (record s { table = table }) hart 0 0) hart 1 0) 0 None answer zero new)
     ⊎ Refused (FailsFirst (leave_checks (s.worlds hart))) s hart answer zero new
 
 -- exit: the host goes on with 0 and the value
 abbrev pub DoesExit : ℕ → State → ℕ → Answer → Option PageRange → State → Type 0
 DoesExit value s hart answer zero new =
-    ((id : ℕ) × (table : EnclaveTable) × Leaves s.table (s.worlds hart) Exit id table
-    × Done (back_to_host (with_table s table) hart 0 value) value None answer zero new)
+    ((id : ℕ) × (table : EnclaveTable) × Leaves s.table (s.worlds hart) Exited id table
+    × Done (back_to_host (record s { table = table }) hart 0 value) value None answer zero new)
     ⊎ Refused (FailsFirst (leave_checks (s.worlds hart))) s hart answer zero new
 
 -- measure: a word of the digest
@@ -101,4 +105,4 @@ DoesCall (Some (calls.Measure id k)) pages s hart answer zero new = DoesMeasure 
 -- an interrupt changes nothing in the host's world, and stops an enclave, its registers as they are
 abbrev pub Interrupts : World → State → ℕ → State → Type 0
 Interrupts Host s hart new = new ≡ s
-Interrupts (InEnclave id) s hart new = (table : EnclaveTable) × Leaves s.table (InEnclave id) Stop id table × (new ≡ back_to_host (with_table s table) hart 1 0)
+Interrupts (InEnclave id) s hart new = (table : EnclaveTable) × Leaves s.table (InEnclave id) Stopped id table × (new ≡ back_to_host (record s { table = table }) hart 1 0)

@@ -1,30 +1,17 @@
 -- When a creation or a destruction is refused for want of entries.
-use Rattle.std.specs.Prelude.{◌≡◌, ◌⊎◌, ℕ, ◌+◌, ◌/◌, Option, None, Some}
-use Rattle.pmp_encoding.specs.declared.perm.Perm.{Perm}
+use Rattle.std.specs.Prelude.{◌⊎◌, Option, None, Some, cond}
 use Rattle.pmp_encoding.specs.declared.perm.Perm.TheVariants.{NoAccess}
-use Rattle.permission_map.specs.Views.{overwritten}
-use Rattle.enclave_table.specs.Requests.{parts_of}
+use Rattle.enclave_table.specs.Requests.{parts_of, is_private}
 use Rattle.enclave_table.specs.Enclaves.{EnclaveTable, with_enclave}
 use Rattle.enclave_table.specs.Views.{host_view, enclave_view}
-use Rattle.enclave_table.specs.Refusals.{AllPass, refusal_number}
+use Rattle.enclave_table.specs.Refusals.{AllPass}
 use Rattle.enclave_table.specs.Checks.{create_checks, host_checks, MayDestroy}
 use Rattle.enclave_table.specs.Fewest.{NeedsMore}
-use Rattle.enclave_table.specs.declared.request.Create.{Create}
 use Rattle.enclave_table.specs.declared.refusal.Refusal.TheVariants.{NoEntries, NoMemory}
 use Rattle.enclave_table.specs.declared.refusal.Refusal.{Refusal}
 use Rattle.worlds.specs.declared.world.World.{World}
 use Rattle.sbi_decode.specs.declared.calls.Call.{Call}
 use Rattle.sbi_decode.specs.declared.calls.Call.TheVariants as calls
-use Rattle.monitor_core.specs.declared.answer.Answer.{Answer}
-use Rattle.monitor_core.specs.Answers.{below_zero}
-
--- a call was answered with this refusal
-abbrev pub IsAnsweredBy : Answer → Refusal → Type 0
-IsAnsweredBy answer refusal = answer.status ≡ below_zero (refusal_number refusal)
-
--- the host's view once the private pages of an enclave are closed to it
-abbrev pub host_view_without : EnclaveTable → Create → ℕ → Perm
-host_view_without table parts = overwritten (host_view table) (parts.base / 4096) (parts.text_pages + parts.data_pages) NoAccess
 
 -- a creation or a destruction that passes each of its checks, but for entries and memory
 abbrev pub PassesOthers : Option Call → EnclaveTable → World → Type 0
@@ -33,11 +20,12 @@ PassesOthers (Some (calls.Create base text_pages data_pages shared_base shared_c
 PassesOthers (Some (calls.Destroy id)) table world = AllPass (host_checks MayDestroy table world id)
 PassesOthers _ table world = ⊥
 
--- a view after it would need more entries than there are: the host's, or that of the new enclave
+-- a view after it would need more entries than there are: the host's, to which the private pages of a new enclave are closed, or that
+-- of the new enclave
 abbrev pub Outgrows : Option Call → EnclaveTable → Type 0
 Outgrows (Some (calls.Create base text_pages data_pages shared_base shared_count entry_offset)) table =
     let parts = parts_of (record { base = base; text_pages = text_pages; data_pages = data_pages; shared_base = shared_base; shared_count = shared_count; entry_offset = entry_offset }) in
-    NeedsMore table.layout.limit (host_view_without table parts) ⊎ NeedsMore table.layout.limit (enclave_view parts)
+    NeedsMore table.layout.limit (λ page. cond (is_private parts page) NoAccess (host_view table page)) ⊎ NeedsMore table.layout.limit (enclave_view parts)
 Outgrows (Some (calls.Destroy id)) table = NeedsMore table.layout.limit (host_view (with_enclave table id None))
 Outgrows _ table = ⊥
 

@@ -1,7 +1,7 @@
 //! What a call is answered with, and what goes on after it.
 
-ghost use Rattle.std.specs.Prelude.{◌≡◌, ◌≤◌};
-ghost use Rattle.monitor_core.specs.Answers.{below_zero, word_below_zero, done_with, refused_with};
+ghost use Rattle.std.specs.Prelude.{◌≡◌, ◌≤◌, ◌-◌, ◌^◌, pos};
+ghost use Rattle.monitor_core.specs.Answers.{below_zero};
 
 use page_views::PageRange;
 use sbi_decode::Registers;
@@ -36,7 +36,7 @@ pub struct Served {
 impl Answer {
     /// That of a call that is done.
     pub(crate) fn done(value: u64) -> Answer
-        ensures { result ≡ done_with value }
+        ensures { result ≡ record { status = pos 0; value = value } }
     {
         Answer { status: 0, value }
     }
@@ -45,7 +45,7 @@ impl Answer {
     pub(crate) fn refused(number: u64) -> Answer
         requires low { 1 ≤ number }
         requires high { number ≤ 112 }
-        ensures { result ≡ refused_with number }
+        ensures { result ≡ record { status = below_zero number; value = 0 } }
     {
         Answer {
             status: below_zero(number),
@@ -67,7 +67,7 @@ fn below_zero(number: u64) -> i64
 pub(crate) fn word_below_zero(number: u64) -> u64
     requires low { 1 ≤ number }
     requires high { number ≤ 112 }
-    ensures { result ≡ word_below_zero number }
+    ensures { result ≡ 2 ^ 64 - number }
 {
     u64::MAX - (number - 1)
 }

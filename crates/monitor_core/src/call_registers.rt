@@ -1,7 +1,8 @@
 //! The registers of a call and its answer, and those of a first entry.
 
 ghost use Rattle.std.specs.Prelude.{◌≡◌};
-ghost use Rattle.monitor_core.specs.Changes.{past_call, with_answer, first_registers};
+ghost use Rattle.monitor_core.specs.Changes.{past_call};
+ghost use Rattle.sbi_decode.specs.Registers.{with_x, zeros};
 
 use sbi_decode::Registers;
 
@@ -15,7 +16,7 @@ pub(crate) fn go_past_call(registers: &mut Registers)
 
 /// Puts an answer into a0 and a1.
 pub(crate) fn put_answer(registers: &mut Registers, first: u64, second: u64)
-    ensures { registers.new ≡ with_answer registers.old first second }
+    ensures { registers.new ≡ with_x (with_x registers.old 10 first) 11 second }
 {
     registers.set(10, first);
     registers.set(11, second);
@@ -23,7 +24,7 @@ pub(crate) fn put_answer(registers: &mut Registers, first: u64, second: u64)
 
 /// The registers of a first entry.
 pub(crate) fn first_registers(pc: u64, id: u64) -> Registers
-    ensures { result ≡ first_registers pc id }
+    ensures { result ≡ with_x (record zeros { pc = pc }) 10 id }
 {
     let mut registers = Registers::new();
     registers.set_pc(pc);

@@ -9,10 +9,10 @@ use enclave_table::{Entering, Leaving, Refusal, World};
 impl Parts {
     ghost use Rattle.std.specs.Prelude.{◌≡◌, ℕ, ◌+◌, ◌<◌, ◌≤◌, false, IfErr, OnOk, OnErr};
     ghost use Rattle.enclave_table.specs.Checks.{leave_checks};
-    ghost use Rattle.enclave_table.specs.Lives.{Leaves};
+    ghost use Rattle.enclave_table.specs.Lives.{Leaves, state_after};
     ghost use Rattle.enclave_table.specs.Refusals.{FailsFirst};
     ghost use Rattle.enclave_table.specs.declared.enclave.Enclave.{Enclave};
-    ghost use Rattle.monitor_core.specs.Changes.{back_to_host, with_table};
+    ghost use Rattle.monitor_core.specs.Changes.{back_to_host};
     ghost use Rattle.monitor_core.specs.Frames.{IsOn, KeepsFrame, LoadsAnew};
     ghost use Rattle.monitor_core.specs.Parts.{state_in};
     ghost use Rattle.monitor_core.specs.Steps.{DoesEnter, DoesStop, DoesExit, Interrupts, entering_with};
@@ -65,10 +65,10 @@ impl Parts {
         requires on { IsOn self.old hart }
         ensures frame { KeepsFrame self.old self.new }
         ensures done { OnOk result ((id : ℕ)
-            × Leaves self.old.table.table ((state_in self.old).worlds hart) leaving id
+            × Leaves self.old.table.table ((state_in self.old).worlds hart) (state_after leaving) id
             self.new.table.table
             × (state_in self.new ≡ back_to_host
-            (with_table (state_in self.old) self.new.table.table) hart first second)) }
+            (record (state_in self.old) { table = self.new.table.table }) hart first second)) }
         ensures refused { IfErr result (λ refusal.
             FailsFirst (leave_checks ((state_in self.old).worlds hart)) refusal) }
         ensures kept { OnErr result (self.new ≡ self.old) }

@@ -9,7 +9,7 @@ impl Parts {
     ghost use Rattle.enclave_table.specs.Fewest.{IsListOf};
     ghost use Rattle.monitor_core.specs.Monitors.{list_of};
     ghost use Rattle.monitor_core.specs.Parts.{HoldsTogether, state_in, world_in};
-    ghost use Rattle.monitor_core.specs.States.{current_view};
+    ghost use Rattle.monitor_core.specs.States.{view_on};
 
     /// The fewest entries that mean what the world on a hart may do.
     pub(crate) fn entries(&self, hart: u8) -> &[Entry]
@@ -17,7 +17,7 @@ impl Parts {
         requires whole { HoldsTogether self.now.table self.now.worlds self.now.marked }
         ensures value { result.now ≡ list_of self.now.table (world_in self.now.worlds hart) }
         ensures list { IsListOf self.now.table.table.layout.limit
-            (current_view (state_in self.now) hart) result.now }
+            (view_on (state_in self.now) hart) result.now }
     {
         match self.world(hart) {
             World::Host => self.table.host_entries(),

@@ -27,15 +27,17 @@ impl Monitor {
     ghost use Rattle.enclave_table.specs.Fewest.{FitsIn};
     ghost use Rattle.enclave_table.specs.Platform.{IsLayout};
     ghost use Rattle.enclave_table.specs.Tables.{IsTable};
-    ghost use Rattle.enclave_table.specs.Views.{host_view};
+    ghost use Rattle.enclave_table.specs.Views.{host_view, current_view};
     ghost use Rattle.sbi_decode.specs.Calls.{call_of};
     ghost use Rattle.monitor_core.specs.Changes.{past_call, with_running, with_x, without_mark};
     ghost use Rattle.monitor_core.specs.Frames.{LoadsAnew, KeepsOthers, ClearsMemory};
     ghost use Rattle.monitor_core.specs.Monitors.{state_of, kept_of, list_of};
-    ghost use Rattle.monitor_core.specs.States.{opening, current_view, running_registers};
+    ghost use Rattle.monitor_core.specs.States.{opening, running_registers};
     ghost use Rattle.monitor_core.specs.Steps.{DoesCall, Interrupts};
     ghost use Rattle.monitor_core.specs.Worlds.{ArePlaced};
-    ghost use Rattle.monitor_core.specs.Wants.{IsAnsweredBy, IsRefusedByNeed};
+    ghost use Rattle.monitor_core.specs.Wants.{IsRefusedByNeed};
+    ghost use Rattle.monitor_core.specs.Answers.{below_zero};
+    ghost use Rattle.enclave_table.specs.Refusals.{refusal_number};
 
     /// The monitor of a platform: no enclave, each hart in the host's world, all registers zero, no hart marked. It is
     /// refused where the host's view needs more entries than the platform has, and where memory is.
@@ -114,7 +116,8 @@ impl Monitor {
     /// in any order that means that view is shorter.
     pub fn entries(&self, hart: u8) -> &[Entry]
         requires { hart < 4 }
-        ensures fewest { IsFewest (current_view (state_of self.now) hart) result.now }
+        ensures fewest { let s = state_of self.now in
+            IsFewest (current_view s.table (s.worlds hart)) result.now }
         ensures room { length result.now ≤ limit_number (state_of self.now).table.layout.limit }
         ensures value { result.now
             ≡ list_of (kept_of self.now) ((state_of self.now).worlds hart) }
@@ -125,7 +128,8 @@ impl Monitor {
     /// How many entries the view of the world on a hart needs, which are as many as [`Monitor::entries`].
     pub fn used(&self, hart: u8) -> u64
         requires { hart < 4 }
-        ensures { Needs (current_view (state_of self.now) hart) result }
+        ensures { let s = state_of self.now in
+            Needs (current_view s.table (s.worlds hart)) result }
     {
         self.parts.entries(hart).len() as u64
     }
@@ -183,7 +187,7 @@ impl Monitor {
             → kept_of self.new ≡ kept_of self.old }
         ensures need { let s = state_of self.old in
             IsRefusedByNeed (call_of registers.now) s.table (s.worlds hart)
-            (IsAnsweredBy result.answer) }
+            (λ refusal. result.answer.status ≡ below_zero (refusal_number refusal)) }
     {
         self.parts.table.cite_invariant();
         self.parts.serve(hart, registers, pages)

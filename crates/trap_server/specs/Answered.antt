@@ -4,12 +4,13 @@ use Rattle.page_views.specs.declared.pages.PageRange.{PageRange}
 use Rattle.pmp_encoding.specs.declared.region.Entry.{Entry}
 use Rattle.pmp_match.specs.Meaning.{IsFewest}
 use Rattle.monitor_core.specs.declared.answer.Answer.{Answer}
-use Rattle.monitor_core.specs.States.{State, current_view, running_registers}
+use Rattle.monitor_core.specs.States.{State, running_registers}
 use Rattle.monitor_core.specs.Changes.{without_mark}
 use Rattle.control_words.specs.declared.words.ControlWords.{ControlWords}
 use Rattle.control_words.specs.Given.{words_in}
 use Rattle.trap_frames.specs.declared.answer.Head.{Head}
 use Rattle.trap_frames.specs.Answers.{answer_bytes}
+use Rattle.enclave_table.specs.Views.{current_view}
 
 -- the marks of the harts below n taken away
 abbrev pub unmarked : ℕ → State → State
@@ -22,8 +23,8 @@ marks_of s = s.marked 0 ∷ (s.marked 1 ∷ (s.marked 2 ∷ (s.marked 3 ∷ []))
 
 -- these entries are those of a hart, and of each other that loads them with it: they mean what the world there may do, and no list that does is shorter
 pub record AreEntries (s : State) (hart : ℕ) (woken : List Bool) (entries : List Entry) : Type 0 where
-  pub here : IsFewest (current_view s hart) entries
-  pub there : (other : ℕ) → other < s.table.layout.harts → slice_index_or woken other false ≡ true → IsFewest (current_view s other) entries
+  pub here : IsFewest (current_view s.table (s.worlds hart)) entries
+  pub there : (other : ℕ) → other < s.table.layout.harts → slice_index_or woken other false ≡ true → IsFewest (current_view s.table (s.worlds other)) entries
 
 -- a status as a word of 64 bits, in two's complement
 abbrev pub status_word : ℤ → ℕ

@@ -6,7 +6,7 @@ use Rattle.enclave_table.specs.Enclaves.{EnclaveTable, with_enclave}
 use Rattle.enclave_table.specs.Views.{host_view, enclave_view}
 use Rattle.enclave_table.specs.Tables.{Kept}
 use Rattle.enclave_table.specs.Fewest.{IsListOf}
-use Rattle.enclave_table.specs.Create.{fresh, RefusesCreate}
+use Rattle.enclave_table.specs.Create.{fresh, OutgrowsByCreate}
 use Rattle.enclave_table.specs.declared.request.Create.{Create}
 use Rattle.enclave_table.specs.declared.enclave.Enclave.{Enclave}
 use Rattle.enclave_table.specs.declared.enclave.State.TheVariants.{Fresh}
@@ -16,6 +16,9 @@ use Rattle.enclave_table.proofs.SameViews.{list_same, tree_same, fits_same}
 use Rattle.enclave_table.proofs.Created.{along, fits_from, sound_from, apart_from, host_want, enclave_want, creates}
 use Rattle.enclave_table.proofs.Refused.{handed_on}
 use Rattle.enclave_table.proofs.table.Table.create.Goals as goal
+use Rattle.enclave_table.specs.Refusals.{RefusesBy}
+use Rattle.enclave_table.specs.Checks.{create_checks}
+use Rattle.enclave_table.specs.Requests.{parts_of}
 
 abbrev private_range : Create → PageRange
 private_range parts = record { first = parts.base / 4096; count = parts.text_pages + parts.data_pages }
@@ -27,7 +30,7 @@ returns-in_err-host-clause-refused g c =
     let parts : Create = c.kept-parts.result in
     let range : PageRange = c.private_pages.result in
     let free = c.in_ok-id.ensures.next.free in
-    handed_on c.from_residual-in_err-host.result c.in_err-host.field-0.0 (RefusesCreate pages old c.args.world c.args.asked) c.from_residual-in_err-host.ensures.1
+    handed_on c.from_residual-in_err-host.result c.in_err-host.field-0.0 (RefusesBy (create_checks old c.args.world (parts_of c.args.asked)) (OutgrowsByCreate pages old c.args.asked)) c.from_residual-in_err-host.ensures.1
     (host_want pages old c.args.world c.args.asked parts c.in_ok-id.id (overwritten (host_view old) range.first range.count NoAccess) c.in_err-host.field-0.0
     c.kept-parts.ensures c.in_ok-id.ensures.passes c.in_ok-id.ensures.next
     (along (host_view old) (host_view (with_enclave old c.in_ok-id.id (Some (fresh pages parts)))) range (private_range parts) NoAccess c.private_pages.ensures.value
@@ -38,7 +41,7 @@ pub returns-in_err-list-clause-refused : goal.returns-in_err-list-clause-refused
 returns-in_err-list-clause-refused g c =
     let old : EnclaveTable = c.args.self.now.table in
     let pages : ℕ → List ℕ = g.P.Pages.bytes_of c.args.pages.now in
-    handed_on c.from_residual-in_err-list.result c.in_err-list.field-0.0 (RefusesCreate pages old c.args.world c.args.asked) c.from_residual-in_err-list.ensures.1
+    handed_on c.from_residual-in_err-list.result c.in_err-list.field-0.0 (RefusesBy (create_checks old c.args.world (parts_of c.args.asked)) (OutgrowsByCreate pages old c.args.asked)) c.from_residual-in_err-list.ensures.1
     (enclave_want pages old c.args.world c.args.asked c.kept-parts.result c.limit.result c.in_err-list.field-0.0 c.kept-parts.ensures c.limit.ensures
     c.in_ok-id.ensures.passes c.in_err-list.ensures.want)
 

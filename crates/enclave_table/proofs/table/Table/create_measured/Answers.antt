@@ -6,9 +6,9 @@ use Rattle.enclave_table.specs.Enclaves.{EnclaveTable, with_enclave}
 use Rattle.enclave_table.specs.Views.{host_view, enclave_view}
 use Rattle.enclave_table.specs.Tables.{Kept}
 use Rattle.enclave_table.specs.Fewest.{IsListOf}
-use Rattle.enclave_table.specs.Create.{fresh, RefusesCreate}
+use Rattle.enclave_table.specs.Create.{fresh, OutgrowsByCreate}
 use Rattle.enclave_table.specs.Digests.{measured}
-use Rattle.enclave_table.specs.Refusals.{AllPass, FailsFirst}
+use Rattle.enclave_table.specs.Refusals.{AllPass, FailsFirst, RefusesBy}
 use Rattle.enclave_table.specs.Checks.{create_checks}
 use Rattle.enclave_table.specs.declared.request.Create.{Create}
 use Rattle.enclave_table.specs.declared.enclave.Enclave.{Enclave}
@@ -19,6 +19,7 @@ use Rattle.enclave_table.proofs.SameViews.{list_same, tree_same, fits_same}
 use Rattle.enclave_table.proofs.Created.{along, fits_from, sound_from, apart_from, host_want, enclave_want, creates}
 use Rattle.enclave_table.proofs.Refused.{create_fails, handed_on}
 use Rattle.enclave_table.proofs.table.Table.create_measured.Goals as goal
+use Rattle.enclave_table.specs.Requests.{parts_of}
 
 abbrev private_range : Create → PageRange
 private_range parts = record { first = parts.base / 4096; count = parts.text_pages + parts.data_pages }
@@ -27,7 +28,7 @@ pub returns-in_err-id-clause-refused : goal.returns-in_err-id-clause-refused
 returns-in_err-id-clause-refused c =
     let old : EnclaveTable = c.args.self.now.table in
     let P : Create → Type 0 = λ p. FailsFirst (create_checks old c.args.world p) c.in_err-id.field-0.0 in
-    handed_on c.from_residual.result c.in_err-id.field-0.0 (λ refusal. (pages : ℕ → List ℕ) → RefusesCreate pages old c.args.world c.args.asked refusal) c.from_residual.ensures.1
+    handed_on c.from_residual.result c.in_err-id.field-0.0 (λ refusal. (pages : ℕ → List ℕ) → RefusesBy (create_checks old c.args.world (parts_of c.args.asked)) (OutgrowsByCreate pages old c.args.asked) refusal) c.from_residual.ensures.1
     (λ pages. create_fails pages old c.args.world c.args.asked c.in_err-id.field-0.0 (subst P c.kept-parts.ensures c.in_err-id.ensures.fails))
 
 pub returns-in_err-host-clause-refused : goal.returns-in_err-host-clause-refused
@@ -36,7 +37,7 @@ returns-in_err-host-clause-refused c =
     let parts : Create = c.kept-parts.result in
     let range : PageRange = c.private_pages.result in
     let free = c.in_ok-id.ensures.next.free in
-    handed_on c.from_residual-in_err-host.result c.in_err-host.field-0.0 (λ refusal. (pages : ℕ → List ℕ) → RefusesCreate pages old c.args.world c.args.asked refusal) c.from_residual-in_err-host.ensures.1
+    handed_on c.from_residual-in_err-host.result c.in_err-host.field-0.0 (λ refusal. (pages : ℕ → List ℕ) → RefusesBy (create_checks old c.args.world (parts_of c.args.asked)) (OutgrowsByCreate pages old c.args.asked) refusal) c.from_residual-in_err-host.ensures.1
     (λ pages. host_want pages old c.args.world c.args.asked parts c.in_ok-id.id (overwritten (host_view old) range.first range.count NoAccess) c.in_err-host.field-0.0
     c.kept-parts.ensures c.in_ok-id.ensures.passes c.in_ok-id.ensures.next
     (along (host_view old) (host_view (with_enclave old c.in_ok-id.id (Some (fresh pages parts)))) range (private_range parts) NoAccess c.private_pages.ensures.value
@@ -46,7 +47,7 @@ returns-in_err-host-clause-refused c =
 pub returns-in_err-list-clause-refused : goal.returns-in_err-list-clause-refused
 returns-in_err-list-clause-refused c =
     let old : EnclaveTable = c.args.self.now.table in
-    handed_on c.from_residual-in_err-list.result c.in_err-list.field-0.0 (λ refusal. (pages : ℕ → List ℕ) → RefusesCreate pages old c.args.world c.args.asked refusal) c.from_residual-in_err-list.ensures.1
+    handed_on c.from_residual-in_err-list.result c.in_err-list.field-0.0 (λ refusal. (pages : ℕ → List ℕ) → RefusesBy (create_checks old c.args.world (parts_of c.args.asked)) (OutgrowsByCreate pages old c.args.asked) refusal) c.from_residual-in_err-list.ensures.1
     (λ pages. enclave_want pages old c.args.world c.args.asked c.kept-parts.result c.limit.result c.in_err-list.field-0.0 c.kept-parts.ensures c.limit.ensures
     c.in_ok-id.ensures.passes c.in_err-list.ensures.want)
 

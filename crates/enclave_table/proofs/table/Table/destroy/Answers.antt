@@ -1,4 +1,3 @@
-use Rattle.enclave_table.specs.Destroy.{RefusesDestroy}
 use Rattle.std.proofs.Common.{◌≡◌, ◌∙◌, ◌+◌, ◌/◌, sym, ap, subst, None}
 use Rattle.std.proofs.lemmas.Option.{same_Some}
 use Rattle.pmp_encoding.specs.declared.perm.Perm.TheVariants.{ReadWriteExecute}
@@ -6,7 +5,7 @@ use Rattle.permission_map.specs.Views.{overwritten}
 use Rattle.enclave_table.specs.Enclaves.{EnclaveTable, with_enclave}
 use Rattle.enclave_table.specs.Views.{host_view}
 use Rattle.enclave_table.specs.Tables.{Kept}
-use Rattle.enclave_table.specs.Fewest.{FitsIn}
+use Rattle.enclave_table.specs.Fewest.{FitsIn, NeedsMore}
 use Rattle.enclave_table.specs.declared.enclave.Enclave.{Enclave}
 use Rattle.page_views.specs.declared.pages.PageRange.{PageRange}
 use Rattle.enclave_table.proofs.Places.{live_inside}
@@ -15,6 +14,8 @@ use Rattle.enclave_table.proofs.Refused.{destroy_want, handed_on}
 use Rattle.enclave_table.proofs.SameViews.{list_same, tree_same, fits_same}
 use Rattle.enclave_table.proofs.Created.{along, fits_from}
 use Rattle.enclave_table.proofs.table.Table.destroy.Goals as goal
+use Rattle.enclave_table.specs.Refusals.{RefusesBy}
+use Rattle.enclave_table.specs.Checks.{host_checks, MayDestroy}
 
 abbrev private_range : Enclave → PageRange
 private_range e = record { first = e.parts.base / 4096; count = e.parts.text_pages + e.parts.data_pages }
@@ -24,7 +25,7 @@ returns-in_err-host-clause-refused c =
     let old : EnclaveTable = c.args.self.now.table in
     let e : Enclave = c.in_ok-enclave.enclave in
     let range : PageRange = c.private_pages-range.result in
-    handed_on c.from_residual-in_err-host.result c.in_err-host.field-0.0 (RefusesDestroy old c.args.world c.args.id) c.from_residual-in_err-host.ensures.1
+    handed_on c.from_residual-in_err-host.result c.in_err-host.field-0.0 (RefusesBy (host_checks MayDestroy old c.args.world c.args.id) (NeedsMore old.layout.limit (host_view (with_enclave old c.args.id None)))) c.from_residual-in_err-host.ensures.1
     (destroy_want old c.args.world c.args.id (overwritten (host_view old) range.first range.count ReadWriteExecute) c.in_err-host.field-0.0 c.in_ok-enclave.ensures.passes
     (along (host_view old) (host_view (with_enclave old c.args.id None)) range (private_range e) ReadWriteExecute c.private_pages-range.ensures.value
     (host_removed old c.args.id e c.cite_invariant.ensures.table c.in_ok-enclave.ensures.live))

@@ -3,7 +3,7 @@ use Rattle.std.proofs.lemmas.Option.{same_Some}
 use Rattle.pmp_encoding.specs.Banks.{HasList}
 use Rattle.monitor_core.specs.Monitors.{state_of}
 use Rattle.hart_sim.specs.Parts.{state_in}
-use Rattle.hart_sim.specs.States.{current_view}
+use Rattle.hart_sim.specs.States.{view_on}
 use Rattle.hart_sim.proofs.Accessed.{no_cause, that_cause, accesses_ok, accesses_err}
 use Rattle.hart_sim.proofs.parts.Parts.access.Goals as goal
 
@@ -17,7 +17,7 @@ pub returns-in-Ok-clause-step : goal.returns-in-Ok-clause-step
 returns-in-Ok-clause-step c = λ right.
     let old = c.args.self.now in
     let loads = right c.args.hart c.bank.result.now c.requires.on.known c.requires.awake c.bank.ensures in
-    accesses_ok (current_view (state_in old) c.args.hart) loads.list (state_of old.monitor) old.memory c.reach.new.memory c.args.access.now c.args.value c.reach.result loads.fewest.means c.requires.event (c.in-Ok.ensures.by_no_other loads.list loads.loaded) c.reach.ensures
+    accesses_ok (view_on (state_in old) c.args.hart) loads.list (state_of old.monitor) old.memory c.reach.new.memory c.args.access.now c.args.value c.reach.result loads.fewest.means c.requires.event (c.in-Ok.ensures.by_no_other loads.list loads.loaded) c.reach.ensures
 
 pub returns-in-Err-clause-judged : goal.returns-in-Err-clause-judged
 returns-in-Err-clause-judged c = λ bank list cause has lists.
@@ -29,4 +29,4 @@ pub returns-in-Err-clause-step : goal.returns-in-Err-clause-step
 returns-in-Err-clause-step c = λ right.
     let old = c.args.self.now in
     let loads = right c.args.hart c.bank.result.now c.requires.on.known c.requires.awake c.bank.ensures in
-    accesses_err (current_view (state_in old) c.args.hart) loads.list (state_of old.monitor) old.memory c.args.access.now c.args.value c.in-Err.cause loads.fewest.means c.requires.event (c.in-Err.ensures.by_no_other loads.list loads.loaded)
+    accesses_err (view_on (state_in old) c.args.hart) loads.list (state_of old.monitor) old.memory c.args.access.now c.args.value c.in-Err.cause loads.fewest.means c.requires.event (c.in-Err.ensures.by_no_other loads.list loads.loaded)

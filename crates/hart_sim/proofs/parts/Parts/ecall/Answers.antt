@@ -1,4 +1,4 @@
-use Rattle.std.proofs.Common.{◌≡◌, ◌∙◌, ◌+◌, ◌^◌, ◌≤◌, Option, None, Some, slice_get, ap, ap₂, sym, subst}
+use Rattle.std.proofs.Common.{◌≡◌, ◌∙◌, ◌+◌, ◌^◌, ◌≤◌, Option, None, Some, slice_get, ap, ap₂, sym, subst, ◌∷◌, []}
 use Rattle.std.specs.Prelude.{IfSome}
 use Rattle.page_views.specs.declared.pages.PageRange.{PageRange}
 use Rattle.enclave_table.specs.Platform.{Layout}
@@ -8,9 +8,9 @@ use Rattle.monitor_core.specs.Changes.{past_call, with_running}
 use Rattle.monitor_core.specs.Frames.{LoadsAnew, KeepsOthers, ClearsMemory}
 use Rattle.monitor_core.specs.Steps.{DoesCall}
 use Rattle.hart_sim.specs.Banks.{LoadsFewest}
-use Rattle.hart_sim.specs.Changes.{calling, with_words, call_registers}
+use Rattle.hart_sim.specs.Changes.{calling, with_words}
 use Rattle.hart_sim.specs.Parts.{AreBanks, shown, state_in}
-use Rattle.hart_sim.specs.States.{core_of, current_view, page_bytes}
+use Rattle.hart_sim.specs.States.{core_of, view_on, page_bytes}
 use Rattle.hart_sim.proofs.Framed.{frame_served}
 use Rattle.hart_sim.proofs.parts.Parts.ecall.Goals as goal
 
@@ -28,7 +28,7 @@ returns-clause-step c =
     let s = state_in old in
     let core = state_of c.serve-served.new.self in
     let r = c.serve-served.result in
-    let file : past_call c.put_words.new.registers ≡ calling s c.args.hart c.args.words.now = ap past_call (c.put_words.ensures ∙ ap (λ f. with_words f call_registers c.args.words.now) c.registers.ensures) in (
+    let file : past_call c.put_words.new.registers ≡ calling s c.args.hart c.args.words.now = ap past_call (c.put_words.ensures ∙ ap (λ f. with_words f (17 ∷ (16 ∷ (10 ∷ (11 ∷ (12 ∷ (13 ∷ (14 ∷ (15 ∷ [])))))))) c.args.words.now) c.registers.ensures) in (
       r.answer,
       r.zero,
       core,
@@ -51,5 +51,5 @@ returns-clause-frame c =
     (subst (λ m. AreBanks new.banks (state_of m).table.layout.limit) (sym c.load_where.ensures.monitor) c.load_where.ensures.limited)
     (λ same. ap kept_of is ∙ e.lists (ap (λ m. (state_of m).table) (sym is) ∙ same))
     (λ i other. c.load_where.ensures.others i other ∙ ap (λ bs. slice_get bs i) c.zero.ensures.banks)
-    (λ yes. let f = c.load_where.ensures.fewest yes in (f.0, f.1, subst (λ m. LoadsFewest f.0 (current_view (shown (state_of m) old.memory) c.args.hart)) (sym c.load_where.ensures.monitor) f.2))
+    (λ yes. let f = c.load_where.ensures.fewest yes in (f.0, f.1, subst (λ m. LoadsFewest f.0 (view_on (shown (state_of m) old.memory) c.args.hart)) (sym c.load_where.ensures.monitor) f.2))
     (λ no. c.load_where.ensures.calm no ∙ c.zero.ensures.banks)

@@ -4,7 +4,7 @@ use Rattle.monitor_core.specs.Frames.{LoadsAnew, KeepsOthers}
 use Rattle.monitor_core.specs.Steps.{Interrupts}
 use Rattle.hart_sim.specs.Banks.{LoadsFewest}
 use Rattle.hart_sim.specs.Parts.{AreBanks, shown}
-use Rattle.hart_sim.specs.States.{current_view}
+use Rattle.hart_sim.specs.States.{view_on}
 use Rattle.hart_sim.proofs.Framed.{frame_served}
 use Rattle.hart_sim.proofs.Running.{running_same}
 use Rattle.hart_sim.proofs.parts.Parts.interrupt.Goals as goal
@@ -34,5 +34,5 @@ returns-clause-frame c =
     (subst (λ m. AreBanks new.banks (state_of m).table.layout.limit) (sym c.load_where.ensures.monitor) c.load_where.ensures.limited)
     (λ same. ap kept_of is ∙ e.lists (ap (λ m. (state_of m).table) (sym is) ∙ same))
     c.load_where.ensures.others
-    (λ yes. let f = c.load_where.ensures.fewest yes in (f.0, f.1, subst (λ m. LoadsFewest f.0 (current_view (shown (state_of m) old.memory) c.args.hart)) (sym c.load_where.ensures.monitor) f.2))
+    (λ yes. let f = c.load_where.ensures.fewest yes in (f.0, f.1, subst (λ m. LoadsFewest f.0 (view_on (shown (state_of m) old.memory) c.args.hart)) (sym c.load_where.ensures.monitor) f.2))
     c.load_where.ensures.calm

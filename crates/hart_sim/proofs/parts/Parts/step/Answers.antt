@@ -1,10 +1,11 @@
-use Rattle.std.proofs.Common.{◌∙◌, slice_get, ap}
+use Rattle.std.proofs.Common.{◌∙◌, slice_get, ap, subst}
 use Rattle.monitor_core.specs.Monitors.{kept_of}
 use Rattle.hart_sim.specs.Parts.{state_in, bank_in}
 use Rattle.hart_sim.proofs.Awake.{off}
 use Rattle.hart_sim.proofs.BankPlaces.{met}
 use Rattle.hart_sim.proofs.Framed.{frame_after}
 use Rattle.hart_sim.proofs.parts.Parts.step.Goals as goal
+use Rattle.hart_sim.specs.Steps.{Does}
 
 pub returns-clause-frame : goal.returns-clause-frame
 returns-clause-frame c =
@@ -17,3 +18,6 @@ returns-clause-judged c = λ access value list cause is meets.
     let old = c.args.self.now in
     let has = met (state_in old) (kept_of old.monitor) (bank_in old) (bank_in c.wake.new.self) c.args.hart list meets c.wake.ensures.woken (λ was. ap (λ bs. slice_get bs c.args.hart) (c.wake.ensures.asleep was)) in
     c.happen.ensures.judged access value is has.0 list cause has.1 has.2
+
+pub returns-clause-step : goal.returns-clause-step
+returns-clause-step c = λ right. subst (λ s. Does c.args.event s c.args.hart c.happen.result (state_in c.happen.new.self)) c.wake.ensures.state (c.happen.ensures.step (c.wake.ensures.frame.banks right))

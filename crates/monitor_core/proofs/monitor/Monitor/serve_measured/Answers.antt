@@ -1,4 +1,4 @@
-use Rattle.monitor_core.specs.Monitors.{state_of, kept_of}
+use Rattle.monitor_core.specs.Monitors.{state_of}
 use Rattle.monitor_core.proofs.monitor.Monitor.serve_measured.Goals as goal
 
 pub serve_measured-requires-clause-on : goal.serve_measured-requires-clause-on

@@ -1,12 +1,14 @@
 use Rattle.std.proofs.Common.{◌∙◌, ◌<◌, inl, inr, refl, ap, sym, subst}
-use Rattle.enclave_table.specs.Create.{Creates, IsMeasured, RefusesCreate}
-use Rattle.enclave_table.specs.Refusals.{refusal_number}
+use Rattle.enclave_table.specs.Create.{Creates, IsMeasured, OutgrowsByCreate}
+use Rattle.enclave_table.specs.Refusals.{refusal_number, RefusesBy}
 use Rattle.monitor_core.specs.Parts.{state_in}
 use Rattle.monitor_core.specs.Steps.{Refuses}
 use Rattle.monitor_core.proofs.Framed.{frame_placed}
 use Rattle.monitor_core.proofs.Moved.{free_runs_nowhere, whole_placed}
 use Rattle.monitor_core.proofs.Stayed.{not_added}
 use Rattle.monitor_core.proofs.parts.Parts.create_measured.Goals as goal
+use Rattle.enclave_table.specs.Checks.{create_checks}
+use Rattle.enclave_table.specs.Requests.{parts_of}
 
 pub answer_and_mark-requires : goal.answer_and_mark-requires
 answer_and_mark-requires c =
@@ -36,7 +38,7 @@ returns-in-Err-clause-step c = λ pages measured.
     let said = c.refuse_for.result in
     inr (
       c.in-Err.refusal,
-      subst (λ w. RefusesCreate pages old.table.table w c.args.asked c.in-Err.refusal) c.world-world.ensures (c.in-Err.ensures.refused pages),
+      subst (λ w. RefusesBy (create_checks old.table.table w (parts_of c.args.asked)) (OutgrowsByCreate pages old.table.table c.args.asked) c.in-Err.refusal) c.world-world.ensures (c.in-Err.ensures.refused pages),
       subst (λ k. Refuses (refusal_number c.in-Err.refusal) (state_in (record old { table = k })) c.args.hart said.answer said.zero (state_in c.refuse_for.new.self)) c.in-Err.ensures.kept c.refuse_for.ensures.step,
     )
 

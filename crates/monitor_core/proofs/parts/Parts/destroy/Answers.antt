@@ -1,6 +1,6 @@
 use Rattle.std.proofs.Common.{◌∙◌, ◌<◌, inl, inr, refl, ap, sym, subst, None}
-use Rattle.enclave_table.specs.Destroy.{Destroys, RefusesDestroy}
-use Rattle.enclave_table.specs.Refusals.{refusal_number}
+use Rattle.enclave_table.specs.Destroy.{Destroys}
+use Rattle.enclave_table.specs.Refusals.{refusal_number, RefusesBy}
 use Rattle.enclave_table.proofs.Places.{live_above}
 use Rattle.monitor_core.specs.Parts.{state_in}
 use Rattle.monitor_core.specs.Steps.{Refuses}
@@ -8,6 +8,10 @@ use Rattle.monitor_core.proofs.Framed.{frame_placed}
 use Rattle.monitor_core.proofs.Moved.{gone_runs_nowhere, whole_placed}
 use Rattle.monitor_core.proofs.Stayed.{not_removed}
 use Rattle.monitor_core.proofs.parts.Parts.destroy.Goals as goal
+use Rattle.enclave_table.specs.Checks.{host_checks, MayDestroy}
+use Rattle.enclave_table.specs.Fewest.{NeedsMore}
+use Rattle.enclave_table.specs.Views.{host_view}
+use Rattle.enclave_table.specs.Enclaves.{with_enclave}
 
 pub answer_and_mark-requires : goal.answer_and_mark-requires
 answer_and_mark-requires c =
@@ -40,7 +44,7 @@ returns-in-Err-clause-step c =
     let said = c.refuse_for.result in
     inr (
       c.in-Err.refusal,
-      subst (λ w. RefusesDestroy old.table.table w c.args.id c.in-Err.refusal) c.world-world.ensures c.in-Err.ensures.refused,
+      subst (λ w. RefusesBy (host_checks MayDestroy old.table.table w c.args.id) (NeedsMore old.table.table.layout.limit (host_view (with_enclave old.table.table c.args.id None))) c.in-Err.refusal) c.world-world.ensures c.in-Err.ensures.refused,
       subst (λ k. Refuses (refusal_number c.in-Err.refusal) (state_in (record old { table = k })) c.args.hart said.answer said.zero (state_in c.refuse_for.new.self)) c.in-Err.ensures.kept c.refuse_for.ensures.step,
     )
 

@@ -1,5 +1,5 @@
-use Rattle.std.proofs.Common.{◌∙◌, inl, inr, refl, ap, sym, subst, ◌==◌, if◌then◌else◌, ℕ}
-use Rattle.enclave_table.specs.Checks.{MayEnter, host_checks}
+use Rattle.std.proofs.Common.{◌∙◌, inl, inr, refl, ap, sym, subst, ◌==◌, if◌then◌else◌, ℕ, ◌≡◌}
+use Rattle.enclave_table.specs.Checks.{host_checks, state_before}
 use Rattle.enclave_table.specs.Lives.{Enters}
 use Rattle.enclave_table.specs.Refusals.{FailsFirst, refusal_number}
 use Rattle.worlds.specs.declared.world.World.TheVariants.{Enclave as InEnclave}
@@ -16,7 +16,7 @@ returns-in-Err-clause-step c =
     let said = c.refuse_for.result in
     inr (
       c.in-Err.refusal,
-      subst (λ w. FailsFirst (host_checks (MayEnter c.args.entering) old.table.table w c.args.id) c.in-Err.refusal) c.world-world.ensures c.in-Err.ensures.refused,
+      subst (λ w. FailsFirst (host_checks (λ state. state ≡ state_before c.args.entering) old.table.table w c.args.id) c.in-Err.refusal) c.world-world.ensures c.in-Err.ensures.refused,
       subst (λ k. Refuses (refusal_number c.in-Err.refusal) (state_in (record old { table = k })) c.args.hart said.answer said.zero (state_in c.refuse_for.new.self)) c.in-Err.ensures.kept c.refuse_for.ensures.step,
     )
 
