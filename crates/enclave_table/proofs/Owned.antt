@@ -7,8 +7,8 @@ use Rattle.enclave_table.specs.Platform.{is_monitor, platform_perm}
 use Rattle.enclave_table.specs.Enclaves.{EnclaveTable, enclave_at, Live}
 use Rattle.enclave_table.specs.Requests.{is_private, is_shared, is_part}
 use Rattle.enclave_table.specs.Owners.{IsOwner}
-use Rattle.enclave_table.specs.Views.{has_private, host_view, host_perm}
-use Rattle.enclave_table.proofs.ShortNames.{any_private}
+use Rattle.enclave_table.specs.Views.{host_view, host_perm}
+use Rattle.enclave_table.proofs.ShortNames.{any_private, has_private}
 use Rattle.enclave_table.specs.Tables.{IsTable}
 use Rattle.enclave_table.specs.declared.enclave.Enclave.{Enclave}
 use Rattle.enclave_table.specs.declared.owner.Owner.{Owner}

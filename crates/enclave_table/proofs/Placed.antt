@@ -10,8 +10,8 @@ use Rattle.permission_map.specs.Views.{SameView, overwritten}
 use Rattle.enclave_table.specs.Platform.{is_monitor, is_ram, platform_perm, device_perm}
 use Rattle.enclave_table.specs.Enclaves.{EnclaveTable, enclave_at, Live, with_enclave}
 use Rattle.enclave_table.specs.Requests.{is_private, is_shared, is_part, ArePartsApart}
-use Rattle.enclave_table.specs.Views.{has_private, host_view, enclave_view}
-use Rattle.enclave_table.proofs.ShortNames.{any_private}
+use Rattle.enclave_table.specs.Views.{host_view, enclave_view}
+use Rattle.enclave_table.proofs.ShortNames.{any_private, has_private}
 use Rattle.enclave_table.specs.Tables.{IsSound, IsTable, Kept, IsKept, list_at}
 use Rattle.enclave_table.specs.Fewest.{IsListOf}
 use Rattle.enclave_table.specs.declared.request.Create.{Create}

@@ -3,8 +3,7 @@ use Rattle.std.proofs.Common.{ℕ, zero, suc, ◌≡◌, ◌≢◌, ◌-◌, ◌
 use Rattle.std.proofs.lemmas.Bool.{cases_eq, cases_lt, ne_eqb}
 use Rattle.std.proofs.lemmas.List.{get_or-set_same, get_or-set_other, get_or_past}
 use Rattle.enclave_table.specs.Enclaves.{enclave_at}
-use Rattle.enclave_table.specs.Views.{has_private}
-use Rattle.enclave_table.proofs.ShortNames.{any_private}
+use Rattle.enclave_table.proofs.ShortNames.{any_private, has_private}
 use Rattle.enclave_table.specs.declared.enclave.Enclave.{Enclave}
 
 -- at an id above zero

@@ -1,15 +1,20 @@
 -- Short names of what definitions say at length.
-use Rattle.std.specs.Prelude.{ℕ, Bool, List, Option, option_map, unwrap_or}
+use Rattle.std.specs.Prelude.{ℕ, Bool, List, Option, option_map, unwrap_or, false}
 use Rattle.std.specs.List.{list_any}
 use Rattle.pmp_encoding.specs.declared.perm.Perm.{Perm}
 use Rattle.pmp_encoding.specs.declared.perm.Perm.TheVariants.{NoAccess}
 use Rattle.enclave_table.specs.Ranges.{has_page}
-use Rattle.enclave_table.specs.Views.{has_private, enclave_view}
+use Rattle.enclave_table.specs.Views.{enclave_view}
+use Rattle.enclave_table.specs.Requests.{is_private}
 use Rattle.enclave_table.specs.declared.enclave.Enclave.{Enclave}
 
 -- whether a page is in one of the ranges
 abbrev pub is_among : List (ℕ × ℕ) → ℕ → Bool
 is_among ranges page = list_any (λ range. has_page range page) ranges
+
+-- whether a page is private to the enclave of a slot, if there is one
+abbrev pub has_private : Option Enclave → ℕ → Bool
+has_private slot page = unwrap_or (option_map (λ e. is_private e.parts page) slot) false
 
 -- whether a page is private to one of the enclaves
 abbrev pub any_private : List (Option Enclave) → ℕ → Bool

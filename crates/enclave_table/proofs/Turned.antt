@@ -9,8 +9,8 @@ use Rattle.prefix_tree.specs.Trees.{PermTree}
 use Rattle.enclave_table.specs.Platform.{is_monitor, platform_perm}
 use Rattle.enclave_table.specs.Enclaves.{EnclaveTable, enclave_at, Live, with_enclave}
 use Rattle.enclave_table.specs.Requests.{is_part}
-use Rattle.enclave_table.specs.Views.{has_private, host_view, enclave_view}
-use Rattle.enclave_table.proofs.ShortNames.{any_private}
+use Rattle.enclave_table.specs.Views.{host_view, enclave_view}
+use Rattle.enclave_table.proofs.ShortNames.{any_private, has_private}
 use Rattle.enclave_table.specs.Tables.{IsSound, IsTable, Kept, IsKept, IsHostTree, list_at}
 use Rattle.enclave_table.specs.Fewest.{IsListOf}
 use Rattle.enclave_table.specs.declared.request.Create.{Create}

@@ -4,11 +4,10 @@ use Rattle.worlds.specs.declared.world.World.{World}
 use Rattle.worlds.specs.declared.world.World.TheVariants.{Enclave as InEnclave}
 use Rattle.enclave_table.specs.Enclaves.{EnclaveTable, Live, with_enclave}
 use Rattle.enclave_table.specs.Refusals.{AllPass}
-use Rattle.enclave_table.specs.Checks.{host_checks, state_before}
+use Rattle.enclave_table.specs.Checks.{host_checks}
 use Rattle.enclave_table.specs.declared.enclave.Enclave.{Enclave}
 use Rattle.enclave_table.specs.declared.enclave.State.{State}
 use Rattle.enclave_table.specs.declared.enclave.State.TheVariants.{Running, Stopped, Exited}
-use Rattle.enclave_table.specs.declared.life.Entering.{Entering}
 use Rattle.enclave_table.specs.declared.life.Leaving.{Leaving}
 use Rattle.enclave_table.specs.declared.life.Leaving.TheVariants.{Stop, Exit}
 
@@ -16,9 +15,9 @@ use Rattle.enclave_table.specs.declared.life.Leaving.TheVariants.{Stop, Exit}
 abbrev pub Turns : EnclaveTable → ℕ → State → EnclaveTable → Type 0
 Turns old id state new = (e : Enclave) × Live old id e × (new ≡ with_enclave old id (Some (record e { state = state })))
 
--- run and resume
-pub record Enters (old : EnclaveTable) (world : World) (id : ℕ) (entering : Entering) (new : EnclaveTable) : Type 0 where
-  pub passes : AllPass (host_checks (λ state. state ≡ state_before entering) old world id)
+-- run and resume: the enclave that is entered was in that state before
+pub record Enters (old : EnclaveTable) (world : World) (id : ℕ) (before : State) (new : EnclaveTable) : Type 0 where
+  pub passes : AllPass (host_checks (λ state. state ≡ before) old world id)
   pub turned : Turns old id Running new
 
 -- what an enclave is after it was left

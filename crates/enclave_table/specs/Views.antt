@@ -14,15 +14,11 @@ use Rattle.enclave_table.specs.declared.owner.Owner.TheVariants.{Monitor, Privat
 use Rattle.enclave_table.specs.declared.request.Create.{Create}
 use Rattle.worlds.specs.declared.world.World.TheVariants as world
 
--- whether a page is private to the enclave of a slot, if there is one
-abbrev pub has_private : Option Enclave → ℕ → Bool
-has_private None page = false
-has_private (Some e) page = is_private e.parts page
-
 -- the host: nothing on what is the monitor's or private to an enclave, elsewhere what the platform allows
 abbrev pub host_view : EnclaveTable → ℕ → Perm
 host_view table page =
-    cond (is_monitor table.layout page || list_any (λ slot. has_private slot page) table.enclaves) NoAccess (platform_perm table.layout page)
+    cond (is_monitor table.layout page || list_any (λ slot. unwrap_or (option_map (λ e. is_private e.parts page) slot) false) table.enclaves) NoAccess
+    (platform_perm table.layout page)
 
 -- what the host may do on a page, by its owner and by what the platform allows there
 abbrev pub host_perm : Owner → Perm → Perm

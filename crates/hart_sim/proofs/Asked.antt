@@ -1,5 +1,5 @@
 -- What an event asks of the monitor, and what it leaves of the monitor's part of the state.
-use Rattle.std.proofs.Common.{◌≡◌, inl, inr, ℕ, List, Option, Result, Ok, Err, ap}
+use Rattle.std.proofs.Common.{◌≡◌, inl, inr, ℕ, List, Option, Result, Ok, Err, ap, ◌*◌}
 use Rattle.pmp_match.specs.declared.access.Access.{Access}
 use Rattle.pmp_match.specs.declared.access.Kind.{Kind}
 use Rattle.pmp_match.specs.declared.access.Kind.TheVariants.{Fetch, Load, Store}
@@ -9,9 +9,10 @@ use Rattle.sbi_decode.specs.declared.calls.Call.{Call}
 use Rattle.monitor_core.specs.States.{State as Core}
 use Rattle.monitor_core.specs.Changes.{with_running, without_mark}
 use Rattle.hart_sim.specs.declared.reply.Reply.{Reply}
-use Rattle.hart_sim.specs.States.{State, core_of, with_core, page_bytes}
+use Rattle.hart_sim.specs.States.{State, core_of, with_core}
 use Rattle.hart_sim.specs.Changes.{calling}
 use Rattle.hart_sim.specs.Steps.{Accesses, TakesEffect}
+use Rattle.hart_sim.specs.Memory.{bytes_at}
 
 -- the state that an event on a hart meets: the hart is not marked
 abbrev pub awoken : State → ℕ → State
@@ -26,7 +27,7 @@ asked s hart words = with_running (core_of (awoken s hart)) hart (calling (awoke
 
 -- the pages that a call may measure
 abbrev pub lent : State → ℕ → List ℕ
-lent s page = page_bytes s page
+lent s page = bytes_at s.bytes (page * 4096) 4096
 
 -- an access leaves the monitor's part
 pub core_effect : (kind : Kind) (s : State) (a : Access) (value : ℕ) (reply : Reply) (new : State) → TakesEffect kind s a value reply new → core_of new ≡ core_of s

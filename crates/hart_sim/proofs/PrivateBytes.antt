@@ -12,8 +12,8 @@ use Rattle.permission_map.specs.Runs.{in_range}
 use Rattle.enclave_table.proofs.Places.{live_place}
 use Rattle.enclave_table.specs.Enclaves.{EnclaveTable, Live, enclave_at}
 use Rattle.enclave_table.specs.Requests.{is_private, is_shared, is_part}
-use Rattle.enclave_table.specs.Views.{has_private, host_view, enclave_view}
-use Rattle.enclave_table.proofs.ShortNames.{any_private}
+use Rattle.enclave_table.specs.Views.{host_view, enclave_view}
+use Rattle.enclave_table.proofs.ShortNames.{any_private, has_private}
 use Rattle.enclave_table.specs.Platform.{is_monitor, platform_perm}
 use Rattle.enclave_table.specs.Tables.{IsTable}
 use Rattle.enclave_table.specs.declared.request.Create.{Create}

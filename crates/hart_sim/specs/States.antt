@@ -10,7 +10,6 @@ use Rattle.worlds.specs.declared.world.World.TheVariants.{Host}
 use Rattle.sbi_decode.specs.Registers.{RegisterFile, zeros}
 use Rattle.worlds.specs.Runners.{Runner, runner_of}
 use Rattle.monitor_core.specs.States.{State as Core}
-use Rattle.hart_sim.specs.Memory.{bytes_at}
 
 -- the enclaves, the world that runs on each hart, the registers of each host and enclave, the byte at each address, the pages
 -- that were written, and the harts that are marked: each of these loads the host's entries before its next event. A hart that
@@ -42,7 +41,3 @@ view_on s hart page = view_of s.table (s.worlds hart) page
 -- the registers of who runs on a hart
 abbrev pub running_registers : State → ℕ → RegisterFile
 running_registers s hart = s.registers (runner_of hart (s.worlds hart))
-
--- the bytes of a page
-abbrev pub page_bytes : State → ℕ → List ℕ
-page_bytes s page = bytes_at s.bytes (page * 4096) 4096

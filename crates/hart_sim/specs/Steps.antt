@@ -1,5 +1,5 @@
 -- One step of the machine: what an event on a hart may be answered, and the state that it leaves.
-use Rattle.std.specs.Prelude.{◌≡◌, ◌≢◌, ◌⊎◌, ℕ, ◌/◌, ◌%◌, ◌^◌, ◌<◌, false, ◌&&◌, ◌==◌, nat_lt, if◌then◌else◌, List, [], ◌∷◌, ◌++◌, Option, Result, Ok, Err}
+use Rattle.std.specs.Prelude.{◌≡◌, ◌≢◌, ◌⊎◌, ℕ, ◌/◌, ◌%◌, ◌^◌, ◌<◌, false, ◌&&◌, ◌==◌, nat_lt, if◌then◌else◌, List, [], ◌∷◌, ◌++◌, Option, Result, Ok, Err, ◌*◌}
 use Rattle.pmp_encoding.specs.declared.perm.Perm.{Perm}
 use Rattle.pmp_match.specs.declared.access.Access.{Access}
 use Rattle.pmp_match.specs.declared.access.Kind.{Kind}
@@ -19,7 +19,7 @@ use Rattle.hart_trace.specs.declared.event.Event.TheVariants as events
 use Rattle.hart_sim.specs.declared.reply.Reply.{Reply}
 use Rattle.hart_sim.specs.declared.reply.Reply.TheVariants as replies
 use Rattle.hart_sim.specs.Memory.{bytes_at, number_of}
-use Rattle.hart_sim.specs.States.{State, core_of, with_core, running_registers, page_bytes}
+use Rattle.hart_sim.specs.States.{State, core_of, with_core, running_registers}
 use Rattle.hart_sim.specs.Changes.{with_x, calling, storing, zeroing}
 use Rattle.hart_sim.specs.Replies.{RepliesWith}
 use Rattle.enclave_table.specs.Views.{current_view}
@@ -55,7 +55,7 @@ Does (events.Access a value) s hart reply new = Accesses (verdict (current_view 
 Does (events.Reg n value) s hart reply new = (reply ≡ replies.Done) × (new ≡ with_core s (with_running (core_of s) hart (with_x (running_registers s hart) n value)))
 Does (events.Ecall words) s hart reply new =
     let file = calling s hart words.items in
-    Serves (DoesCall (call_of file) (page_bytes s) (with_running (core_of s) hart file) hart) s hart reply new
+    Serves (DoesCall (call_of file) (λ page. bytes_at s.bytes (page * 4096) 4096) (with_running (core_of s) hart file) hart) s hart reply new
 Does events.Irq s hart reply new = (core : Core) × Interrupts (s.worlds hart) (core_of s) hart core × (new ≡ with_core s core) × RepliesWith replies.Irq new hart reply
 
 -- a step: the event first takes the mark of its hart away

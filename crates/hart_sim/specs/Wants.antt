@@ -1,5 +1,5 @@
 -- When a creation or a destruction is refused for want of entries.
-use Rattle.std.specs.Prelude.{◌≡◌, ◌⊎◌, ℕ, None}
+use Rattle.std.specs.Prelude.{◌≡◌, ◌⊎◌, ℕ, None, Some, ◌*◌}
 use Rattle.enclave_table.specs.Requests.{parts_of}
 use Rattle.enclave_table.specs.Enclaves.{with_enclave}
 use Rattle.enclave_table.specs.Views.{host_view}
@@ -12,15 +12,17 @@ use Rattle.enclave_table.specs.declared.refusal.Refusal.TheVariants.{NoEntries, 
 use Rattle.enclave_table.specs.declared.refusal.Refusal.{Refusal}
 use Rattle.sbi_decode.specs.Calls.{call_of}
 use Rattle.monitor_core.specs.Answers.{below_zero}
-use Rattle.monitor_core.specs.Steps.{DoesCreate, DoesDestroy}
+use Rattle.monitor_core.specs.Steps.{DoesCall}
+use Rattle.sbi_decode.specs.declared.calls.Call.TheVariants as calls
 use Rattle.monitor_core.specs.Wants.{IsRefusedByNeed}
 use Rattle.hart_trace.specs.declared.event.Event.{Event}
 use Rattle.hart_trace.specs.declared.event.Event.TheVariants as events
 use Rattle.hart_sim.specs.declared.reply.Reply.{Reply}
 use Rattle.hart_sim.specs.declared.reply.Reply.TheVariants as replies
-use Rattle.hart_sim.specs.States.{State, core_of, page_bytes}
+use Rattle.hart_sim.specs.States.{State, core_of}
 use Rattle.hart_sim.specs.Changes.{calling}
 use Rattle.hart_sim.specs.Steps.{Serves}
+use Rattle.hart_sim.specs.Memory.{bytes_at}
 
 -- a call was answered with this refusal
 abbrev pub IsAnsweredBy : Reply → Refusal → Type 0
@@ -33,12 +35,12 @@ IsRefusedExactlyWhere Outgrows reply = (IsAnsweredBy reply NoEntries → Outgrow
 
 abbrev pub CreatesByNeed : Type 0
 CreatesByNeed =
-    (asked : Create) (s : State) (hart : ℕ) (reply : Reply) (new : State) → AllPass (create_checks s.table (s.worlds hart) (parts_of asked)) → Serves (DoesCreate asked (page_bytes s) (core_of s) hart) s hart reply new
-    → IsRefusedExactlyWhere (OutgrowsByCreate (page_bytes s) s.table asked) reply
+    (asked : Create) (s : State) (hart : ℕ) (reply : Reply) (new : State) → AllPass (create_checks s.table (s.worlds hart) (parts_of asked)) → Serves (DoesCall (Some (calls.Create asked.base asked.text_pages asked.data_pages asked.shared_base asked.shared_count asked.entry_offset)) (λ page. bytes_at s.bytes (page * 4096) 4096) (core_of s) hart) s hart reply new
+    → IsRefusedExactlyWhere (OutgrowsByCreate (λ page. bytes_at s.bytes (page * 4096) 4096) s.table asked) reply
 
 abbrev pub DestroysByNeed : Type 0
 DestroysByNeed =
-    (id : ℕ) (s : State) (hart : ℕ) (reply : Reply) (new : State) → AllPass (host_checks MayDestroy s.table (s.worlds hart) id) → Serves (DoesDestroy id (core_of s) hart) s hart reply new
+    (id : ℕ) (s : State) (hart : ℕ) (reply : Reply) (new : State) → AllPass (host_checks MayDestroy s.table (s.worlds hart) id) → Serves (DoesCall (Some (calls.Destroy id)) (λ page. bytes_at s.bytes (page * 4096) 4096) (core_of s) hart) s hart reply new
     → IsRefusedExactlyWhere (NeedsMore s.table.layout.limit (host_view (with_enclave s.table id None))) reply
 
 -- the call that an event makes on a hart is refused for want of entries just where a view after it would need more; an event that is

@@ -6,7 +6,7 @@ use crate::reply::Reply;
 use monitor_core::PageRange;
 
 impl Parts {
-    ghost use Rattle.std.specs.Prelude.{◌≡◌, ◌+◌, ◌^◌, ◌<◌, ◌≤◌, false, IfSome};
+    ghost use Rattle.std.specs.Prelude.{◌≡◌, ◌+◌, ◌^◌, ◌<◌, ◌≤◌, false, IfSome, ◌*◌};
     ghost use Rattle.sbi_decode.specs.Calls.{call_of};
     ghost use Rattle.monitor_core.specs.Changes.{with_running};
     ghost use Rattle.monitor_core.specs.Steps.{DoesCall};
@@ -14,8 +14,9 @@ impl Parts {
     ghost use Rattle.hart_sim.specs.Changes.{calling, zeroing};
     ghost use Rattle.hart_sim.specs.Frames.{IsOn, KeepsFrame};
     ghost use Rattle.hart_sim.specs.Parts.{state_in};
-    ghost use Rattle.hart_sim.specs.States.{core_of, page_bytes};
+    ghost use Rattle.hart_sim.specs.States.{core_of};
     ghost use Rattle.hart_sim.specs.Steps.{Serves, Does};
+    ghost use Rattle.hart_sim.specs.Memory.{bytes_at};
 
     /// Makes every byte of some pages zero, where there are any.
     fn zero(&mut self, pages: Option<PageRange>)
@@ -36,7 +37,7 @@ impl Parts {
         requires awake { (state_in self.old).marked hart ≡ false }
         ensures frame { KeepsFrame self.old self.new hart }
         ensures step { let s = state_in self.old in let file = calling s hart words.now in
-            Serves (DoesCall (call_of file) (page_bytes s) (with_running (core_of s) hart file) hart)
+            Serves (DoesCall (call_of file) (λ page. bytes_at s.bytes (page * 4096) 4096) (with_running (core_of s) hart file) hart)
             s hart result (state_in self.new) }
     {
         let mut registers = *self.monitor.registers(hart);

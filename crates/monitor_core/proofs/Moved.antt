@@ -95,7 +95,7 @@ whole_turned kept now worlds after marks hart id to t w = record {
     away i e = t.went i ∙ ap (λ b. if b then to else world_in worlds i) e
 
 -- an enclave that is entered runs on no hart
-pub not_there : (kept : Kept) (worlds : List World) (marks : List Bool) (world : World) (id : ℕ) (entering : Entering) (table : EnclaveTable) → HoldsTogether kept worlds marks → Enters kept.table world id entering table → (i : ℕ) → world_in worlds i ≢ InEnclave id
+pub not_there : (kept : Kept) (worlds : List World) (marks : List Bool) (world : World) (id : ℕ) (entering : Entering) (table : EnclaveTable) → HoldsTogether kept worlds marks → Enters kept.table world id (state_before entering) table → (i : ℕ) → world_in worlds i ≢ InEnclave id
 not_there kept worlds marks world id entering table w en i is =
     let now : IsCurrent kept.table (InEnclave id) = subst (IsCurrent kept.table) is (current_from kept.table (world_in worlds i) (w.current i)) in
     never entering (sym (en.passes.1.1.0 now.0 now.1) ∙ now.2)
@@ -108,7 +108,7 @@ same_id : (a b : ℕ) → InEnclave a ≡ InEnclave b → b ≡ a
 same_id a b e = let z : a ≡ b = cc in sym z
 
 -- an enclave is entered
-pub entering_turns : (kept now : Kept) (worlds after : List World) (marks : List Bool) (hart id : ℕ) (world : World) (entering : Entering) → HoldsTogether kept worlds marks → Enters kept.table world id entering now.table → hart < kept.table.layout.harts
+pub entering_turns : (kept now : Kept) (worlds after : List World) (marks : List Bool) (hart id : ℕ) (world : World) (entering : Entering) → HoldsTogether kept worlds marks → Enters kept.table world id (state_before entering) now.table → hart < kept.table.layout.harts
     → mark_in marks hart ≡ false → ((i : ℕ) → world_in after i ≡ (if i == hart then InEnclave id else world_in worlds i)) → Turning kept now worlds after marks hart id (InEnclave id)
 entering_turns kept now worlds after marks hart id world entering w en low off went =
     let e = en.turned.0 in

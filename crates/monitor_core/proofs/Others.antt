@@ -71,7 +71,7 @@ free_nowhere s id w free i low is =
     let z : None ≡ Some now.0 = sym free ∙ now.1 in absurd cc
 
 -- nor one that is entered
-entered_nowhere : (s : State) (id : ℕ) (world : World) (entering : Entering) (table : EnclaveTable) → ArePlaced s → Enters s.table world id entering table → (i : ℕ) → i < s.table.layout.harts → s.worlds i ≢ InEnclave id
+entered_nowhere : (s : State) (id : ℕ) (world : World) (entering : Entering) (table : EnclaveTable) → ArePlaced s → Enters s.table world id (state_before entering) table → (i : ℕ) → i < s.table.layout.harts → s.worlds i ≢ InEnclave id
 entered_nowhere s id world entering table w en i low is =
     let now : IsCurrent s.table (InEnclave id) = subst (IsCurrent s.table) is (w.current i low) in
     never entering (sym (en.passes.1.1.0 now.0 now.1) ∙ now.2)

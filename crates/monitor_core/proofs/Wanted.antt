@@ -26,7 +26,7 @@ use Rattle.sbi_decode.specs.declared.calls.Call.TheVariants as calls
 use Rattle.monitor_core.specs.declared.answer.Answer.{Answer}
 use Rattle.monitor_core.specs.Answers.{below_zero}
 use Rattle.monitor_core.specs.States.{State}
-use Rattle.monitor_core.specs.Steps.{Done, Refuses, DoesCreate, DoesDestroy, DoesCall}
+use Rattle.monitor_core.specs.Steps.{Done, Refuses, DoesCall}
 use Rattle.monitor_core.specs.Wants.{PassesOthers, Outgrows, IsRefusedByNeed}
 use Rattle.pmp_encoding.specs.declared.perm.Perm.{Perm}
 use Rattle.pmp_encoding.specs.declared.perm.Perm.TheVariants.{NoAccess}
@@ -38,6 +38,10 @@ IsAnsweredBy answer refusal = answer.status ≡ below_zero (refusal_number refus
 -- the host's view where the private pages of an enclave are closed to it
 abbrev closed_view : EnclaveTable → Create → ℕ → Perm
 closed_view table parts page = cond (is_private parts page) NoAccess (host_view table page)
+
+-- the call that asks for it
+abbrev creates_of : Create → Option Call
+creates_of asked = Some (calls.Create asked.base asked.text_pages asked.data_pages asked.shared_base asked.shared_count asked.entry_offset)
 
 -- where all checks pass, none fails
 none_fails : (checks : List (Refusal × Type 0)) (refusal : Refusal) → AllPass checks → FailsFirst checks refusal → ⊥
@@ -92,7 +96,7 @@ create_refused asked pages s hart answer BadId pass why x = absurd (none_fails (
 create_refused asked pages s hart answer BadState pass why x = absurd (none_fails (create_checks s.table (s.worlds hart) (parts_of asked)) BadState pass why)
 create_refused asked pages s hart answer BadWord pass why x = absurd (none_fails (create_checks s.table (s.worlds hart) (parts_of asked)) BadWord pass why)
 
-pub creates_by_need : (asked : Create) (pages : ℕ → List ℕ) (s : State) (hart : ℕ) (answer : Answer) (zero : Option PageRange) (new : State) → AllPass (create_checks s.table (s.worlds hart) (parts_of asked)) → DoesCreate asked pages s hart answer zero new
+pub creates_by_need : (asked : Create) (pages : ℕ → List ℕ) (s : State) (hart : ℕ) (answer : Answer) (zero : Option PageRange) (new : State) → AllPass (create_checks s.table (s.worlds hart) (parts_of asked)) → DoesCall (creates_of asked) pages s hart answer zero new
     → ExactlyWhere (OutgrowsByCreate pages s.table asked) answer
 creates_by_need asked pages s hart answer zero new pass (inr x) = create_refused asked pages s hart answer x.0 pass x.1 (refused_says _ s hart answer zero new x.2)
 creates_by_need asked pages s hart answer zero new pass (inl x) = (
@@ -124,10 +128,10 @@ destroy_refused id s hart answer BadId pass why x = absurd (none_fails (host_che
 destroy_refused id s hart answer BadState pass why x = absurd (none_fails (host_checks MayDestroy s.table (s.worlds hart) id) BadState pass why)
 destroy_refused id s hart answer BadWord pass why x = absurd (none_fails (host_checks MayDestroy s.table (s.worlds hart) id) BadWord pass why)
 
-pub destroys_by_need : (id : ℕ) (s : State) (hart : ℕ) (answer : Answer) (zero : Option PageRange) (new : State) → AllPass (host_checks MayDestroy s.table (s.worlds hart) id) → DoesDestroy id s hart answer zero new
+pub destroys_by_need : (id : ℕ) (pages : ℕ → List ℕ) (s : State) (hart : ℕ) (answer : Answer) (zero : Option PageRange) (new : State) → AllPass (host_checks MayDestroy s.table (s.worlds hart) id) → DoesCall (Some (calls.Destroy id)) pages s hart answer zero new
     → ExactlyWhere (NeedsMore s.table.layout.limit (host_view (with_enclave s.table id None))) answer
-destroys_by_need id s hart answer zero new pass (inr x) = destroy_refused id s hart answer x.0 pass x.1 (refused_says _ s hart answer zero new x.2)
-destroys_by_need id s hart answer zero new pass (inl x) = (
+destroys_by_need id pages s hart answer zero new pass (inr x) = destroy_refused id s hart answer x.0 pass x.1 (refused_says _ s hart answer zero new x.2)
+destroys_by_need id pages s hart answer zero new pass (inl x) = (
   (λ is. absurd (not_refused NoEntries answer (done_says _ _ _ answer zero new x.3) is)),
   (λ out. absurd (fits_not_more s.table.layout.limit (host_view (with_enclave s.table id None)) (subst (λ t. FitsIn t.layout.limit (host_view t)) x.2.removed x.2.host_fits) out)),
 )
@@ -218,9 +222,6 @@ opens pages table id parts t next page small = sym (closes pages table id parts 
 -- a call that succeeded or failed another check, which it then does not pass
 otherwise : (call : Option Call) (table : EnclaveTable) (world : World) (answer : Answer) → (PassesOthers call table world → Outgrows call table → ⊥) → Neither answer → ByNeed call table world answer
 otherwise call table world answer none n = record { entries = λ is. absurd (n.entries is); outgrown = λ pass out. absurd (none pass out); memory = λ is. absurd (n.memory is) }
-
-abbrev creates_of : Create → Option Call
-creates_of asked = Some (calls.Create asked.base asked.text_pages asked.data_pages asked.shared_base asked.shared_count asked.entry_offset)
 
 create_failed : (asked : Create) (s : State) (hart : ℕ) (answer : Answer) (refusal : Refusal) → FailsFirst (create_checks s.table (s.worlds hart) (parts_of asked)) refusal → IsOther refusal
     → IsAnsweredBy answer refusal → ByNeed (creates_of asked) s.table (s.worlds hart) answer

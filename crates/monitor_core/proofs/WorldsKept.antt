@@ -174,7 +174,7 @@ moved s n hart id e stage to low live awake free table worlds marks current alon
 }) w
 
 -- which harts run the enclave that a hart enters: none
-entered_free : (s : State) (id : ℕ) (world : World) (entering : Entering) (table : EnclaveTable) → AreWorlds s → Enters s.table world id entering table → (h : ℕ) → h < s.table.layout.harts → s.worlds h ≢ InEnclave id
+entered_free : (s : State) (id : ℕ) (world : World) (entering : Entering) (table : EnclaveTable) → AreWorlds s → Enters s.table world id (state_before entering) table → (h : ℕ) → h < s.table.layout.harts → s.worlds h ≢ InEnclave id
 entered_free s id world entering table w en h low is =
     let now : IsCurrent s.table (InEnclave id) = subst (IsCurrent s.table) is (w.current h low) in
     never entering (sym (en.passes.1.1.0 now.0 now.1) ∙ now.2)
@@ -183,7 +183,7 @@ entered_free s id world entering table w en h low is =
     never FirstRun e = let z : Fresh ≡ Running = e in cc
     never Resume e = let z : Stopped ≡ Running = e in cc
 
-entered : (s n : State) (hart id : ℕ) (entering : Entering) (table : EnclaveTable) → hart < s.table.layout.harts → s.marked hart ≡ false → Enters s.table (s.worlds hart) id entering table
+entered : (s n : State) (hart id : ℕ) (entering : Entering) (table : EnclaveTable) → hart < s.table.layout.harts → s.marked hart ≡ false → Enters s.table (s.worlds hart) id (state_before entering) table
     → n.table ≡ table → ((h : ℕ) → h < s.table.layout.harts → n.worlds h ≡ (if h == hart then InEnclave id else s.worlds h)) → ((h : ℕ) → h < s.table.layout.harts → n.marked h ≡ s.marked h) → AreWorlds s → AreWorlds n
 entered s n hart id entering table low awake en is worlds marks w =
     let e = en.turned.0 in

@@ -11,7 +11,7 @@ use Rattle.enclave_table.specs.declared.request.Create.{Create}
 use Rattle.enclave_table.specs.declared.enclave.Enclave.{Enclave}
 use Rattle.enclave_table.specs.declared.life.Entering.{Entering}
 use Rattle.enclave_table.specs.declared.life.Entering.TheVariants as ways
-use Rattle.enclave_table.specs.declared.enclave.State.TheVariants.{Stopped, Exited}
+use Rattle.enclave_table.specs.declared.enclave.State.TheVariants.{Fresh, Stopped, Exited}
 use Rattle.enclave_table.specs.declared.refusal.Refusal.{Refusal}
 use Rattle.page_views.specs.declared.pages.PageRange.{PageRange}
 use Rattle.worlds.specs.declared.world.World.{World}
@@ -44,65 +44,54 @@ pub record Refuses (number : ℕ) (s : State) (hart : ℕ) (answer : Answer) (ze
 abbrev pub Refused : (Refusal → Type 0) → State → ℕ → Answer → Option PageRange → State → Type 0
 Refused Why s hart answer zero new = (refusal : Refusal) × Why refusal × Refuses (refusal_number refusal) s hart answer zero new
 
--- create: one more enclave; the other harts are to load the host's new entries
-abbrev pub DoesCreate : Create → (ℕ → List ℕ) → State → ℕ → Answer → Option PageRange → State → Type 0
-DoesCreate asked pages s hart answer zero new =
-    ((id : ℕ) × (table : EnclaveTable) × Creates pages s.table (s.worlds hart) asked id table
-    × Done (marking_others (answering (record s { table = table }) hart 0 id) hart) id None answer zero new)
-    ⊎ Refused (RefusesBy (create_checks s.table (s.worlds hart) (parts_of asked)) (OutgrowsByCreate pages s.table asked)) s hart answer zero new
-
--- destroy: one enclave fewer, and its private pages are to be made zero
-abbrev pub DoesDestroy : ℕ → State → ℕ → Answer → Option PageRange → State → Type 0
-DoesDestroy id s hart answer zero new =
-    ((range : PageRange) × (table : EnclaveTable) × Destroys s.table (s.worlds hart) id range table
-    × Done (marking_others (answering (record s { table = table }) hart 0 0) hart) 0 (Some range) answer zero new)
-    ⊎ Refused (RefusesBy (host_checks MayDestroy s.table (s.worlds hart) id) (NeedsMore s.table.layout.limit (host_view (with_enclave s.table id None)))) s hart answer zero new
-
--- what an enclave goes on with: at its entry and with its id for the first time, as it was stopped after that
-abbrev pub entering_with : Entering → State → ℕ → Enclave → State
-entering_with ways.Run s id e = with_registers s (EnclaveOf id) (with_x (record zeros { pc = e.parts.base + e.parts.entry_offset }) 10 id)
-entering_with ways.Resume s id e = s
-
--- run and resume: the enclave goes on, and the host's registers wait
-abbrev pub DoesEnter : Entering → ℕ → State → ℕ → Answer → Option PageRange → State → Type 0
-DoesEnter entering id s hart answer zero new =
-    ((e : Enclave) × (table : EnclaveTable) × Live s.table id e × Enters s.table (s.worlds hart) id entering table
-    × Done (in_world (entering_with entering (record s { table = table }) id e) hart (InEnclave id)) 0 None answer zero new)
-    ⊎ Refused (FailsFirst (host_checks (λ state. state ≡ state_before entering) s.table (s.worlds hart) id)) s hart answer zero new
-
--- stop: the enclave will go on with 0 in a0 and a1, and the host goes on with 1 and 0 there
-abbrev pub DoesStop : State → ℕ → Answer → Option PageRange → State → Type 0
-DoesStop s hart answer zero new =
-    ((id : ℕ) × (table : EnclaveTable) × Leaves s.table (s.worlds hart) Stopped id table
-    × Done (back_to_host (answering (record s { table = table }) hart 0 0) hart 1 0) 0 None answer zero new)
-    ⊎ Refused (FailsFirst (leave_checks (s.worlds hart))) s hart answer zero new
-
--- exit: the host goes on with 0 and the value
-abbrev pub DoesExit : ℕ → State → ℕ → Answer → Option PageRange → State → Type 0
-DoesExit value s hart answer zero new =
-    ((id : ℕ) × (table : EnclaveTable) × Leaves s.table (s.worlds hart) Exited id table
-    × Done (back_to_host (record s { table = table }) hart 0 value) value None answer zero new)
-    ⊎ Refused (FailsFirst (leave_checks (s.worlds hart))) s hart answer zero new
-
--- measure: a word of the digest
-abbrev pub DoesMeasure : ℕ → ℕ → State → ℕ → Answer → Option PageRange → State → Type 0
-DoesMeasure id k s hart answer zero new =
-    ((word : ℕ) × AnswersWord s.table id k word × Done (answering s hart 0 word) word None answer zero new)
-    ⊎ Refused (FailsFirst (word_checks s.table id k)) s hart answer zero new
-
--- the call that the registers name, or an unknown one; create measures these pages
+-- the call that the registers name is done or refused, and an unknown one is refused; create measures these pages. Create: one more
+-- enclave, and the other harts are to load the host's new entries. Destroy: one fewer, its private pages are to be made zero, and the
+-- other harts as for create. Run: the enclave goes on at its entry and with its id, and the host's registers wait. Resume: it goes on
+-- as it was stopped. Stop: the enclave will go on with 0 in a0 and a1, and the host goes on with 1 and 0 there. Exit: the host goes on
+-- with 0 and the value. Measure: a word of the digest
 abbrev pub DoesCall : Option Call → (ℕ → List ℕ) → State → ℕ → Answer → Option PageRange → State → Type 0
 DoesCall None pages s hart answer zero new = Refuses 2 s hart answer zero new
 DoesCall (Some (calls.Create base text_pages data_pages shared_base shared_count entry_offset)) pages s hart answer zero new =
-    DoesCreate (record { base = base; text_pages = text_pages; data_pages = data_pages; shared_base = shared_base; shared_count = shared_count; entry_offset = entry_offset }) pages s hart answer zero new
-DoesCall (Some (calls.Destroy id)) pages s hart answer zero new = DoesDestroy id s hart answer zero new
-DoesCall (Some (calls.Run id)) pages s hart answer zero new = DoesEnter ways.Run id s hart answer zero new
-DoesCall (Some calls.Stop) pages s hart answer zero new = DoesStop s hart answer zero new
-DoesCall (Some (calls.Resume id)) pages s hart answer zero new = DoesEnter ways.Resume id s hart answer zero new
-DoesCall (Some (calls.Exit value)) pages s hart answer zero new = DoesExit value s hart answer zero new
-DoesCall (Some (calls.Measure id k)) pages s hart answer zero new = DoesMeasure id k s hart answer zero new
+    let asked : Create = record { base = base; text_pages = text_pages; data_pages = data_pages; shared_base = shared_base; shared_count = shared_count; entry_offset = entry_offset } in
+    ((id : ℕ) × (table : EnclaveTable) × Creates pages s.table (s.worlds hart) asked id table
+    × Done (marking_others (answering (record s { table = table }) hart 0 id) hart) id None answer zero new)
+    ⊎ Refused (RefusesBy (create_checks s.table (s.worlds hart) (parts_of asked)) (OutgrowsByCreate pages s.table asked)) s hart answer zero new
+DoesCall (Some (calls.Destroy id)) pages s hart answer zero new =
+    ((range : PageRange) × (table : EnclaveTable) × Destroys s.table (s.worlds hart) id range table
+    × Done (marking_others (answering (record s { table = table }) hart 0 0) hart) 0 (Some range) answer zero new)
+    ⊎ Refused (RefusesBy (host_checks MayDestroy s.table (s.worlds hart) id) (NeedsMore s.table.layout.limit (host_view (with_enclave s.table id None)))) s hart answer zero new
+DoesCall (Some (calls.Run id)) pages s hart answer zero new =
+    ((e : Enclave) × (table : EnclaveTable) × Live s.table id e × Enters s.table (s.worlds hart) id Fresh table
+    × Done (in_world (with_registers (record s { table = table }) (EnclaveOf id) (with_x (record zeros { pc = e.parts.base + e.parts.entry_offset }) 10 id)) hart (InEnclave id)) 0 None answer zero new)
+    ⊎ Refused (FailsFirst (host_checks (λ state. state ≡ Fresh) s.table (s.worlds hart) id)) s hart answer zero new
+DoesCall (Some calls.Stop) pages s hart answer zero new =
+    ((id : ℕ) × (table : EnclaveTable) × Leaves s.table (s.worlds hart) Stopped id table
+    × Done (back_to_host (answering (record s { table = table }) hart 0 0) hart 1 0) 0 None answer zero new)
+    ⊎ Refused (FailsFirst (leave_checks (s.worlds hart))) s hart answer zero new
+DoesCall (Some (calls.Resume id)) pages s hart answer zero new =
+    ((e : Enclave) × (table : EnclaveTable) × Live s.table id e × Enters s.table (s.worlds hart) id Stopped table
+    × Done (in_world (record s { table = table }) hart (InEnclave id)) 0 None answer zero new)
+    ⊎ Refused (FailsFirst (host_checks (λ state. state ≡ Stopped) s.table (s.worlds hart) id)) s hart answer zero new
+DoesCall (Some (calls.Exit value)) pages s hart answer zero new =
+    ((id : ℕ) × (table : EnclaveTable) × Leaves s.table (s.worlds hart) Exited id table
+    × Done (back_to_host (record s { table = table }) hart 0 value) value None answer zero new)
+    ⊎ Refused (FailsFirst (leave_checks (s.worlds hart))) s hart answer zero new
+DoesCall (Some (calls.Measure id k)) pages s hart answer zero new =
+    ((word : ℕ) × AnswersWord s.table id k word × Done (answering s hart 0 word) word None answer zero new)
+    ⊎ Refused (FailsFirst (word_checks s.table id k)) s hart answer zero new
 
 -- an interrupt changes nothing in the host's world, and stops an enclave, its registers as they are
 abbrev pub Interrupts : World → State → ℕ → State → Type 0
 Interrupts Host s hart new = new ≡ s
 Interrupts (InEnclave id) s hart new = (table : EnclaveTable) × Leaves s.table (InEnclave id) Stopped id table × (new ≡ back_to_host (record s { table = table }) hart 1 0)
+
+-- run and resume by one: what an enclave goes on with, and what is done
+abbrev pub entering_with : Entering → State → ℕ → Enclave → State
+entering_with ways.Run s id e = with_registers s (EnclaveOf id) (with_x (record zeros { pc = e.parts.base + e.parts.entry_offset }) 10 id)
+entering_with ways.Resume s id e = s
+
+abbrev pub DoesEnter : Entering → ℕ → State → ℕ → Answer → Option PageRange → State → Type 0
+DoesEnter entering id s hart answer zero new =
+    ((e : Enclave) × (table : EnclaveTable) × Live s.table id e × Enters s.table (s.worlds hart) id (state_before entering) table
+    × Done (in_world (entering_with entering (record s { table = table }) id e) hart (InEnclave id)) 0 None answer zero new)
+    ⊎ Refused (FailsFirst (host_checks (λ state. state ≡ state_before entering) s.table (s.worlds hart) id)) s hart answer zero new

@@ -7,7 +7,7 @@ use crate::parts::Parts;
 use enclave_table::{Entering, Leaving, Refusal, World};
 
 impl Parts {
-    ghost use Rattle.std.specs.Prelude.{◌≡◌, ℕ, ◌+◌, ◌<◌, ◌≤◌, false, IfErr, OnOk, OnErr};
+    ghost use Rattle.std.specs.Prelude.{◌≡◌, ℕ, ◌+◌, ◌<◌, ◌≤◌, false, IfErr, OnOk, OnErr, Some, []};
     ghost use Rattle.enclave_table.specs.Checks.{leave_checks};
     ghost use Rattle.enclave_table.specs.Lives.{Leaves, state_after};
     ghost use Rattle.enclave_table.specs.Refusals.{FailsFirst};
@@ -15,7 +15,8 @@ impl Parts {
     ghost use Rattle.monitor_core.specs.Changes.{back_to_host};
     ghost use Rattle.monitor_core.specs.Frames.{IsOn, KeepsFrame, LoadsAnew};
     ghost use Rattle.monitor_core.specs.Parts.{state_in};
-    ghost use Rattle.monitor_core.specs.Steps.{DoesEnter, DoesStop, DoesExit, Interrupts, entering_with};
+    ghost use Rattle.monitor_core.specs.Steps.{DoesCall, DoesEnter, Interrupts, entering_with};
+    ghost use Rattle.sbi_decode.specs.declared.calls.Call.TheVariants as calls;
 
     /// The registers that an enclave goes on with: at its entry for the first time, as it was stopped after that.
     fn prepare(&mut self, id: u64, entering: Entering, pc: u64)
@@ -87,7 +88,7 @@ impl Parts {
     pub(crate) fn exit(&mut self, hart: u8, value: u64) -> Outcome
         requires on { IsOn self.old hart }
         ensures frame { KeepsFrame self.old self.new }
-        ensures step { DoesExit value (state_in self.old) hart result.answer result.zero
+        ensures step { DoesCall (Some (calls.Exit value)) (λ page. []) (state_in self.old) hart result.answer result.zero
             (state_in self.new) }
         ensures load { LoadsAnew result.load (state_in self.old) (state_in self.new) hart }
     {
@@ -105,7 +106,7 @@ impl Parts {
     pub(crate) fn stop(&mut self, hart: u8) -> Outcome
         requires on { IsOn self.old hart }
         ensures frame { KeepsFrame self.old self.new }
-        ensures step { DoesStop (state_in self.old) hart result.answer result.zero
+        ensures step { DoesCall (Some calls.Stop) (λ page. []) (state_in self.old) hart result.answer result.zero
             (state_in self.new) }
         ensures load { LoadsAnew result.load (state_in self.old) (state_in self.new) hart }
     {

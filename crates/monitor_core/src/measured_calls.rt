@@ -8,7 +8,7 @@ use enclave_table::{Create, Entering};
 use sbi_decode::{Call, Registers, decode};
 
 impl Parts {
-    ghost use Rattle.std.specs.Prelude.{◌≡◌, ◌<◌, ℕ, List, false};
+    ghost use Rattle.std.specs.Prelude.{◌≡◌, ◌<◌, ℕ, List, false, Some};
     ghost use Rattle.sbi_decode.specs.Calls.{call_of};
     ghost use Rattle.monitor_core.specs.Changes.{past_call, with_running};
     ghost use Rattle.monitor_core.specs.Frames.{IsOn, KeepsFrame, LoadsAnew};
@@ -16,7 +16,8 @@ impl Parts {
     ghost use Rattle.enclave_table.specs.Create.{IsMeasured};
     ghost use Rattle.monitor_core.specs.Parts.{HoldsTogether, state_in};
     ghost use Rattle.monitor_core.specs.States.{running_registers};
-    ghost use Rattle.monitor_core.specs.Steps.{DoesCall, DoesCreate};
+    ghost use Rattle.monitor_core.specs.Steps.{DoesCall};
+    ghost use Rattle.sbi_decode.specs.declared.calls.Call.TheVariants as calls;
 
     /// Creates an enclave whose pages were measured before.
     pub(crate) fn create_measured(&mut self, hart: u8, digest: &[u8; 32], asked: Create) -> Outcome
@@ -25,8 +26,9 @@ impl Parts {
         ensures step { (pages : ℕ → List ℕ)
             → IsMeasured self.old.table.table ((state_in self.old).worlds hart) asked digest.now
             pages
-            → DoesCreate asked pages (state_in self.old) hart result.answer result.zero
-            (state_in self.new) }
+            → DoesCall (Some (calls.Create asked.base asked.text_pages asked.data_pages
+            asked.shared_base asked.shared_count asked.entry_offset)) pages (state_in self.old)
+            hart result.answer result.zero (state_in self.new) }
         ensures load { LoadsAnew result.load (state_in self.old) (state_in self.new) hart }
     {
         self.table.cite_invariant();

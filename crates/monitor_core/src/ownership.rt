@@ -6,11 +6,12 @@ use crate::parts::Parts;
 use enclave_table::{Create, Pages};
 
 impl Parts {
-    ghost use Rattle.std.specs.Prelude.{◌≡◌, ◌<◌};
+    ghost use Rattle.std.specs.Prelude.{◌≡◌, ◌<◌, Some, []};
     ghost use Rattle.monitor_core.specs.Changes.{answering, marking_others};
     ghost use Rattle.monitor_core.specs.Frames.{IsOn, KeepsFrame, LoadsAnew};
     ghost use Rattle.monitor_core.specs.Parts.{HoldsTogether, state_in};
-    ghost use Rattle.monitor_core.specs.Steps.{DoesCreate, DoesDestroy, DoesMeasure};
+    ghost use Rattle.monitor_core.specs.Steps.{DoesCall};
+    ghost use Rattle.sbi_decode.specs.declared.calls.Call.TheVariants as calls;
 
     /// The host on a hart is answered, and every other hart in the host's world is marked.
     pub(crate) fn answer_and_mark(&mut self, hart: u8, first: u64, second: u64)
@@ -28,8 +29,9 @@ impl Parts {
     pub(crate) fn create<P: Pages>(&mut self, hart: u8, pages: &P, asked: Create) -> Outcome
         requires on { IsOn self.old hart }
         ensures frame { KeepsFrame self.old self.new }
-        ensures step { DoesCreate asked (P.bytes_of pages.now) (state_in self.old) hart
-            result.answer result.zero (state_in self.new) }
+        ensures step { DoesCall (Some (calls.Create asked.base asked.text_pages asked.data_pages
+            asked.shared_base asked.shared_count asked.entry_offset)) (P.bytes_of pages.now)
+            (state_in self.old) hart result.answer result.zero (state_in self.new) }
         ensures load { LoadsAnew result.load (state_in self.old) (state_in self.new) hart }
     {
         self.table.cite_invariant();
@@ -51,7 +53,7 @@ impl Parts {
     pub(crate) fn destroy(&mut self, hart: u8, id: u64) -> Outcome
         requires on { IsOn self.old hart }
         ensures frame { KeepsFrame self.old self.new }
-        ensures step { DoesDestroy id (state_in self.old) hart result.answer result.zero
+        ensures step { DoesCall (Some (calls.Destroy id)) (λ page. []) (state_in self.old) hart result.answer result.zero
             (state_in self.new) }
         ensures load { LoadsAnew result.load (state_in self.old) (state_in self.new) hart }
     {
@@ -73,7 +75,7 @@ impl Parts {
     pub(crate) fn measure(&mut self, hart: u8, id: u64, k: u64) -> Outcome
         requires on { IsOn self.old hart }
         ensures frame { KeepsFrame self.old self.new }
-        ensures step { DoesMeasure id k (state_in self.old) hart result.answer result.zero
+        ensures step { DoesCall (Some (calls.Measure id k)) (λ page. []) (state_in self.old) hart result.answer result.zero
             (state_in self.new) }
         ensures load { LoadsAnew result.load (state_in self.old) (state_in self.new) hart }
     {

@@ -8,8 +8,9 @@ use Rattle.enclave_table.specs.declared.enclave.Enclave.{Enclave}
 use Rattle.enclave_table.specs.declared.enclave.State.TheVariants.{Running}
 use Rattle.enclave_table.specs.declared.life.Entering.{Entering}
 use Rattle.enclave_table.proofs.Places.{live_above, live_inside, set_same}
+use Rattle.enclave_table.specs.Checks.{state_before}
 
-pub entered : (old new : EnclaveTable) (id : ℕ) (entering : Entering) → Enters old Host id entering new → IsCurrent new (InEnclave id)
+pub entered : (old new : EnclaveTable) (id : ℕ) (entering : Entering) → Enters old Host id (state_before entering) new → IsCurrent new (InEnclave id)
 entered old new id entering by =
     let e : Enclave = by.turned.0 in
     let running : Enclave = record e { state = Running } in

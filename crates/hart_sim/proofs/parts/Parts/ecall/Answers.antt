@@ -1,4 +1,4 @@
-use Rattle.std.proofs.Common.{◌≡◌, ◌∙◌, ◌+◌, ◌^◌, ◌≤◌, Option, None, Some, slice_get, ap, ap₂, sym, subst, ◌∷◌, []}
+use Rattle.std.proofs.Common.{◌≡◌, ◌∙◌, ◌+◌, ◌^◌, ◌≤◌, Option, None, Some, slice_get, ap, ap₂, sym, subst, ◌∷◌, [], ◌*◌}
 use Rattle.std.specs.Prelude.{IfSome}
 use Rattle.page_views.specs.declared.pages.PageRange.{PageRange}
 use Rattle.enclave_table.specs.Platform.{Layout}
@@ -10,9 +10,10 @@ use Rattle.monitor_core.specs.Steps.{DoesCall}
 use Rattle.hart_sim.specs.Banks.{LoadsFewest}
 use Rattle.hart_sim.specs.Changes.{calling, with_words}
 use Rattle.hart_sim.specs.Parts.{AreBanks, shown, state_in}
-use Rattle.hart_sim.specs.States.{core_of, view_on, page_bytes}
+use Rattle.hart_sim.specs.States.{core_of, view_on}
 use Rattle.hart_sim.proofs.Framed.{frame_served}
 use Rattle.hart_sim.proofs.parts.Parts.ecall.Goals as goal
+use Rattle.hart_sim.specs.Memory.{bytes_at}
 
 -- pages that are to be zero are in the space
 in_space : (layout : Layout) (pages : Option PageRange) → IfSome pages (λ (range : PageRange). ClearsMemory layout range) → IfSome pages (λ (range : PageRange). range.first + range.count ≤ 2 ^ 44)
@@ -32,7 +33,7 @@ returns-clause-step c =
       r.answer,
       r.zero,
       core,
-      subst (λ f. DoesCall (call_of f) (page_bytes s) (with_running (core_of s) c.args.hart f) c.args.hart r.answer r.zero core) file c.serve-served.ensures.step,
+      subst (λ f. DoesCall (call_of f) (λ page. bytes_at s.bytes (page * 4096) 4096) (with_running (core_of s) c.args.hart f) c.args.hart r.answer r.zero core) file c.serve-served.ensures.step,
       ap₂ (λ m y. shown (state_of m) y) c.load_where.ensures.monitor c.load_where.ensures.memory ∙ c.zero.ensures.state,
       c.told.ensures,
     )

@@ -29,7 +29,7 @@ returns-clause-step c =
       done.turned.0,
       now,
       done.turned.1,
-      subst (λ w. Enters old.table.table w c.args.id c.args.entering now) c.world-world.ensures done,
+      subst (λ w. Enters old.table.table w c.args.id (state_before c.args.entering) now) c.world-world.ensures done,
       record {
         state = c.go_to.ensures.state ∙ ap (λ s. in_world s c.args.hart (InEnclave c.args.id)) (c.prepare.ensures.state done.turned.0 (entry_is old.table.table now c.args.id c.in-Some.pc _ done.turned (sym c.in-Some.is ∙ c.entry_point.ensures)));
         told = c.done.ensures;
