@@ -23,9 +23,11 @@ abbrev pub layout_of : Create → Layout
 layout_of parts =
     record { text_pages = parts.text_pages; data_pages = parts.data_pages; shared_count = parts.shared_count; entry_offset = parts.entry_offset }
 
--- the digest of an enclave with these parts, over its private pages as they are
+-- the digest of an enclave with these parts, over its private pages as they are. The base is not measured
 abbrev pub measured : (ℕ → List ℕ) → Create → List ℕ
-measured pages parts = digest_of (layout_of parts) (pages_from pages (parts.base / 4096) (parts.text_pages + parts.data_pages))
+measured pages parts =
+    digest_of (record { text_pages = parts.text_pages; data_pages = parts.data_pages; shared_count = parts.shared_count; entry_offset = parts.entry_offset })
+    (pages_from pages (parts.base / 4096) (parts.text_pages + parts.data_pages))
 
 -- measure: the k-th word of the digest
 pub record AnswersWord (table : EnclaveTable) (id k word : ℕ) : Type 0 where

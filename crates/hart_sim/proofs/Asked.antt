@@ -1,5 +1,5 @@
 -- What an event asks of the monitor, and what it leaves of the monitor's part of the state.
-use Rattle.std.proofs.Common.{◌≡◌, inl, inr, ℕ, List, Option, Result, Ok, Err, ap, ◌*◌}
+use Rattle.std.proofs.Common.{◌≡◌, inl, inr, ℕ, List, Option, Result, Ok, Err, ap, ◌*◌, Bool, false}
 use Rattle.pmp_match.specs.declared.access.Access.{Access}
 use Rattle.pmp_match.specs.declared.access.Kind.{Kind}
 use Rattle.pmp_match.specs.declared.access.Kind.TheVariants.{Fetch, Load, Store}
@@ -12,7 +12,9 @@ use Rattle.hart_sim.specs.declared.reply.Reply.{Reply}
 use Rattle.hart_sim.specs.States.{State, core_of, with_core}
 use Rattle.hart_sim.specs.Changes.{calling}
 use Rattle.hart_sim.specs.Steps.{Accesses, TakesEffect}
-use Rattle.hart_sim.specs.Memory.{bytes_at}
+use Rattle.hart_sim.specs.Memory.{bytes_at, in_range}
+use Rattle.page_views.specs.declared.pages.PageRange.{PageRange}
+use Rattle.std.specs.Prelude.{unwrap_or, option_map}
 
 -- the state that an event on a hart meets: the hart is not marked
 abbrev pub awoken : State → ℕ → State
@@ -28,6 +30,10 @@ asked s hart words = with_running (core_of (awoken s hart)) hart (calling (awoke
 -- the pages that a call may measure
 abbrev pub lent : State → ℕ → List ℕ
 lent s page = bytes_at s.bytes (page * 4096) 4096
+
+-- whether a page is one of those that are to be zero, where there are any
+abbrev pub is_zeroed : Option PageRange → ℕ → Bool
+is_zeroed pages page = unwrap_or (option_map (λ range. in_range range.first range.count page) pages) false
 
 -- an access leaves the monitor's part
 pub core_effect : (kind : Kind) (s : State) (a : Access) (value : ℕ) (reply : Reply) (new : State) → TakesEffect kind s a value reply new → core_of new ≡ core_of s

@@ -25,12 +25,12 @@ use Rattle.hart_trace.specs.declared.event.Event.TheVariants as events
 use Rattle.hart_sim.specs.declared.reply.Reply.{Reply}
 use Rattle.hart_sim.specs.States.{State, with_core, view_of, view_on}
 use Rattle.enclave_table.proofs.ShortNames.{view_in}
-use Rattle.hart_sim.specs.Changes.{is_zeroed, zeroing}
+use Rattle.hart_sim.specs.Changes.{zeroing}
 use Rattle.hart_sim.specs.Steps.{Step, Accesses, TakesEffect, verdict}
 use Rattle.monitor_core.specs.States.{State as Core}
 use Rattle.monitor_core.proofs.Zeroed.{Clears, cleared}
 use Rattle.page_views.specs.declared.pages.PageRange.{PageRange}
-use Rattle.hart_sim.proofs.Asked.{awoken, named, asked, lent}
+use Rattle.hart_sim.proofs.Asked.{awoken, named, asked, lent, is_zeroed}
 use Rattle.hart_sim.specs.Privacy.{StoresTo, KeepsPrivate}
 use Rattle.hart_sim.proofs.Verdicts.{allowed_by, some_held, page_of_byte}
 

@@ -18,10 +18,9 @@ use Rattle.hart_trace.specs.declared.event.Event.TheVariants as events
 use Rattle.hart_sim.specs.declared.reply.Reply.{Reply}
 use Rattle.hart_sim.specs.declared.reply.Reply.TheVariants as replies
 use Rattle.hart_sim.specs.States.{State, core_of, view_on}
-use Rattle.hart_sim.specs.Changes.{is_zeroed}
 use Rattle.hart_sim.specs.Steps.{Step, Accesses, TakesEffect, verdict}
 use Rattle.monitor_core.proofs.Zeroed.{not_lost, lost_call, lost_irq}
-use Rattle.hart_sim.proofs.Asked.{awoken, named, asked, lent, core_access}
+use Rattle.hart_sim.proofs.Asked.{awoken, named, asked, lent, core_access, is_zeroed}
 use Rattle.hart_sim.specs.Privacy.{DeniesOthers, ZeroesDestroyed}
 use Rattle.hart_sim.proofs.Verdicts.{allowed_by, page_of_byte}
 use Rattle.hart_sim.proofs.PrivateBytes.{only_itself}

@@ -1,5 +1,5 @@
 -- Changes of a state, and what a call puts into registers.
-use Rattle.std.specs.Prelude.{ℕ, ◌/◌, Bool, true, false, ◌==◌, if◌then◌else◌, List, [], ◌∷◌, Option, None, Some}
+use Rattle.std.specs.Prelude.{ℕ, ◌/◌, Bool, true, false, ◌==◌, if◌then◌else◌, List, [], ◌∷◌, Option, None, Some, unwrap_or, option_map}
 use Rattle.page_views.specs.declared.pages.PageRange.{PageRange}
 pub use Rattle.sbi_decode.specs.Registers.{with_x}
 use Rattle.sbi_decode.specs.Registers.{RegisterFile}
@@ -20,11 +20,8 @@ calling s hart words = past_call (with_words (running_registers s hart) (17 ∷ 
 abbrev pub storing : State → ℕ → ℕ → ℕ → State
 storing s address size value = record s { bytes = stored s.bytes address size value; written = λ page. if page == address / 4096 then true else s.written page }
 
--- whether a page is one of those that are to be zero, where there are any
-abbrev pub is_zeroed : Option PageRange → ℕ → Bool
-is_zeroed None page = false
-is_zeroed (Some range) page = in_range range.first range.count page
-
--- every byte of these pages zero, and the pages not written
+-- every byte of these pages zero, and the pages not written, where there are any
 abbrev pub zeroing : State → Option PageRange → State
-zeroing s pages = record s { bytes = λ address. if is_zeroed pages (address / 4096) then 0 else s.bytes address; written = λ page. if is_zeroed pages page then false else s.written page }
+zeroing s pages =
+    let zeroed = λ (page : ℕ). unwrap_or (option_map (λ range. in_range range.first range.count page) pages) false in
+    record s { bytes = λ address. if zeroed (address / 4096) then 0 else s.bytes address; written = λ page. if zeroed page then false else s.written page }

@@ -27,7 +27,7 @@ use Rattle.monitor_core.specs.declared.answer.Answer.{Answer}
 use Rattle.monitor_core.specs.Answers.{below_zero}
 use Rattle.monitor_core.specs.States.{State}
 use Rattle.monitor_core.specs.Steps.{Done, Refuses, DoesCall}
-use Rattle.monitor_core.specs.Wants.{PassesOthers, Outgrows, IsRefusedByNeed}
+use Rattle.monitor_core.specs.Wants.{wants_of, IsRefusedByNeed}
 use Rattle.pmp_encoding.specs.declared.perm.Perm.{Perm}
 use Rattle.pmp_encoding.specs.declared.perm.Perm.TheVariants.{NoAccess}
 
@@ -145,7 +145,7 @@ abbrev ByNeed : Option Call → EnclaveTable → World → Answer → Type 0
 ByNeed call table world answer = IsRefusedByNeed call table world (IsAnsweredBy answer)
 
 -- a call that is never refused so
-never : (call : Option Call) (table : EnclaveTable) (world : World) (answer : Answer) → (PassesOthers call table world → ⊥) → Neither answer → ByNeed call table world answer
+never : (call : Option Call) (table : EnclaveTable) (world : World) (answer : Answer) → ((wants_of call table world).0 → ⊥) → Neither answer → ByNeed call table world answer
 never call table world answer none n = record { entries = λ is. absurd (n.entries is); outgrown = λ pass out. absurd (none pass); memory = λ is. absurd (n.memory is) }
 
 -- an answer with another status
@@ -220,7 +220,7 @@ opens : (pages : ℕ → List ℕ) (table : EnclaveTable) (id : ℕ) (parts : Cr
 opens pages table id parts t next page small = sym (closes pages table id parts t next page small)
 
 -- a call that succeeded or failed another check, which it then does not pass
-otherwise : (call : Option Call) (table : EnclaveTable) (world : World) (answer : Answer) → (PassesOthers call table world → Outgrows call table → ⊥) → Neither answer → ByNeed call table world answer
+otherwise : (call : Option Call) (table : EnclaveTable) (world : World) (answer : Answer) → ((wants_of call table world).0 → (wants_of call table world).1 → ⊥) → Neither answer → ByNeed call table world answer
 otherwise call table world answer none n = record { entries = λ is. absurd (n.entries is); outgrown = λ pass out. absurd (none pass out); memory = λ is. absurd (n.memory is) }
 
 create_failed : (asked : Create) (s : State) (hart : ℕ) (answer : Answer) (refusal : Refusal) → FailsFirst (create_checks s.table (s.worlds hart) (parts_of asked)) refusal → IsOther refusal
@@ -289,7 +289,7 @@ destroy_by_need id s hart answer BadState why x = destroy_failed id s hart answe
 destroy_by_need id s hart answer BadWord why x = destroy_failed id s hart answer BadWord why tt x
 
 -- a call of another kind that is refused
-refused_other : (call : Option Call) (checks : List (Refusal × Type 0)) (s : State) (hart : ℕ) (answer : Answer) (refusal : Refusal) → (PassesOthers call s.table (s.worlds hart) → ⊥) → AreOthers checks → FailsFirst checks refusal
+refused_other : (call : Option Call) (checks : List (Refusal × Type 0)) (s : State) (hart : ℕ) (answer : Answer) (refusal : Refusal) → ((wants_of call s.table (s.worlds hart)).0 → ⊥) → AreOthers checks → FailsFirst checks refusal
     → IsAnsweredBy answer refusal → ByNeed call s.table (s.worlds hart) answer
 refused_other call checks s hart answer refusal none others why x =
     never call s.table (s.worlds hart) answer none (checked refusal answer (fails_other checks refusal others why) x)

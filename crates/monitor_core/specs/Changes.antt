@@ -40,9 +40,7 @@ abbrev pub without_mark : State → ℕ → State
 without_mark s hart = record s { marked = λ h. if h == hart then false else s.marked h }
 
 abbrev pub marking_others : State → ℕ → State
-marking_others s hart =
-    let hosts = λ (h : ℕ). nat_lt h s.table.layout.harts && is_host (s.worlds h) in
-    record s { marked = λ h. if h == hart then s.marked h else (hosts h || s.marked h) }
+marking_others s hart = record s { marked = λ h. if h == hart then s.marked h else (nat_lt h s.table.layout.harts && is_host (s.worlds h) || s.marked h) }
 
 -- the host goes on on a hart, with two words in its a0 and a1
 abbrev pub back_to_host : State → ℕ → ℕ → ℕ → State
