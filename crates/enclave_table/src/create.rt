@@ -39,7 +39,8 @@ impl Table {
         ensures done { IfOk result (λ id.
             Creates (P.bytes_of pages.now) self.old.table world asked id self.new.table) }
         ensures refused { IfErr result (λ refusal.
-            RefusesBy (create_checks self.old.table world (parts_of asked)) (OutgrowsByCreate (P.bytes_of pages.now) self.old.table asked) refusal) }
+            RefusesBy (create_checks self.old.table world (parts_of asked))
+            (OutgrowsByCreate (P.bytes_of pages.now) self.old.table asked) refusal) }
         ensures kept { OnErr result (self.new ≡ self.old) }
     {
         self.cite_invariant();

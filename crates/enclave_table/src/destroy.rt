@@ -23,7 +23,9 @@ impl Table {
         ensures done { IfOk result (λ range.
             Destroys self.old.table world id range self.new.table) }
         ensures refused { IfErr result (λ refusal.
-            RefusesBy (host_checks MayDestroy self.old.table world id) (NeedsMore self.old.table.layout.limit (host_view (with_enclave self.old.table id None))) refusal) }
+            RefusesBy (host_checks MayDestroy self.old.table world id)
+            (NeedsMore self.old.table.layout.limit
+            (host_view (with_enclave self.old.table id None))) refusal) }
         ensures kept { OnErr result (self.new ≡ self.old) }
     {
         self.cite_invariant();

@@ -57,7 +57,8 @@ impl Table {
     /// Notes that the host enters an enclave: for the first time, or again after a stop.
     pub fn enter(&mut self, world: World, id: u64, entering: Entering) -> Result<(), Refusal>
         requires { IsCurrent self.old.table world }
-        ensures done { OnOk result (Enters self.old.table world id (state_before entering) self.new.table) }
+        ensures done { OnOk result
+            (Enters self.old.table world id (state_before entering) self.new.table) }
         ensures lists { OnOk result (self.new ≡ record self.old { table = self.new.table }) }
         ensures refused { IfErr result (λ refusal.
             FailsFirst (host_checks (λ state. state ≡ state_before entering) self.old.table world id)

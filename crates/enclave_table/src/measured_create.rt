@@ -51,7 +51,9 @@ impl Table {
             → IsMeasured self.old.table world asked digest.now pages
             → Creates pages self.old.table world asked id self.new.table) }
         ensures refused { IfErr result (λ refusal.
-            (pages : ℕ → List ℕ) → RefusesBy (create_checks self.old.table world (parts_of asked)) (OutgrowsByCreate pages self.old.table asked) refusal) }
+            (pages : ℕ → List ℕ)
+            → RefusesBy (create_checks self.old.table world (parts_of asked))
+            (OutgrowsByCreate pages self.old.table asked) refusal) }
         ensures kept { OnErr result (self.new ≡ self.old) }
     {
         self.cite_invariant();

@@ -37,8 +37,8 @@ impl Parts {
         requires awake { (state_in self.old).marked hart ≡ false }
         ensures frame { KeepsFrame self.old self.new hart }
         ensures step { let s = state_in self.old in let file = calling s hart words.now in
-            Serves (DoesCall (call_of file) (λ page. bytes_at s.bytes (page * 4096) 4096) (with_running (core_of s) hart file) hart)
-            s hart result (state_in self.new) }
+            Serves (DoesCall (call_of file) (λ page. bytes_at s.bytes (page * 4096) 4096)
+            (with_running (core_of s) hart file) hart) s hart result (state_in self.new) }
     {
         let mut registers = *self.monitor.registers(hart);
         put_words(&mut registers, words);

@@ -88,8 +88,8 @@ impl Parts {
     pub(crate) fn exit(&mut self, hart: u8, value: u64) -> Outcome
         requires on { IsOn self.old hart }
         ensures frame { KeepsFrame self.old self.new }
-        ensures step { DoesCall (Some (calls.Exit value)) (λ page. []) (state_in self.old) hart result.answer result.zero
-            (state_in self.new) }
+        ensures step { DoesCall (Some (calls.Exit value)) (λ page. []) (state_in self.old) hart
+            result.answer result.zero (state_in self.new) }
         ensures load { LoadsAnew result.load (state_in self.old) (state_in self.new) hart }
     {
         match self.leave(hart, Leaving::Exit, 0, value) {
@@ -106,8 +106,8 @@ impl Parts {
     pub(crate) fn stop(&mut self, hart: u8) -> Outcome
         requires on { IsOn self.old hart }
         ensures frame { KeepsFrame self.old self.new }
-        ensures step { DoesCall (Some calls.Stop) (λ page. []) (state_in self.old) hart result.answer result.zero
-            (state_in self.new) }
+        ensures step { DoesCall (Some calls.Stop) (λ page. []) (state_in self.old) hart
+            result.answer result.zero (state_in self.new) }
         ensures load { LoadsAnew result.load (state_in self.old) (state_in self.new) hart }
     {
         match self.world(hart) {

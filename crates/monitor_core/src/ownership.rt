@@ -53,8 +53,8 @@ impl Parts {
     pub(crate) fn destroy(&mut self, hart: u8, id: u64) -> Outcome
         requires on { IsOn self.old hart }
         ensures frame { KeepsFrame self.old self.new }
-        ensures step { DoesCall (Some (calls.Destroy id)) (λ page. []) (state_in self.old) hart result.answer result.zero
-            (state_in self.new) }
+        ensures step { DoesCall (Some (calls.Destroy id)) (λ page. []) (state_in self.old) hart
+            result.answer result.zero (state_in self.new) }
         ensures load { LoadsAnew result.load (state_in self.old) (state_in self.new) hart }
     {
         let world = self.world(hart);
@@ -75,8 +75,8 @@ impl Parts {
     pub(crate) fn measure(&mut self, hart: u8, id: u64, k: u64) -> Outcome
         requires on { IsOn self.old hart }
         ensures frame { KeepsFrame self.old self.new }
-        ensures step { DoesCall (Some (calls.Measure id k)) (λ page. []) (state_in self.old) hart result.answer result.zero
-            (state_in self.new) }
+        ensures step { DoesCall (Some (calls.Measure id k)) (λ page. []) (state_in self.old) hart
+            result.answer result.zero (state_in self.new) }
         ensures load { LoadsAnew result.load (state_in self.old) (state_in self.new) hart }
     {
         match self.table.word(id, k) {
