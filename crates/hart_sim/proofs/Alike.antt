@@ -16,7 +16,7 @@ use Rattle.hart_trace.specs.declared.event.Event.TheVariants as events
 use Rattle.hart_sim.specs.declared.reply.Reply.{Reply}
 use Rattle.hart_sim.specs.declared.reply.Reply.TheVariants as replies
 use Rattle.hart_sim.specs.Memory.{bytes_at, number_of, in_range}
-use Rattle.hart_sim.specs.States.{State, core_of, with_core, view_of, view_on, running_registers}
+use Rattle.hart_sim.specs.States.{State, core_of, with_core, view_of, view_on}
 use Rattle.enclave_table.proofs.ShortNames.{view_in}
 use Rattle.monitor_core.specs.Changes.{is_same, with_running}
 use Rattle.hart_sim.specs.Changes.{with_x, storing}
@@ -164,7 +164,7 @@ follow_access s other new hart there id e f a value reply (Ok done) r q l v x = 
         )
 
 -- a register set
-set_is : (s new : State) (hart id n value : ℕ) (e : Enclave) → RunsOn s hart id e → new ≡ with_core (awoken s hart) (with_running (core_of (awoken s hart)) hart (with_x (running_registers s hart) n value)) → new.registers (EnclaveOf id) ≡ with_x (s.registers (EnclaveOf id)) n value
+set_is : (s new : State) (hart id n value : ℕ) (e : Enclave) → RunsOn s hart id e → new ≡ with_core (awoken s hart) (with_running (core_of (awoken s hart)) hart (with_x (s.registers (runner_of hart (s.worlds hart))) n value)) → new.registers (EnclaveOf id) ≡ with_x (s.registers (EnclaveOf id)) n value
 set_is s new hart id n value e r is =
     let who = runner_is s hart id e r in
     let at : new.registers (EnclaveOf id) ≡ (if is_same (EnclaveOf id) (runner_of hart (s.worlds hart)) then with_x (s.registers (runner_of hart (s.worlds hart))) n value else s.registers (EnclaveOf id)) = ap (λ x. x.registers (EnclaveOf id)) is in
@@ -172,11 +172,11 @@ set_is s new hart id n value e r is =
     ap (λ w. if is_same (EnclaveOf id) w then with_x (s.registers w) n value else s.registers (EnclaveOf id)) who in
     at ∙ there ∙ ap (λ b. if b then with_x (s.registers (EnclaveOf id)) n value else s.registers (EnclaveOf id)) (eq-eqb id id refl)
 
-sets_own : (s new : State) (hart id n value : ℕ) (e : Enclave) → RunsOn s hart id e → new ≡ with_core (awoken s hart) (with_running (core_of (awoken s hart)) hart (with_x (running_registers s hart) n value)) → ChangesOwn id e s new
+sets_own : (s new : State) (hart id n value : ℕ) (e : Enclave) → RunsOn s hart id e → new ≡ with_core (awoken s hart) (with_running (core_of (awoken s hart)) hart (with_x (s.registers (runner_of hart (s.worlds hart))) n value)) → ChangesOwn id e s new
 sets_own s new hart id n value e r is = subst (ChangesOwn id e s) (sym is) (record {
   table = refl;
   worlds = refl;
-  registers = λ who other. ap (λ b. if b then with_x (running_registers s hart) n value else s.registers who) (same_not who (runner_of hart (s.worlds hart)) (λ same. other (same ∙ runner_is s hart id e r)));
+  registers = λ who other. ap (λ b. if b then with_x (s.registers (runner_of hart (s.worlds hart))) n value else s.registers who) (same_not who (runner_of hart (s.worlds hart)) (λ same. other (same ∙ runner_is s hart id e r)));
   bytes = λ b none. refl;
   written = λ p none. refl;
   marked = λ i h. unmarked s hart h r.unmarked i;
@@ -191,7 +191,7 @@ follow s other new hart there id e f (events.Access a value) reply r q l own x =
     let t = follow_access s other new hart there id e f a value reply (verdict (enclave_view e.parts) a) r q l refl x' in
     (t.0, subst (λ view. Accesses (verdict view a) (awoken other there) a value reply t.0) (sym other_view) t.1, t.2, t.3, t.4)
 follow s other new hart there id e f (events.Reg n value) reply r q l own x =
-    let now = with_core (awoken other there) (with_running (core_of (awoken other there)) there (with_x (running_registers other there) n value)) in (
+    let now = with_core (awoken other there) (with_running (core_of (awoken other there)) there (with_x (other.registers (runner_of there (other.worlds there))) n value)) in (
       now,
       (x.0, refl),
       record {

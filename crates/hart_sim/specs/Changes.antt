@@ -5,7 +5,8 @@ pub use Rattle.sbi_decode.specs.Registers.{with_x}
 use Rattle.sbi_decode.specs.Registers.{RegisterFile}
 use Rattle.monitor_core.specs.Changes.{past_call}
 use Rattle.hart_sim.specs.Memory.{in_range, stored}
-use Rattle.hart_sim.specs.States.{State, running_registers}
+use Rattle.hart_sim.specs.States.{State}
+use Rattle.worlds.specs.Runners.{runner_of}
 
 -- words put into registers, one by one
 abbrev pub with_words : RegisterFile → List ℕ → List ℕ → RegisterFile
@@ -14,7 +15,7 @@ with_words file _ _ = file
 
 -- the registers on a hart after a call with these words, in a7, a6 and a0 to a5, which goes on past its instruction
 abbrev pub calling : State → ℕ → List ℕ → RegisterFile
-calling s hart words = past_call (with_words (running_registers s hart) (17 ∷ (16 ∷ (10 ∷ (11 ∷ (12 ∷ (13 ∷ (14 ∷ (15 ∷ [])))))))) words)
+calling s hart words = past_call (with_words (s.registers (runner_of hart (s.worlds hart))) (17 ∷ (16 ∷ (10 ∷ (11 ∷ (12 ∷ (13 ∷ (14 ∷ (15 ∷ [])))))))) words)
 
 -- a value stored, and its page written
 abbrev pub storing : State → ℕ → ℕ → ℕ → State

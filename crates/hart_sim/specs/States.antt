@@ -8,7 +8,7 @@ pub use Rattle.enclave_table.specs.Views.{current_view as view_of}
 use Rattle.worlds.specs.declared.world.World.{World}
 use Rattle.worlds.specs.declared.world.World.TheVariants.{Host}
 use Rattle.sbi_decode.specs.Registers.{RegisterFile, zeros}
-use Rattle.worlds.specs.Runners.{Runner, runner_of}
+use Rattle.worlds.specs.Runners.{Runner}
 use Rattle.monitor_core.specs.States.{State as Core}
 
 -- the enclaves, the world that runs on each hart, the registers of each host and enclave, the byte at each address, the pages
@@ -37,7 +37,3 @@ opening layout =
 -- the view of the world that runs on a hart
 abbrev pub view_on : State → ℕ → ℕ → Perm
 view_on s hart page = view_of s.table (s.worlds hart) page
-
--- the registers of who runs on a hart
-abbrev pub running_registers : State → ℕ → RegisterFile
-running_registers s hart = s.registers (runner_of hart (s.worlds hart))

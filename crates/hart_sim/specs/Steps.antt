@@ -19,10 +19,11 @@ use Rattle.hart_trace.specs.declared.event.Event.TheVariants as events
 use Rattle.hart_sim.specs.declared.reply.Reply.{Reply}
 use Rattle.hart_sim.specs.declared.reply.Reply.TheVariants as replies
 use Rattle.hart_sim.specs.Memory.{bytes_at, number_of}
-use Rattle.hart_sim.specs.States.{State, core_of, with_core, running_registers}
+use Rattle.hart_sim.specs.States.{State, core_of, with_core}
 use Rattle.hart_sim.specs.Changes.{with_x, calling, storing, zeroing}
 use Rattle.hart_sim.specs.Replies.{RepliesWith}
 use Rattle.enclave_table.specs.Views.{current_view}
+use Rattle.worlds.specs.Runners.{runner_of}
 
 -- what a view says of an access: misaligned first, then outside the space of 2 ^ 56 bytes, then what the page's permission holds
 abbrev pub verdict : (ℕ → Perm) → Access → Result (Unit {0}) Cause
@@ -52,7 +53,7 @@ Serves Does s hart reply new =
 -- an event, on a hart that is not marked
 abbrev pub Does : Event → State → ℕ → Reply → State → Type 0
 Does (events.Access a value) s hart reply new = Accesses (verdict (current_view s.table (s.worlds hart)) a) s a value reply new
-Does (events.Reg n value) s hart reply new = (reply ≡ replies.Done) × (new ≡ with_core s (with_running (core_of s) hart (with_x (running_registers s hart) n value)))
+Does (events.Reg n value) s hart reply new = (reply ≡ replies.Done) × (new ≡ with_core s (with_running (core_of s) hart (with_x (s.registers (runner_of hart (s.worlds hart))) n value)))
 Does (events.Ecall words) s hart reply new =
     let file = calling s hart words.items in
     Serves (DoesCall (call_of file) (λ page. bytes_at s.bytes (page * 4096) 4096) (with_running (core_of s) hart file) hart) s hart reply new

@@ -37,8 +37,9 @@ impl Machine {
     ghost use Rattle.hart_sim.specs.After.{After};
     ghost use Rattle.hart_sim.specs.Promises.{AnswersByView};
     ghost use Rattle.hart_sim.specs.Wants.{RefusesByNeed};
-    ghost use Rattle.hart_sim.specs.States.{opening, running_registers};
+    ghost use Rattle.hart_sim.specs.States.{opening};
     ghost use Rattle.hart_sim.specs.Steps.{IsEvent, Step};
+    ghost use Rattle.worlds.specs.Runners.{runner_of};
 
     /// The PMP registers that are loaded on a hart.
     pub fn bank(&self, hart: u8) -> &Bank
@@ -62,7 +63,8 @@ impl Machine {
     /// The registers of the world that runs on a hart.
     pub fn registers(&self, hart: u8) -> &Registers
         requires { hart < 4 }
-        ensures { result.now ≡ running_registers (state_of self.now) hart }
+        ensures { let s = state_of self.now in
+            result.now ≡ s.registers (runner_of hart (s.worlds hart)) }
     {
         self.parts.monitor.registers(hart)
     }
