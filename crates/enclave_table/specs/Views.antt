@@ -1,5 +1,5 @@
 -- What the host and each enclave may do with each page.
-use Rattle.std.specs.Prelude.{ℕ, ◌+◌, ◌/◌, Bool, ◌||◌, cond, Option, None, Some, false, option_map, unwrap_or}
+use Rattle.std.specs.Prelude.{ℕ, ◌+◌, ◌/◌, ◌||◌, cond, false, option_map, unwrap_or}
 use Rattle.std.specs.List.{list_any}
 use Rattle.pmp_encoding.specs.declared.perm.Perm.{Perm}
 use Rattle.pmp_encoding.specs.declared.perm.Perm.TheVariants.{NoAccess, ReadWrite, ReadExecute}
@@ -8,7 +8,6 @@ use Rattle.worlds.specs.declared.world.World.{World}
 use Rattle.enclave_table.specs.Platform.{is_monitor, platform_perm}
 use Rattle.enclave_table.specs.Requests.{is_private, is_shared}
 use Rattle.enclave_table.specs.Enclaves.{EnclaveTable, enclave_at}
-use Rattle.enclave_table.specs.declared.enclave.Enclave.{Enclave}
 use Rattle.enclave_table.specs.declared.owner.Owner.{Owner}
 use Rattle.enclave_table.specs.declared.owner.Owner.TheVariants.{Monitor, Private, Shared, Host}
 use Rattle.enclave_table.specs.declared.request.Create.{Create}
