@@ -1,5 +1,5 @@
 -- Changes of a state, and what a call puts into registers.
-use Rattle.std.specs.Prelude.{ℕ, ◌/◌, Bool, true, false, ◌==◌, if◌then◌else◌, List, [], ◌∷◌, Option, None, Some, unwrap_or, option_map}
+use Rattle.std.specs.Prelude.{ℕ, ◌/◌, true, false, ◌==◌, if◌then◌else◌, List, [], ◌∷◌, Option, unwrap_or, option_map}
 use Rattle.page_views.specs.declared.pages.PageRange.{PageRange}
 pub use Rattle.sbi_decode.specs.Registers.{with_x}
 use Rattle.sbi_decode.specs.Registers.{RegisterFile}

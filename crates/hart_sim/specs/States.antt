@@ -1,5 +1,5 @@
 -- The state of the machine. There are no PMP entries in it.
-use Rattle.std.specs.Prelude.{ℕ, ◌*◌, Bool, false, List}
+use Rattle.std.specs.Prelude.{ℕ, Bool, false}
 use Rattle.pmp_encoding.specs.declared.perm.Perm.{Perm}
 use Rattle.enclave_table.specs.Platform.{Layout}
 use Rattle.enclave_table.specs.Enclaves.{EnclaveTable}
