@@ -1,4 +1,5 @@
 mod Building
 mod Entered
+mod Given
 pub mod Named
 mod Program

@@ -46,6 +46,10 @@ measure_rule = record (new_rule (codes "measure")) { long = Some (codes "measure
 abbrev pub name_rule : Rule
 name_rule = option_rule (codes "name") []
 
+-- `--first`, which has no value where it is not given
+abbrev pub first_rule : Rule
+first_rule = option_rule (codes "first") []
+
 -- `--registers`, which takes no value
 abbrev pub registers_rule : Rule
 registers_rule = record (new_rule (codes "registers")) { long = Some (codes "registers"); action = Some SetTrue }
@@ -64,11 +68,13 @@ plan_app = with_rule
     (with_rule
     (with_rule
     (with_rule
+    (with_rule
     (with_rule (with_rule (new_app (codes "plan")) (file_rule (codes "MAP") true)) (file_rule (codes "CERT") false))
     entries_rule)
     at_most_rule)
     format_rule)
-    name_rule
+    name_rule)
+    first_rule
 
 abbrev pub judge_app : App
 judge_app = with_rule
@@ -92,7 +98,7 @@ abbrev pub map_app : App
 map_app = with_rule (new_app (codes "map")) (file_rule (codes "REGISTERS") true)
 
 abbrev pub lint_app : App
-lint_app = with_rule (new_app (codes "lint")) (file_rule (codes "MAP") true)
+lint_app = with_rule (with_rule (new_app (codes "lint")) (file_rule (codes "FILE") true)) registers_rule
 
 -- the program before its subcommands, which tells its version: one of them has to be named
 abbrev pub bare_app : App

@@ -11,5 +11,6 @@ fault_kind (faults.Entries word) = InvalidValue
 fault_kind (faults.Format word) = InvalidValue
 fault_kind (faults.AtMost word) = ValueValidation
 fault_kind (faults.Name word) = ValueValidation
+fault_kind (faults.First word) = ValueValidation
 fault_kind faults.InputTwice = ArgumentConflict
 fault_kind (faults.TakesPlace map) = ArgumentConflict

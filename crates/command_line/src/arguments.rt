@@ -2,7 +2,7 @@
 
 ghost use Rattle.std.specs.Prelude.{◌≡◌, false};
 ghost use Rattle.clap.specs.Words.{rule_of};
-ghost use Rattle.command_line.specs.CommandLine.{all_rule, at_most_rule, entries_rule, file_rule, format_rule, measure_rule, name_rule, registers_rule};
+ghost use Rattle.command_line.specs.CommandLine.{all_rule, at_most_rule, entries_rule, file_rule, first_rule, format_rule, measure_rule, name_rule, registers_rule};
 ghost use Rattle.command_line.specs.ClapModel.{rule_by};
 
 use clap::{Arg, ArgAction};
@@ -25,8 +25,10 @@ pub enum Argument<'a> {
     Measure,
     /// `--name`, what names in C and assembly begin with.
     Name,
-    /// `--registers`, whether a file has registers in place of a map.
-    Registers,
+    /// `--first`, the entry that a plan begins at.
+    First,
+    /// `--registers`, whether a file has registers in place of a map, and what is said of it.
+    Registers(&'a str),
     /// `--all`, whether each stretch that differs is asked for.
     All,
 }
@@ -45,7 +47,8 @@ impl<'a> Argument<'a> {
             Argument::Format => format_arg(alloc),
             Argument::Measure => measure_arg(alloc),
             Argument::Name => name_arg(alloc),
-            Argument::Registers => registers_arg(alloc),
+            Argument::First => first_arg(alloc),
+            Argument::Registers(help) => registers_arg(alloc, help),
             Argument::All => all_arg(alloc),
         }
     }
@@ -123,14 +126,26 @@ fn measure_arg<'a>(alloc: Global) -> Arg<'a>
         .action(ArgAction::SetTrue)
 }
 
+/// The option that says at which entry a plan begins.
+fn first_arg<'a>(alloc: Global) -> Arg<'a>
+    ensures rule { rule_of result ≡ first_rule }
+    ensures local { result.global ≡ false }
+{
+    Arg::new(alloc, "first")
+        .long("first")
+        .value_name("K")
+        .help("Begin at entry K, and leave those below it as they are")
+        .action(ArgAction::Set)
+}
+
 /// The flag that says that a file has registers.
-fn registers_arg<'a>(alloc: Global) -> Arg<'a>
+fn registers_arg<'a>(alloc: Global, help: &'a str) -> Arg<'a>
     ensures rule { rule_of result ≡ registers_rule }
     ensures local { result.global ≡ false }
 {
     Arg::new(alloc, "registers")
         .long("registers")
-        .help("Read MAP as a listing of registers, which are taken as they stand")
+        .help(help)
         .action(ArgAction::SetTrue)
 }
 

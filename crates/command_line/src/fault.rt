@@ -18,7 +18,7 @@ fn kind_of(fault: &Fault<'_>) -> ErrorKind
     match fault {
         Fault::Missing => ErrorKind::MissingRequiredArgument,
         Fault::Entries(_) | Fault::Format(_) => ErrorKind::InvalidValue,
-        Fault::AtMost(_) | Fault::Name(_) => ErrorKind::ValueValidation,
+        Fault::AtMost(_) | Fault::Name(_) | Fault::First(_) => ErrorKind::ValueValidation,
         Fault::InputTwice | Fault::TakesPlace(_) => ErrorKind::ArgumentConflict,
     }
 }

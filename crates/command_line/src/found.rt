@@ -31,6 +31,7 @@ impl<'a> Values<'a> for Found<'_, 'a> {
     }
 
     fn is_given(&self, name: &str) -> bool {
-        self.matches.get_flag(name)
+        let given: Option<bool> = self.matches.get_one(name);
+        given.unwrap_or(false)
     }
 }

@@ -14,6 +14,9 @@ use clap::Command;
 use program_tasks::{SUBCOMMANDS, Subcommand};
 use std::alloc::{AllocError, Global};
 
+/// What is said of `--registers` where a map may stand.
+const AS_THEY_STAND: &str = "Read MAP as a listing of registers, which are taken as they stand";
+
 /// A command without arguments, with its texts for help.
 fn named<'a>(alloc: Global, name: &'a str, about: &'a str, more: &'a str) -> Command<'a>
     ensures { IsCommandOf (new_app name.entry.now) result }
@@ -78,6 +81,7 @@ fn plan_command<'a>(alloc: Global) -> Result<Command<'a>, AllocError>
         Argument::AtMost,
         Argument::Format,
         Argument::Name,
+        Argument::First,
     ];
     command(alloc, Subcommand::Plan.name(), about, PLAN_HELP, &arguments)
 }
@@ -94,7 +98,7 @@ fn judge_command<'a>(alloc: Global) -> Result<Command<'a>, AllocError>
         ),
         Argument::File("TRACE", "The trace of accesses"),
         Argument::Entries,
-        Argument::Registers,
+        Argument::Registers(AS_THEY_STAND),
     ];
     command(
         alloc,
@@ -134,7 +138,7 @@ fn show_command<'a>(alloc: Global) -> Result<Command<'a>, AllocError>
         ),
         Argument::Entries,
         Argument::AtMost,
-        Argument::Registers,
+        Argument::Registers(AS_THEY_STAND),
     ];
     command(alloc, Subcommand::Show.name(), about, SHOW_HELP, &arguments)
 }
@@ -168,8 +172,11 @@ fn map_command<'a>(alloc: Global) -> Result<Command<'a>, AllocError>
 fn lint_command<'a>(alloc: Global) -> Result<Command<'a>, AllocError>
     ensures { IfOk result (IsCommandOf (app_by Subcommand.Lint)) }
 {
-    let about = "Say what is wrong with a map file, line by line, and how to fix it";
-    let arguments = [Argument::File("MAP", "The map file")];
+    let about = "Say what is wrong with a file, line by line, and how to fix it";
+    let arguments = [
+        Argument::File("FILE", "The map file, or the platform file where its name ends in .toml"),
+        Argument::Registers("Read FILE as a listing of registers"),
+    ];
     command(alloc, Subcommand::Lint.name(), about, LINT_HELP, &arguments)
 }
 

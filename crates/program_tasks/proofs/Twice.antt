@@ -23,7 +23,7 @@ pub handed_on : {T : Type 0} (result : Result T Fault) (fault : Fault) (P : Faul
 handed_on (Ok x) fault P h p = tt
 handed_on (Err f) fault P h p = subst P (sym h) p
 
-given : (value : Text → Option Text) (name word : Text) → value name ≡ Some word → value name ≡ None → ⊥
+pub given : (value : Text → Option Text) (name word : Text) → value name ≡ Some word → value name ≡ None → ⊥
 given value name word e none = cc
 
 pub no_registers : (value : Text → Option Text) (map : Text) (fault : Fault) → value (codes "MAP") ≡ Some map → Breaks value (has (codes "REGISTERS")) fault → IsFirst value (demands_of subcommands.Audit) fault
@@ -36,26 +36,26 @@ read_twice value map registers fault m r mi ri e =
     inr (given value (codes "MAP") map m, inr (given value (codes "REGISTERS") registers r, inl ((m ∙ ap (λ t. Some t) mi, r ∙ ap (λ t. Some t) ri), e)))
 
 -- words that begin with other letters are others
-differ : {P : Type 0} (a b : ℕ) (xs ys : Text) → eqb a b ≡ false → a ∷ xs ≡ b ∷ ys → P
+pub differ : {P : Type 0} (a b : ℕ) (xs ys : Text) → eqb a b ≡ false → a ∷ xs ≡ b ∷ ys → P
 differ a b xs ys d e = absurd (true≢false (sym (eq-eqb a b (ap (λ t. slice_index_or t 0 0) e)) ∙ d))
 
 pub twice_audited : (value flag : Text → Option Text) (map registers : Text) → value (codes "MAP") ≡ Some map → value (codes "REGISTERS") ≡ Some registers
     → map ≡ input_word → registers ≡ input_word → NamesNone (codes "audit") value flag
 twice_audited value flag map registers m r mi ri (Audit named other all) e v sound = sound (same _ _ (sym v.0 ∙ m) ∙ mi, same _ _ (sym v.1 ∙ r) ∙ ri)
 twice_audited value flag map registers m r mi ri (Run p t s) e v sound = differ _ _ _ _ refl e
-twice_audited value flag map registers m r mi ri (Plan p t s a f n) e v sound = differ _ _ _ _ refl e
+twice_audited value flag map registers m r mi ri (Plan p t s a f n i) e v sound = differ _ _ _ _ refl e
 twice_audited value flag map registers m r mi ri (Judge p t s b) e v sound = differ _ _ _ _ refl e
 twice_audited value flag map registers m r mi ri (Check p t) e v sound = differ _ _ _ _ refl e
 twice_audited value flag map registers m r mi ri (Show p t s b) e v sound = differ _ _ _ _ refl e
-twice_audited value flag map registers m r mi ri (Lint p) e v sound = differ _ _ _ _ refl e
+twice_audited value flag map registers m r mi ri (Lint p k) e v sound = differ _ _ _ _ refl e
 twice_audited value flag map registers m r mi ri (Map p) e v sound = differ _ _ _ _ refl e
 
 pub unlisted : (value flag : Text → Option Text) → value (codes "REGISTERS") ≡ None → NamesNone (codes "audit") value flag
 unlisted value flag none (Audit named other all) e v sound = given value (codes "REGISTERS") _ v.1 none
 unlisted value flag none (Run p t s) e v sound = differ _ _ _ _ refl e
-unlisted value flag none (Plan p t s a f n) e v sound = differ _ _ _ _ refl e
+unlisted value flag none (Plan p t s a f n i) e v sound = differ _ _ _ _ refl e
 unlisted value flag none (Judge p t s b) e v sound = differ _ _ _ _ refl e
 unlisted value flag none (Check p t) e v sound = differ _ _ _ _ refl e
 unlisted value flag none (Show p t s b) e v sound = differ _ _ _ _ refl e
-unlisted value flag none (Lint p) e v sound = differ _ _ _ _ refl e
+unlisted value flag none (Lint p k) e v sound = differ _ _ _ _ refl e
 unlisted value flag none (Map p) e v sound = differ _ _ _ _ refl e

@@ -1,13 +1,14 @@
 -- The faults of a subcommand with values that names no task.
-use Rattle.std.specs.Prelude.{List, [], ◌∷◌, ℕ, Option, Some, None, ◌++◌, ◌≡◌, ◌≢◌, ◌⊎◌, codes, true}
+use Rattle.std.specs.Prelude.{List, [], ◌∷◌, ℕ, ◌<◌, Option, Some, None, ◌++◌, ◌≡◌, ◌≢◌, ◌⊎◌, codes, true}
 use Rattle.pmp_encoding.specs.declared.limit.Limit.{Limit}
+use Rattle.pmp_encoding.specs.Limits.{limit_number}
 use Rattle.program_tasks.specs.declared.fault.Fault.{Fault}
 use Rattle.program_tasks.specs.declared.fault.Fault.TheVariants as faults
 use Rattle.program_tasks.specs.declared.task.Format.{Format}
 use Rattle.program_tasks.specs.declared.subcommand.Subcommand.{Subcommand}
 use Rattle.program_tasks.specs.declared.subcommand.Subcommand.TheVariants as subcommands
 use Rattle.program_tasks.specs.Subcommands.{Text, subcommand_word}
-use Rattle.program_tasks.specs.Tasks.{Counts, NamesNone, format_word, input_word, is_identifier, limit_word}
+use Rattle.program_tasks.specs.Tasks.{BeginsAt, Counts, NamesNone, format_word, input_word, is_identifier, limit_word}
 
 -- what is said of a value that an option does not take
 abbrev pub value_text : List ℕ → List ℕ → List ℕ
@@ -20,6 +21,7 @@ fault_text (faults.Entries word) = value_text word.now (codes "' for '--entries 
 fault_text (faults.Format word) = value_text word.now (codes "' for '--format <text|c|asm|json>'\n  [possible values: text, c, asm, json]")
 fault_text (faults.AtMost word) = value_text word.now (codes "' for '--at-most <N>': no number below 2^64")
 fault_text (faults.Name word) = value_text word.now (codes "' for '--name <NAME>': no C identifier of at most 32 bytes")
+fault_text (faults.First word) = value_text word.now (codes "' for '--first <K>': no number below that of --entries")
 fault_text faults.InputTwice = codes "standard input, '-', cannot be read twice"
 fault_text (faults.TakesPlace map) = codes "the certificate would take the place of the map '" ++ (map.now ++ codes "'")
 
@@ -30,17 +32,19 @@ pub data Demand : Type 0 where
   names_format : Demand
   counts : Demand
   identifies : Demand
+  begins_inside : Demand
   reads_once : Text → Demand
   keeps_map : Demand
 
 -- the values lack it: the argument of that name has no value; the word of `--entries` names no limit, that of `--format` no
--- format, that of `--at-most` no number, that of `--name` is no identifier; the map and that other file are both standard input; the certificate is the map
+-- format, that of `--at-most` no number, that of `--name` is no identifier, that of `--first` names no entry below the limit; the map and that other file are both standard input; the certificate is the map
 abbrev pub Lacks : (Text → Option Text) → Demand → Type 0
 Lacks value (has name) = value name ≡ None
 Lacks value names_limit = (limit : Limit) → value (codes "entries") ≢ Some (limit_word limit)
 Lacks value names_format = (format : Format) → value (codes "format") ≢ Some (format_word format)
 Lacks value counts = (count : Option ℕ) → ¬ Counts (value (codes "at-most")) count
 Lacks value identifies = (word : Text) × (value (codes "name") ≡ Some word) × (is_identifier word ≢ true)
+Lacks value begins_inside = (first : ℕ) (limit : Limit) → BeginsAt (value (codes "first")) first → value (codes "entries") ≡ Some (limit_word limit) → ¬ (first < limit_number limit)
 Lacks value (reads_once other) = (value (codes "MAP") ≡ Some input_word) × (value other ≡ Some input_word)
 Lacks value keeps_map = value (codes "CERT") ≡ value (codes "MAP")
 
@@ -51,6 +55,7 @@ Tells value names_limit (faults.Entries word) = value (codes "entries") ≡ Some
 Tells value names_format (faults.Format word) = value (codes "format") ≡ Some word.now
 Tells value counts (faults.AtMost word) = value (codes "at-most") ≡ Some word.now
 Tells value identifies (faults.Name word) = value (codes "name") ≡ Some word.now
+Tells value begins_inside (faults.First word) = value (codes "first") ≡ Some word.now
 Tells value (reads_once other) fault = fault ≡ faults.InputTwice
 Tells value keeps_map (faults.TakesPlace map) = value (codes "MAP") ≡ Some map.now
 Tells value demand fault = ⊥
@@ -68,13 +73,13 @@ IsFirst value (demand ∷ demands) fault = Breaks value demand fault ⊎ (¬ Lac
 abbrev pub demands_of : Subcommand → List Demand
 demands_of subcommands.Run = has (codes "PLATFORM") ∷ has (codes "TRACE") ∷ []
 demands_of subcommands.Plan =
-    has (codes "MAP") ∷ keeps_map ∷ has (codes "entries") ∷ names_limit ∷ counts ∷ has (codes "format") ∷ names_format ∷ identifies ∷ []
+    has (codes "MAP") ∷ keeps_map ∷ has (codes "entries") ∷ names_limit ∷ counts ∷ has (codes "format") ∷ names_format ∷ identifies ∷ begins_inside ∷ []
 demands_of subcommands.Judge = has (codes "MAP") ∷ has (codes "TRACE") ∷ has (codes "entries") ∷ names_limit ∷ reads_once (codes "TRACE") ∷ []
 demands_of subcommands.Check = has (codes "MAP") ∷ has (codes "CERT") ∷ []
 demands_of subcommands.Show = has (codes "MAP") ∷ has (codes "entries") ∷ names_limit ∷ counts ∷ []
 demands_of subcommands.Audit = has (codes "MAP") ∷ has (codes "REGISTERS") ∷ reads_once (codes "REGISTERS") ∷ []
 demands_of subcommands.Map = has (codes "REGISTERS") ∷ []
-demands_of subcommands.Lint = has (codes "MAP") ∷ []
+demands_of subcommands.Lint = has (codes "FILE") ∷ []
 
 -- no sound task is that subcommand with these values, and the fault is that of the first demand that they lack
 pub record RefusesTask (subcommand : Subcommand) (value flag : Text → Option Text) (fault : Fault) : Type 0 where

@@ -1,11 +1,14 @@
 -- What the program can be asked to do: which task a subcommand with its values is.
-use Rattle.std.specs.Prelude.{ℕ, ◌==◌, ◌&&◌, ◌||◌, nat_lt, Bool, true, false, [], ◌∷◌, length, Option, Some, None, IfSome, codes, ◌≡◌, ◌≢◌, option_map}
+use Rattle.std.specs.Prelude.{ℕ, ◌<◌, ◌↔◌, ◌==◌, ◌&&◌, ◌||◌, nat_lt, Bool, true, false, [], ◌∷◌, length, Option, Some, None, IfSome, codes, ◌≡◌, ◌≢◌, option_map}
 use Rattle.std.specs.List.{list_all}
 use Rattle.pmp_encoding.specs.declared.limit.Limit.{Limit}
 use Rattle.pmp_encoding.specs.declared.limit.Limit.TheVariants.{Sixteen, SixtyFour}
+use Rattle.pmp_encoding.specs.Limits.{limit_number}
 use Rattle.text_lines.specs.Numbers.{number_of}
 use Rattle.program_tasks.specs.declared.task.Format.{Format}
 use Rattle.program_tasks.specs.declared.task.Format.TheVariants as formats
+use Rattle.program_tasks.specs.declared.task.LintKind.{LintKind}
+use Rattle.program_tasks.specs.declared.task.LintKind.TheVariants as kinds
 use Rattle.program_tasks.specs.declared.subcommand.Subcommand.{Subcommand}
 use Rattle.program_tasks.specs.declared.task.Task.{Task}
 use Rattle.program_tasks.specs.declared.task.Task.TheVariants.{Run, Plan, Judge, Check, Show, Audit, Map, Lint}
@@ -28,6 +31,20 @@ abbrev pub Counts : Option Text → Option ℕ → Type 0
 Counts None count = count ≡ None
 Counts (Some word) count = (n : ℕ) × (number_of word ≡ Some n) × (count ≡ Some n)
 
+-- the number of the entry that a plan begins at, which a word names: 0 where there is none
+abbrev pub BeginsAt : Option Text → ℕ → Type 0
+BeginsAt None first = first ≡ 0
+BeginsAt (Some word) first = number_of word ≡ Some first
+
+-- whether a flag is given, by its text
+abbrev pub IsFlag : Option Text → Bool → Type 0
+IsFlag text given = (given ≡ true) ↔ (text ≡ Some (codes "true"))
+
+-- what a file that is linted should be, by the flags: what its name says where none of them is given
+abbrev pub HasKind : (Text → Option Text) → LintKind → Type 0
+HasKind flag kinds.ByName = flag (codes "registers") ≢ Some (codes "true")
+HasKind flag kinds.Registers = flag (codes "registers") ≡ Some (codes "true")
+
 -- a letter of ASCII or an underscore
 abbrev pub is_letter : ℕ → Bool
 is_letter b = (nat_lt 64 b && nat_lt b 91) || (nat_lt 96 b && nat_lt b 123) || b == 95
@@ -46,21 +63,20 @@ abbrev pub HasValues : (Text → Option Text) → (Text → Option Text) → Tas
 HasValues value flag (Run platform trace measure) =
     (value (codes "PLATFORM") ≡ Some platform.now)
     × (value (codes "TRACE") ≡ Some trace.now)
-    × (flag (codes "measure") ≡ Some (codes "true") → measure ≡ true)
-    × (flag (codes "measure") ≡ Some (codes "false") → measure ≡ false)
-HasValues value flag (Plan map cert limit at_most format name) =
+    × IsFlag (flag (codes "measure")) measure
+HasValues value flag (Plan map cert limit at_most format name first) =
     (value (codes "MAP") ≡ Some map.now)
     × (value (codes "CERT") ≡ option_map (λ s. s.now) cert)
     × (value (codes "entries") ≡ Some (limit_word limit))
     × Counts (value (codes "at-most")) at_most
     × (value (codes "format") ≡ Some (format_word format))
     × (value (codes "name") ≡ option_map (λ s. s.now) name)
+    × BeginsAt (value (codes "first")) first
 HasValues value flag (Judge map trace limit registers) =
     (value (codes "MAP") ≡ Some map.now)
     × (value (codes "TRACE") ≡ Some trace.now)
     × (value (codes "entries") ≡ Some (limit_word limit))
-    × (flag (codes "registers") ≡ Some (codes "true") → registers ≡ true)
-    × (flag (codes "registers") ≡ Some (codes "false") → registers ≡ false)
+    × IsFlag (flag (codes "registers")) registers
 HasValues value flag (Check map cert) =
     (value (codes "MAP") ≡ Some map.now)
     × (value (codes "CERT") ≡ Some cert.now)
@@ -68,23 +84,25 @@ HasValues value flag (Show map limit at_most registers) =
     (value (codes "MAP") ≡ Some map.now)
     × (value (codes "entries") ≡ Some (limit_word limit))
     × Counts (value (codes "at-most")) at_most
-    × (flag (codes "registers") ≡ Some (codes "true") → registers ≡ true)
-    × (flag (codes "registers") ≡ Some (codes "false") → registers ≡ false)
+    × IsFlag (flag (codes "registers")) registers
 HasValues value flag (Audit map registers all) =
     (value (codes "MAP") ≡ Some map.now)
     × (value (codes "REGISTERS") ≡ Some registers.now)
-    × (flag (codes "all") ≡ Some (codes "true") → all ≡ true)
-    × (flag (codes "all") ≡ Some (codes "false") → all ≡ false)
+    × IsFlag (flag (codes "all")) all
 HasValues value flag (Map registers) = value (codes "REGISTERS") ≡ Some registers.now
-HasValues value flag (Lint map) = value (codes "MAP") ≡ Some map.now
+HasValues value flag (Lint file kind) = (value (codes "FILE") ≡ Some file.now) × HasKind flag kind
 
 -- a word that standard input stands for
 abbrev pub input_word : Text
 input_word = codes "-"
 
--- standard input is read once at most, a certificate never takes the place of its map, and a name is an identifier
+-- standard input is read once at most, a certificate never takes the place of its map, a name is an identifier, and a plan
+-- begins at an entry that such a hart has
 abbrev pub IsSound : Task → Type 0
-IsSound (Plan map cert limit at_most format name) = (option_map (λ s. s.now) cert ≢ Some map.now) × IfSome name (λ s. is_identifier s.now ≡ true)
+IsSound (Plan map cert limit at_most format name first) =
+    (option_map (λ s. s.now) cert ≢ Some map.now)
+    × IfSome name (λ s. is_identifier s.now ≡ true)
+    × (first < limit_number limit)
 IsSound (Judge map trace limit registers) = ¬ ((map.now ≡ input_word) × (trace.now ≡ input_word))
 IsSound (Audit map registers all) = ¬ ((map.now ≡ input_word) × (registers.now ≡ input_word))
 IsSound task = Unit {0}

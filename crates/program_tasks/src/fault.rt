@@ -18,6 +18,8 @@ pub enum Fault<'a> {
     AtMost(&'a str),
     /// `--name` has one.
     Name(&'a str),
+    /// `--first` has one, or names no entry of such a hart.
+    First(&'a str),
     /// Standard input is named twice.
     InputTwice,
     /// The certificate would take the place of the map of this name.
@@ -49,6 +51,11 @@ impl Fault<'_> {
             Fault::Name(word) => {
                 format!(in alloc;
                     "invalid value '{word}' for '--name <NAME>': no C identifier of at most 32 bytes"
+                )
+            }
+            Fault::First(word) => {
+                format!(in alloc;
+                    "invalid value '{word}' for '--first <K>': no number below that of --entries"
                 )
             }
             Fault::InputTwice => format!(in alloc; "standard input, '-', cannot be read twice"),

@@ -1,6 +1,6 @@
 //! What was given to a subcommand: the values of its arguments, by their names.
 
-ghost use Rattle.std.specs.Prelude.{◌≡◌, ℕ, List, Option, Some, codes, option_map, true, false};
+ghost use Rattle.std.specs.Prelude.{◌≡◌, ◌↔◌, ℕ, List, Option, Some, codes, option_map, true};
 
 /// The values of a subcommand's arguments, by their names.
 pub trait Values<'a> {
@@ -16,6 +16,5 @@ pub trait Values<'a> {
 
     /// Whether the flag of that name was given.
     fn is_given(&self, name: &str) -> bool
-        ensures given { flag self.now name.now ≡ Some (codes "true") → result ≡ true }
-        ensures other { flag self.now name.now ≡ Some (codes "false") → result ≡ false };
+        ensures { (result ≡ true) ↔ (flag self.now name.now ≡ Some (codes "true")) };
 }

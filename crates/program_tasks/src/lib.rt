@@ -18,5 +18,5 @@ mod tasks;
 pub use fault::Fault;
 pub use given::Values;
 pub use subcommand::{SUBCOMMANDS, Subcommand};
-pub use task::{Format, Task};
+pub use task::{Format, LintKind, Task};
 pub use tasks::task_of;

@@ -15,6 +15,15 @@ pub enum Format {
     Json,
 }
 
+/// What a file that is linted should be.
+#[derive(Clone, Copy, Debug, PartialEq, Eq)]
+pub enum LintKind {
+    /// What its name says: a platform where it ends in `.toml`, otherwise a map.
+    ByName,
+    /// A listing of registers.
+    Registers,
+}
+
 /// One command of the program. The names of files are the words that were given.
 #[derive(Clone, Copy, Debug, PartialEq, Eq)]
 pub enum Task<'a> {
@@ -41,6 +50,8 @@ pub enum Task<'a> {
         format: Format,
         /// The C identifier that names in C and assembly begin with, where one is given.
         name: Option<&'a str>,
+        /// The number of the register file's entry that the plan begins at.
+        first: u64,
     },
     /// Load a map's entries, or take registers as they stand, and judge the accesses of a trace by them.
     Judge {
@@ -74,10 +85,12 @@ pub enum Task<'a> {
         /// The listing of the registers.
         registers: &'a str,
     },
-    /// Say what is wrong with a map file, line by line.
+    /// Say what is wrong with a file, line by line.
     Lint {
-        /// The map file.
-        map: &'a str,
+        /// The file.
+        file: &'a str,
+        /// What it should be.
+        kind: LintKind,
     },
     /// Print a map, or what registers mean, as a table of its stretches, each with the entry that decides it.
     Show {

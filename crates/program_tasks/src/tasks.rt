@@ -1,18 +1,20 @@
 //! The task that a subcommand with its values is.
 
-ghost use Rattle.std.specs.Prelude.{◌≡◌, ◌≢◌, ◌↔◌, [], ◌∷◌, IfErr, IfOk, IfSome, Option, None, Some, codes, false, true, option_map};
+ghost use Rattle.std.specs.Prelude.{◌≡◌, ◌≢◌, ◌<◌, ◌↔◌, ℕ, [], ◌∷◌, IfErr, IfOk, IfSome, Option, None, Some, codes, false, true, option_map};
 ghost use Rattle.std.specs.List.{list_all};
 ghost use Rattle.pmp_encoding.specs.declared.limit.Limit.{Limit};
+ghost use Rattle.pmp_encoding.specs.Limits.{limit_number};
+ghost use Rattle.text_lines.specs.Numbers.{number_of};
 ghost use Rattle.program_tasks.specs.declared.task.Format.{Format};
 ghost use Rattle.program_tasks.specs.Faults.{Breaks, IsFaultOf, IsFirst, RefusesTask};
-ghost use Rattle.program_tasks.specs.Faults.Demand.{counts, has, identifies, names_limit, names_format};
+ghost use Rattle.program_tasks.specs.Faults.Demand.{begins_inside, counts, has, identifies, names_limit, names_format};
 ghost use Rattle.program_tasks.specs.Subcommands.{word_of};
-ghost use Rattle.program_tasks.specs.Tasks.{limit_word, format_word, input_word, is_identifier, is_letter, is_letter_or_digit, Counts, HasValues, IsSound, IsTaskOf, NamesNone};
+ghost use Rattle.program_tasks.specs.Tasks.{limit_word, format_word, input_word, is_identifier, is_letter, is_letter_or_digit, BeginsAt, Counts, HasValues, IsSound, IsTaskOf, NamesNone};
 
 use crate::fault::Fault;
 use crate::given::Values;
 use crate::subcommand::Subcommand;
-use crate::task::{Format, Task};
+use crate::task::{Format, LintKind, Task};
 use pmp_encoding::Limit;
 use text_lines::number;
 
@@ -109,6 +111,37 @@ fn at_most_in<'a, V: Values<'a>>(given: &V) -> Result<Option<u64>, Fault<'a>>
             };
             Ok(Some(count))
         }
+    }
+}
+
+/// The number of the entry that a word names.
+fn entry_of(word: &str, limit: Limit) -> Option<u64>
+    ensures some { IfSome result (λ entry. (number_of word.now ≡ Some entry)
+        × (entry < limit_number limit)) }
+    ensures none { result ≡ None → (entry : ℕ) → number_of word.now ≡ Some entry
+        → ¬ (entry < limit_number limit) }
+{
+    let entry = number(word.as_bytes())?;
+    if entry < u64::from(limit.number()) {
+        Some(entry)
+    } else {
+        None
+    }
+}
+
+/// The value of `--first`, an entry of a hart of that limit: entry 0 where it is not given.
+fn first_in<'a, V: Values<'a>>(given: &V, limit: Limit) -> Result<u64, Fault<'a>>
+    requires limit { V.value given.now (codes "entries") ≡ Some (limit_word limit) }
+    ensures value { IfOk result (BeginsAt (V.value given.now (codes "first"))) }
+    ensures below { IfOk result (λ first. first < limit_number limit) }
+    ensures fault { IfErr result (Breaks (V.value given.now) begins_inside) }
+{
+    match given.value("first") {
+        None => Ok(0),
+        Some(word) => match entry_of(word, limit) {
+            Some(entry) => Ok(entry),
+            None => Err(Fault::First(word)),
+        },
     }
 }
 
@@ -212,6 +245,7 @@ fn plan_in<'a, V: Values<'a>>(given: &V) -> Result<Task<'a>, Fault<'a>>
     let at_most = at_most_in(given)?;
     let format = format_in(given)?;
     let name = name_in(given)?;
+    let first = first_in(given, limit)?;
     Ok(Task::Plan {
         map,
         cert,
@@ -219,6 +253,7 @@ fn plan_in<'a, V: Values<'a>>(given: &V) -> Result<Task<'a>, Fault<'a>>
         at_most,
         format,
         name,
+        first,
     })
 }
 
@@ -316,8 +351,13 @@ fn lint_in<'a, V: Values<'a>>(given: &V) -> Result<Task<'a>, Fault<'a>>
     ensures refused { IfErr result (RefusesTask Subcommand.Lint (V.value given.now)
         (V.flag given.now)) }
 {
-    let map = value_in(given, "MAP")?;
-    Ok(Task::Lint { map })
+    let file = value_in(given, "FILE")?;
+    let kind = if given.is_given("registers") {
+        LintKind::Registers
+    } else {
+        LintKind::ByName
+    };
+    Ok(Task::Lint { file, kind })
 }
 
 /// The task of a subcommand with its values.
