@@ -39,7 +39,7 @@ with_rows (Err error) found name rows e word values = tt
 
 pub fault_with_rows :
     {E : Type 0} (result : Result E Fault) (found : Option (Text × List Row)) (name : Text) (rows : List Row) → found ≡ Some (name, rows)
-    → IfErr result (IsFaultOf name (λ id. first_of id rows)) → IfErr result (IsFaultIn found)
+    → IfErr result (IsFaultOf name (λ id. first_of id rows) (λ id. one_of id rows)) → IfErr result (IsFaultIn found)
 fault_with_rows result found name rows e is = subst (λ it. IfErr result (IsFaultIn it)) (sym e) is
 
 same_name : (found : Option (Text × List Row)) (name word : Text) (rows others : List Row) → found ≡ Some (name, rows) → found ≡ Some (word, others) → word ≡ name

@@ -54,6 +54,14 @@ first_rule = option_rule (codes "first") []
 abbrev pub registers_rule : Rule
 registers_rule = record (new_rule (codes "registers")) { long = Some (codes "registers"); action = Some SetTrue }
 
+-- `--trace`, which takes no value
+abbrev pub trace_rule : Rule
+trace_rule = record (new_rule (codes "trace")) { long = Some (codes "trace"); action = Some SetTrue }
+
+-- `--platform`, which has no value where it is not given
+abbrev pub platform_rule : Rule
+platform_rule = option_rule (codes "platform") []
+
 -- `--all`, which takes no value
 abbrev pub all_rule : Rule
 all_rule = record (new_rule (codes "all")) { long = Some (codes "all"); action = Some SetTrue }
@@ -98,7 +106,9 @@ abbrev pub map_app : App
 map_app = with_rule (new_app (codes "map")) (file_rule (codes "REGISTERS") true)
 
 abbrev pub lint_app : App
-lint_app = with_rule (with_rule (new_app (codes "lint")) (file_rule (codes "FILE") true)) registers_rule
+lint_app = with_rule
+    (with_rule (with_rule (with_rule (new_app (codes "lint")) (file_rule (codes "FILE") true)) registers_rule) trace_rule)
+    platform_rule
 
 -- the program before its subcommands, which tells its version: one of them has to be named
 abbrev pub bare_app : App
@@ -135,7 +145,7 @@ AreNone found = (task : Task) → IsTask found task → ¬ IsSound task
 -- the fault of what was entered: the first demand of the subcommand that its rows lack, or that there is no subcommand
 abbrev pub IsFaultIn : Option (Text × List Row) → Fault → Type 0
 IsFaultIn None fault = fault ≡ Missing
-IsFaultIn (Some (name, rows)) fault = IsFaultOf name (λ id. first_of id rows) fault
+IsFaultIn (Some (name, rows)) fault = IsFaultOf name (λ id. first_of id rows) (λ id. one_of id rows) fault
 
 -- no sound task was entered, and this is the kind of the fault of what was
 pub record IsUnsound (found : Option (Text × List Row)) (kind : ErrorKind) : Type 0 where

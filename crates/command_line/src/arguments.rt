@@ -2,7 +2,7 @@
 
 ghost use Rattle.std.specs.Prelude.{◌≡◌, false};
 ghost use Rattle.clap.specs.Words.{rule_of};
-ghost use Rattle.command_line.specs.CommandLine.{all_rule, at_most_rule, entries_rule, file_rule, first_rule, format_rule, measure_rule, name_rule, registers_rule};
+ghost use Rattle.command_line.specs.CommandLine.{all_rule, at_most_rule, entries_rule, file_rule, first_rule, format_rule, measure_rule, name_rule, platform_rule, registers_rule, trace_rule};
 ghost use Rattle.command_line.specs.ClapModel.{rule_by};
 
 use clap::{Arg, ArgAction};
@@ -29,6 +29,10 @@ pub enum Argument<'a> {
     First,
     /// `--registers`, whether a file has registers in place of a map, and what is said of it.
     Registers(&'a str),
+    /// `--trace`, whether a file has a trace.
+    Trace,
+    /// `--platform`, the platform that a trace is for.
+    Platform,
     /// `--all`, whether each stretch that differs is asked for.
     All,
 }
@@ -49,6 +53,8 @@ impl<'a> Argument<'a> {
             Argument::Name => name_arg(alloc),
             Argument::First => first_arg(alloc),
             Argument::Registers(help) => registers_arg(alloc, help),
+            Argument::Trace => trace_arg(alloc),
+            Argument::Platform => platform_arg(alloc),
             Argument::All => all_arg(alloc),
         }
     }
@@ -147,6 +153,29 @@ fn registers_arg<'a>(alloc: Global, help: &'a str) -> Arg<'a>
         .long("registers")
         .help(help)
         .action(ArgAction::SetTrue)
+}
+
+/// The flag that says that a file has a trace.
+fn trace_arg<'a>(alloc: Global) -> Arg<'a>
+    ensures rule { rule_of result ≡ trace_rule }
+    ensures local { result.global ≡ false }
+{
+    Arg::new(alloc, "trace")
+        .long("trace")
+        .help("Read FILE as a trace")
+        .action(ArgAction::SetTrue)
+}
+
+/// The option that names the platform of a trace.
+fn platform_arg<'a>(alloc: Global) -> Arg<'a>
+    ensures rule { rule_of result ≡ platform_rule }
+    ensures local { result.global ≡ false }
+{
+    Arg::new(alloc, "platform")
+        .long("platform")
+        .value_name("PLATFORM")
+        .help("The platform file that tells how many harts the trace is for")
+        .action(ArgAction::Set)
 }
 
 /// The flag that asks for each difference.

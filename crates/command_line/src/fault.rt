@@ -16,10 +16,10 @@ fn kind_of(fault: &Fault<'_>) -> ErrorKind
     ensures { result ≡ fault_kind fault.now }
 {
     match fault {
-        Fault::Missing => ErrorKind::MissingRequiredArgument,
+        Fault::Missing | Fault::PlatformAlone => ErrorKind::MissingRequiredArgument,
         Fault::Entries(_) | Fault::Format(_) => ErrorKind::InvalidValue,
         Fault::AtMost(_) | Fault::Name(_) | Fault::First(_) => ErrorKind::ValueValidation,
-        Fault::InputTwice | Fault::TakesPlace(_) => ErrorKind::ArgumentConflict,
+        Fault::InputTwice | Fault::TwoKinds | Fault::TakesPlace(_) => ErrorKind::ArgumentConflict,
     }
 }
 

@@ -176,6 +176,8 @@ fn lint_command<'a>(alloc: Global) -> Result<Command<'a>, AllocError>
     let arguments = [
         Argument::File("FILE", "The map file, or the platform file where its name ends in .toml"),
         Argument::Registers("Read FILE as a listing of registers"),
+        Argument::Trace,
+        Argument::Platform,
     ];
     command(alloc, Subcommand::Lint.name(), about, LINT_HELP, &arguments)
 }

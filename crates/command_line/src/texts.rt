@@ -18,7 +18,7 @@ pub const RUN_HELP: &str =
 
 /// After those of `plan`.
 pub const PLAN_HELP: &str =
-    "Prints 'entries N', each entry as 'I 0xCC 0xAAAAAAAAAAAAAAAA' (configuration byte and address register),\nand the configuration words where the entries fit. The certificate shows that no shorter list means the map.\n\nA map file has lines 'BASE SIZE PERM', in bytes: whole pages of 4096 bytes, and one of none, r, rw, x, rx, rwx.\n\nWith --format c, asm or json the same registers are printed as C arrays and a function that loads them, as assembly\nthat loads them, or as one JSON object. --name NAME is what the names in C and assembly begin with.\n\nExamples:\n  pmpmon plan map.txt map.pmpc --entries 64\n  pmpmon plan map.txt --format c --name board";
+    "Prints 'entries N', each entry as 'I 0xCC 0xAAAAAAAAAAAAAAAA' (configuration byte and address register),\nand the configuration words where the entries fit. The certificate shows that no shorter list means the map.\n\nA map file has lines 'BASE SIZE PERM', in bytes: whole pages of 4096 bytes, and one of none, r, rw, x, rx, rwx.\n\nWith --format c, asm or json the same registers are printed as C arrays and a function that loads them, as assembly\nthat loads them, or as one JSON object. --name NAME is what the names in C and assembly begin with.\n\nWith --first K the list stands from entry K on, and the hart needs K entries more. C and assembly leave the entries below K\nas they are. An entry below K that matches comes first: audit of all registers tells whether they mean the map.\n--at-most N counts the entries of the map alone.\n\nExamples:\n  pmpmon plan map.txt map.pmpc --entries 64\n  pmpmon plan map.txt --format c --name board --first 3";
 
 /// After those of `audit`.
 pub const AUDIT_HELP: &str =
@@ -30,7 +30,7 @@ pub const MAP_HELP: &str =
 
 /// After those of `lint`.
 pub const LINT_HELP: &str =
-    "Prints a line for each line of the file that is at fault: 'MAP:LINE:COLUMN:', what is wrong with it, and how to fix\nit; in a map without fault, a warning for each line that can go, all of them together, or a note where the line says what\nholds anyway. A file whose name ends in '.toml' should be a platform: the first thing that it breaks is printed.\n\nStatus 0 where the file is a map, with warnings too, or a platform, and 1 where it is none.\n\nExample:\n  pmpmon lint map.txt";
+    "Prints a line for each line of the file that is at fault: 'FILE:LINE:COLUMN:', what is wrong with it, and how to fix\nit; in a map without fault, a warning for each line that can go, all of them together, or a note where the line says what\nholds anyway. A file whose name ends in '.toml' should be a platform: the first thing that it breaks is printed.\n\nWith --registers FILE is a listing of registers, as audit takes it, and nothing is printed where it is understood.\nWith --trace it is a trace: of a platform's harts where one is named, and otherwise of four.\n\nStatus 0 where the file is what it should be, with warnings too, and 1 where it is not.\n\nExamples:\n  pmpmon lint map.txt\n  pmpmon lint --trace trace.txt --platform platform.toml";
 
 /// After those of `show`.
 pub const SHOW_HELP: &str =

@@ -1,22 +1,21 @@
 -- The lines of a plan, one after another.
 use Rattle.std.proofs.Common.{ℕ, List, ◌∷◌, ◌++◌, ◌≡◌, ◌∙◌, ◌+◌, ◌-◌, ◌*◌, ◌<◌, suc, length, drop, get_or, ap, sym, arith, add-one, drop-cons, append_assoc}
-use Rattle.pmp_encoding.specs.declared.bank.Bank.{Bank}
 use Rattle.pmp_encoding.specs.declared.region.Entry.{Entry}
-use Rattle.pmp_encoding.specs.Banks.{word_at}
 use Rattle.pmp_encoding.specs.Encoding.{address_of, cfg_of}
+use Rattle.printed_lines.specs.Placed.{word_from}
 use Rattle.printed_lines.specs.Texts.{entry_text, word_text}
 use Rattle.printed_lines.specs.Plans.{entries_text, words_text}
 
 entry_at : (entries : List Entry) (i : ℕ) (entry : Entry) → i < length entries → entry ≡ get_or entries i entry → drop i entries ≡ entry ∷ drop (i + 1) entries
 entry_at entries i entry h is = rw add-one (drop-cons entries i entry h ∙ ap (λ x. x ∷ drop (suc i) entries) (sym is))
 
--- the line of entry i, and the lines after it
-pub entries_text-first : (entries : List Entry) (i : ℕ) (entry : Entry) → i < length entries → entry ≡ get_or entries i entry → entries_text i (drop i entries) ≡ entry_text i (cfg_of entry) (address_of entry) ++ entries_text (i + 1) (drop (i + 1) entries)
-entries_text-first entries i entry h is = ap (entries_text i) (entry_at entries i entry h is)
+-- the line of entry i, which stands at k, and the lines after it
+pub entries_text-first : (k : ℕ) (entries : List Entry) (i : ℕ) (entry : Entry) → i < length entries → entry ≡ get_or entries i entry → entries_text k (drop i entries) ≡ entry_text k (cfg_of entry) (address_of entry) ++ entries_text (k + 1) (drop (i + 1) entries)
+entries_text-first k entries i entry h is = ap (entries_text k) (entry_at entries i entry h is)
 
 -- the line of word i, and the lines after it
-pub words_text-first : (bank : Bank) (i count : ℕ) → i < count → words_text bank i (count - i) ≡ word_text (2 * i) (word_at bank (2 * i)) ++ words_text bank (i + 1) (count - (i + 1))
-words_text-first bank i count h = let e : count - i ≡ suc (count - (i + 1)) = omega arith in ap (words_text bank i) e
+pub words_text-first : (first : ℕ) (entries : List Entry) (i count : ℕ) → i < count → words_text first entries i (count - i) ≡ word_text (2 * i) (word_from first entries i) ++ words_text first entries (i + 1) (count - (i + 1))
+words_text-first first entries i count h = let e : count - i ≡ suc (count - (i + 1)) = omega arith in ap (words_text first entries i) e
 
 -- the pieces of a line, after what stood before them
 pub line_behind : (old a b c d e f : List ℕ) → (((((old ++ a) ++ b) ++ c) ++ d) ++ e) ++ f ≡ old ++ (((((a ++ b) ++ c) ++ d) ++ e) ++ f)

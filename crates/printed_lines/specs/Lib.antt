@@ -1,3 +1,4 @@
 pub mod Fields
 pub mod Texts
+pub mod Placed
 pub mod Plans

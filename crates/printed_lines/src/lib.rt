@@ -1,20 +1,23 @@
 //! The lines that the program prints, each in a buffer of a fixed length, and the printing of a plan.
 //!
 //! For the layer above: each function that ends in `_line` answers the text that its clause names, and takes no memory;
-//! [`print_plan`] writes the lines of a list of entries to a sink. Sizes and permissions are put in words here.
+//! [`print_plan`] writes the lines of a list of entries to a sink. [`entry_from`] and [`word_from`] answer what stands at an
+//! entry and in a word of a hart on which a list begins at some entry. Sizes and permissions are put in words here.
 //!
 //! ```rust
-//! print_plan(plan.entries(), Limit::Sixteen, &mut out)?;
+//! print_plan(plan.entries(), 0, Limit::Sixteen, &mut out)?;
 //! ```
 #![tactic(auto)]
 
 mod digests;
 mod fields;
 mod hexadecimal;
+mod placed;
 mod plan;
 mod texts;
 
 pub use digests::{digest_text, measure_line};
 pub use fields::{letters, push_size};
+pub use placed::{entry_from, room_from, whole_word, word_from};
 pub use plan::print_plan;
 pub use texts::{accepted_line, accepted_of_line, count_line, entry_line, refused_line, word_line};

@@ -12,7 +12,7 @@ use Rattle.program_tasks.specs.Tasks.{Counts, NamesNone, format_word, is_identif
 use Rattle.program_tasks.proofs.Twice.{differ, given}
 
 -- no such plan is sound
-pub begins_nowhere : (value flag : Text → Option Text) → Lacks value begins_inside → NamesNone (codes "plan") value flag
+pub begins_nowhere : (value flag : Text → Option Text) → Lacks value flag begins_inside → NamesNone (codes "plan") value flag
 begins_nowhere value flag lacks (Plan map cert limit at_most format name first) e v sound = lacks first limit v.6 v.2 sound.2
 begins_nowhere value flag lacks (Run p t s) e v sound = differ _ _ _ _ refl e
 begins_nowhere value flag lacks (Judge p t s b) e v sound = differ _ _ _ _ refl e
@@ -34,12 +34,12 @@ named_well value (Some name) word e well is bad = bad (rw (same name.now word (s
 
 -- the fault of the last demand of `plan`, where the values meet the others
 pub begins_wrongly :
-    (value : Text → Option Text) (map : Text) (cert : Option (Bor Text)) (limit : Limit) (at_most : Option ℕ) (format : Format) (name : Option (Bor Text)) (fault : Fault)
+    (value flag : Text → Option Text) (map : Text) (cert : Option (Bor Text)) (limit : Limit) (at_most : Option ℕ) (format : Format) (name : Option (Bor Text)) (fault : Fault)
     → value (codes "MAP") ≡ Some map → value (codes "CERT") ≡ option_map (λ s. s.now) cert → option_map (λ s. s.now) cert ≢ Some map
     → value (codes "entries") ≡ Some (limit_word limit) → Counts (value (codes "at-most")) at_most → value (codes "format") ≡ Some (format_word format)
     → value (codes "name") ≡ option_map (λ s. s.now) name → IfSome name (λ s. is_identifier s.now ≡ true)
-    → Breaks value begins_inside fault → IsFirst value (demands_of subcommands.Plan) fault
-begins_wrongly value map cert limit at_most format name fault m c other l a f n well broken =
+    → Breaks value flag begins_inside fault → IsFirst value flag (demands_of subcommands.Plan) fault
+begins_wrongly value flag map cert limit at_most format name fault m c other l a f n well broken =
     inr (given value (codes "MAP") map m,
     inr (λ same. another_file _ _ _ c other (same ∙ m),
     inr (given value (codes "entries") _ l,

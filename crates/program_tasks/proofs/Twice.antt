@@ -26,13 +26,13 @@ handed_on (Err f) fault P h p = subst P (sym h) p
 pub given : (value : Text → Option Text) (name word : Text) → value name ≡ Some word → value name ≡ None → ⊥
 given value name word e none = cc
 
-pub no_registers : (value : Text → Option Text) (map : Text) (fault : Fault) → value (codes "MAP") ≡ Some map → Breaks value (has (codes "REGISTERS")) fault → IsFirst value (demands_of subcommands.Audit) fault
-no_registers value map fault m broken = inr (given value (codes "MAP") map m, inl broken)
+pub no_registers : (value flag : Text → Option Text) (map : Text) (fault : Fault) → value (codes "MAP") ≡ Some map → Breaks value flag (has (codes "REGISTERS")) fault → IsFirst value flag (demands_of subcommands.Audit) fault
+no_registers value flag map fault m broken = inr (given value (codes "MAP") map m, inl broken)
 
 pub read_twice :
-    (value : Text → Option Text) (map registers : Text) (fault : Fault) → value (codes "MAP") ≡ Some map → value (codes "REGISTERS") ≡ Some registers → map ≡ input_word
-    → registers ≡ input_word → fault ≡ InputTwice → IsFirst value (demands_of subcommands.Audit) fault
-read_twice value map registers fault m r mi ri e =
+    (value flag : Text → Option Text) (map registers : Text) (fault : Fault) → value (codes "MAP") ≡ Some map → value (codes "REGISTERS") ≡ Some registers → map ≡ input_word
+    → registers ≡ input_word → fault ≡ InputTwice → IsFirst value flag (demands_of subcommands.Audit) fault
+read_twice value flag map registers fault m r mi ri e =
     inr (given value (codes "MAP") map m, inr (given value (codes "REGISTERS") registers r, inl ((m ∙ ap (λ t. Some t) mi, r ∙ ap (λ t. Some t) ri), e)))
 
 -- words that begin with other letters are others

@@ -8,7 +8,7 @@ use Rattle.program_tasks.specs.declared.task.Format.{Format}
 use Rattle.program_tasks.specs.declared.subcommand.Subcommand.{Subcommand}
 use Rattle.program_tasks.specs.declared.subcommand.Subcommand.TheVariants as subcommands
 use Rattle.program_tasks.specs.Subcommands.{Text, subcommand_word}
-use Rattle.program_tasks.specs.Tasks.{BeginsAt, Counts, NamesNone, format_word, input_word, is_identifier, limit_word}
+use Rattle.program_tasks.specs.Tasks.{BeginsAt, Counts, IsGiven, NamesNone, format_word, input_word, is_identifier, limit_word}
 
 -- what is said of a value that an option does not take
 abbrev pub value_text : List ℕ → List ℕ → List ℕ
@@ -23,6 +23,8 @@ fault_text (faults.AtMost word) = value_text word.now (codes "' for '--at-most <
 fault_text (faults.Name word) = value_text word.now (codes "' for '--name <NAME>': no C identifier of at most 32 bytes")
 fault_text (faults.First word) = value_text word.now (codes "' for '--first <K>': no number below that of --entries")
 fault_text faults.InputTwice = codes "standard input, '-', cannot be read twice"
+fault_text faults.TwoKinds = codes "the argument '--registers' cannot be used with '--trace'"
+fault_text faults.PlatformAlone = codes "the argument '--platform <PLATFORM>' cannot be used without '--trace'"
 fault_text (faults.TakesPlace map) = codes "the certificate would take the place of the map '" ++ (map.now ++ codes "'")
 
 -- what a subcommand asks of the values of its arguments, one thing at a time
@@ -35,18 +37,23 @@ pub data Demand : Type 0 where
   begins_inside : Demand
   reads_once : Text → Demand
   keeps_map : Demand
+  one_kind : Demand
+  of_trace : Demand
 
 -- the values lack it: the argument of that name has no value; the word of `--entries` names no limit, that of `--format` no
--- format, that of `--at-most` no number, that of `--name` is no identifier, that of `--first` names no entry below the limit; the map and that other file are both standard input; the certificate is the map
-abbrev pub Lacks : (Text → Option Text) → Demand → Type 0
-Lacks value (has name) = value name ≡ None
-Lacks value names_limit = (limit : Limit) → value (codes "entries") ≢ Some (limit_word limit)
-Lacks value names_format = (format : Format) → value (codes "format") ≢ Some (format_word format)
-Lacks value counts = (count : Option ℕ) → ¬ Counts (value (codes "at-most")) count
-Lacks value identifies = (word : Text) × (value (codes "name") ≡ Some word) × (is_identifier word ≢ true)
-Lacks value begins_inside = (first : ℕ) (limit : Limit) → BeginsAt (value (codes "first")) first → value (codes "entries") ≡ Some (limit_word limit) → ¬ (first < limit_number limit)
-Lacks value (reads_once other) = (value (codes "MAP") ≡ Some input_word) × (value other ≡ Some input_word)
-Lacks value keeps_map = value (codes "CERT") ≡ value (codes "MAP")
+-- format, that of `--at-most` no number, that of `--name` is no identifier, that of `--first` names no entry below the limit; the map and that other file are both standard input; the certificate is the map; the file is
+-- said to be a listing and a trace; or a platform is named where it is said to be no trace
+abbrev pub Lacks : (Text → Option Text) → (Text → Option Text) → Demand → Type 0
+Lacks value flag (has name) = value name ≡ None
+Lacks value flag names_limit = (limit : Limit) → value (codes "entries") ≢ Some (limit_word limit)
+Lacks value flag names_format = (format : Format) → value (codes "format") ≢ Some (format_word format)
+Lacks value flag counts = (count : Option ℕ) → ¬ Counts (value (codes "at-most")) count
+Lacks value flag identifies = (word : Text) × (value (codes "name") ≡ Some word) × (is_identifier word ≢ true)
+Lacks value flag begins_inside = (first : ℕ) (limit : Limit) → BeginsAt (value (codes "first")) first → value (codes "entries") ≡ Some (limit_word limit) → ¬ (first < limit_number limit)
+Lacks value flag (reads_once other) = (value (codes "MAP") ≡ Some input_word) × (value other ≡ Some input_word)
+Lacks value flag keeps_map = value (codes "CERT") ≡ value (codes "MAP")
+Lacks value flag one_kind = IsGiven (flag (codes "registers")) × IsGiven (flag (codes "trace"))
+Lacks value flag of_trace = (value (codes "platform") ≢ None) × ¬ IsGiven (flag (codes "trace"))
 
 -- what is told where they lack it: a value of an option with its word, a certificate in the place of its map with the map
 abbrev pub Tells : (Text → Option Text) → Demand → Fault → Type 0
@@ -58,16 +65,18 @@ Tells value identifies (faults.Name word) = value (codes "name") ≡ Some word.n
 Tells value begins_inside (faults.First word) = value (codes "first") ≡ Some word.now
 Tells value (reads_once other) fault = fault ≡ faults.InputTwice
 Tells value keeps_map (faults.TakesPlace map) = value (codes "MAP") ≡ Some map.now
+Tells value one_kind fault = fault ≡ faults.TwoKinds
+Tells value of_trace fault = fault ≡ faults.PlatformAlone
 Tells value demand fault = ⊥
 
 -- the fault of one demand: the values lack it, and that is reported
-abbrev pub Breaks : (Text → Option Text) → Demand → Fault → Type 0
-Breaks value demand fault = Lacks value demand × Tells value demand fault
+abbrev pub Breaks : (Text → Option Text) → (Text → Option Text) → Demand → Fault → Type 0
+Breaks value flag demand fault = Lacks value flag demand × Tells value demand fault
 
 -- the fault of the first of these demands that the values lack
-abbrev pub IsFirst : (Text → Option Text) → List Demand → Fault → Type 0
-IsFirst value [] fault = ⊥
-IsFirst value (demand ∷ demands) fault = Breaks value demand fault ⊎ (¬ Lacks value demand × IsFirst value demands fault)
+abbrev pub IsFirst : (Text → Option Text) → (Text → Option Text) → List Demand → Fault → Type 0
+IsFirst value flag [] fault = ⊥
+IsFirst value flag (demand ∷ demands) fault = Breaks value flag demand fault ⊎ (¬ Lacks value flag demand × IsFirst value flag demands fault)
 
 -- what each subcommand asks, in the order in which it is looked at
 abbrev pub demands_of : Subcommand → List Demand
@@ -79,15 +88,15 @@ demands_of subcommands.Check = has (codes "MAP") ∷ has (codes "CERT") ∷ []
 demands_of subcommands.Show = has (codes "MAP") ∷ has (codes "entries") ∷ names_limit ∷ counts ∷ []
 demands_of subcommands.Audit = has (codes "MAP") ∷ has (codes "REGISTERS") ∷ reads_once (codes "REGISTERS") ∷ []
 demands_of subcommands.Map = has (codes "REGISTERS") ∷ []
-demands_of subcommands.Lint = has (codes "FILE") ∷ []
+demands_of subcommands.Lint = has (codes "FILE") ∷ one_kind ∷ of_trace ∷ []
 
 -- no sound task is that subcommand with these values, and the fault is that of the first demand that they lack
 pub record RefusesTask (subcommand : Subcommand) (value flag : Text → Option Text) (fault : Fault) : Type 0 where
   pub none : NamesNone (subcommand_word subcommand) value flag
-  pub first : IsFirst value (demands_of subcommand) fault
+  pub first : IsFirst value flag (demands_of subcommand) fault
 
 -- the fault of a subcommand's values: the first demand that they lack tells it, and a word that is no subcommand is a
 -- required argument that is missing
-pub data IsFaultOf (name : Text) (value : Text → Option Text) (fault : Fault) : Type 0 where
-  first : (subcommand : Subcommand) → name ≡ subcommand_word subcommand → IsFirst value (demands_of subcommand) fault → IsFaultOf name value fault
-  unknown : ((subcommand : Subcommand) → name ≢ subcommand_word subcommand) → fault ≡ faults.Missing → IsFaultOf name value fault
+pub data IsFaultOf (name : Text) (value flag : Text → Option Text) (fault : Fault) : Type 0 where
+  first : (subcommand : Subcommand) → name ≡ subcommand_word subcommand → IsFirst value flag (demands_of subcommand) fault → IsFaultOf name value flag fault
+  unknown : ((subcommand : Subcommand) → name ≢ subcommand_word subcommand) → fault ≡ faults.Missing → IsFaultOf name value flag fault

@@ -36,14 +36,20 @@ abbrev pub BeginsAt : Option Text → ℕ → Type 0
 BeginsAt None first = first ≡ 0
 BeginsAt (Some word) first = number_of word ≡ Some first
 
--- whether a flag is given, by its text
-abbrev pub IsFlag : Option Text → Bool → Type 0
-IsFlag text given = (given ≡ true) ↔ (text ≡ Some (codes "true"))
+-- a flag is given, by its text
+abbrev pub IsGiven : Option Text → Type 0
+IsGiven text = text ≡ Some (codes "true")
 
--- what a file that is linted should be, by the flags: what its name says where none of them is given
-abbrev pub HasKind : (Text → Option Text) → LintKind → Type 0
-HasKind flag kinds.ByName = flag (codes "registers") ≢ Some (codes "true")
-HasKind flag kinds.Registers = flag (codes "registers") ≡ Some (codes "true")
+-- whether it is
+abbrev pub IsFlag : Option Text → Bool → Type 0
+IsFlag text given = (given ≡ true) ↔ IsGiven text
+
+-- what a file that is linted should be, by the flags: what its name says where none of them is given. A platform is named for a trace alone
+abbrev pub HasKind : (Text → Option Text) → (Text → Option Text) → LintKind → Type 0
+HasKind value flag kinds.ByName = (¬ IsGiven (flag (codes "registers"))) × (¬ IsGiven (flag (codes "trace"))) × (value (codes "platform") ≡ None)
+HasKind value flag kinds.Registers = IsGiven (flag (codes "registers")) × (¬ IsGiven (flag (codes "trace"))) × (value (codes "platform") ≡ None)
+HasKind value flag (kinds.Trace platform) =
+    (¬ IsGiven (flag (codes "registers"))) × IsGiven (flag (codes "trace")) × (value (codes "platform") ≡ option_map (λ s. s.now) platform)
 
 -- a letter of ASCII or an underscore
 abbrev pub is_letter : ℕ → Bool
@@ -90,7 +96,7 @@ HasValues value flag (Audit map registers all) =
     × (value (codes "REGISTERS") ≡ Some registers.now)
     × IsFlag (flag (codes "all")) all
 HasValues value flag (Map registers) = value (codes "REGISTERS") ≡ Some registers.now
-HasValues value flag (Lint file kind) = (value (codes "FILE") ≡ Some file.now) × HasKind flag kind
+HasValues value flag (Lint file kind) = (value (codes "FILE") ≡ Some file.now) × HasKind value flag kind
 
 -- a word that standard input stands for
 abbrev pub input_word : Text

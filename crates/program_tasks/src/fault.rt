@@ -22,6 +22,10 @@ pub enum Fault<'a> {
     First(&'a str),
     /// Standard input is named twice.
     InputTwice,
+    /// `--registers` and `--trace` are both given.
+    TwoKinds,
+    /// `--platform` is given without `--trace`.
+    PlatformAlone,
     /// The certificate would take the place of the map of this name.
     TakesPlace(&'a str),
 }
@@ -59,6 +63,14 @@ impl Fault<'_> {
                 )
             }
             Fault::InputTwice => format!(in alloc; "standard input, '-', cannot be read twice"),
+            Fault::TwoKinds => {
+                format!(in alloc; "the argument '--registers' cannot be used with '--trace'")
+            }
+            Fault::PlatformAlone => {
+                format!(in alloc;
+                    "the argument '--platform <PLATFORM>' cannot be used without '--trace'"
+                )
+            }
             Fault::TakesPlace(map) => {
                 format!(in alloc; "the certificate would take the place of the map '{map}'")
             }

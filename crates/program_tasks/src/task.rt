@@ -17,11 +17,16 @@ pub enum Format {
 
 /// What a file that is linted should be.
 #[derive(Clone, Copy, Debug, PartialEq, Eq)]
-pub enum LintKind {
+pub enum LintKind<'a> {
     /// What its name says: a platform where it ends in `.toml`, otherwise a map.
     ByName,
     /// A listing of registers.
     Registers,
+    /// A trace.
+    Trace {
+        /// The platform file that tells how many harts it is for.
+        platform: Option<&'a str>,
+    },
 }
 
 /// One command of the program. The names of files are the words that were given.
@@ -90,7 +95,7 @@ pub enum Task<'a> {
         /// The file.
         file: &'a str,
         /// What it should be.
-        kind: LintKind,
+        kind: LintKind<'a>,
     },
     /// Print a map, or what registers mean, as a table of its stretches, each with the entry that decides it.
     Show {

@@ -6,10 +6,11 @@ ghost use Rattle.pmp_encoding.specs.declared.limit.Limit.{Limit};
 ghost use Rattle.pmp_encoding.specs.Limits.{limit_number};
 ghost use Rattle.text_lines.specs.Numbers.{number_of};
 ghost use Rattle.program_tasks.specs.declared.task.Format.{Format};
+ghost use Rattle.program_tasks.specs.declared.task.LintKind.{LintKind};
 ghost use Rattle.program_tasks.specs.Faults.{Breaks, IsFaultOf, IsFirst, RefusesTask};
-ghost use Rattle.program_tasks.specs.Faults.Demand.{begins_inside, counts, has, identifies, names_limit, names_format};
+ghost use Rattle.program_tasks.specs.Faults.Demand.{begins_inside, counts, has, identifies, names_limit, names_format, of_trace, one_kind};
 ghost use Rattle.program_tasks.specs.Subcommands.{word_of};
-ghost use Rattle.program_tasks.specs.Tasks.{limit_word, format_word, input_word, is_identifier, is_letter, is_letter_or_digit, BeginsAt, Counts, HasValues, IsSound, IsTaskOf, NamesNone};
+ghost use Rattle.program_tasks.specs.Tasks.{limit_word, format_word, input_word, is_identifier, is_letter, is_letter_or_digit, BeginsAt, Counts, HasKind, HasValues, IsSound, IsTaskOf, NamesNone};
 
 use crate::fault::Fault;
 use crate::given::Values;
@@ -58,7 +59,7 @@ fn format_of(word: &str) -> Option<Format>
 /// The value of an argument that has to be there.
 fn value_in<'a, V: Values<'a>>(given: &V, name: &str) -> Result<&'a str, Fault<'a>>
     ensures value { IfOk result (λ word. V.value given.now name.now ≡ Some word.now) }
-    ensures missing { IfErr result (Breaks (V.value given.now) (has name.now)) }
+    ensures missing { IfErr result (Breaks (V.value given.now) (V.flag given.now) (has name.now)) }
 {
     match given.value(name) {
         Some(word) => Ok(word),
@@ -72,7 +73,7 @@ fn limit_in<'a, V: Values<'a>>(given: &V) -> Result<Limit, Fault<'a>>
         V.value given.now (codes "entries") ≡ Some (limit_word limit)) }
     ensures other { IfErr result (λ _.
         (limit : Limit) → V.value given.now (codes "entries") ≢ Some (limit_word limit)) }
-    ensures fault { IfErr result (IsFirst (V.value given.now)
+    ensures fault { IfErr result (IsFirst (V.value given.now) (V.flag given.now)
         (has (codes "entries") ∷ names_limit ∷ [])) }
 {
     let word = value_in(given, "entries")?;
@@ -88,7 +89,7 @@ fn format_in<'a, V: Values<'a>>(given: &V) -> Result<Format, Fault<'a>>
         V.value given.now (codes "format") ≡ Some (format_word format)) }
     ensures other { IfErr result (λ _.
         (format : Format) → V.value given.now (codes "format") ≢ Some (format_word format)) }
-    ensures fault { IfErr result (IsFirst (V.value given.now)
+    ensures fault { IfErr result (IsFirst (V.value given.now) (V.flag given.now)
         (has (codes "format") ∷ names_format ∷ [])) }
 {
     let word = value_in(given, "format")?;
@@ -101,7 +102,7 @@ fn format_in<'a, V: Values<'a>>(given: &V) -> Result<Format, Fault<'a>>
 /// The value of `--at-most`, where it is given.
 fn at_most_in<'a, V: Values<'a>>(given: &V) -> Result<Option<u64>, Fault<'a>>
     ensures value { IfOk result (Counts (V.value given.now (codes "at-most"))) }
-    ensures fault { IfErr result (Breaks (V.value given.now) counts) }
+    ensures fault { IfErr result (Breaks (V.value given.now) (V.flag given.now) counts) }
 {
     match given.value("at-most") {
         None => Ok(None),
@@ -134,7 +135,7 @@ fn first_in<'a, V: Values<'a>>(given: &V, limit: Limit) -> Result<u64, Fault<'a>
     requires limit { V.value given.now (codes "entries") ≡ Some (limit_word limit) }
     ensures value { IfOk result (BeginsAt (V.value given.now (codes "first"))) }
     ensures below { IfOk result (λ first. first < limit_number limit) }
-    ensures fault { IfErr result (Breaks (V.value given.now) begins_inside) }
+    ensures fault { IfErr result (Breaks (V.value given.now) (V.flag given.now) begins_inside) }
 {
     match given.value("first") {
         None => Ok(0),
@@ -178,7 +179,7 @@ fn name_in<'a, V: Values<'a>>(given: &V) -> Result<Option<&'a str>, Fault<'a>>
     ensures value { IfOk result (λ name. V.value given.now (codes "name") ≡ option_map (λ s.
         s.now) name) }
     ensures identifier { IfOk result (λ name. IfSome name (λ s. is_identifier s.now ≡ true)) }
-    ensures fault { IfErr result (Breaks (V.value given.now) identifies) }
+    ensures fault { IfErr result (Breaks (V.value given.now) (V.flag given.now) identifies) }
 {
     match given.value("name") {
         None => Ok(None),
@@ -345,6 +346,32 @@ fn map_in<'a, V: Values<'a>>(given: &V) -> Result<Task<'a>, Fault<'a>>
     Ok(Task::Map { registers })
 }
 
+/// What a file that is linted should be.
+fn kind_in<'a, V: Values<'a>>(given: &V) -> Result<LintKind<'a>, Fault<'a>>
+    ensures kind { IfOk result (HasKind (V.value given.now) (V.flag given.now)) }
+    ensures none { IfErr result (λ _. (kind : LintKind)
+        → ¬ HasKind (V.value given.now) (V.flag given.now) kind) }
+    ensures fault { IfErr result (IsFirst (V.value given.now) (V.flag given.now)
+        (one_kind ∷ of_trace ∷ [])) }
+{
+    let is_listing = given.is_given("registers");
+    let is_trace = given.is_given("trace");
+    let platform = given.value("platform");
+    if is_trace {
+        if is_listing {
+            return Err(Fault::TwoKinds);
+        }
+        return Ok(LintKind::Trace { platform });
+    }
+    if platform.is_some() {
+        return Err(Fault::PlatformAlone);
+    }
+    if is_listing {
+        return Ok(LintKind::Registers);
+    }
+    Ok(LintKind::ByName)
+}
+
 fn lint_in<'a, V: Values<'a>>(given: &V) -> Result<Task<'a>, Fault<'a>>
     ensures task { IfOk result (IsTaskOf Subcommand.Lint (V.value given.now)
         (V.flag given.now)) }
@@ -352,11 +379,7 @@ fn lint_in<'a, V: Values<'a>>(given: &V) -> Result<Task<'a>, Fault<'a>>
         (V.flag given.now)) }
 {
     let file = value_in(given, "FILE")?;
-    let kind = if given.is_given("registers") {
-        LintKind::Registers
-    } else {
-        LintKind::ByName
-    };
+    let kind = kind_in(given)?;
     Ok(Task::Lint { file, kind })
 }
 
@@ -385,7 +408,7 @@ pub fn task_of<'a, V: Values<'a>>(name: &str, given: &V) -> Result<Task<'a>, Fau
     ensures sound { IfOk result IsSound }
     ensures refused { IfErr result (λ _. NamesNone name.now (V.value given.now)
         (V.flag given.now)) }
-    ensures fault { IfErr result (IsFaultOf name.now (V.value given.now)) }
+    ensures fault { IfErr result (IsFaultOf name.now (V.value given.now) (V.flag given.now)) }
 {
     let Some(subcommand) = Subcommand::of(name) else {
         return Err(Fault::Missing);

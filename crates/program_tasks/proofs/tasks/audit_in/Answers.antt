@@ -9,7 +9,7 @@ returns-in_err-registers-clause-refused g c =
     let flag = g.V.Values.flag c.args.given.now in
     let missing = c.in_err-registers.ensures.missing in
     handed_on c.from_residual-in_err-registers.result c.in_err-registers.field-0.0 (RefusesTask subcommands.Audit value flag) c.from_residual-in_err-registers.ensures.1
-    (record { none = unlisted value flag missing.0; first = no_registers value _ _ c.in_ok-map.ensures.value missing })
+    (record { none = unlisted value flag missing.0; first = no_registers value flag _ _ c.in_ok-map.ensures.value missing })
 
 pub returns-in_err-once-clause-refused : goal.returns-in_err-once-clause-refused
 returns-in_err-once-clause-refused g c =
@@ -20,5 +20,5 @@ returns-in_err-once-clause-refused g c =
     let twice = c.in_err-once.ensures.twice in
     handed_on c.from_residual-in_err-once.result c.in_err-once.field-0.0 (RefusesTask subcommands.Audit value flag) c.from_residual-in_err-once.ensures.1 (record {
       none = twice_audited value flag _ _ map registers twice.0 twice.1;
-      first = read_twice value _ _ _ map registers twice.0 twice.1 c.in_err-once.ensures.fault;
+      first = read_twice value flag _ _ _ map registers twice.0 twice.1 c.in_err-once.ensures.fault;
     })

@@ -8,7 +8,7 @@ use Rattle.program_tasks.proofs.tasks.task_of.Goals as goal
 -- the fault of a subcommand's values is that of its word
 named_fault :
     {T : Type 0} (result : Result T Fault) (name : Text) (value flag : Text → Option Text) (subcommand : Subcommand) → name ≡ subcommand_word subcommand
-    → IfErr result (RefusesTask subcommand value flag) → IfErr result (IsFaultOf name value)
+    → IfErr result (RefusesTask subcommand value flag) → IfErr result (IsFaultOf name value flag)
 named_fault (Ok task) name value flag subcommand e refused = tt
 named_fault (Err fault) name value flag subcommand e refused = first subcommand e refused.first
 
