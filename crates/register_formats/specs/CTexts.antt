@@ -1,15 +1,15 @@
 -- The registers as C.
-use Rattle.std.specs.Prelude.{◌≡◌, ℕ, ◌*◌, ◌/◌, List, [], ◌∷◌, ◌++◌, Option, codes, decimal, length, slice_get}
+use Rattle.std.specs.Prelude.{◌≡◌, ℕ, ◌+◌, ◌-◌, ◌*◌, ◌/◌, ◌==◌, if◌then◌else◌, List, [], ◌∷◌, ◌++◌, Option, codes, decimal, length}
 use Rattle.std.specs.List.{concat}
-use Rattle.pmp_encoding.specs.declared.bank.Bank.{Bank}
 use Rattle.pmp_encoding.specs.declared.limit.Limit.{Limit}
 use Rattle.pmp_encoding.specs.declared.limit.Limit.TheVariants.{Sixteen, SixtyFour}
 use Rattle.pmp_encoding.specs.declared.region.Entry.{Entry}
-use Rattle.pmp_encoding.specs.Banks.{IsBankOf, word_at}
 use Rattle.pmp_encoding.specs.Limits.{limit_number}
+use Rattle.printed_lines.specs.Placed.{entry_from, whole_word, word_from}
 use Rattle.text_lines.specs.Written.{hex}
-use Rattle.register_formats.specs.Names.{address_or_zero, array_link, note_text, prefix_of}
-use Rattle.register_formats.specs.Heads.{head_text}
+use Rattle.register_formats.specs.Names.{address_or_zero, array_link, place_text, prefix_of}
+use Rattle.register_formats.specs.Heads.{head_begin, head_below, head_end}
+use Rattle.register_formats.specs.Shared.{kept_bits, shared_words}
 use Rattle.register_formats.specs.Rows.{rows_text}
 
 -- what stands before the arrays: a compiler for RV32 refuses the text; one for another processor does not
@@ -22,8 +22,9 @@ c_addresses_size Sixteen = codes "addr[16] = {\n"
 c_addresses_size SixtyFour = codes "addr[64] = {\n"
 
 -- an address register: `    0x00000000040001ff, /* 0: 0x0000000010000000, 4 KiB, rw */`
-abbrev pub c_address_row : List Entry → ℕ → List ℕ
-c_address_row entries i = codes "    0x" ++ hex 16 (address_or_zero (slice_get entries i)) ++ codes ", /* " ++ note_text i (slice_get entries i) ++ codes " */\n"
+abbrev pub c_address_row : ℕ → List Entry → ℕ → List ℕ
+c_address_row first entries i =
+    codes "    0x" ++ hex 16 (address_or_zero (entry_from first entries i)) ++ codes ", /* " ++ place_text first i (entry_from first entries i) ++ codes " */\n"
 
 -- its end, and the beginning of the array of configuration words
 abbrev pub c_between : List ℕ
@@ -35,14 +36,14 @@ c_words_size Sixteen = codes "cfg[2] = {\n"
 c_words_size SixtyFour = codes "cfg[8] = {\n"
 
 -- a configuration word: `    0x00000000001f181b, /* pmpcfg0 */`
-abbrev pub c_word_row : Bank → ℕ → List ℕ
-c_word_row bank i = codes "    0x" ++ hex 16 (word_at bank (2 * i)) ++ codes ", /* pmpcfg" ++ decimal (2 * i) ++ codes " */\n"
+abbrev pub c_word_row : ℕ → List Entry → ℕ → List ℕ
+c_word_row first entries i = codes "    0x" ++ hex 16 (word_from first entries i) ++ codes ", /* pmpcfg" ++ decimal (2 * i) ++ codes " */\n"
 
--- all address registers of a hart, each with its entry or that it is off, and all configuration words
-abbrev pub c_arrays : List ℕ → List ℕ → Limit → List Entry → Bank → List ℕ
-c_arrays prefix link limit entries bank =
-    (concat (head_text ∷ c_begin ∷ prefix ∷ link ∷ c_addresses_size limit ∷ []) ++ rows_text (c_address_row entries) 0 (limit_number limit))
-    ++ (concat (c_between ∷ prefix ∷ link ∷ c_words_size limit ∷ []) ++ rows_text (c_word_row bank) 0 (limit_number limit / 8))
+-- all address registers of a hart, each with its entry, that it is off, or that it is left as it is, and all configuration words
+abbrev pub c_arrays : List ℕ → List ℕ → Limit → ℕ → List Entry → List ℕ
+c_arrays prefix link limit first entries =
+    (concat (head_begin ∷ head_below first ∷ head_end ∷ c_begin ∷ prefix ∷ link ∷ c_addresses_size limit ∷ []) ++ rows_text (c_address_row first entries) 0 (limit_number limit))
+    ++ (concat (c_between ∷ prefix ∷ link ∷ c_words_size limit ∷ []) ++ rows_text (c_word_row first entries) 0 (limit_number limit / 8))
 
 -- the end of the second array, and what stands before the number of entries
 abbrev pub c_count_begin : List ℕ
@@ -50,10 +51,21 @@ c_count_begin = codes "};\n\n/* How many entries are in use; those after them ar
 
 -- what is said of the function that writes the registers
 abbrev pub c_loader_note : List ℕ
-c_loader_note =
-    codes " };\n\n#ifdef __riscv\n"
-    ++ codes "/*\n * Writes all of them. Machine mode calls it on each hart, with mstatus.MPRV = 0.\n"
-    ++ codes " * The addresses are written first, so that no configuration word switches an entry\n"
+c_loader_note = codes " };\n\n#ifdef __riscv\n/*\n"
+
+-- which of them it writes
+abbrev pub c_loader_writes : ℕ → List ℕ
+c_loader_writes first =
+    if first == 0 then codes " * Writes all of them. Machine mode calls it on each hart, with mstatus.MPRV = 0.\n"
+    else
+      codes " * Writes those of the first entry in use and of all after it. The others are left as\n"
+      ++ codes " * they are, and so are their bytes of a configuration word that they share with these.\n"
+      ++ codes " * Machine mode calls it on each hart, with mstatus.MPRV = 0.\n"
+
+-- in which order, and why
+abbrev pub c_loader_reason : List ℕ
+c_loader_reason =
+    codes " * The addresses are written first, so that no configuration word switches an entry\n"
     ++ codes " * on that has an address of an older list. Until that word is written an older entry\n"
     ++ codes " * may have a new address. This lets nobody in: no other mode runs on this hart before\n"
     ++ codes " * machine mode leaves, and an entry that is not locked does not bind machine mode.\n"
@@ -61,12 +73,25 @@ c_loader_note =
     ++ codes "static inline void "
 
 -- an instruction that writes an address register: `    __asm__ volatile("csrw pmpaddr0, %0" : : "r"(addr[0]));`
-abbrev pub c_address_write : ℕ → List ℕ
-c_address_write i = codes "    __asm__ volatile(\"csrw pmpaddr" ++ decimal i ++ codes ", %0\" : : \"r\"(addr[" ++ decimal i ++ codes "]));\n"
+abbrev pub c_address_write : ℕ → ℕ → List ℕ
+c_address_write first i = codes "    __asm__ volatile(\"csrw pmpaddr" ++ decimal (first + i) ++ codes ", %0\" : : \"r\"(addr[" ++ decimal (first + i) ++ codes "]));\n"
 
--- one that writes a configuration word: `    __asm__ volatile("csrw pmpcfg2, %0" : : "r"(cfg[1]));`
-abbrev pub c_word_write : ℕ → List ℕ
-c_word_write i = codes "    __asm__ volatile(\"csrw pmpcfg" ++ decimal (2 * i) ++ codes ", %0\" : : \"r\"(cfg[" ++ decimal i ++ codes "]));\n"
+-- those that read a shared word, and keep the bits of the entries below the first
+abbrev pub c_kept : ℕ → List ℕ
+c_kept first =
+    codes "    uint64_t kept;\n    __asm__ volatile(\"csrr %0, pmpcfg" ++ decimal (2 * (first / 8)) ++ codes "\" : \"=r\"(kept));\n    kept &= 0x" ++ hex 16 (kept_bits first) ++ codes ";\n"
+
+-- and the one that writes them with the bytes of the list
+abbrev pub c_joined : ℕ → List ℕ
+c_joined first = codes "    __asm__ volatile(\"csrw pmpcfg" ++ decimal (2 * (first / 8)) ++ codes ", %0\" : : \"r\"(kept | cfg[" ++ decimal (first / 8) ++ codes "]));\n"
+
+abbrev pub c_shared_write : ℕ → ℕ → List ℕ
+c_shared_write first i = c_kept first ++ c_joined first
+
+-- one that writes another configuration word: `    __asm__ volatile("csrw pmpcfg2, %0" : : "r"(cfg[1]));`
+abbrev pub c_word_write : ℕ → ℕ → List ℕ
+c_word_write first i =
+    codes "    __asm__ volatile(\"csrw pmpcfg" ++ decimal (2 * (whole_word first + i)) ++ codes ", %0\" : : \"r\"(cfg[" ++ decimal (whole_word first + i) ++ codes "]));\n"
 
 -- the last instruction, and the end
 abbrev pub c_loader_end : List ℕ
@@ -87,27 +112,29 @@ abbrev pub c_load_begin : List ℕ
 c_load_begin = codes "cfg;\n\n"
 
 -- what stands before the instructions: how many entries there are, and that head
-abbrev pub c_loader_begin : List ℕ → List ℕ → List ℕ → List ℕ
-c_loader_begin prefix link count =
+abbrev pub c_loader_begin : List ℕ → List ℕ → ℕ → List ℕ → List ℕ
+c_loader_begin prefix link first count =
     concat (
-    c_count_begin ∷ prefix ∷ c_count_is ∷ count ∷ c_loader_note ∷ prefix ∷ c_load_addresses ∷ prefix ∷ link ∷ c_load_words ∷ prefix ∷ link
-    ∷ c_load_begin ∷ []
+    c_count_begin ∷ prefix ∷ c_count_is ∷ count ∷ c_loader_note ∷ c_loader_writes first ∷ c_loader_reason ∷ prefix ∷ c_load_addresses ∷ prefix ∷ link ∷ c_load_words
+    ∷ prefix ∷ link ∷ c_load_begin ∷ []
     )
 
--- the number of entries, and a function that writes all address registers, then all configuration words
-abbrev pub c_loader : List ℕ → List ℕ → Limit → List ℕ → List ℕ
-c_loader prefix link limit count =
-    (c_loader_begin prefix link count ++ rows_text c_address_write 0 (limit_number limit))
-    ++ (([] ++ rows_text c_word_write 0 (limit_number limit / 8))
+-- all words that have an entry from the first on
+abbrev pub c_word_writes : Limit → ℕ → List ℕ
+c_word_writes limit first = rows_text (c_shared_write first) 0 (shared_words limit first) ++ rows_text (c_word_write first) 0 (limit_number limit / 8 - whole_word first)
+
+-- the number of entries, and a function that writes the address registers from the first on, then the configuration words
+abbrev pub c_loader : List ℕ → List ℕ → Limit → ℕ → List ℕ → List ℕ
+c_loader prefix link limit first count =
+    (c_loader_begin prefix link first count ++ rows_text (c_address_write first) 0 (limit_number limit - first))
+    ++ (c_word_writes limit first
     ++ c_loader_end)
 
 -- the arrays, and after them what writes them
-abbrev pub c_text : Option (List ℕ) → Limit → List Entry → Bank → List ℕ
-c_text name limit entries bank =
-    c_arrays (prefix_of name) (array_link name) limit entries bank ++ c_loader (prefix_of name) (array_link name) limit (decimal (length entries))
+abbrev pub c_text : Option (List ℕ) → Limit → ℕ → List Entry → List ℕ
+c_text name limit first entries =
+    c_arrays (prefix_of name) (array_link name) limit first entries ++ c_loader (prefix_of name) (array_link name) limit first (decimal (length entries))
 
--- the text of the bank that the entries make
-pub record IsCText (name : Option (List ℕ)) (limit : Limit) (entries : List Entry) (text : List ℕ) : Type 0 where
-  pub bank : Bank
-  pub is_bank : IsBankOf bank limit entries
-  pub lines : text ≡ c_text name limit entries bank
+-- the text of entries that stand on a hart from `first` on
+abbrev pub IsCText : Option (List ℕ) → Limit → ℕ → List Entry → List ℕ → Type 0
+IsCText name limit first entries text = text ≡ c_text name limit first entries

@@ -1,15 +1,26 @@
 -- What must hold where the registers are written.
-use Rattle.std.specs.Prelude.{ℕ, List, ◌++◌, codes}
+use Rattle.std.specs.Prelude.{ℕ, ◌==◌, if◌then◌else◌, List, [], ◌++◌, codes}
 
 -- the comment at the head of C and of assembly
-abbrev pub head_text : List ℕ
-head_text =
+abbrev pub head_begin : List ℕ
+head_begin =
     codes "/*\n * PMP registers, planned by pmpmon. With them a hart lets supervisor and user mode\n"
     ++ codes " * do exactly what the map says, where all of this holds:\n"
     ++ codes " *  - the hart is RV64: its configuration words have 64 bits;\n"
     ++ codes " *  - machine mode writes them, on each hart;\n"
     ++ codes " *  - no entry is locked (L = 0), and mseccfg is 0 where the hart has it;\n"
     ++ codes " *  - the hart protects whole pages of 4096 bytes: its grain is no larger;\n"
-    ++ codes " *  - the address registers are written first, then the configuration words, 0 to\n"
+
+-- where the list does not begin at entry 0
+abbrev pub head_below : ℕ → List ℕ
+head_below first =
+    if first == 0 then []
+    else
+      codes " *  - no entry below these says otherwise where it matches: they are left as they are\n"
+      ++ codes " *    and come first, and `pmpmon audit` of all registers tells what all of them mean;\n"
+
+abbrev pub head_end : List ℕ
+head_end =
+    codes " *  - the address registers are written first, then the configuration words, 0 to\n"
     ++ codes " *    each word after these too, and then comes sfence.vma.\n"
     ++ codes " */\n"

@@ -1,12 +1,11 @@
 -- A plan as JSON.
-use Rattle.std.specs.Prelude.{◌≡◌, ℕ, ◌*◌, ◌/◌, ◌^◌, ◌<◌, ◌≤◌, ◌==◌, nat_lt, if◌then◌else◌, List, [], ◌∷◌, ◌++◌, Option, Some, None, codes, decimal, length, slice_get, slice_index}
-use Rattle.pmp_encoding.specs.declared.bank.Bank.{Bank}
+use Rattle.std.specs.Prelude.{◌≡◌, ℕ, ◌+◌, ◌-◌, ◌*◌, ◌/◌, ◌^◌, ◌<◌, ◌≤◌, ◌==◌, nat_lt, if◌then◌else◌, List, [], ◌∷◌, ◌++◌, Option, Some, None, codes, decimal, length, slice_get, slice_index}
 use Rattle.pmp_encoding.specs.declared.limit.Limit.{Limit}
 use Rattle.pmp_encoding.specs.declared.limit.Limit.TheVariants.{Sixteen, SixtyFour}
 use Rattle.pmp_encoding.specs.declared.region.Entry.{Entry}
-use Rattle.pmp_encoding.specs.Banks.{IsBankOf, word_at}
 use Rattle.pmp_encoding.specs.Encoding.{address_of, cfg_of}
 use Rattle.pmp_encoding.specs.Limits.{limit_number}
+use Rattle.printed_lines.specs.Placed.{word_from}
 use Rattle.text_lines.specs.Written.{hex}
 use Rattle.pmp_encoding.specs.Perms.{perm_word}
 use Rattle.register_formats.specs.Rows.{rows_text}
@@ -27,49 +26,56 @@ json_map_begin = codes "{\n  \"map\": \""
 abbrev pub json_name_row : List ℕ → ℕ → List ℕ
 json_name_row name i = json_byte (slice_index name i)
 
--- the limit, and what stands before the entries
-abbrev pub json_entries_begin : Limit → List ℕ
-json_entries_begin Sixteen = codes "\",\n  \"limit\": 16,\n  \"entries\": ["
-json_entries_begin SixtyFour = codes "\",\n  \"limit\": 64,\n  \"entries\": ["
+-- the limit
+abbrev pub json_limit : Limit → List ℕ
+json_limit Sixteen = codes "\",\n  \"limit\": 16,\n"
+json_limit SixtyFour = codes "\",\n  \"limit\": 64,\n"
 
--- an entry's number and its pair
-abbrev pub json_registers : ℕ → Entry → List ℕ
-json_registers i e = json_before i ++ codes "    {\"index\": " ++ decimal i ++ codes ", \"cfg\": " ++ decimal (cfg_of e) ++ codes ", \"addr\": \"0x" ++ hex 16 (address_of e)
+-- the entry of the hart at which the list begins, where that is not entry 0
+abbrev pub json_first : ℕ → List ℕ
+json_first first = if first == 0 then [] else codes "  \"first\": " ++ decimal first ++ codes ",\n"
+
+-- both, and what stands before the entries
+abbrev pub json_entries_begin : Limit → ℕ → List ℕ
+json_entries_begin limit first = json_limit limit ++ json_first first ++ codes "  \"entries\": ["
+
+-- the number and the pair of the list's entry i
+abbrev pub json_registers : ℕ → ℕ → Entry → List ℕ
+json_registers first i e =
+    json_before i ++ codes "    {\"index\": " ++ decimal (first + i) ++ codes ", \"cfg\": " ++ decimal (cfg_of e) ++ codes ", \"addr\": \"0x" ++ hex 16 (address_of e)
 
 -- its region in bytes, and what may be done there
 abbrev pub json_region : Entry → List ℕ
 json_region e = codes "\", \"base\": \"0x" ++ hex 16 e.region.base ++ codes "\", \"size\": " ++ decimal (2 ^ e.region.log2) ++ codes ", \"perm\": \"" ++ perm_word e.perm ++ codes "\"}"
 
 -- an entry: both of these
-abbrev pub json_entry : ℕ → Option Entry → List ℕ
-json_entry i (Some e) = json_registers i e ++ json_region e
-json_entry i None = []
+abbrev pub json_entry : ℕ → ℕ → Option Entry → List ℕ
+json_entry first i (Some e) = json_registers first i e ++ json_region e
+json_entry first i None = []
 
--- the i-th entry
-abbrev pub json_entry_row : List Entry → ℕ → List ℕ
-json_entry_row entries i = json_entry i (slice_get entries i)
+-- the list's entry i
+abbrev pub json_entry_row : ℕ → List Entry → ℕ → List ℕ
+json_entry_row first entries i = json_entry first i (slice_get entries i)
 
 -- what stands before the configuration words
 abbrev pub json_words_begin : List ℕ
 json_words_begin = codes "\n  ],\n  \"pmpcfg\": ["
 
--- a configuration word
-abbrev pub json_word_row : Bank → ℕ → List ℕ
-json_word_row bank i = json_before i ++ codes "    \"0x" ++ hex 16 (word_at bank (2 * i)) ++ codes "\""
+-- a configuration word, in which the bytes of entries below the first are zero
+abbrev pub json_word_row : ℕ → List Entry → ℕ → List ℕ
+json_word_row first entries i = json_before i ++ codes "    \"0x" ++ hex 16 (word_from first entries i) ++ codes "\""
 
--- the object, with a bank's limit and so many of its words
-abbrev pub json_text : List ℕ → List Entry → Bank → ℕ → List ℕ
-json_text name entries bank words =
+-- the object, with so many words
+abbrev pub json_text : List ℕ → Limit → ℕ → List Entry → ℕ → List ℕ
+json_text name limit first entries words =
     (json_map_begin ++ rows_text (json_name_row name) 0 (length name))
-    ++ ((json_entries_begin bank.limit ++ rows_text (json_entry_row entries) 0 (length entries))
-    ++ ((json_words_begin ++ rows_text (json_word_row bank) 0 words)
+    ++ ((json_entries_begin limit first ++ rows_text (json_entry_row first entries) 0 (length entries))
+    ++ ((json_words_begin ++ rows_text (json_word_row first entries) 0 words)
     ++ codes "\n  ]\n}\n"))
 
--- the object, with all words of the bank that the entries make, and with none where they don't fit in one
-pub record IsJsonText (name : List ℕ) (limit : Limit) (entries : List Entry) (text : List ℕ) : Type 0 where
-  pub bank : Bank
+-- the object, with all words of the hart, and with none where it has no room for the entries
+pub record IsJsonText (name : List ℕ) (limit : Limit) (first : ℕ) (entries : List Entry) (text : List ℕ) : Type 0 where
   pub words : ℕ
-  pub limit_is : bank.limit ≡ limit
-  pub fits : length entries ≤ limit_number limit → IsBankOf bank limit entries × (words ≡ limit_number limit / 8)
-  pub too_many : limit_number limit < length entries → words ≡ 0
-  pub lines : text ≡ json_text name entries bank words
+  pub fits : length entries ≤ limit_number limit - first → words ≡ limit_number limit / 8
+  pub too_many : limit_number limit - first < length entries → words ≡ 0
+  pub lines : text ≡ json_text name limit first entries words

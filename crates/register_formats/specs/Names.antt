@@ -1,5 +1,5 @@
 -- Entries as people read them.
-use Rattle.std.specs.Prelude.{ℕ, ◌^◌, ◌++◌, List, [], Option, Some, None, codes, decimal}
+use Rattle.std.specs.Prelude.{ℕ, ◌^◌, ◌++◌, nat_lt, if◌then◌else◌, List, [], Option, Some, None, codes, decimal}
 use Rattle.pmp_encoding.specs.declared.region.Entry.{Entry}
 use Rattle.pmp_encoding.specs.Encoding.{address_of}
 use Rattle.text_lines.specs.Written.{hex}
@@ -26,6 +26,10 @@ region_or_off None = codes "off"
 -- what stands beside the registers of entry i
 abbrev pub note_text : ℕ → Option Entry → List ℕ
 note_text i entry = decimal i ++ codes ": " ++ region_or_off entry
+
+-- the same of entry i of a hart, where those below the first stay as they are
+abbrev pub place_text : ℕ → ℕ → Option Entry → List ℕ
+place_text first i entry = if nat_lt i first then decimal i ++ codes ": left as it is" else note_text i entry
 
 -- the address register of an entry, and zero where there is none
 abbrev pub address_or_zero : Option Entry → ℕ

@@ -1,12 +1,14 @@
 //! The rows of C.
 
 ghost use Rattle.std.specs.Prelude.{◌≡◌, decimal};
-ghost use Rattle.register_formats.specs.CTexts.{c_addresses_size, c_begin, c_between, c_count_begin, c_count_is, c_load_addresses, c_load_begin, c_load_words, c_loader_note, c_words_size};
+ghost use Rattle.register_formats.specs.CTexts.{c_addresses_size, c_begin, c_between, c_count_begin, c_count_is, c_joined, c_kept, c_load_addresses, c_load_begin, c_load_words, c_loader_note, c_loader_reason, c_loader_writes, c_words_size};
 
-use crate::names::{address_or_zero, entry_at, push_note};
+use crate::names::{address_or_zero, push_place};
 use crate::rows::{Row, Rows};
+use crate::shared::kept_bits;
 use arrayvec::ArrayVec;
-use pmp_encoding::{Bank, Entry, Limit};
+use pmp_encoding::{Entry, Limit};
+use printed_lines::{entry_from, whole_word, word_from};
 use text_lines::{Line, push_decimal, push_hex, push_text};
 
 /// What stands before the arrays, with a guard that a compiler for RV32 refuses.
@@ -83,8 +85,27 @@ pub(crate) fn loader_note<'a>() -> &'a [u8]
 
 #ifdef __riscv
 /*
- * Writes all of them. Machine mode calls it on each hart, with mstatus.MPRV = 0.
- * The addresses are written first, so that no configuration word switches an entry
+"
+}
+
+/// Which of them it writes.
+pub(crate) fn loader_writes<'a>(first: u8) -> &'a [u8]
+    ensures { result.now ≡ c_loader_writes first }
+{
+    if first == 0 {
+        return b" * Writes all of them. Machine mode calls it on each hart, with mstatus.MPRV = 0.\n";
+    }
+    b" * Writes those of the first entry in use and of all after it. The others are left as
+ * they are, and so are their bytes of a configuration word that they share with these.
+ * Machine mode calls it on each hart, with mstatus.MPRV = 0.
+"
+}
+
+/// In which order, and why.
+pub(crate) fn loader_reason<'a>() -> &'a [u8]
+    ensures { result.now ≡ c_loader_reason }
+{
+    b" * The addresses are written first, so that no configuration word switches an entry
  * on that has an address of an older list. Until that word is written an older entry
  * may have a new address. This lets nobody in: no other mode runs on this hart before
  * machine mode leaves, and an entry that is not locked does not bind machine mode.
@@ -118,23 +139,24 @@ pub(crate) fn load_begin<'a>() -> &'a [u8]
 #[derive(Drop)]
 pub(crate) struct Addresses<'a> {
     pub(crate) entries: &'a [Entry],
+    pub(crate) first: u8,
 }
 
 impl Rows for Addresses<'_> {
     ghost use Rattle.std.specs.Prelude.{◌≡◌, ◌^◌};
     ghost use Rattle.register_formats.specs.CTexts.{c_address_row};
 
-    ghost row_text = { λ rows. c_address_row rows.entries.now };
+    ghost row_text = { λ rows. c_address_row rows.first rows.entries.now };
 
     ghost most = { λ rows. 2 ^ 64 };
 
     fn row(&self, i: usize) -> Row {
-        let entry = entry_at(self.entries, i);
+        let entry = entry_from(self.entries, self.first, i);
         let mut front = ArrayVec::new();
         push_text(&mut front, b"    0x");
         push_hex(&mut front, address_or_zero(entry), 16);
         push_text(&mut front, b", /* ");
-        push_note(&mut front, i as u64, entry);
+        push_place(&mut front, self.first, i as u64, entry);
         push_text(&mut front, b" */\n");
         Row {
             front,
@@ -146,24 +168,24 @@ impl Rows for Addresses<'_> {
 /// A row for each configuration word.
 #[derive(Drop)]
 pub(crate) struct Words<'a> {
-    pub(crate) bank: &'a Bank,
+    pub(crate) entries: &'a [Entry],
+    pub(crate) first: u8,
 }
 
 impl Rows for Words<'_> {
     ghost use Rattle.std.specs.Prelude.{◌≡◌};
     ghost use Rattle.register_formats.specs.CTexts.{c_word_row};
 
-    ghost row_text = { λ rows. c_word_row rows.bank.now };
+    ghost row_text = { λ rows. c_word_row rows.first rows.entries.now };
 
     ghost most = { λ rows. 8 };
 
     fn row(&self, i: usize) -> Row {
-        let k = 2 * i;
         let mut front = ArrayVec::new();
         push_text(&mut front, b"    0x");
-        push_hex(&mut front, self.bank.cfg(k), 16);
+        push_hex(&mut front, word_from(self.entries, self.first, i), 16);
         push_text(&mut front, b", /* pmpcfg");
-        push_decimal(&mut front, k as u64);
+        push_decimal(&mut front, 2 * i as u64);
         push_text(&mut front, b" */\n");
         Row {
             front,
@@ -172,24 +194,27 @@ impl Rows for Words<'_> {
     }
 }
 
-/// An instruction for each address register.
+/// An instruction for each address register from the first on.
 #[derive(Drop)]
-pub(crate) struct AddressWrites;
+pub(crate) struct AddressWrites {
+    pub(crate) first: u8,
+}
 
 impl Rows for AddressWrites {
-    ghost use Rattle.std.specs.Prelude.{◌^◌};
+    ghost use Rattle.std.specs.Prelude.{◌^◌, ◌-◌};
     ghost use Rattle.register_formats.specs.CTexts.{c_address_write};
 
-    ghost row_text = { λ rows. c_address_write };
+    ghost row_text = { λ rows. c_address_write rows.first };
 
-    ghost most = { λ rows. 2 ^ 64 };
+    ghost most = { λ rows. 2 ^ 64 - rows.first };
 
     fn row(&self, i: usize) -> Row {
+        let place = u64::from(self.first) + i as u64;
         let mut front = ArrayVec::new();
         push_text(&mut front, b"    __asm__ volatile(\"csrw pmpaddr");
-        push_decimal(&mut front, i as u64);
+        push_decimal(&mut front, place);
         push_text(&mut front, b", %0\" : : \"r\"(addr[");
-        push_decimal(&mut front, i as u64);
+        push_decimal(&mut front, place);
         push_text(&mut front, b"]));\n");
         Row {
             front,
@@ -198,23 +223,77 @@ impl Rows for AddressWrites {
     }
 }
 
-/// An instruction for each configuration word.
+/// The instructions that read a shared word, and keep the bits of the entries below the first.
+fn kept(first: u8) -> Line
+    ensures { result.items ≡ c_kept first }
+{
+    let mut line = ArrayVec::new();
+    push_text(
+        &mut line,
+        b"    uint64_t kept;\n    __asm__ volatile(\"csrr %0, pmpcfg",
+    );
+    push_decimal(&mut line, 2 * u64::from(first / 8));
+    push_text(&mut line, b"\" : \"=r\"(kept));\n    kept &= 0x");
+    push_hex(&mut line, kept_bits(first), 16);
+    push_text(&mut line, b";\n");
+    line
+}
+
+/// The one that writes them with the bytes of the list.
+fn joined(first: u8) -> Line
+    ensures { result.items ≡ c_joined first }
+{
+    let word = u64::from(first / 8);
+    let mut line = ArrayVec::new();
+    push_text(&mut line, b"    __asm__ volatile(\"csrw pmpcfg");
+    push_decimal(&mut line, 2 * word);
+    push_text(&mut line, b", %0\" : : \"r\"(kept | cfg[");
+    push_decimal(&mut line, word);
+    push_text(&mut line, b"]));\n");
+    line
+}
+
+/// The instructions for a word that is shared.
 #[derive(Drop)]
-pub(crate) struct WordWrites;
+pub(crate) struct SharedWrites {
+    pub(crate) first: u8,
+}
+
+impl Rows for SharedWrites {
+    ghost use Rattle.register_formats.specs.CTexts.{c_shared_write};
+
+    ghost row_text = { λ rows. c_shared_write rows.first };
+
+    ghost most = { λ rows. 1 };
+
+    fn row(&self, i: usize) -> Row {
+        Row {
+            front: kept(self.first),
+            back: joined(self.first),
+        }
+    }
+}
+
+/// An instruction for each configuration word that has no entry below the first.
+#[derive(Drop)]
+pub(crate) struct WordWrites {
+    pub(crate) first: u8,
+}
 
 impl Rows for WordWrites {
     ghost use Rattle.register_formats.specs.CTexts.{c_word_write};
 
-    ghost row_text = { λ rows. c_word_write };
+    ghost row_text = { λ rows. c_word_write rows.first };
 
     ghost most = { λ rows. 8 };
 
     fn row(&self, i: usize) -> Row {
+        let word = (whole_word(self.first) + i) as u64;
         let mut front = ArrayVec::new();
         push_text(&mut front, b"    __asm__ volatile(\"csrw pmpcfg");
-        push_decimal(&mut front, (2 * i) as u64);
+        push_decimal(&mut front, 2 * word);
         push_text(&mut front, b", %0\" : : \"r\"(cfg[");
-        push_decimal(&mut front, i as u64);
+        push_decimal(&mut front, word);
         push_text(&mut front, b"]));\n");
         Row {
             front,

@@ -1,22 +1,49 @@
 //! The rows of JSON.
 
-ghost use Rattle.std.specs.Prelude.{◌≡◌, ◌≤◌, ◌<◌, ◌^◌, length};
-ghost use Rattle.register_formats.specs.JsonTexts.{json_before, json_byte, json_entries_begin, json_region, json_registers};
+ghost use Rattle.std.specs.Prelude.{◌≡◌, ◌+◌, ◌++◌, ◌≤◌, ◌<◌, ◌^◌, length};
+ghost use Rattle.arrayvec.specs.ArrayVec.{array_vec_len};
+ghost use Rattle.register_formats.specs.JsonTexts.{json_before, json_byte, json_entries_begin, json_first, json_limit, json_region, json_registers};
 
 use crate::names::{entry_at, power_of_two};
 use crate::rows::{Row, Rows};
 use arrayvec::ArrayVec;
-use pmp_encoding::{Bank, Entry, Limit};
+use pmp_encoding::{Entry, Limit};
+use printed_lines::word_from;
 use text_lines::{Line, push_decimal, push_hex, push_text};
 
-/// The limit, and what stands before the entries.
-pub(crate) fn entries_begin(limit: Limit) -> &'static [u8]
-    ensures { result.now ≡ json_entries_begin limit }
+/// The limit.
+fn limit_text<'a>(limit: Limit) -> &'a [u8]
+    ensures text { result.now ≡ json_limit limit }
+    ensures most { length result.now ≤ 20 }
 {
     match limit {
-        Limit::Sixteen => b"\",\n  \"limit\": 16,\n  \"entries\": [",
-        Limit::SixtyFour => b"\",\n  \"limit\": 64,\n  \"entries\": [",
+        Limit::Sixteen => b"\",\n  \"limit\": 16,\n",
+        Limit::SixtyFour => b"\",\n  \"limit\": 64,\n",
     }
+}
+
+/// Appends the entry of the hart at which the list begins, where that is not entry 0.
+fn push_first(line: &mut Line, first: u8)
+    requires { array_vec_len line.old + 33 ≤ 128 }
+    ensures items { line.new.items ≡ line.old.items ++ json_first first }
+    ensures len { array_vec_len line.new ≤ array_vec_len line.old + 33 }
+{
+    if first > 0 {
+        push_text(line, b"  \"first\": ");
+        push_decimal(line, u64::from(first));
+        push_text(line, b",\n");
+    }
+}
+
+/// Both, and what stands before the entries.
+pub(crate) fn entries_begin(limit: Limit, first: u8) -> Line
+    ensures { result.items ≡ json_entries_begin limit first }
+{
+    let mut line = ArrayVec::new();
+    push_text(&mut line, limit_text(limit));
+    push_first(&mut line, first);
+    push_text(&mut line, b"  \"entries\": [");
+    line
 }
 
 /// A byte of a name in a string.
@@ -75,17 +102,19 @@ impl Rows for Name<'_> {
 #[derive(Drop)]
 pub(crate) struct Entries<'a> {
     pub(crate) entries: &'a [Entry],
+    pub(crate) first: u8,
 }
 
-/// What is said of the registers of entry i.
-fn registers_of(i: usize, entry: &Entry) -> Line
-    ensures { result.items ≡ json_registers i entry.now }
+/// What is said of the registers of the list's entry i.
+fn registers_of(first: u8, i: usize, entry: &Entry) -> Line
+    requires { first + i < 2 ^ 64 }
+    ensures { result.items ≡ json_registers first i entry.now }
 {
     let (cfg, address) = entry.encode();
     let mut line = ArrayVec::new();
     push_text(&mut line, json_before(i));
     push_text(&mut line, b"    {\"index\": ");
-    push_decimal(&mut line, i as u64);
+    push_decimal(&mut line, u64::from(first) + i as u64);
     push_text(&mut line, b", \"cfg\": ");
     push_decimal(&mut line, u64::from(cfg));
     push_text(&mut line, b", \"addr\": \"0x");
@@ -109,17 +138,17 @@ fn region_of(entry: &Entry) -> Line
 }
 
 impl Rows for Entries<'_> {
-    ghost use Rattle.std.specs.Prelude.{◌≡◌, ◌^◌};
+    ghost use Rattle.std.specs.Prelude.{◌≡◌, ◌^◌, ◌-◌};
     ghost use Rattle.register_formats.specs.JsonTexts.{json_entry_row};
 
-    ghost row_text = { λ rows. json_entry_row rows.entries.now };
+    ghost row_text = { λ rows. json_entry_row rows.first rows.entries.now };
 
-    ghost most = { λ rows. 2 ^ 64 };
+    ghost most = { λ rows. 2 ^ 64 - rows.first };
 
     fn row(&self, i: usize) -> Row {
         match entry_at(self.entries, i) {
             Some(entry) => Row {
-                front: registers_of(i, &entry),
+                front: registers_of(self.first, i, &entry),
                 back: region_of(&entry),
             },
             None => Row {
@@ -133,14 +162,15 @@ impl Rows for Entries<'_> {
 /// A row for each configuration word.
 #[derive(Drop)]
 pub(crate) struct Words<'a> {
-    pub(crate) bank: &'a Bank,
+    pub(crate) entries: &'a [Entry],
+    pub(crate) first: u8,
 }
 
 impl Rows for Words<'_> {
     ghost use Rattle.std.specs.Prelude.{◌≡◌};
     ghost use Rattle.register_formats.specs.JsonTexts.{json_word_row};
 
-    ghost row_text = { λ rows. json_word_row rows.bank.now };
+    ghost row_text = { λ rows. json_word_row rows.first rows.entries.now };
 
     ghost most = { λ rows. 8 };
 
@@ -148,7 +178,7 @@ impl Rows for Words<'_> {
         let mut front = ArrayVec::new();
         push_text(&mut front, json_before(i));
         push_text(&mut front, b"    \"0x");
-        push_hex(&mut front, self.bank.cfg(2 * i), 16);
+        push_hex(&mut front, word_from(self.entries, self.first, i), 16);
         push_text(&mut front, b"\"");
         Row {
             front,

@@ -2,7 +2,7 @@
 
 ghost use Rattle.std.specs.Prelude.{◌≡◌, ◌≤◌, ◌<◌, ◌+◌, ◌^◌, ◌++◌, option_map, slice_get};
 ghost use Rattle.arrayvec.specs.ArrayVec.{array_vec_len};
-ghost use Rattle.register_formats.specs.Names.{address_or_zero, array_link, base_text, note_text, prefix_of, region_or_off, region_text, size_and_perm_text};
+ghost use Rattle.register_formats.specs.Names.{address_or_zero, array_link, base_text, note_text, place_text, prefix_of, region_or_off, region_text, size_and_perm_text};
 
 use pmp_encoding::Entry;
 use printed_lines::push_size;
@@ -69,6 +69,20 @@ pub(crate) fn push_note(line: &mut Line, i: u64, entry: Option<Entry>)
     push_decimal(line, i);
     push_text(line, b": ");
     push_region_or_off(line, entry);
+}
+
+/// Appends the same of entry i of a hart, where those below the first stay as they are.
+pub(crate) fn push_place(line: &mut Line, first: u8, i: u64, entry: Option<Entry>)
+    requires { array_vec_len line.old + 72 ≤ 128 }
+    ensures items { line.new.items ≡ line.old.items ++ place_text first i entry }
+    ensures len { array_vec_len line.new ≤ array_vec_len line.old + 72 }
+{
+    if i < u64::from(first) {
+        push_decimal(line, i);
+        push_text(line, b": left as it is");
+    } else {
+        push_note(line, i, entry);
+    }
 }
 
 /// The address register of an entry, and zero where there is none.

@@ -1,23 +1,26 @@
 //! The registers of a list, written to a sink.
 
-ghost use Rattle.std.specs.Prelude.{◌≡◌, ◌/◌, ◌≤◌, Some, length, option_map};
+ghost use Rattle.std.specs.Prelude.{◌≡◌, ◌+◌, ◌-◌, ◌^◌, ◌/◌, ◌<◌, ◌≤◌, Some, length, option_map};
 ghost use Rattle.byte_streams.specs.Writings.{writing, Prints, PrintsOne};
-ghost use Rattle.pmp_encoding.specs.Banks.{IsBankOf};
 ghost use Rattle.pmp_encoding.specs.Limits.{limit_number};
-ghost use Rattle.register_formats.specs.AsmTexts.{IsAsmText, asm_head};
-ghost use Rattle.register_formats.specs.CTexts.{IsCText, c_arrays, c_loader, c_loader_begin};
-ghost use Rattle.register_formats.specs.Heads.{head_text};
+ghost use Rattle.printed_lines.specs.Placed.{whole_word};
+ghost use Rattle.register_formats.specs.AsmTexts.{IsAsmText, asm_head, asm_words};
+ghost use Rattle.register_formats.specs.CTexts.{IsCText, c_arrays, c_loader, c_loader_begin, c_word_writes};
+ghost use Rattle.register_formats.specs.Heads.{head_begin, head_below, head_end};
 ghost use Rattle.register_formats.specs.JsonTexts.{IsJsonText, json_text};
+ghost use Rattle.register_formats.specs.Shared.{shared_words};
 
 use crate::names::{array_link, prefix_of};
-use crate::rows::{print_section, print_texts, print_titled};
+use crate::rows::{print_both, print_section, print_texts, print_titled};
+use crate::shared::shared_words;
 use crate::{asm_rows, c_rows, json_rows};
 use byte_streams::{DeviceFault, Sink, write_whole};
-use pmp_encoding::{Bank, Entry, Limit};
+use pmp_encoding::{Entry, Limit};
+use printed_lines::{room_from, whole_word};
 
 /// What must hold where the registers are written.
-fn head<'a>() -> &'a [u8]
-    ensures { result.now ≡ head_text }
+fn head_begin<'a>() -> &'a [u8]
+    ensures { result.now ≡ head_begin }
 {
     b"/*
  * PMP registers, planned by pmpmon. With them a hart lets supervisor and user mode
@@ -26,29 +29,50 @@ fn head<'a>() -> &'a [u8]
  *  - machine mode writes them, on each hart;
  *  - no entry is locked (L = 0), and mseccfg is 0 where the hart has it;
  *  - the hart protects whole pages of 4096 bytes: its grain is no larger;
- *  - the address registers are written first, then the configuration words, 0 to
+"
+}
+
+/// What must hold too where the list does not begin at entry 0.
+fn head_below<'a>(first: u8) -> &'a [u8]
+    ensures { result.now ≡ head_below first }
+{
+    if first == 0 {
+        return b"";
+    }
+    b" *  - no entry below these says otherwise where it matches: they are left as they are
+ *    and come first, and `pmpmon audit` of all registers tells what all of them mean;
+"
+}
+
+/// The rest of it.
+fn head_end<'a>() -> &'a [u8]
+    ensures { result.now ≡ head_end }
+{
+    b" *  - the address registers are written first, then the configuration words, 0 to
  *    each word after these too, and then comes sfence.vma.
  */
 "
 }
 
-/// Writes the arrays of a bank in C.
+/// Writes the arrays of a hart's registers in C.
 fn print_arrays<W: Sink>(
     prefix: &[u8],
     link: &[u8],
     entries: &[Entry],
-    bank: &Bank,
+    first: u8,
     limit: Limit,
     out: &mut W,
 ) -> Result<(), DeviceFault>
-    ensures { Prints (c_arrays prefix.now link.now limit entries.now bank.now)
+    ensures { Prints (c_arrays prefix.now link.now limit first entries.now)
         (writing W.contents W.failures W.stalls out.old out.new) result }
 {
-    let addresses = c_rows::Addresses { entries };
-    let words = c_rows::Words { bank };
+    let addresses = c_rows::Addresses { entries, first };
+    let words = c_rows::Words { entries, first };
     print_titled(
         &[
-            head(),
+            head_begin(),
+            head_below(first),
+            head_end(),
             c_rows::begin(),
             prefix,
             link,
@@ -67,19 +91,31 @@ fn print_arrays<W: Sink>(
     Ok(())
 }
 
+/// Writes the instructions for the configuration words.
+fn print_word_writes<W: Sink>(first: u8, limit: Limit, out: &mut W) -> Result<(), DeviceFault>
+    ensures { Prints (c_word_writes limit first)
+        (writing W.contents W.failures W.stalls out.old out.new) result }
+{
+    let shared = c_rows::SharedWrites { first };
+    let words = c_rows::WordWrites { first };
+    let shared_count = shared_words(limit, first);
+    let count = limit.words().saturating_sub(whole_word(first));
+    print_both(&shared, shared_count, &words, count, out)
+}
+
 /// Writes how many entries there are, and the function that writes the registers.
 fn print_loader<W: Sink>(
     prefix: &[u8],
     link: &[u8],
+    first: u8,
     limit: Limit,
     count: &[u8],
     out: &mut W,
 ) -> Result<(), DeviceFault>
-    ensures { Prints (c_loader prefix.now link.now limit count.now)
+    ensures { Prints (c_loader prefix.now link.now limit first count.now)
         (writing W.contents W.failures W.stalls out.old out.new) result }
 {
-    let address_count = limit.number() as usize;
-    let word_count = limit.words();
+    let address_count = room_from(first, limit);
     print_titled(
         &[
             c_rows::count_begin(),
@@ -87,6 +123,8 @@ fn print_loader<W: Sink>(
             c_rows::count_is(),
             count,
             c_rows::loader_note(),
+            c_rows::loader_writes(first),
+            c_rows::loader_reason(),
             prefix,
             c_rows::load_addresses(),
             prefix,
@@ -96,11 +134,11 @@ fn print_loader<W: Sink>(
             link,
             c_rows::load_begin(),
         ],
-        &c_rows::AddressWrites,
+        &c_rows::AddressWrites { first },
         address_count,
         out,
     )?;
-    print_section(b"", &c_rows::WordWrites, word_count, out)?;
+    print_word_writes(first, limit, out)?;
     write_whole(
         out,
         b"    __asm__ volatile(\"sfence.vma\" : : : \"memory\");\n}\n#endif\n",
@@ -110,128 +148,152 @@ fn print_loader<W: Sink>(
 
 /// Writes the registers of a list as C: two arrays of all address registers and configuration words, each entry's region,
 /// size and permission beside it, below a comment that says what must hold where they are written; then how many entries
-/// there are, and a function that writes all of them. With a
+/// there are, and a function that writes those from the first entry on. With a
 /// name they are called by it: `uart_pmpaddr`, `uart_pmpcfg`, `uart_count`, `uart_load`; otherwise `pmpaddr`, `pmpcfg`,
-/// `pmp_count`, `pmp_load`.
+/// `pmp_count`, `pmp_load`. The entries below the first, and their bytes of a word that they share with it, stay as they are.
 ///
 /// On an `Err` a beginning of this text was written, not all of it, and the device failed, or took none of some bytes, in
 /// this call.
 pub fn print_c<W: Sink>(
     name: Option<&str>,
     entries: &[Entry],
+    first: u8,
     limit: Limit,
     out: &mut W,
 ) -> Result<(), DeviceFault>
-    requires fits { length entries.now ≤ limit_number limit }
-    ensures { PrintsOne (IsCText (option_map (λ s. s.now) name.entry) limit entries.now)
+    requires fits { length entries.now ≤ limit_number limit - first }
+    ensures { PrintsOne (IsCText (option_map (λ s. s.now) name.entry) limit first entries.now)
         (writing W.contents W.failures W.stalls out.old out.new) result }
 {
-    let bank = Bank::of(entries, limit);
     let prefix = prefix_of(name);
     let link = array_link(name);
-    print_arrays(prefix, link, entries, &bank, limit, out)?;
+    print_arrays(prefix, link, entries, first, limit, out)?;
     let count = c_rows::number_text(entries.len());
-    print_loader(prefix, link, limit, count.as_slice(), out)?;
+    print_loader(prefix, link, first, limit, count.as_slice(), out)?;
     Ok(())
 }
 
-/// Writes the head of a routine.
-fn print_label<W: Sink>(name: &[u8], out: &mut W) -> Result<(), DeviceFault>
-    ensures { Prints (asm_head (Some name.now))
+/// Writes the head of assembly, with the label of a routine.
+fn print_asm_head<W: Sink>(
+    label: &[u8],
+    end: &[u8],
+    first: u8,
+    out: &mut W,
+) -> Result<(), DeviceFault>
+    ensures { Prints (asm_head first label.now end.now)
         (writing W.contents W.failures W.stalls out.old out.new) result }
 {
-    print_texts(&[head(), name, b"_load:\n"], out)
+    print_texts(
+        &[head_begin(), head_below(first), head_end(), label, end],
+        out,
+    )
 }
 
-/// Writes the head of assembly, with the label of a routine where it has a name.
-fn print_asm_head<W: Sink>(name: Option<&str>, out: &mut W) -> Result<(), DeviceFault>
-    ensures { Prints (asm_head (option_map (λ s. s.now) name.entry))
+/// Writes the instructions for the configuration words.
+fn print_asm_words<W: Sink>(
+    entries: &[Entry],
+    first: u8,
+    limit: Limit,
+    out: &mut W,
+) -> Result<(), DeviceFault>
+    ensures { Prints (asm_words limit first entries.now)
         (writing W.contents W.failures W.stalls out.old out.new) result }
 {
-    match name {
-        Some(name) => print_label(name.as_bytes(), out),
-        None => write_whole(out, head()),
-    }
+    let shared = asm_rows::SharedWords { entries, first };
+    let words = asm_rows::Words { entries, first };
+    let shared_count = shared_words(limit, first);
+    let count = limit.words().saturating_sub(whole_word(first));
+    print_both(&shared, shared_count, &words, count, out)
 }
 
 /// Writes the registers of a list as assembly: the instructions that write the address registers of its entries, then those
-/// that write all configuration words, in which the entries after it are off, then `sfence.vma`, below the same comment.
-/// With a name they are a routine that is called so, with `_load` after it.
+/// that write the configuration words, in which the entries after it are off, then `sfence.vma`, below the same comment.
+/// With a name they are a routine that is called so, with `_load` after it. The entries below the first, and their bytes of a
+/// word that they share with it, stay as they are.
 ///
 /// On an `Err` a beginning of this text was written, not all of it, and the device failed, or took none of some bytes, in
 /// this call.
 pub fn print_asm<W: Sink>(
     name: Option<&str>,
     entries: &[Entry],
+    first: u8,
     limit: Limit,
     out: &mut W,
 ) -> Result<(), DeviceFault>
-    requires fits { length entries.now ≤ limit_number limit }
-    ensures { PrintsOne (IsAsmText (option_map (λ s. s.now) name.entry) limit entries.now)
+    requires fits { length entries.now ≤ limit_number limit - first }
+    ensures { PrintsOne (IsAsmText (option_map (λ s. s.now) name.entry) limit first entries.now)
         (writing W.contents W.failures W.stalls out.old out.new) result }
 {
-    let bank = Bank::of(entries, limit);
-    let addresses = asm_rows::Addresses { entries };
-    let words = asm_rows::Words { bank: &bank };
-    print_asm_head(name, out)?;
+    let addresses = asm_rows::Addresses { entries, first };
+    let label = asm_rows::label_of(name);
+    let label_end = asm_rows::label_end(name);
+    print_asm_head(label, label_end, first, out)?;
     print_section(
-        b"/* Only t0 is changed. */\n    addiw   zero, zero, 0 /* an assembler for RV32 refuses this */\n",
+        asm_rows::begin(limit, first),
         &addresses,
         entries.len(),
         out,
     )?;
-    print_section(b"", &words, limit.words(), out)?;
+    print_asm_words(entries, first, limit, out)?;
     write_whole(out, asm_rows::end(name))?;
     Ok(())
 }
 
-/// Writes the object, with the first words of a bank.
+/// Writes the object, with the first words of the hart.
 fn print_object<W: Sink>(
     name: &[u8],
     entries: &[Entry],
-    bank: &Bank,
+    first: u8,
+    limit: Limit,
     count: usize,
     out: &mut W,
 ) -> Result<(), DeviceFault>
+    requires numbers { first + length entries.now < 2 ^ 64 }
     requires count { count ≤ 8 }
-    ensures { Prints (json_text name.now entries.now bank.now count)
+    ensures { Prints (json_text name.now limit first entries.now count)
         (writing W.contents W.failures W.stalls out.old out.new) result }
 {
     let letters = json_rows::Name { bytes: name };
-    let listed = json_rows::Entries { entries };
-    let words = json_rows::Words { bank };
+    let listed = json_rows::Entries { entries, first };
+    let words = json_rows::Words { entries, first };
     print_section(b"{\n  \"map\": \"", &letters, name.len(), out)?;
-    print_section(
-        json_rows::entries_begin(bank.limit()),
-        &listed,
-        entries.len(),
-        out,
-    )?;
+    let begin = json_rows::entries_begin(limit, first);
+    print_section(begin.as_slice(), &listed, entries.len(), out)?;
     print_section(b"\n  ],\n  \"pmpcfg\": [", &words, count, out)?;
     write_whole(out, b"\n  ]\n}\n")?;
     Ok(())
 }
 
-/// Writes a list as one JSON object: the map's name, the limit, each entry with its pair, its region and its permission, and
-/// the configuration words, none where the list does not fit the limit.
+/// How many words are printed: none where the hart has no room for so many entries.
+fn words_printed(entries: usize, first: u8, limit: Limit) -> usize
+    ensures fits { entries ≤ limit_number limit - first → result ≡ limit_number limit / 8 }
+    ensures too_many { limit_number limit - first < entries → result ≡ 0 }
+    ensures most { result ≤ 8 }
+{
+    if entries > room_from(first, limit) {
+        return 0;
+    }
+    limit.words()
+}
+
+/// Writes a list as one JSON object: the map's name, the limit, the first entry where it is not 0, each entry with its pair, its
+/// region and its permission, and the configuration words, none where the hart has no room for the list. The bytes of entries
+/// below the first are zero there.
 ///
 /// On an `Err` a beginning of this text was written, not all of it, and the device failed, or took none of some bytes, in
 /// this call.
 pub fn print_json<W: Sink>(
     map: &str,
     entries: &[Entry],
+    first: u8,
     limit: Limit,
     out: &mut W,
 ) -> Result<(), DeviceFault>
-    ensures { PrintsOne (IsJsonText map.now limit entries.now)
+    requires { first + length entries.now < 2 ^ 64 }
+    ensures { PrintsOne (IsJsonText map.now limit first entries.now)
         (writing W.contents W.failures W.stalls out.old out.new) result }
 {
-    if entries.len() > limit.number() as usize {
-        let none = Bank::of(&[], limit);
-        print_object(map.as_bytes(), entries, &none, 0, out)?;
-        return Ok(());
-    }
-    let bank = Bank::of(entries, limit);
-    print_object(map.as_bytes(), entries, &bank, limit.words(), out)?;
+    let count = words_printed(entries.len(), first, limit);
+    print_object(map.as_bytes(), entries, first, limit, count, out)?;
     Ok(())
 }

@@ -95,3 +95,22 @@ pub(crate) fn print_titled<R: Rows, W: Sink>(
     print_rows(rows, count, out)?;
     Ok(())
 }
+
+/// Writes rows, and other rows after them.
+pub(crate) fn print_both<A: Rows, B: Rows, W: Sink>(
+    rows: &A,
+    count: usize,
+    others: &B,
+    other_count: usize,
+    out: &mut W,
+) -> Result<(), DeviceFault>
+    requires most { count ≤ A.most rows.now }
+    requires others { other_count ≤ B.most others.now }
+    ensures { Prints (rows_text (A.row_text rows.now) 0 count
+        ++ rows_text (B.row_text others.now) 0 other_count)
+        (writing W.contents W.failures W.stalls out.old out.new) result }
+{
+    print_rows(rows, count, out)?;
+    print_rows(others, other_count, out)?;
+    Ok(())
+}

@@ -1,0 +1,36 @@
+use Rattle.std.proofs.Common.{◌+◌, ◌-◌, ◌≡◌, ◌∙◌, ◌++◌, ◌*◌, [], ap, sym, refl, append_assoc}
+use Rattle.std.proofs.lemmas.Result.{err_from_is_err_and}
+use Rattle.byte_streams.proofs.Writings.{breaks_within, takes_none, takes_then}
+use Rattle.printed_lines.specs.Placed.{word_from}
+use Rattle.printed_lines.specs.Texts.{word_text}
+use Rattle.printed_lines.specs.Plans.{words_text}
+use Rattle.printed_lines.proofs.Printed.{words_text-first}
+use Rattle.printed_lines.proofs.plan.print_words.Goals as goal
+
+pub loop-i-init : goal.loop-i-init
+loop-i-init g c = ([], refl, takes_none g.W.Sink.contents g.W.Sink.failures g.W.Sink.stalls _)
+
+pub loop-i-preserved : goal.loop-i-preserved
+loop-i-preserved g c =
+    let i = c.loop-i.i in
+    let first = c.args.first in
+    let entries = c.args.entries.now in
+    let w = c.loop-i.invariant in
+    let line : c.as_slice.result.now ≡ word_text (2 * i) (word_from first entries i) =
+    c.as_slice.ensures.value ∙ c.word_line-line.ensures ∙ ap (word_text (2 * i)) c.word_from.ensures in (
+      w.0 ++ word_text (2 * i) (word_from first entries i),
+      append_assoc w.0 _ _ ∙ ap (λ x. w.0 ++ x) (sym (words_text-first first entries i c.args.end c.loop-i-test.true)) ∙ w.1,
+      takes_then g.W.Sink.contents g.W.Sink.failures g.W.Sink.stalls w.2 (rw line at c.in_ok-write_whole.ensures),
+    )
+
+pub returns-in_err-write_whole : goal.returns-in_err-write_whole
+returns-in_err-write_whole g c =
+    let i = c.loop-i.i in
+    let first = c.args.first in
+    let entries = c.args.entries.now in
+    let w = c.loop-i.invariant in
+    let line : c.as_slice.result.now ≡ word_text (2 * i) (word_from first entries i) =
+    c.as_slice.ensures.value ∙ c.word_line-line.ensures ∙ ap (word_text (2 * i)) c.word_from.ensures in
+    let whole = ap (λ x. w.0 ++ x) (sym (words_text-first first entries i c.args.end c.loop-i-test.true)) ∙ w.1 in
+    rw (err_from_is_err_and c.from_residual.result c.from_residual.ensures.1).1
+    (rw c.whole_word-begin.ensures.value at (breaks_within g.W.Sink.contents g.W.Sink.failures g.W.Sink.stalls (words_text first entries (i + 1) (c.args.end - (i + 1))) whole w.2 (rw line at c.in_err-write_whole.ensures)))

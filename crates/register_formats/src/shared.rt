@@ -1,0 +1,25 @@
+//! A configuration word that the list shares with entries below it.
+
+ghost use Rattle.std.specs.Prelude.{◌≡◌, ◌≤◌};
+ghost use Rattle.register_formats.specs.Shared.{kept_bits, shared_words};
+
+use pmp_encoding::Limit;
+
+/// How many words are shared.
+pub(crate) fn shared_words(limit: Limit, first: u8) -> usize
+    ensures value { result ≡ shared_words limit first }
+    ensures most { result ≤ 1 }
+{
+    if first % 8 != 0 && u32::from(first) < limit.number() {
+        1
+    } else {
+        0
+    }
+}
+
+/// The bits of the entries below the first in the word that it stands in.
+pub(crate) fn kept_bits(first: u8) -> u64
+    ensures { result ≡ kept_bits first }
+{
+    (1 << (8 * (first % 8))) - 1
+}
