@@ -17,5 +17,5 @@ mod texts;
 mod words;
 
 pub use fault::takes_place;
-pub use program_tasks::{Format, Task};
+pub use program_tasks::{Format, LintKind, Task};
 pub use words::command_of;

@@ -1,7 +1,7 @@
 //! Command lines, and the tasks or faults that they are.
 
 use clap::error::ErrorKind;
-use command_line::{Format, Task, command_of, takes_place};
+use command_line::{Format, LintKind, Task, command_of, takes_place};
 use pmp_encoding::Limit;
 use std::alloc::Global;
 use std::test::Fail;
@@ -47,6 +47,7 @@ fn plan_takes_a_map_and_maybe_a_certificate(rt: HostRuntime) -> Result<(), Fail>
             at_most: None,
             format: Format::Text,
             name: None,
+            first: 0,
         }
     );
     let written = command_of(rt.alloc(), &["pmpmon", "plan", "map.txt", "out.pmpc"])?;
@@ -59,6 +60,7 @@ fn plan_takes_a_map_and_maybe_a_certificate(rt: HostRuntime) -> Result<(), Fail>
             at_most: None,
             format: Format::Text,
             name: None,
+            first: 0,
         }
     );
     let named = command_of(
@@ -79,6 +81,7 @@ fn plan_takes_a_map_and_maybe_a_certificate(rt: HostRuntime) -> Result<(), Fail>
             at_most: None,
             format: Format::Text,
             name: None,
+            first: 0,
         }
     );
     Ok(())
@@ -146,7 +149,51 @@ fn map_takes_registers(rt: HostRuntime) -> Result<(), Fail> {
 #[test]
 fn lint_takes_a_map(rt: HostRuntime) -> Result<(), Fail> {
     let task = command_of(rt.alloc(), &["pmpmon", "lint", "-"])?;
-    assert_eq!(rt; task, Task::Lint { map: "-" });
+    assert_eq!(rt;
+        task,
+        Task::Lint {
+            file: "-",
+            kind: LintKind::ByName
+        }
+    );
+    Ok(())
+}
+
+#[test]
+fn lint_takes_a_kind_of_file(rt: HostRuntime) -> Result<(), Fail> {
+    let rows: [(&[&str], LintKind<'static>); 3] = [
+        (&["pmpmon", "lint", "--registers", "f"], LintKind::Registers),
+        (
+            &["pmpmon", "lint", "f", "--trace"],
+            LintKind::Trace { platform: None },
+        ),
+        (
+            &["pmpmon", "lint", "--trace", "f", "--platform", "p.toml"],
+            LintKind::Trace {
+                platform: Some("p.toml"),
+            },
+        ),
+    ];
+    for (words, kind) in rows {
+        let task = command_of(rt.alloc(), words)?;
+        assert_eq!(rt; task, Task::Lint { file: "f", kind });
+    }
+    Ok(())
+}
+
+#[test]
+fn plan_begins_at_an_entry(rt: HostRuntime) -> Result<(), Fail> {
+    let rows: [(&[&str], u8); 3] = [
+        (&["pmpmon", "plan", "m", "--first", "0"], 0),
+        (&["pmpmon", "plan", "m", "--first", "15"], 15),
+        (&["pmpmon", "plan", "m", "--first=63", "--entries=64"], 63),
+    ];
+    for (words, wanted) in rows {
+        match command_of(rt.alloc(), words)? {
+            Task::Plan { first, .. } => assert_eq!(rt; first, wanted),
+            _ => assert!(rt; false, "another task"),
+        }
+    }
     Ok(())
 }
 
@@ -165,8 +212,14 @@ fn check_takes_a_map_and_a_certificate(rt: HostRuntime) -> Result<(), Fail> {
 
 #[test]
 fn other_words_are_faults_of_the_command_line(rt: HostRuntime) {
-    let lines: [&[&str]; 27] = [
+    let lines: [&[&str]; 33] = [
         &["pmpmon", "lint"],
+        &["pmpmon", "lint", "t.txt", "--trace", "--registers"],
+        &["pmpmon", "lint", "t.txt", "--platform", "p.toml"],
+        &["pmpmon", "plan", "map.txt", "--first", "16"],
+        &["pmpmon", "plan", "map.txt", "--first", "64", "--entries", "64"],
+        &["pmpmon", "plan", "map.txt", "--first", "-1"],
+        &["pmpmon", "plan", "map.txt", "--first", "three"],
         &["pmpmon", "lint", "map.txt", "more"],
         &["pmpmon", "lint", "map.txt", "--entries", "16"],
         &["pmpmon", "audit", "map.txt"],
@@ -250,6 +303,7 @@ fn plan_and_show_take_options(rt: HostRuntime) -> Result<(), Fail> {
             at_most: Some(8),
             format: Format::Asm,
             name: None,
+            first: 0,
         }
     );
     let formats = [
@@ -333,6 +387,27 @@ fn a_fault_names_the_value_and_the_usage(rt: HostRuntime) -> Result<(), Fail> {
             rt.alloc(),
             &["pmpmon", "plan", "map.txt", "map.txt"],
             "error: the certificate would take the place of the map 'map.txt'\n\nUsage: pmpmon plan [OPTIONS] <MAP> [CERT]\n\nFor more information, try '--help'.\n",
+        )?
+    );
+    assert!(rt;
+        is_told(
+            rt.alloc(),
+            &["pmpmon", "plan", "map.txt", "--first", "16"],
+            "error: invalid value '16' for '--first <K>': no number below that of --entries\n\nUsage: pmpmon plan [OPTIONS] <MAP> [CERT]\n\nFor more information, try '--help'.\n",
+        )?
+    );
+    assert!(rt;
+        is_told(
+            rt.alloc(),
+            &["pmpmon", "lint", "f", "--registers", "--trace"],
+            "error: the argument '--registers' cannot be used with '--trace'\n\nUsage: pmpmon lint [OPTIONS] <FILE>\n\nFor more information, try '--help'.\n",
+        )?
+    );
+    assert!(rt;
+        is_told(
+            rt.alloc(),
+            &["pmpmon", "lint", "f", "--platform", "p.toml"],
+            "error: the argument '--platform <PLATFORM>' cannot be used without '--trace'\n\nUsage: pmpmon lint [OPTIONS] <FILE>\n\nFor more information, try '--help'.\n",
         )?
     );
     let other = takes_place(rt.alloc(), "m")?;

@@ -1,6 +1,6 @@
 -- What each command that needs no machine comes to, on the files and streams that are lent for it: a rule for each way in
 -- which it ends.
-use Rattle.std.specs.Prelude.{◌≡◌, ℕ, ◌^◌, ◌<◌, ◌≤◌, min, Bool, true, false, List, codes, ◌==◌, [], Option, Some, None, Result, Ok, Err, length}
+use Rattle.std.specs.Prelude.{◌≡◌, ℕ, ◌-◌, ◌^◌, ◌<◌, ◌≤◌, min, Bool, true, false, List, codes, decimal, ◌==◌, ◌++◌, [], Option, Some, None, Result, Ok, Err, length}
 use Rattle.std.specs.List.{ends_with}
 use Rattle.std.specs.Borrow.{Bor}
 use Rattle.std.specs.Io.KnownBytes.{Appends, Consumes}
@@ -157,18 +157,20 @@ pub record BreaksCertificate {C : Type 0} (view : View) (limit : Limit) (most : 
   pub broken : IsNotPlaced bytes cert
 
 -- how many entries a plan may have, where there is a bound: what was asked for, and for C and assembly as many as the hart has
-abbrev pub most_entries : Limit → Option ℕ → Format → Option ℕ
-most_entries limit at_most formats.Text = at_most
-most_entries limit at_most formats.Json = at_most
-most_entries limit None format = Some (limit_number limit)
-most_entries limit (Some n) format = Some (min n (limit_number limit))
+-- from the first on
+abbrev pub most_entries : Limit → ℕ → Option ℕ → Format → Option ℕ
+most_entries limit first at_most formats.Text = at_most
+most_entries limit first at_most formats.Json = at_most
+most_entries limit first None format = Some (limit_number limit - first)
+most_entries limit first (Some n) format = Some (min n (limit_number limit - first))
 
--- the text of a plan in a format, of the map of that name; C and assembly have the other name, where one is given
-abbrev pub IsPrinted : Format → List ℕ → Option (List ℕ) → Limit → List Entry → List ℕ → Type 0
-IsPrinted formats.Text map name limit entries text = IsPlanText limit entries text
-IsPrinted formats.C map name limit entries text = IsCText name limit entries text
-IsPrinted formats.Asm map name limit entries text = IsAsmText name limit entries text
-IsPrinted formats.Json map name limit entries text = IsJsonText map limit entries text
+-- the text of a plan in a format, of the map of that name, which begins at that entry; C and assembly have the other name,
+-- where one is given
+abbrev pub IsPrinted : Format → List ℕ → Option (List ℕ) → Limit → ℕ → List Entry → List ℕ → Type 0
+IsPrinted formats.Text map name limit first entries text = IsPlanText limit first entries text
+IsPrinted formats.C map name limit first entries text = IsCText name limit first entries text
+IsPrinted formats.Asm map name limit first entries text = IsAsmText name limit first entries text
+IsPrinted formats.Json map name limit first entries text = IsJsonText map limit first entries text
 
 -- the plan of a map has more entries than may be
 pub record NeedsMore (view : View) (most : Option ℕ) (trouble : Trouble) : Type 0 where
@@ -184,23 +186,23 @@ pub data IsUnplanned {C : Type 0} (view : View) (limit : Limit) (most : Option �
   uncertified : BreaksCertificate view limit most file cert trouble → IsUnplanned view limit most file cert trouble
 
 -- `plan`: the map is read, the certificate is written where one is asked for, and the plan after it
-pub data Plans {R C W : Type 0} (map : Bor (List ℕ)) (file : Option (Bor (List ℕ))) (limit : Limit) (at_most : Option ℕ) (format : Format) (name : Option (List ℕ)) (first : Reading R) (cert : Placing C) (out : Writing W) : Result ℕ Trouble → Type 0 where
+pub data Plans {R C W : Type 0} (map : Bor (List ℕ)) (file : Option (Bor (List ℕ))) (limit : Limit) (at_most : Option ℕ) (format : Format) (name : Option (List ℕ)) (first : ℕ) (source : Reading R) (cert : Placing C) (out : Writing W) : Result ℕ Trouble → Type 0 where
   planned :
-      (runs : List Run) (entries : List Entry) (text : List ℕ) → HasMap first runs → IsPlanned (view_of_runs runs) (most_entries limit at_most format) entries
-      → IsCertified (view_of_runs runs) limit entries file cert → IsPrinted format map.now name limit entries text → TakesAll text out
-      → Plans map file limit at_most format name first cert out (Ok 0)
-  no_map : (trouble : Trouble) → HasNoMap map first trouble → IsUnwritten cert.sink → IsUnwritten out → Plans map file limit at_most format name first cert out (Err trouble)
-  no_memory : (runs : List Run) → HasMap first runs → IsUnwritten cert.sink → IsUnwritten out → Plans map file limit at_most format name first cert out (Err Memory)
+      (runs : List Run) (entries : List Entry) (text : List ℕ) → HasMap source runs → IsPlanned (view_of_runs runs) (most_entries limit first at_most format) entries
+      → IsCertified (view_of_runs runs) limit entries file cert → IsPrinted format map.now name limit first entries text → TakesAll text out
+      → Plans map file limit at_most format name first source cert out (Ok 0)
+  no_map : (trouble : Trouble) → HasNoMap map source trouble → IsUnwritten cert.sink → IsUnwritten out → Plans map file limit at_most format name first source cert out (Err trouble)
+  no_memory : (runs : List Run) → HasMap source runs → IsUnwritten cert.sink → IsUnwritten out → Plans map file limit at_most format name first source cert out (Err Memory)
   too_many :
-      (runs : List Run) (trouble : Trouble) → HasMap first runs → NeedsMore (view_of_runs runs) (most_entries limit at_most format) trouble → IsUnwritten cert.sink → IsUnwritten out
-      → Plans map file limit at_most format name first cert out (Err trouble)
+      (runs : List Run) (trouble : Trouble) → HasMap source runs → NeedsMore (view_of_runs runs) (most_entries limit first at_most format) trouble → IsUnwritten cert.sink → IsUnwritten out
+      → Plans map file limit at_most format name first source cert out (Err trouble)
   no_certificate :
-      (runs : List Run) (trouble : Trouble) → HasMap first runs → BreaksCertificate (view_of_runs runs) limit (most_entries limit at_most format) file cert trouble → IsUnwritten out
-      → Plans map file limit at_most format name first cert out (Err trouble)
+      (runs : List Run) (trouble : Trouble) → HasMap source runs → BreaksCertificate (view_of_runs runs) limit (most_entries limit first at_most format) file cert trouble → IsUnwritten out
+      → Plans map file limit at_most format name first source cert out (Err trouble)
   no_output :
-      (runs : List Run) (entries : List Entry) (text : List ℕ) → HasMap first runs → IsPlanned (view_of_runs runs) (most_entries limit at_most format) entries
-      → IsCertified (view_of_runs runs) limit entries file cert → IsPrinted format map.now name limit entries text → Breaks text out
-      → Plans map file limit at_most format name first cert out (Err Output)
+      (runs : List Run) (entries : List Entry) (text : List ℕ) → HasMap source runs → IsPlanned (view_of_runs runs) (most_entries limit first at_most format) entries
+      → IsCertified (view_of_runs runs) limit entries file cert → IsPrinted format map.now name limit first entries text → Breaks text out
+      → Plans map file limit at_most format name first source cert out (Err Output)
 
 -- `show`: the map is read, and the table of its stretches is printed
 pub data Shows {R W : Type 0} (map : Bor (List ℕ)) (limit : Limit) (at_most : Option ℕ) (first : Reading R) (out : Writing W) : Result ℕ Trouble → Type 0 where
@@ -324,6 +326,15 @@ names_platform name = ends_with (λ a b. a == b) name (codes ".toml")
 abbrev pub IsMapLint : List ℕ → List ℕ → Bool → List ℕ → Type 0
 IsMapLint name bytes is_map text = IsVerdictOfLines bytes is_map × IsLintText name bytes is_map text
 
+-- what is printed of a line of a listing that is not understood
+abbrev pub listing_fault : List ℕ → ℕ → List ℕ
+listing_fault name n = name ++ (codes ":" ++ decimal n ++ codes ":1: the line is not understood; write a register and its value, as 'pmpcfg0 0x1f'\n")
+
+-- of a file that should be a listing of registers: nothing where it is one, otherwise its first line that is not understood
+abbrev pub IsListingLint : List ℕ → List ℕ → Bool → List ℕ → Type 0
+IsListingLint name bytes true text = ((leaves : Listing) × (listed bytes ≡ Some leaves)) × (text ≡ [])
+IsListingLint name bytes false text = (n : ℕ) × IsFirstUnknown bytes n × (text ≡ listing_fault name n)
+
 -- of a file that should be a platform: nothing where it is one
 abbrev pub IsPlatformLint : List ℕ → List ℕ → Bool → List ℕ → Type 0
 IsPlatformLint name bytes true text = ((platform : Layout) × IsPlatformFile bytes platform) × (text ≡ [])
@@ -360,3 +371,9 @@ pub data Lints {R W : Type 0} (file : Bor (List ℕ)) (first : Reading R) (out :
   linted :
       (bytes : List ℕ) (result : Result ℕ Trouble) → HasBytes (2 ^ 20) first bytes → Tells (IsLint (names_platform file.now) file.now bytes) out result → Lints file first out result
   no_bytes : (trouble : Trouble) → HasNoBytes (2 ^ 20) file first trouble → IsUnwritten out → Lints file first out (Err trouble)
+
+-- `lint --registers`: the file is read, and its first line is printed that is not understood
+pub data LintsListing {R W : Type 0} (file : Bor (List ℕ)) (first : Reading R) (out : Writing W) : Result ℕ Trouble → Type 0 where
+  linted :
+      (bytes : List ℕ) (result : Result ℕ Trouble) → HasBytes (2 ^ 20) first bytes → Tells (IsListingLint file.now bytes) out result → LintsListing file first out result
+  no_bytes : (trouble : Trouble) → HasNoBytes (2 ^ 20) file first trouble → IsUnwritten out → LintsListing file first out (Err trouble)

@@ -63,22 +63,24 @@ pub fn planned_within<'a>(
     most: Option<u64>,
 ) -> Result<Plan, Trouble<'a>>
     ensures planned { IfOk result (λ plan. IsPlanned (view_of_runs map.now) most plan.entries) }
+    ensures small { IfOk result (λ plan. length plan.entries < 2 ^ 32) }
     ensures refused { IfErr result (λ trouble.
         (trouble ≡ Trouble.Memory) ⊎ NeedsMore (view_of_runs map.now) most trouble) }
 {
     let plan = planned(alloc, map)?;
-    within(plan.entries(), most)?;
+    within(&plan, most)?;
     Ok(plan)
 }
 
-/// Refuses a list that is beyond the bound.
-fn within<'a>(entries: &[Entry], most: Option<u64>) -> Result<(), Trouble<'a>>
-    ensures within { IfOk result (λ _. IsWithin most (length entries.now)) }
+/// Refuses a plan that is beyond the bound.
+fn within<'a>(plan: &Plan, most: Option<u64>) -> Result<(), Trouble<'a>>
+    ensures within { IfOk result (λ _. IsWithin most (length plan.now.entries)) }
+    ensures small { length plan.now.entries < 2 ^ 32 }
     ensures beyond { IfErr result (λ trouble.
-        IsBeyond most (length entries.now)
-        × (trouble ≡ Trouble.NeedsEntries (length entries.now))) }
+        IsBeyond most (length plan.now.entries)
+        × (trouble ≡ Trouble.NeedsEntries (length plan.now.entries))) }
 {
-    let needed = entries.len() as u64;
+    let needed = u64::from(plan.needed());
     match most {
         Some(most) if most < needed => Err(Trouble::NeedsEntries { needed }),
         _ => Ok(()),
@@ -122,6 +124,7 @@ pub fn plan_and_certify<'a, C: WholeSink>(
     sink: &mut C,
 ) -> Result<Plan, Trouble<'a>>
     ensures planned { IfOk result (λ plan. IsPlanned (view_of_runs map.now) most plan.entries) }
+    ensures small { IfOk result (λ plan. length plan.entries < 2 ^ 32) }
     ensures certified { IfOk result (λ plan.
         IsCertified (view_of_runs map.now) limit plan.entries cert.entry
         (placing C.contents C.failures C.stalls C.stands sink.old sink.new)) }
@@ -133,7 +136,7 @@ pub fn plan_and_certify<'a, C: WholeSink>(
         return planned_within(alloc, map, most);
     };
     let plan = plan_map(alloc, map)?;
-    within(plan.entries(), most)?;
+    within(&plan, most)?;
     put(map, &plan, limit, file, sink)?;
     Ok(plan)
 }

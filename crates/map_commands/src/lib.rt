@@ -1,7 +1,8 @@
 //! The program's commands that need no machine: maps are planned, shown and linted, and certificates, accesses and registers
 //! are checked, judged and audited against them.
 //!
-//! For the layer above: `do_plan`, `do_check`, `do_judge_as`, `do_show_as`, `do_audit`, `do_map` and `do_lint` each do one command on the
+//! For the layer above: `do_plan`, `do_check`, `do_judge_as`, `do_show_as`, `do_audit`, `do_map`, `do_lint` and
+//! `do_lint_listing` each do one command on the
 //! devices that are lent for it; the clause of each has a rule for each way in which it ends, with what was read and written
 //! in which order. [`planned`] answers the fewest entries of a map, [`plan_and_certify`] puts a certificate of them in its
 //! place, which the checker accepts, and [`bank_of`] answers the bank of a list that fits it. [`bytes_in`] reads a file whole.
@@ -17,6 +18,7 @@ mod inputs;
 
 pub use certified_plan::{bank_of, plan_and_certify, planned};
 pub use commands::{
-    Asked, do_audit, do_check, do_judge_as, do_lint, do_map, do_plan, do_show_as, verdict,
+    Asked, do_audit, do_check, do_judge_as, do_lint, do_lint_listing, do_map, do_plan,
+    do_show_as, verdict,
 };
 pub use inputs::bytes_in;

@@ -3,3 +3,4 @@ pub mod HeldOutput
 pub mod Programs
 pub mod Runs
 pub mod Tasks
+pub mod Traces

@@ -3,14 +3,16 @@
 ghost use Rattle.std.specs.Prelude.{◌≡◌};
 ghost use Rattle.byte_streams.specs.Writings.{writing};
 ghost use Rattle.map_commands.specs.Commands.{placing, reading};
-ghost use Rattle.monitor_cli.specs.Programs.{Ends, Performs, Tells};
+ghost use Rattle.monitor_cli.specs.Programs.{Ends, LintsAs, Performs, Tells};
 ghost use Rattle.program_troubles.specs.Troubles.{status_of};
 
-use crate::commands::do_run;
+use crate::commands::{do_lint_trace, do_run};
 use byte_streams::{Sink, Source};
-use map_commands::{Asked, do_audit, do_check, do_judge_as, do_lint, do_map, do_plan, do_show_as};
+use map_commands::{
+    Asked, do_audit, do_check, do_judge_as, do_lint, do_lint_listing, do_map, do_plan, do_show_as,
+};
 use program_files::WholeSink;
-use program_tasks::Task;
+use program_tasks::{LintKind, Task};
 use program_troubles::Trouble;
 use std::alloc::Global;
 
@@ -25,6 +27,27 @@ fn report<E: Sink>(done: Result<u8, Trouble<'_>>, err: &mut E) -> u8
             let _ = trouble.print(err);
             trouble.status()
         }
+    }
+}
+
+/// Lints a file, by what it should be.
+fn lint_as<'a, R: Source, W: Sink>(
+    alloc: Global,
+    kind: LintKind<'a>,
+    file: &'a str,
+    first: &mut R,
+    second: &mut R,
+    out: &mut W,
+) -> Result<u8, Trouble<'a>>
+    ensures { let source = reading R.remaining R.failures in
+        LintsAs kind.entry file.entry (source first.old first.new)
+        (source second.old second.new) (writing W.contents W.failures W.stalls out.old out.new)
+        result }
+{
+    match kind {
+        LintKind::ByName => do_lint(alloc, file, first, out),
+        LintKind::Registers => do_lint_listing(alloc, file, first, out),
+        LintKind::Trace { platform } => do_lint_trace(alloc, file, platform, first, second, out),
     }
 }
 
@@ -55,6 +78,7 @@ fn run_task<'a, R: Source, C: WholeSink, W: Sink>(
             at_most,
             format,
             name,
+            first: begin,
         } => {
             let asked = Asked {
                 cert: *file,
@@ -62,6 +86,7 @@ fn run_task<'a, R: Source, C: WholeSink, W: Sink>(
                 at_most: *at_most,
                 format: *format,
                 name: *name,
+                first: *begin,
             };
             do_plan(alloc, *map, asked, first, cert, out)
         }
@@ -78,7 +103,7 @@ fn run_task<'a, R: Source, C: WholeSink, W: Sink>(
             all,
         } => do_audit(alloc, *map, *registers, *all, first, second, out),
         Task::Map { registers } => do_map(alloc, *registers, first, out),
-        Task::Lint { map } => do_lint(alloc, *map, first, out),
+        Task::Lint { file, kind } => lint_as(alloc, *kind, *file, first, second, out),
         Task::Show {
             map,
             limit,

@@ -2,6 +2,7 @@
 use Rattle.std.specs.Prelude.{◌≡◌, List, [], ℕ, Option, Some, None, bytes_eq, if◌then◌else◌}
 use Rattle.std.specs.Borrow.{Bor}
 use Rattle.program_tasks.specs.Tasks.{input_word}
+use Rattle.program_tasks.specs.declared.task.LintKind.TheVariants as kinds
 use Rattle.program_tasks.specs.declared.task.Task.{Task}
 use Rattle.program_tasks.specs.declared.task.Task.TheVariants as tasks
 use Rattle.pmpmon.specs.declared.places.Place.{Place}
@@ -15,7 +16,7 @@ place_of name = if bytes_eq name.now input_word then StandardInput else File nam
 
 -- the file of the certificate that a task writes
 abbrev pub cert_of : Task → Option (Bor (List ℕ))
-cert_of (tasks.Plan map cert limit at_most format name) = cert
+cert_of (tasks.Plan map cert limit at_most format name begin) = cert
 cert_of task = None
 
 -- an input reads at a place; where there is none, the file of no name, which is not there
@@ -27,18 +28,19 @@ IsAt None input = (name : Bor (List ℕ)) × (name.now ≡ []) × IsOfFile name 
 -- what a task reads first; a platform is a file, whatever its name
 abbrev pub first_of : Task → Place
 first_of (tasks.Run platform trace measure) = File platform
-first_of (tasks.Plan map cert limit at_most format name) = place_of map
+first_of (tasks.Plan map cert limit at_most format name begin) = place_of map
 first_of (tasks.Judge map trace limit registers) = place_of map
 first_of (tasks.Check map cert) = place_of map
 first_of (tasks.Audit map registers all) = place_of map
 first_of (tasks.Map registers) = place_of registers
-first_of (tasks.Lint map) = place_of map
+first_of (tasks.Lint file kind) = place_of file
 first_of (tasks.Show map limit at_most registers) = place_of map
 
--- what it reads after that; a certificate is a file, whatever its name
+-- what it reads after that; a certificate or a platform is a file, whatever its name
 abbrev pub second_of : Task → Option Place
 second_of (tasks.Run platform trace measure) = Some (place_of trace)
 second_of (tasks.Judge map trace limit registers) = Some (place_of trace)
 second_of (tasks.Check map cert) = Some (File cert)
 second_of (tasks.Audit map registers all) = Some (place_of registers)
+second_of (tasks.Lint file (kinds.Trace (Some platform))) = Some (File platform)
 second_of task = None

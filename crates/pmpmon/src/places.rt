@@ -3,7 +3,7 @@
 ghost use Rattle.std.specs.Prelude.{◌≡◌};
 ghost use Rattle.pmpmon.specs.Places.{cert_of, first_of, place_of, second_of};
 
-use program_tasks::Task;
+use program_tasks::{LintKind, Task};
 
 /// The word that standard input stands for.
 const STANDARD_INPUT: &str = "-";
@@ -37,13 +37,14 @@ pub fn first_of<'a>(task: &Task<'a>) -> Place<'a>
         | Task::Judge { map, .. }
         | Task::Check { map, .. }
         | Task::Audit { map, .. }
-        | Task::Lint { map }
         | Task::Show { map, .. } => place_of(map),
+        Task::Lint { file, .. } => place_of(file),
         Task::Map { registers } => place_of(registers),
     }
 }
 
-/// What a task reads after that, where it does. A certificate is a file, whatever its name.
+/// What a task reads after that, where it does. A certificate or a platform is a file,
+/// whatever its name.
 pub fn second_of<'a>(task: &Task<'a>) -> Option<Place<'a>>
     ensures { result ≡ second_of task.now }
 {
@@ -51,6 +52,12 @@ pub fn second_of<'a>(task: &Task<'a>) -> Option<Place<'a>>
         Task::Run { trace, .. } | Task::Judge { trace, .. } => Some(place_of(trace)),
         Task::Check { cert, .. } => Some(Place::File(cert)),
         Task::Audit { registers, .. } => Some(place_of(registers)),
+        Task::Lint {
+            kind: LintKind::Trace {
+                platform: Some(platform),
+            },
+            ..
+        } => Some(Place::File(platform)),
         Task::Plan { .. } | Task::Map { .. } | Task::Lint { .. } | Task::Show { .. } => None,
     }
 }

@@ -56,7 +56,7 @@ pub enum Task<'a> {
         /// The C identifier that names in C and assembly begin with, where one is given.
         name: Option<&'a str>,
         /// The number of the register file's entry that the plan begins at.
-        first: u64,
+        first: u8,
     },
     /// Load a map's entries, or take registers as they stand, and judge the accesses of a trace by them.
     Judge {

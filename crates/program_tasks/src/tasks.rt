@@ -116,7 +116,7 @@ fn at_most_in<'a, V: Values<'a>>(given: &V) -> Result<Option<u64>, Fault<'a>>
 }
 
 /// The number of the entry that a word names.
-fn entry_of(word: &str, limit: Limit) -> Option<u64>
+fn entry_of(word: &str, limit: Limit) -> Option<u8>
     ensures some { IfSome result (λ entry. (number_of word.now ≡ Some entry)
         × (entry < limit_number limit)) }
     ensures none { result ≡ None → (entry : ℕ) → number_of word.now ≡ Some entry
@@ -124,14 +124,14 @@ fn entry_of(word: &str, limit: Limit) -> Option<u64>
 {
     let entry = number(word.as_bytes())?;
     if entry < u64::from(limit.number()) {
-        Some(entry)
+        Some(entry as u8)
     } else {
         None
     }
 }
 
 /// The value of `--first`, an entry of a hart of that limit: entry 0 where it is not given.
-fn first_in<'a, V: Values<'a>>(given: &V, limit: Limit) -> Result<u64, Fault<'a>>
+fn first_in<'a, V: Values<'a>>(given: &V, limit: Limit) -> Result<u8, Fault<'a>>
     requires limit { V.value given.now (codes "entries") ≡ Some (limit_word limit) }
     ensures value { IfOk result (BeginsAt (V.value given.now (codes "first"))) }
     ensures below { IfOk result (λ first. first < limit_number limit) }

@@ -2,6 +2,7 @@
 
 use byte_streams::fakes::PieceSink;
 use pmp_encoding::{Entry, Limit, Perm, Region};
+use printed_lines::print_plan;
 use register_formats::{print_asm, print_c, print_json};
 use std::process::Abort;
 
@@ -49,7 +50,7 @@ fn behind_head(sink: &PieceSink) -> &[u8] {
 #[test]
 fn c_of_a_board(rt: HostRuntime) {
     let mut sink = PieceSink::new(7, None);
-    assert!(rt; print_c(None, board(&rt).as_slice(), Limit::Sixteen, &mut sink).is_ok());
+    assert!(rt; print_c(None, board(&rt).as_slice(), 0, Limit::Sixteen, &mut sink).is_ok());
     let text = b"#if defined(__riscv) && __riscv_xlen != 64
 #error \"these are the registers of RV64\"
 #endif
@@ -137,7 +138,7 @@ fn times(text: &[u8], part: &[u8]) -> usize {
 fn c_has_the_name_that_is_given(rt: HostRuntime) {
     let mut sink = PieceSink::new(4096, None);
     let name = Some("_uart9");
-    assert!(rt; print_c(name, board(&rt).as_slice(), Limit::Sixteen, &mut sink).is_ok());
+    assert!(rt; print_c(name, board(&rt).as_slice(), 0, Limit::Sixteen, &mut sink).is_ok());
     let text = behind_head(&sink);
     assert_eq!(rt; times(text, b"uint64_t _uart9_pmpaddr[16] = {"), 1);
     assert_eq!(rt; times(text, b"uint64_t _uart9_pmpcfg[2] = {"), 1);
@@ -154,10 +155,10 @@ fn c_has_the_name_that_is_given(rt: HostRuntime) {
 #[test]
 fn assembly_with_a_name_is_a_routine(rt: HostRuntime) {
     let mut plain = PieceSink::new(4096, None);
-    assert!(rt; print_asm(None, board(&rt).as_slice(), Limit::Sixteen, &mut plain).is_ok());
+    assert!(rt; print_asm(None, board(&rt).as_slice(), 0, Limit::Sixteen, &mut plain).is_ok());
     let mut sink = PieceSink::new(4096, None);
     let name = Some("uart");
-    assert!(rt; print_asm(name, board(&rt).as_slice(), Limit::Sixteen, &mut sink).is_ok());
+    assert!(rt; print_asm(name, board(&rt).as_slice(), 0, Limit::Sixteen, &mut sink).is_ok());
     let body = behind_head(&plain);
     assert!(rt; behind_head(&sink).starts_with(b"uart_load:\n/* Only t0 is changed. */\n"));
     assert!(rt; behind_head(&sink).ends_with(b"    sfence.vma\n    ret\n"));
@@ -168,7 +169,7 @@ fn assembly_with_a_name_is_a_routine(rt: HostRuntime) {
 #[test]
 fn assembly_of_a_board(rt: HostRuntime) {
     let mut sink = PieceSink::new(4096, None);
-    assert!(rt; print_asm(None, board(&rt).as_slice(), Limit::Sixteen, &mut sink).is_ok());
+    assert!(rt; print_asm(None, board(&rt).as_slice(), 0, Limit::Sixteen, &mut sink).is_ok());
     let text = b"/* Only t0 is changed. */
     addiw   zero, zero, 0 /* an assembler for RV32 refuses this */
     li      t0, 0x00000000040001ff /* 0: 0x0000000010000000, 4 KiB, rw */
@@ -186,12 +187,142 @@ fn assembly_of_a_board(rt: HostRuntime) {
     assert!(rt; took(&sink, HEAD, text.as_slice()));
 }
 
+/// What is said at the head where entries below are left as they are.
+const HEAD_ABOVE: &[u8] = b"/*
+ * PMP registers, planned by pmpmon. With them a hart lets supervisor and user mode
+ * do exactly what the map says, where all of this holds:
+ *  - the hart is RV64: its configuration words have 64 bits;
+ *  - machine mode writes them, on each hart;
+ *  - no entry is locked (L = 0), and mseccfg is 0 where the hart has it;
+ *  - the hart protects whole pages of 4096 bytes: its grain is no larger;
+ *  - no entry below these says otherwise where it matches: they are left as they are
+ *    and come first, and `pmpmon audit` of all registers tells what all of them mean;
+ *  - the address registers are written first, then the configuration words, 0 to
+ *    each word after these too, and then comes sfence.vma.
+ */
+";
+
+#[test]
+fn assembly_from_entry_three_keeps_three_bytes(rt: HostRuntime) {
+    let mut sink = PieceSink::new(4096, None);
+    assert!(rt; print_asm(None, board(&rt).as_slice(), 3, Limit::Sixteen, &mut sink).is_ok());
+    let text = b"/* Only t0 and t1 are changed. */
+    addiw   zero, zero, 0 /* an assembler for RV32 refuses this */
+    li      t0, 0x00000000040001ff /* 3: 0x0000000010000000, 4 KiB, rw */
+    csrw    pmpaddr3, t0
+    li      t0, 0x000000002003ffff /* 4: 0x0000000080000000, 2 MiB, none */
+    csrw    pmpaddr4, t0
+    li      t0, 0x0000000020ffffff /* 5: 0x0000000080000000, 128 MiB, rwx */
+    csrw    pmpaddr5, t0
+    csrr    t1, pmpcfg0
+    li      t0, 0x0000000000ffffff
+    and     t1, t1, t0
+    li      t0, 0x00001f181b000000
+    or      t0, t0, t1
+    csrw    pmpcfg0, t0
+    li      t0, 0x0000000000000000
+    csrw    pmpcfg2, t0
+    sfence.vma
+";
+    assert!(rt; took(&sink, HEAD_ABOVE, text.as_slice()));
+}
+
+#[test]
+fn assembly_from_entry_eight_shares_no_word(rt: HostRuntime) {
+    let mut sink = PieceSink::new(4096, None);
+    assert!(rt; print_asm(None, board(&rt).as_slice(), 8, Limit::Sixteen, &mut sink).is_ok());
+    let text = b"/* Only t0 is changed. */
+    addiw   zero, zero, 0 /* an assembler for RV32 refuses this */
+    li      t0, 0x00000000040001ff /* 8: 0x0000000010000000, 4 KiB, rw */
+    csrw    pmpaddr8, t0
+    li      t0, 0x000000002003ffff /* 9: 0x0000000080000000, 2 MiB, none */
+    csrw    pmpaddr9, t0
+    li      t0, 0x0000000020ffffff /* 10: 0x0000000080000000, 128 MiB, rwx */
+    csrw    pmpaddr10, t0
+    li      t0, 0x00000000001f181b
+    csrw    pmpcfg2, t0
+    sfence.vma
+";
+    assert!(rt; took(&sink, HEAD_ABOVE, text.as_slice()));
+}
+
+#[test]
+fn c_from_entry_six_shares_a_word(rt: HostRuntime) {
+    let mut sink = PieceSink::new(4096, None);
+    assert!(rt; print_c(None, board(&rt).as_slice(), 6, Limit::Sixteen, &mut sink).is_ok());
+    let text = sink.written();
+    assert!(rt; text.starts_with(HEAD_ABOVE));
+    let arrays = b"    0x0000000000000000, /* 5: left as it is */
+    0x00000000040001ff, /* 6: 0x0000000010000000, 4 KiB, rw */
+    0x000000002003ffff, /* 7: 0x0000000080000000, 2 MiB, none */
+    0x0000000020ffffff, /* 8: 0x0000000080000000, 128 MiB, rwx */
+    0x0000000000000000, /* 9: off */
+";
+    assert_eq!(rt; times(text, arrays.as_slice()), 1);
+    let words = b"static const uint64_t pmpcfg[2] = {
+    0x181b000000000000, /* pmpcfg0 */
+    0x000000000000001f, /* pmpcfg2 */
+};
+";
+    assert_eq!(rt; times(text, words.as_slice()), 1);
+    let note = b"/*
+ * Writes those of the first entry in use and of all after it. The others are left as
+ * they are, and so are their bytes of a configuration word that they share with these.
+ * Machine mode calls it on each hart, with mstatus.MPRV = 0.
+";
+    assert_eq!(rt; times(text, note.as_slice()), 1);
+    let end = b"    __asm__ volatile(\"csrw pmpaddr14, %0\" : : \"r\"(addr[14]));
+    __asm__ volatile(\"csrw pmpaddr15, %0\" : : \"r\"(addr[15]));
+    uint64_t kept;
+    __asm__ volatile(\"csrr %0, pmpcfg0\" : \"=r\"(kept));
+    kept &= 0x0000ffffffffffff;
+    __asm__ volatile(\"csrw pmpcfg0, %0\" : : \"r\"(kept | cfg[0]));
+    __asm__ volatile(\"csrw pmpcfg2, %0\" : : \"r\"(cfg[1]));
+    __asm__ volatile(\"sfence.vma\" : : : \"memory\");
+}
+#endif
+";
+    assert!(rt; text.ends_with(end.as_slice()));
+    assert_eq!(rt; times(text, b"csrw pmpaddr"), 10);
+    assert_eq!(rt; times(text, b"csrw pmpaddr5,"), 0);
+}
+
+#[test]
+fn json_from_entry_three_has_real_numbers(rt: HostRuntime) {
+    let mut sink = PieceSink::new(4096, None);
+    assert!(rt; print_json("m", board(&rt).as_slice(), 3, Limit::Sixteen, &mut sink).is_ok());
+    let begin =
+        b"{\n  \"map\": \"m\",\n  \"limit\": 16,\n  \"first\": 3,\n  \"entries\": [\n    {\"index\": 3, \"cfg\": 27, ";
+    let end =
+        b"\n  \"pmpcfg\": [\n    \"0x00001f181b000000\",\n    \"0x0000000000000000\"\n  ]\n}\n";
+    assert!(rt; sink.written().starts_with(begin.as_slice()));
+    assert_eq!(rt; times(sink.written(), b"{\"index\": 5, "), 1);
+    assert!(rt; sink.written().ends_with(end.as_slice()));
+    let mut many = PieceSink::new(4096, None);
+    assert!(rt; print_json("m", board(&rt).as_slice(), 14, Limit::Sixteen, &mut many).is_ok());
+    assert!(rt; many.written().ends_with(b"\n  ],\n  \"pmpcfg\": [\n  ]\n}\n"));
+}
+
+#[test]
+fn text_from_entry_three_leaves_a_shared_word_out(rt: HostRuntime) {
+    let mut sink = PieceSink::new(4096, None);
+    assert!(rt; print_plan(board(&rt).as_slice(), 3, Limit::Sixteen, &mut sink).is_ok());
+    let text = b"entries 3
+3 0x1b 0x00000000040001ff
+4 0x18 0x000000002003ffff
+5 0x1f 0x0000000020ffffff
+pmpcfg2 0x0000000000000000
+";
+    assert!(rt; took(&sink, b"", text.as_slice()));
+}
+
 #[test]
 fn json_of_a_board(rt: HostRuntime) {
     let mut sink = PieceSink::new(3, None);
     let printed = print_json(
         "boards/\"a\"\\b\t.map",
         board(&rt).as_slice(),
+        0,
         Limit::Sixteen,
         &mut sink,
     );
@@ -229,7 +360,7 @@ fn a_list_that_fits_no_bank_has_no_words(rt: HostRuntime) {
 #[test]
 fn no_entries_are_a_list_too(rt: HostRuntime) {
     let mut sink = PieceSink::new(4096, None);
-    assert!(rt; print_asm(None, &[], Limit::Sixteen, &mut sink).is_ok());
+    assert!(rt; print_asm(None, &[], 0, Limit::Sixteen, &mut sink).is_ok());
     let text = b"/* Only t0 is changed. */
     addiw   zero, zero, 0 /* an assembler for RV32 refuses this */
     li      t0, 0x0000000000000000
@@ -240,7 +371,7 @@ fn no_entries_are_a_list_too(rt: HostRuntime) {
 ";
     assert!(rt; took(&sink, HEAD, text.as_slice()));
     let mut sink = PieceSink::new(4096, None);
-    assert!(rt; print_json("m", &[], Limit::SixtyFour, &mut sink).is_ok());
+    assert!(rt; print_json("m", &[], 0, Limit::SixtyFour, &mut sink).is_ok());
     let begin =
         b"{\n  \"map\": \"m\",\n  \"limit\": 64,\n  \"entries\": [\n  ],\n  \"pmpcfg\": [\n    \"0x0";
     assert!(rt; sink.written().starts_with(begin.as_slice()));
@@ -256,7 +387,7 @@ fn sizes_are_told_in_their_largest_unit(rt: HostRuntime) {
         entry(&rt, 0, 56, Perm::Read),
     ];
     let mut sink = PieceSink::new(4096, None);
-    assert!(rt; print_asm(None, entries.as_slice(), Limit::SixtyFour, &mut sink).is_ok());
+    assert!(rt; print_asm(None, entries.as_slice(), 0, Limit::SixtyFour, &mut sink).is_ok());
     let front = b"/* Only t0 is changed. */
     addiw   zero, zero, 0 /* an assembler for RV32 refuses this */
     li      t0, 0x0000000000000800 /* 0: 0x0000000000002000, 4 B, r */
@@ -286,15 +417,15 @@ fn each_write_that_fails_ends_it(rt: HostRuntime) {
     let entries = board(&rt);
     for k in 1..8u64 {
         let mut sink = PieceSink::new(4096, Some(k));
-        assert!(rt; print_c(None, entries.as_slice(), Limit::Sixteen, &mut sink).is_err());
+        assert!(rt; print_c(None, entries.as_slice(), 0, Limit::Sixteen, &mut sink).is_err());
         let mut sink = PieceSink::new(4096, Some(k));
-        assert!(rt; print_asm(None, entries.as_slice(), Limit::Sixteen, &mut sink).is_err());
+        assert!(rt; print_asm(None, entries.as_slice(), 0, Limit::Sixteen, &mut sink).is_err());
         let mut sink = PieceSink::new(4096, Some(k));
-        assert!(rt; print_json("a.map", entries.as_slice(), Limit::Sixteen, &mut sink).is_err());
+        assert!(rt; print_json("a.map", entries.as_slice(), 0, Limit::Sixteen, &mut sink).is_err());
         assert_eq!(rt; sink.failures, 1);
         assert_eq!(rt; sink.writes(), k);
     }
     let mut sink = PieceSink::new(0, None);
-    assert!(rt; print_json("a.map", entries.as_slice(), Limit::Sixteen, &mut sink).is_err());
+    assert!(rt; print_json("a.map", entries.as_slice(), 0, Limit::Sixteen, &mut sink).is_err());
     assert!(rt; sink.written().is_empty());
 }

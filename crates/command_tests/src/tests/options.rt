@@ -102,3 +102,42 @@ fn lint_says_what_is_wrong_with_a_map(rt: HostRuntime) -> Result<(), Fail> {
     let said = "icicle.map:2:12: SIZE 0x400 is not a multiple of 4096; the whole page is 0x1000\n";
     denies(&rt, rt.alloc(), &words, wrong, b"", said)
 }
+
+#[test]
+fn plan_leaves_the_entries_below_the_first(rt: HostRuntime) -> Result<(), Fail> {
+    let words = ["pmpmon", "plan", "m", "--first", "3"];
+    let text =
+        "entries 3\n3 0x1b 0x00000000040001ff\n4 0x18 0x000000002003ffff\n5 0x1f 0x0000000020ffffff\npmpcfg2 0x0000000000000000\n";
+    prints(&rt, rt.alloc(), &words, MAP, b"", text)?;
+    let words = [
+        "pmpmon", "plan", "m", "--first", "14", "--format", "asm",
+    ];
+    refuses(&rt, rt.alloc(), &words, MAP, b"", "pmpmon: needs 3 entries\n")
+}
+
+#[test]
+fn lint_names_the_line_of_a_listing(rt: HostRuntime) -> Result<(), Fail> {
+    let words = ["pmpmon", "lint", "--registers", "r"];
+    prints(&rt, rt.alloc(), &words, b"pmpaddr0 1\n", b"", "")?;
+    let wrong = b"pmpaddr0 1\nwhat\n";
+    let said =
+        "r:2:1: the line is not understood; write a register and its value, as 'pmpcfg0 0x1f'\n";
+    denies(&rt, rt.alloc(), &words, wrong, b"", said)
+}
+
+#[test]
+fn lint_takes_the_harts_of_a_platform(rt: HostRuntime) -> Result<(), Fail> {
+    let alone = ["pmpmon", "lint", "--trace", "t"];
+    prints(&rt, rt.alloc(), &alone, b"@3 irq\n", b"", "")?;
+    let ran = run(rt.alloc(), &alone, b"@4 irq\n", b"")?;
+    assert_eq!(rt; ran.status, 1);
+    let words = ["pmpmon", "lint", "--trace", "t", "--platform", "p.toml"];
+    let platform =
+        b"[monitor]\nbase = 0x80000000\nsize = 0x200000\n[[ram]]\nbase = 0x80000000\nsize = 0x8000000\n";
+    let ran = run(rt.alloc(), &words, b"@1 irq\n", platform)?;
+    assert_eq!(rt; ran.status, 1);
+    assert!(rt; contains(ran.out.as_slice(), b"t:1:1: "));
+    let missing = run(rt.alloc(), &words, b"irq\n", b"")?;
+    assert_eq!(rt; missing.status, 2);
+    Ok(())
+}

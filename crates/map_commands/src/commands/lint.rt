@@ -1,16 +1,19 @@
-//! `lint`: what is wrong with a map file, or with a platform file.
+//! `lint`: what is wrong with a map file, a platform file or a listing of registers.
 
-ghost use Rattle.std.specs.Prelude.{◌≡◌, ◌-◌, ◌^◌, ◌<◌, length};
-ghost use Rattle.byte_streams.specs.Writings.{writing};
-ghost use Rattle.map_commands.specs.Commands.{reading, names_platform, IsMapLint, IsPlatformLint, Lints, Tells};
+ghost use Rattle.std.specs.Prelude.{◌≡◌, ◌-◌, ◌^◌, ◌<◌, ◌++◌, codes, decimal, length};
+ghost use Rattle.byte_streams.specs.Writings.{writing, Prints};
+ghost use Rattle.map_commands.specs.Commands.{listing_fault, reading, names_platform, IsListingLint, IsMapLint, IsPlatformLint, Lints, LintsListing, Tells};
 
 use crate::commands::answer_status;
-use crate::inputs::{MAP_BYTES, bytes_in};
-use byte_streams::{Sink, Source};
+use crate::inputs::{MAP_BYTES, REGISTER_BYTES, bytes_in};
+use arrayvec::ArrayVec;
+use byte_streams::{DeviceFault, Sink, Source, write_whole};
 use map_lint::lint;
 use platform_lint::lint_platform;
 use program_troubles::Trouble;
+use register_text::listing_of;
 use std::alloc::Global;
+use text_lines::{Line, push_decimal, push_text};
 
 /// Whether a file should be a platform by its name, which ends in `.toml`.
 fn names_platform(name: &str) -> bool
@@ -71,4 +74,58 @@ pub fn do_lint<'a, R: Source, W: Sink>(
     } else {
         lint_map(alloc, file, bytes.as_slice(), out)
     }
+}
+
+/// What stands after the file's name where a line of a listing is not understood.
+fn fault_of_line(n: u64) -> Line
+    ensures { result.items ≡ codes ":" ++ (decimal n
+        ++ codes ":1: the line is not understood; write a register and its value, as 'pmpcfg0 0x1f'\n") }
+{
+    let mut line = ArrayVec::new();
+    push_text(&mut line, b":");
+    push_decimal(&mut line, n);
+    push_text(
+        &mut line,
+        b":1: the line is not understood; write a register and its value, as 'pmpcfg0 0x1f'\n",
+    );
+    line
+}
+
+/// Writes that a line of a listing is not understood.
+fn print_listing_fault<W: Sink>(name: &str, n: u64, out: &mut W) -> Result<(), DeviceFault>
+    ensures { Prints (listing_fault name.now n)
+        (writing W.contents W.failures W.stalls out.old out.new) result }
+{
+    write_whole(out, name.as_bytes())?;
+    write_whole(out, fault_of_line(n).as_slice())?;
+    Ok(())
+}
+
+/// Prints what is wrong with the bytes of a listing of registers.
+fn lint_listing<W: Sink>(name: &str, bytes: &[u8], out: &mut W) -> Result<u8, Trouble<'static>>
+    requires { length bytes.now < 2 ^ 64 - 1 }
+    ensures { Tells (IsListingLint name.now bytes.now)
+        (writing W.contents W.failures W.stalls out.old out.new) result }
+{
+    match listing_of(bytes) {
+        Ok(_) => Ok(answer_status(true)),
+        Err(line) => match print_listing_fault(name, line, out) {
+            Ok(()) => Ok(answer_status(false)),
+            Err(DeviceFault) => Err(Trouble::Output),
+        },
+    }
+}
+
+/// Prints the first line of a listing of registers that is not understood. The status is 0 where there is none, and otherwise 1.
+pub fn do_lint_listing<'a, R: Source, W: Sink>(
+    alloc: Global,
+    file: &'a str,
+    first: &mut R,
+    out: &mut W,
+) -> Result<u8, Trouble<'a>>
+    ensures { LintsListing file.entry (reading R.remaining R.failures first.old first.new)
+        (writing W.contents W.failures W.stalls out.old out.new) result }
+{
+    let bytes = bytes_in(alloc, file, first, REGISTER_BYTES)?;
+    lint_listing(file, bytes.as_slice(), out)
 }

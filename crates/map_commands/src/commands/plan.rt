@@ -1,6 +1,6 @@
 //! `plan`: the fewest entries of a map, and their certificate.
 
-ghost use Rattle.std.specs.Prelude.{◌≡◌, ◌-◌, ◌^◌, ◌<◌, ℕ, List, Option, IfErr, IfOk, length, option_map};
+ghost use Rattle.std.specs.Prelude.{◌≡◌, ◌+◌, ◌-◌, ◌^◌, ◌<◌, ℕ, List, Option, IfErr, IfOk, length, option_map};
 ghost use Rattle.map_commands.specs.Commands.{most_entries, placing, reading, IsPrinted, IsWithin, Plans};
 ghost use Rattle.byte_streams.specs.Writings.{writing, PrintsOne};
 
@@ -8,7 +8,7 @@ use crate::certified_plan::plan_and_certify;
 use crate::inputs::map_in;
 use byte_streams::{DeviceFault, Sink, Source};
 use pmp_encoding::{Entry, Limit};
-use printed_lines::print_plan;
+use printed_lines::{print_plan, room_from};
 use program_files::WholeSink;
 use program_tasks::Format;
 use program_troubles::Trouble;
@@ -28,16 +28,18 @@ pub struct Asked<'a> {
     pub format: Format,
     /// What the names in C and assembly begin with.
     pub name: Option<&'a str>,
+    /// The hart's entry at which it begins.
+    pub first: u8,
 }
 
 /// How many entries a plan may have, where there is a bound: C and assembly are printed of a whole bank alone.
-fn most(limit: Limit, at_most: Option<u64>, format: Format) -> Option<u64>
-    ensures { result ≡ most_entries limit at_most format }
+fn most(limit: Limit, first: u8, at_most: Option<u64>, format: Format) -> Option<u64>
+    ensures { result ≡ most_entries limit first at_most format }
 {
     match format {
         Format::Text | Format::Json => at_most,
         Format::C | Format::Asm => {
-            let entries = u64::from(limit.number());
+            let entries = room_from(first, limit) as u64;
             match at_most {
                 Some(n) => Some(n.min(entries)),
                 None => Some(entries),
@@ -52,20 +54,22 @@ fn print_as<W: Sink>(
     map: &str,
     name: Option<&str>,
     entries: &[Entry],
+    first: u8,
     limit: Limit,
     out: &mut W,
 ) -> Result<(), DeviceFault>
-    requires fits { (at_most : Option ℕ) × IsWithin (most_entries limit at_most format)
+    requires fits { (at_most : Option ℕ) × IsWithin (most_entries limit first at_most format)
         (length entries.now) }
+    requires numbers { first + length entries.now < 2 ^ 64 }
     ensures { PrintsOne (IsPrinted format map.now
-        (option_map (λ s. s.now) name.entry) limit entries.now)
+        (option_map (λ s. s.now) name.entry) limit first entries.now)
         (writing W.contents W.failures W.stalls out.old out.new) result }
 {
     match format {
-        Format::Text => print_plan(entries, limit, out),
-        Format::C => print_c(name, entries, limit, out),
-        Format::Asm => print_asm(name, entries, limit, out),
-        Format::Json => print_json(map, entries, limit, out),
+        Format::Text => print_plan(entries, first, limit, out),
+        Format::C => print_c(name, entries, first, limit, out),
+        Format::Asm => print_asm(name, entries, first, limit, out),
+        Format::Json => print_json(map, entries, first, limit, out),
     }
 }
 
@@ -74,13 +78,13 @@ pub fn do_plan<'a, R: Source, C: WholeSink, W: Sink>(
     alloc: Global,
     map: &'a str,
     asked: Asked<'a>,
-    first: &mut R,
+    source: &mut R,
     certificate: &mut C,
     out: &mut W,
 ) -> Result<u8, Trouble<'a>>
     ensures { Plans map.entry asked.entry.cert asked.entry.limit asked.entry.at_most
-        asked.entry.format (option_map (λ s. s.now) asked.entry.name)
-        (reading R.remaining R.failures first.old first.new)
+        asked.entry.format (option_map (λ s. s.now) asked.entry.name) asked.entry.first
+        (reading R.remaining R.failures source.old source.new)
         (placing C.contents C.failures C.stalls C.stands certificate.old certificate.new)
         (writing W.contents W.failures W.stalls out.old out.new) result }
 {
@@ -90,12 +94,13 @@ pub fn do_plan<'a, R: Source, C: WholeSink, W: Sink>(
         at_most,
         format,
         name,
+        first,
     } = asked;
     let file = map;
-    let map = map_in(alloc, file, first)?;
-    let most = most(limit, at_most, format);
+    let map = map_in(alloc, file, source)?;
+    let most = most(limit, first, at_most, format);
     let plan = plan_and_certify(alloc, &map, limit, most, cert, certificate)?;
-    match print_as(format, file, name, plan.entries(), limit, out) {
+    match print_as(format, file, name, plan.entries(), first, limit, out) {
         Ok(()) => Ok(0),
         Err(DeviceFault) => Err(Trouble::Output),
     }

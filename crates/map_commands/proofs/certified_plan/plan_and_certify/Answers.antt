@@ -19,7 +19,7 @@ returns-in_err-plan-clause-refused g c =
 pub returns-in_err-within-clause-refused : goal.returns-in_err-within-clause-refused
 returns-in_err-within-clause-refused g c =
     let p = err_from_is_err_and c.from_residual-in_err-within.result c.from_residual-in_err-within.ensures.1 in
-    let b = rw c.entries.ensures at c.in_err-within.ensures.beyond in
+    let b = c.in_err-within.ensures.beyond in
     rw (p.1, p.2) (beyond (record {
       entries = c.in_ok-plan.plan.entries;
       fewest = c.in_ok-plan.ensures.fewest;
@@ -38,7 +38,7 @@ returns-in_err-put-clause-refused g c =
       named = c.in-Some.is;
       told = b.0;
       entries = c.in_ok-plan.plan.entries;
-      planned = record { fewest = made.fewest; chosen = made.choice; order = made.order; within = rw c.entries.ensures at c.in_ok-within.ensures.within };
+      planned = record { fewest = made.fewest; chosen = made.choice; order = made.order; within = c.in_ok-within.ensures.within };
       bytes = certificate_for c.args.limit c.in_ok-plan.plan (tree_of view);
       certificate = certificate_is view c.args.limit c.in_ok-plan.plan made.branches made.most made.bound made.root made.pages made.fewest.means;
       broken = b.1;

@@ -5,7 +5,7 @@ use Rattle.map_commands.proofs.certified_plan.planned_within.Goals as goal
 pub returns-in_err-within-clause-refused : goal.returns-in_err-within-clause-refused
 returns-in_err-within-clause-refused c =
     let p = err_from_is_err_and c.from_residual-in_err-within.result c.from_residual-in_err-within.ensures.1 in
-    let b = rw c.entries.ensures at c.in_err-within.ensures.beyond in
+    let b = c.in_err-within.ensures.beyond in
     rw (p.1, p.2) (inr (record {
       entries = c.in_ok-plan.plan.entries;
       fewest = c.in_ok-plan.ensures.fewest;
