@@ -16,6 +16,7 @@ abbrev pub label_of : Option (List ℕ) → List ℕ
 label_of None = []
 label_of (Some name) = name
 
+-- and what ends it
 abbrev pub label_end : Option (List ℕ) → List ℕ
 label_end None = []
 label_end (Some name) = codes "_load:\n"
@@ -45,6 +46,7 @@ abbrev pub asm_joined : ℕ → List Entry → List ℕ
 asm_joined first entries =
     codes "    li      t0, 0x" ++ hex 16 (word_from first entries (first / 8)) ++ codes "\n    or      t0, t0, t1\n    csrw    pmpcfg" ++ decimal (2 * (first / 8)) ++ codes ", t0\n"
 
+-- the write of the word that is shared
 abbrev pub asm_shared_row : ℕ → List Entry → ℕ → List ℕ
 asm_shared_row first entries i = asm_kept first ++ asm_joined first entries
 

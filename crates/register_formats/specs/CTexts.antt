@@ -85,6 +85,7 @@ c_kept first =
 abbrev pub c_joined : ℕ → List ℕ
 c_joined first = codes "    __asm__ volatile(\"csrw pmpcfg" ++ decimal (2 * (first / 8)) ++ codes ", %0\" : : \"r\"(kept | cfg[" ++ decimal (first / 8) ++ codes "]));\n"
 
+-- the write of the word that is shared
 abbrev pub c_shared_write : ℕ → ℕ → List ℕ
 c_shared_write first i = c_kept first ++ c_joined first
 

@@ -19,6 +19,7 @@ head_below first =
       codes " *  - no entry below these says otherwise where it matches: they are left as they are\n"
       ++ codes " *    and come first, and `pmpmon audit` of all registers tells what all of them mean;\n"
 
+-- and what ends it
 abbrev pub head_end : List ℕ
 head_end =
     codes " *  - the address registers are written first, then the configuration words, 0 to\n"
