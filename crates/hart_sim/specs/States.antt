@@ -22,10 +22,11 @@ pub record State : Type 0 where
   pub written : ℕ → Bool
   pub marked : ℕ → Bool
 
--- the monitor's part of a state, and a state with another one
+-- the monitor's part of a state
 abbrev pub core_of : State → Core
 core_of s = record { table = s.table; worlds = s.worlds; registers = s.registers; marked = s.marked }
 
+-- a state with another such part
 abbrev pub with_core : State → Core → State
 with_core s core = record s { table = core.table; worlds = core.worlds; registers = core.registers; marked = core.marked }
 

@@ -340,6 +340,7 @@ abbrev pub IsPlatformLint : List ℕ → List ℕ → Bool → List ℕ → Type
 IsPlatformLint name bytes true text = ((platform : Layout) × IsPlatformFile bytes platform) × (text ≡ [])
 IsPlatformLint name bytes false text = IsLintLine name bytes text
 
+-- what is written of the bytes of a file, by whether its name is that of a platform
 abbrev pub IsLint : Bool → List ℕ → List ℕ → Bool → List ℕ → Type 0
 IsLint true = IsPlatformLint
 IsLint false = IsMapLint

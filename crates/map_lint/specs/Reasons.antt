@@ -15,6 +15,7 @@ use Rattle.lint_texts.specs.Pieces.{address_text, column_text, quoted}
 abbrev pub named_text : List ℕ → ℕ → List ℕ
 named_text name before = column_text before ++ (name ++ codes " ")
 
+-- what is said of a word that is no number
 abbrev pub number_text : List ℕ → ℕ → List ℕ → List ℕ
 number_text name before word = named_text name before ++ (quoted word ++ no_number (looks_like_number word))
 
@@ -22,6 +23,7 @@ number_text name before word = named_text name before ++ (quoted word ++ no_numb
 abbrev pub whole_text : List ℕ → ℕ → List ℕ
 whole_text mend whole = codes " is not a multiple of 4096; " ++ (mend ++ address_text whole)
 
+-- what is said of a number that is no whole number of pages
 abbrev pub part_text : List ℕ → ℕ → List ℕ → List ℕ → ℕ → List ℕ
 part_text name before word mend whole = named_text name before ++ (word ++ whole_text mend whole)
 
@@ -44,6 +46,7 @@ perm_mend true false true = codes " is not written so; write rx"
 perm_mend true true false = codes " is not written so; write rw"
 perm_mend true true true = codes " is not written so; write rwx"
 
+-- how its letters are written
 abbrev pub letters_mend : List ℕ → List ℕ
 letters_mend word = perm_mend (list_any (is_letter 114) word) (list_any (is_letter 119) word) (list_any (is_letter 120) word)
 
@@ -88,6 +91,7 @@ three_by base_at base size_at size perm_at perm None bytes = number_text (codes 
 three_by base_at base size_at size perm_at perm (Some first) None = number_text (codes "SIZE") size_at size
 three_by base_at base size_at size perm_at perm (Some first) (Some bytes) = range_text base_at base size_at size perm_at perm first bytes
 
+-- three words, each with how many bytes stand before it
 unfoldable pub three_text : ℕ → List ℕ → ℕ → List ℕ → ℕ → List ℕ → List ℕ
 three_text base_at base size_at size perm_at perm = three_by base_at base size_at size perm_at perm (number_of base) (number_of size)
 
@@ -99,6 +103,7 @@ words_by text first second third =
     else if not (length (word_from text third) == 0) then column_text (begin_from text third) ++ codes "a fourth word; a comment begins with #"
     else three_text (begin_from text 0) (word_from text 0) (begin_from text first) (word_from text first) (begin_from text second) (word_from text second)
 
+-- what is said of the words of a line without its comment
 unfoldable pub words_text : List ℕ → List ℕ
 words_text text = words_by text (end_from text 0) (end_from text (end_from text 0)) (end_from text (end_from text (end_from text 0)))
 

@@ -31,6 +31,7 @@ Says text (Some document) said = (breach : Breach) × IsBreach document breach �
 abbrev pub IsFinding : List ℕ → List ℕ → List ℕ → Type 0
 IsFinding name text line = (said : List ℕ) × Says text (parse_document text) said × (line ≡ (name ++ said) ++ codes "\n")
 
+-- what is written of a file that is no text
 abbrev pub no_text_line : List ℕ → List ℕ
 no_text_line name = name ++ codes ": not UTF-8\n"
 

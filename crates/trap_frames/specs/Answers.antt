@@ -21,6 +21,7 @@ abbrev pub bit_of : Bool → ℕ
 bit_of false = 0
 bit_of true = 1
 
+-- the harts that are woken, a bit for each
 abbrev pub wake_word : List Bool → ℕ
 wake_word woken =
     bit_of (slice_index_or woken 0 false) + 2 * bit_of (slice_index_or woken 1 false) + 4 * bit_of (slice_index_or woken 2 false) + 8 * bit_of (slice_index_or woken 3 false)
@@ -41,18 +42,21 @@ register_bytes file zero = []
 register_bytes file (suc zero) = little_bytes 8 file.pc
 register_bytes file (suc (suc n)) = register_bytes file (suc n) ++ little_bytes 8 (x_of file (suc n))
 
--- the configuration byte and the address register of entry i, zero past the entries
+-- the configuration byte of an entry, 0 where there is none
 abbrev pub cfg_in : Option Entry → ℕ
 cfg_in None = 0
 cfg_in (Some e) = cfg_of e
 
+-- its address register
 abbrev pub address_in : Option Entry → ℕ
 address_in None = 0
 address_in (Some e) = address_of e
 
+-- the configuration byte of entry i of a list, 0 after its end
 abbrev pub cfg_at : List Entry → ℕ → ℕ
 cfg_at entries i = cfg_in (slice_get entries i)
 
+-- its address register
 abbrev pub address_at : List Entry → ℕ → ℕ
 address_at entries i = address_in (slice_get entries i)
 
@@ -61,6 +65,7 @@ abbrev pub cfg_bytes : List Entry → ℕ → List ℕ
 cfg_bytes entries zero = []
 cfg_bytes entries (suc n) = cfg_bytes entries n ++ (cfg_at entries n ∷ [])
 
+-- the address registers of the entries below n
 abbrev pub address_bytes : List Entry → ℕ → List ℕ
 address_bytes entries zero = []
 address_bytes entries (suc n) = address_bytes entries n ++ little_bytes 8 (address_at entries n)

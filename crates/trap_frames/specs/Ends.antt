@@ -5,13 +5,14 @@ use Rattle.trap_frames.specs.Words.{bytes_of, end_tag}
 use Rattle.trap_frames.specs.declared.end.Refusal.{Refusal}
 use Rattle.trap_frames.specs.declared.end.Refusal.TheVariants.{NotUnderstood, Platform, NeedsEntries, Memory}
 
--- the number of a reason, and what stands beside it
+-- the number of a reason
 abbrev pub reason_of : Refusal → ℕ
 reason_of NotUnderstood = 1
 reason_of (Platform fault) = 2
 reason_of (NeedsEntries count) = 3
 reason_of Memory = 4
 
+-- what is told beside the reason: the rule that a platform breaks, or how many entries are needed
 abbrev pub detail_of : Refusal → ℕ
 detail_of NotUnderstood = 0
 detail_of (Platform fault) = platform_fault_number fault

@@ -25,9 +25,11 @@ abbrev pub device_words : List ℕ → ℕ → List (ℕ × ℕ × ℕ)
 device_words bytes zero = []
 device_words bytes (suc n) = device_words bytes n ++ ((word_at bytes (71 + 3 * n), word_at bytes (72 + 3 * n), word_at bytes (73 + 3 * n)) ∷ [])
 
+-- the three words of a device: base, size, permission
 abbrev pub words_of_device : (ℕ × ℕ × Perm) → ℕ × ℕ × ℕ
 words_of_device device = (device.0, device.1, bits_of device.2)
 
+-- those of all devices
 abbrev pub words_of : List (ℕ × ℕ × Perm) → List (ℕ × ℕ × ℕ)
 words_of devices = map words_of_device devices
 
