@@ -1,5 +1,5 @@
 -- How runs over lines and plans end.
-use Rattle.std.proofs.Common.{ℕ, ◌+◌, ◌-◌, ◌^◌, ◌≡◌, ◌<◌, ◌≤◌, ◌⊎◌, inl, inr, List, Option, Some, None, Result, Ok, Err, IfErr, arith, refl}
+use Rattle.std.proofs.Common.{ℕ, ◌-◌, ◌≡◌, ◌≤◌, ◌⊎◌, inl, inr, List, Option, Some, None, Result, Ok, Err, IfErr, arith, refl}
 use Rattle.std.specs.Borrow.{Bor}
 use Rattle.byte_streams.specs.Writings.{IsUnwritten}
 use Rattle.text_lines.specs.declared.fault.RunFault.{RunFault}
@@ -44,7 +44,3 @@ fits_c limit first (Some most) n h = omega (arith, h)
 pub fits_asm : (limit : Limit) (first : ℕ) (at_most : Option ℕ) (n : ℕ) → IsWithin (most_entries limit first at_most formats.Asm) n → n ≤ limit_number limit - first
 fits_asm limit first None n h = h
 fits_asm limit first (Some most) n h = omega (arith, h)
-
--- the numbers of a plan's entries fit in 64 bits
-pub small_numbers : (first n : ℕ) → first < 2 ^ 8 → n < 2 ^ 32 → first + n < 2 ^ 64
-small_numbers first n small few = omega (arith, small, few)

@@ -1,6 +1,6 @@
 //! `plan`: the fewest entries of a map, and their certificate.
 
-ghost use Rattle.std.specs.Prelude.{◌≡◌, ◌+◌, ◌-◌, ◌^◌, ◌<◌, ℕ, List, Option, IfErr, IfOk, length, option_map};
+ghost use Rattle.std.specs.Prelude.{◌≡◌, ◌-◌, ◌^◌, ◌<◌, ℕ, List, Option, IfErr, IfOk, length, option_map};
 ghost use Rattle.map_commands.specs.Commands.{most_entries, placing, reading, IsPrinted, IsWithin, Plans};
 ghost use Rattle.byte_streams.specs.Writings.{writing, PrintsOne};
 
@@ -60,7 +60,7 @@ fn print_as<W: Sink>(
 ) -> Result<(), DeviceFault>
     requires fits { (at_most : Option ℕ) × IsWithin (most_entries limit first at_most format)
         (length entries.now) }
-    requires numbers { first + length entries.now < 2 ^ 64 }
+    requires small { length entries.now < 2 ^ 32 }
     ensures { PrintsOne (IsPrinted format map.now
         (option_map (λ s. s.now) name.entry) limit first entries.now)
         (writing W.contents W.failures W.stalls out.old out.new) result }

@@ -2,7 +2,6 @@ use Rattle.std.proofs.Common.{refl, sym}
 use Rattle.std.proofs.lemmas.Result.{err_from_is_err_and}
 use Rattle.map_commands.specs.Commands.{beyond, planned, starved, uncertified}
 use Rattle.map_commands.specs.Commands as commands
-use Rattle.map_commands.proofs.Ends.{small_numbers}
 use Rattle.map_commands.proofs.commands.plan.do_plan.Goals as goal
 
 pub returns-in_err-map : goal.returns-in_err-map
@@ -23,7 +22,7 @@ returns-in_err-plan g c =
 pub print_as-requires : goal.print_as-requires
 print_as-requires g c = record {
   fits = (_, rw (sym c.entries.ensures) at (rw c.most-most.ensures at c.in_ok-plan.ensures.planned).within);
-  numbers = ?;
+  small = rw c.entries.ensures c.in_ok-plan.ensures.small;
 }
 
 pub returns-in-Ok : goal.returns-in-Ok
