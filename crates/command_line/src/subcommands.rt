@@ -174,7 +174,10 @@ fn lint_command<'a>(alloc: Global) -> Result<Command<'a>, AllocError>
 {
     let about = "Say what is wrong with a file, line by line, and how to fix it";
     let arguments = [
-        Argument::File("FILE", "The map file, or the platform file where its name ends in .toml"),
+        Argument::File(
+            "FILE",
+            "The map file, or the platform file where its name ends in .toml",
+        ),
         Argument::Registers("Read FILE as a listing of registers"),
         Argument::Trace,
         Argument::Platform,

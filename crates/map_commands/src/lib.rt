@@ -18,7 +18,7 @@ mod inputs;
 
 pub use certified_plan::{bank_of, plan_and_certify, planned};
 pub use commands::{
-    Asked, do_audit, do_check, do_judge_as, do_lint, do_lint_listing, do_map, do_plan,
-    do_show_as, verdict,
+    Asked, do_audit, do_check, do_judge_as, do_lint, do_lint_listing, do_map, do_plan, do_show_as,
+    verdict,
 };
 pub use inputs::bytes_in;

@@ -40,12 +40,28 @@ pub begins_wrongly :
     → value (codes "name") ≡ option_map (λ s. s.now) name → IfSome name (λ s. is_identifier s.now ≡ true)
     → Breaks value flag begins_inside fault → IsFirst value flag (demands_of subcommands.Plan) fault
 begins_wrongly value flag map cert limit at_most format name fault m c other l a f n well broken =
-    inr (given value (codes "MAP") map m,
-    inr (λ same. another_file _ _ _ c other (same ∙ m),
-    inr (given value (codes "entries") _ l,
-    inr (λ lacks. lacks limit l,
-    inr (λ lacks. lacks at_most a,
-    inr (given value (codes "format") _ f,
-    inr (λ lacks. lacks format f,
-    inr (λ lacks. named_well _ name lacks.0 n well lacks.1 lacks.2,
-    inl broken))))))))
+    inr (
+      given value (codes "MAP") map m,
+      inr (
+        λ same. another_file _ _ _ c other (same ∙ m),
+        inr (
+          given value (codes "entries") _ l,
+          inr (
+            λ lacks. lacks limit l,
+            inr (
+              λ lacks. lacks at_most a,
+              inr (
+                given value (codes "format") _ f,
+                inr (
+                  λ lacks. lacks format f,
+                  inr (
+                    λ lacks. named_well _ name lacks.0 n well lacks.1 lacks.2,
+                    inl broken,
+                  ),
+                ),
+              ),
+            ),
+          ),
+        ),
+      ),
+    )

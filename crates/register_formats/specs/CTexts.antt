@@ -58,9 +58,9 @@ abbrev pub c_loader_writes : ℕ → List ℕ
 c_loader_writes first =
     if first == 0 then codes " * Writes all of them. Machine mode calls it on each hart, with mstatus.MPRV = 0.\n"
     else
-      codes " * Writes those of the first entry in use and of all after it. The others are left as\n"
-      ++ codes " * they are, and so are their bytes of a configuration word that they share with these.\n"
-      ++ codes " * Machine mode calls it on each hart, with mstatus.MPRV = 0.\n"
+    codes " * Writes those of the first entry in use and of all after it. The others are left as\n"
+    ++ codes " * they are, and so are their bytes of a configuration word that they share with these.\n"
+    ++ codes " * Machine mode calls it on each hart, with mstatus.MPRV = 0.\n"
 
 -- in which order, and why
 abbrev pub c_loader_reason : List ℕ

@@ -16,8 +16,8 @@ abbrev pub head_below : ℕ → List ℕ
 head_below first =
     if first == 0 then []
     else
-      codes " *  - no entry below these says otherwise where it matches: they are left as they are\n"
-      ++ codes " *    and come first, and `pmpmon audit` of all registers tells what all of them mean;\n"
+    codes " *  - no entry below these says otherwise where it matches: they are left as they are\n"
+    ++ codes " *    and come first, and `pmpmon audit` of all registers tells what all of them mean;\n"
 
 -- and what ends it
 abbrev pub head_end : List ℕ

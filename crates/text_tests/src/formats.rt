@@ -300,7 +300,10 @@ fn json_from_entry_three_has_real_numbers(rt: HostRuntime) {
     assert!(rt; sink.written().ends_with(end.as_slice()));
     let mut many = PieceSink::new(4096, None);
     assert!(rt; print_json("m", board(&rt).as_slice(), 14, Limit::Sixteen, &mut many).is_ok());
-    assert!(rt; many.written().ends_with(b"\n  ],\n  \"pmpcfg\": [\n  ]\n}\n"));
+    assert!(rt;
+        many.written()
+            .ends_with(b"\n  ],\n  \"pmpcfg\": [\n  ]\n}\n")
+    );
 }
 
 #[test]

@@ -109,10 +109,15 @@ fn plan_leaves_the_entries_below_the_first(rt: HostRuntime) -> Result<(), Fail> 
     let text =
         "entries 3\n3 0x1b 0x00000000040001ff\n4 0x18 0x000000002003ffff\n5 0x1f 0x0000000020ffffff\npmpcfg2 0x0000000000000000\n";
     prints(&rt, rt.alloc(), &words, MAP, b"", text)?;
-    let words = [
-        "pmpmon", "plan", "m", "--first", "14", "--format", "asm",
-    ];
-    refuses(&rt, rt.alloc(), &words, MAP, b"", "pmpmon: needs 3 entries\n")
+    let words = ["pmpmon", "plan", "m", "--first", "14", "--format", "asm"];
+    refuses(
+        &rt,
+        rt.alloc(),
+        &words,
+        MAP,
+        b"",
+        "pmpmon: needs 3 entries\n",
+    )
 }
 
 #[test]

@@ -26,7 +26,7 @@ loop-i-preserved g c =
     c.as_slice.ensures.value ∙ (rw c.from.ensures at c.push_entry.ensures) ∙ ap₂ (λ l t. l ++ t) c.new-line.ensures (ap₂ (entry_text k) c.encode-cfg.ensures.cfg c.encode-cfg.ensures.address) in (
       w.0 ++ entry_text k (cfg_of entry) (address_of entry),
       append_assoc w.0 _ _ ∙ ap (λ x. w.0 ++ (entry_text k (cfg_of entry) (address_of entry) ++ entries_text x (drop (i + 1) c.args.entries.now))) (next c.args.first i)
-      ∙ ap (λ x. w.0 ++ x) (sym (entries_text-first k c.args.entries.now i entry c.loop-i-test.true c.index-entries-i.is)) ∙ w.1,
+          ∙ ap (λ x. w.0 ++ x) (sym (entries_text-first k c.args.entries.now i entry c.loop-i-test.true c.index-entries-i.is)) ∙ w.1,
       takes_then g.W.Sink.contents g.W.Sink.failures g.W.Sink.stalls w.2 (rw line at c.in_ok-write_whole.ensures),
     )
 
