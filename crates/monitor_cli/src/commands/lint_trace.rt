@@ -2,7 +2,7 @@
 
 ghost use Rattle.std.specs.Prelude.{◌≡◌, ◌-◌, ◌^◌, ◌<◌, IfErr, IfOk, length};
 ghost use Rattle.byte_streams.specs.Writings.{writing};
-ghost use Rattle.map_commands.specs.Commands.{reading, Tells};
+ghost use Rattle.map_commands.specs.Commands.{answer_status, reading, Tells};
 ghost use Rattle.monitor_cli.specs.Traces.{HasHarts, HasNoHarts, IsTraceLint, LintsTrace};
 
 use crate::machine_run::read_platform;
@@ -33,6 +33,13 @@ fn harts_in<'a, R: Source>(
     Ok(platform.harts())
 }
 
+/// The status of an answer: 0 for a yes, and 1 for a no.
+fn answer_status(yes: bool) -> u8
+    ensures { result ≡ answer_status yes }
+{
+    if yes { 0 } else { 1 }
+}
+
 /// Prints what is wrong with the bytes of a trace.
 fn lint_as_trace<W: Sink>(
     alloc: Global,
@@ -46,8 +53,7 @@ fn lint_as_trace<W: Sink>(
         (writing W.contents W.failures W.stalls out.old out.new) result }
 {
     match lint_trace(alloc, name, bytes, harts, out) {
-        Ok(true) => Ok(0),
-        Ok(false) => Ok(1),
+        Ok(is_trace) => Ok(answer_status(is_trace)),
         Err(LintFault::Memory) => Err(Trouble::Memory),
         Err(LintFault::Device) => Err(Trouble::Output),
     }
