@@ -351,7 +351,7 @@ fn json_of_a_board(rt: HostRuntime) {
 fn a_list_that_fits_no_bank_has_no_words(rt: HostRuntime) {
     let page = entry(&rt, 0x1000, 12, Perm::Execute);
     let mut sink = PieceSink::new(4096, None);
-    assert!(rt; print_json("-", [page; 17].as_slice(), Limit::Sixteen, &mut sink).is_ok());
+    assert!(rt; print_json("-", [page; 17].as_slice(), 0, Limit::Sixteen, &mut sink).is_ok());
     let front =
         b"{\n  \"map\": \"-\",\n  \"limit\": 16,\n  \"entries\": [\n    {\"index\": 0, \"cfg\": 28, ";
     let back =
