@@ -9,6 +9,7 @@
 //! ```
 #![tactic(auto)]
 
+mod arguments;
 mod fault;
 mod given;
 mod subcommand;

@@ -1,196 +1,20 @@
 //! The task that a subcommand with its values is.
 
-ghost use Rattle.std.specs.Prelude.{◌≡◌, ◌≢◌, ◌<◌, ◌↔◌, ℕ, [], ◌∷◌, IfErr, IfOk, IfSome, Option, None, Some, codes, false, true, option_map};
-ghost use Rattle.std.specs.List.{list_all};
-ghost use Rattle.pmp_encoding.specs.declared.limit.Limit.{Limit};
-ghost use Rattle.pmp_encoding.specs.Limits.{limit_number};
-ghost use Rattle.text_lines.specs.Numbers.{number_of};
-ghost use Rattle.program_tasks.specs.declared.task.Format.{Format};
+ghost use Rattle.std.specs.Prelude.{◌≡◌, ◌≢◌, ◌<◌, ◌↔◌, [], ◌∷◌, IfErr, IfOk, Option, None, Some, codes, true, option_map};
 ghost use Rattle.program_tasks.specs.declared.task.LintKind.{LintKind};
-ghost use Rattle.program_tasks.specs.Faults.{Breaks, IsFaultOf, IsFirst, RefusesTask};
-ghost use Rattle.program_tasks.specs.Faults.Demand.{begins_inside, counts, has, identifies, names_limit, names_format, of_trace, one_kind};
+ghost use Rattle.program_tasks.specs.Faults.{IsFaultOf, IsFirst, RefusesTask};
+ghost use Rattle.program_tasks.specs.Faults.Demand.{of_trace, one_kind};
 ghost use Rattle.program_tasks.specs.Subcommands.{word_of};
-ghost use Rattle.program_tasks.specs.Tasks.{limit_word, format_word, input_word, is_identifier, is_letter, is_letter_or_digit, BeginsAt, Counts, HasKind, HasValues, IsSound, IsTaskOf, NamesNone};
+ghost use Rattle.program_tasks.specs.Tasks.{input_word, HasKind, HasValues, IsSound, IsTaskOf, NamesNone};
 
+use crate::arguments::{at_most_in, first_in, format_in, limit_in, name_in, value_in};
 use crate::fault::Fault;
 use crate::given::Values;
 use crate::subcommand::Subcommand;
-use crate::task::{Format, LintKind, Task};
-use pmp_encoding::Limit;
-use text_lines::number;
+use crate::task::{LintKind, Task};
 
 /// The word that standard input stands for.
 const INPUT: &str = "-";
-
-/// The limit that a word names.
-fn limit_of(word: &str) -> Option<Limit>
-    ensures some { IfSome result (λ limit. word.now ≡ limit_word limit) }
-    ensures none { result ≡ None → (limit : Limit) → word.now ≢ limit_word limit }
-{
-    if word == "16" {
-        return Some(Limit::Sixteen);
-    }
-    if word == "64" {
-        return Some(Limit::SixtyFour);
-    }
-    None
-}
-
-/// The format that a word names.
-fn format_of(word: &str) -> Option<Format>
-    ensures some { IfSome result (λ format. word.now ≡ format_word format) }
-    ensures none { result ≡ None → (format : Format) → word.now ≢ format_word format }
-{
-    if word == "text" {
-        return Some(Format::Text);
-    }
-    if word == "c" {
-        return Some(Format::C);
-    }
-    if word == "asm" {
-        return Some(Format::Asm);
-    }
-    if word == "json" {
-        return Some(Format::Json);
-    }
-    None
-}
-
-/// The value of an argument that has to be there.
-fn value_in<'a, V: Values<'a>>(given: &V, name: &str) -> Result<&'a str, Fault<'a>>
-    ensures value { IfOk result (λ word. V.value given.now name.now ≡ Some word.now) }
-    ensures missing { IfErr result (Breaks (V.value given.now) (V.flag given.now) (has name.now)) }
-{
-    match given.value(name) {
-        Some(word) => Ok(word),
-        None => Err(Fault::Missing),
-    }
-}
-
-/// The value of `--entries`.
-fn limit_in<'a, V: Values<'a>>(given: &V) -> Result<Limit, Fault<'a>>
-    ensures value { IfOk result (λ limit.
-        V.value given.now (codes "entries") ≡ Some (limit_word limit)) }
-    ensures other { IfErr result (λ _.
-        (limit : Limit) → V.value given.now (codes "entries") ≢ Some (limit_word limit)) }
-    ensures fault { IfErr result (IsFirst (V.value given.now) (V.flag given.now)
-        (has (codes "entries") ∷ names_limit ∷ [])) }
-{
-    let word = value_in(given, "entries")?;
-    match limit_of(word) {
-        Some(limit) => Ok(limit),
-        None => Err(Fault::Entries(word)),
-    }
-}
-
-/// The value of `--format`.
-fn format_in<'a, V: Values<'a>>(given: &V) -> Result<Format, Fault<'a>>
-    ensures value { IfOk result (λ format.
-        V.value given.now (codes "format") ≡ Some (format_word format)) }
-    ensures other { IfErr result (λ _.
-        (format : Format) → V.value given.now (codes "format") ≢ Some (format_word format)) }
-    ensures fault { IfErr result (IsFirst (V.value given.now) (V.flag given.now)
-        (has (codes "format") ∷ names_format ∷ [])) }
-{
-    let word = value_in(given, "format")?;
-    match format_of(word) {
-        Some(format) => Ok(format),
-        None => Err(Fault::Format(word)),
-    }
-}
-
-/// The value of `--at-most`, where it is given.
-fn at_most_in<'a, V: Values<'a>>(given: &V) -> Result<Option<u64>, Fault<'a>>
-    ensures value { IfOk result (Counts (V.value given.now (codes "at-most"))) }
-    ensures fault { IfErr result (Breaks (V.value given.now) (V.flag given.now) counts) }
-{
-    match given.value("at-most") {
-        None => Ok(None),
-        Some(word) => {
-            let Some(count) = number(word.as_bytes()) else {
-                return Err(Fault::AtMost(word));
-            };
-            Ok(Some(count))
-        }
-    }
-}
-
-/// The number of the entry that a word names.
-fn entry_of(word: &str, limit: Limit) -> Option<u8>
-    ensures some { IfSome result (λ entry. (number_of word.now ≡ Some entry)
-        × (entry < limit_number limit)) }
-    ensures none { result ≡ None → (entry : ℕ) → number_of word.now ≡ Some entry
-        → ¬ (entry < limit_number limit) }
-{
-    let entry = number(word.as_bytes())?;
-    if entry < u64::from(limit.number()) {
-        Some(entry as u8)
-    } else {
-        None
-    }
-}
-
-/// The value of `--first`, an entry of a hart of that limit: entry 0 where it is not given.
-fn first_in<'a, V: Values<'a>>(given: &V, limit: Limit) -> Result<u8, Fault<'a>>
-    requires limit { V.value given.now (codes "entries") ≡ Some (limit_word limit) }
-    ensures value { IfOk result (BeginsAt (V.value given.now (codes "first"))) }
-    ensures below { IfOk result (λ first. first < limit_number limit) }
-    ensures fault { IfErr result (Breaks (V.value given.now) (V.flag given.now) begins_inside) }
-{
-    match given.value("first") {
-        None => Ok(0),
-        Some(word) => match entry_of(word, limit) {
-            Some(entry) => Ok(entry),
-            None => Err(Fault::First(word)),
-        },
-    }
-}
-
-fn is_letter(byte: u8) -> bool
-    ensures { result ≡ is_letter byte }
-{
-    matches!(byte, b'A'..=b'Z' | b'a'..=b'z' | b'_')
-}
-
-fn is_letter_or_digit(byte: u8) -> bool
-    ensures { result ≡ is_letter_or_digit byte }
-{
-    is_letter(byte) || matches!(byte, b'0'..=b'9')
-}
-
-fn are_letters_or_digits(bytes: &[u8]) -> bool
-    ensures { result ≡ list_all is_letter_or_digit bytes.now }
-{
-    bytes.iter().all(|byte| is_letter_or_digit(*byte))
-}
-
-/// Whether a word is an identifier of C, of at most 32 bytes.
-fn is_identifier(word: &[u8]) -> bool
-    ensures { result ≡ is_identifier word.now }
-{
-    let [first, rest @ ..] = word else {
-        return false;
-    };
-    is_letter(*first) && are_letters_or_digits(rest) && rest.len() < 32
-}
-
-/// The value of `--name`, where it is given.
-fn name_in<'a, V: Values<'a>>(given: &V) -> Result<Option<&'a str>, Fault<'a>>
-    ensures value { IfOk result (λ name. V.value given.now (codes "name") ≡ option_map (λ s.
-        s.now) name) }
-    ensures identifier { IfOk result (λ name. IfSome name (λ s. is_identifier s.now ≡ true)) }
-    ensures fault { IfErr result (Breaks (V.value given.now) (V.flag given.now) identifies) }
-{
-    match given.value("name") {
-        None => Ok(None),
-        Some(word) => {
-            if !is_identifier(word.as_bytes()) {
-                return Err(Fault::Name(word));
-            }
-            Ok(Some(word))
-        }
-    }
-}
 
 /// Whether a word stands for standard input.
 fn is_input(word: &str) -> bool
