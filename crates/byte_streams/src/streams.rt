@@ -3,7 +3,7 @@
 //! where a device failed.
 
 ghost use Rattle.std.specs.Prelude.{◌≡◌, ℕ, ◌<◌, ◌≤◌, List, Option, Some, Ok, IfOk, IfErr, min, length, take};
-ghost use Rattle.std.specs.Io.KnownBytes.{ReadConsumes, WriteAppends, Appends};
+ghost use Rattle.std.specs.Io.KnownBytes.{ReadConsumes, WriteAppends, Appends, Keeps};
 ghost use Rattle.byte_streams.specs.Streams.{CountsFailure, CountsStall, inner_of, failures_of, stalls_of};
 ghost use Rattle.byte_streams.specs.Writings.{writing, Prints};
 
@@ -48,6 +48,14 @@ pub trait Sink {
         ensures bytes { WriteAppends (contents self.old) (contents self.new) result buf.now }
         ensures failures { CountsFailure result (failures self.old) (failures self.new) }
         ensures stalls { CountsStall result buf.now (stalls self.old) (stalls self.new) };
+
+    /// Hands on what it holds back, where it holds any. What can't be handed on now is still held: a later write says so, or
+    /// the end.
+    fn flush(&mut self)
+        ensures bytes { Keeps (contents self.old) (contents self.new) }
+        ensures failures { failures self.new ≡ failures self.old }
+        ensures stalls { stalls self.new ≡ stalls self.old }
+    {}
 }
 
 /// Bytes that are all there. No read of them fails.
@@ -142,6 +150,10 @@ impl<T: Write> Sink for Counted<T> {
                 Err(DeviceFault)
             }
         }
+    }
+
+    fn flush(&mut self) {
+        let _ = self.inner.flush();
     }
 }
 

@@ -13,3 +13,5 @@ mod lines;
 mod registers;
 #[cfg(test)]
 mod streams;
+#[cfg(test)]
+mod waiting;

@@ -21,6 +21,10 @@ pub record Gathers (old now : LineReader) (before after : Option (List ℕ)) (by
   pub counted : now.came ≡ old.came + length bytes
   pub needed : (bytes ≡ []) ⊎ (has_no_end (pending_of old) ≡ true)
 
+-- a line is let go of, and nothing has come since
+pub gathers_none : (old now : LineReader) (known : Option (List ℕ)) → now.buffer ≡ pending_of old → now.came ≡ old.came → Gathers old now known known []
+gathers_none old now known held came = record { consumed = Consumes-nil known; held = held ∙ sym (append-nil (pending_of old)); counted = omega (arith, came); needed = inl refl }
+
 passes_front : (p : ℕ → Bool) (x : ℕ) (xs : List ℕ) (k : ℕ) (t : Bool) → p x ≡ t → suc k ≤ cond t (1 + prefix_len p xs) 0 → (k ≤ prefix_len p xs → list_all p (take k xs) ≡ true) → (p x && list_all p (take k xs)) ≡ true
 passes_front p x xs k true e h more = and_from _ _ e (more (omega arith))
 passes_front p x xs k false e h more = absurd (omega arith)

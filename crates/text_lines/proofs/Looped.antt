@@ -1,7 +1,7 @@
 -- How far the lines of an input have been interpreted.
 use Rattle.std.proofs.Common.{◌≡◌, inl, inr, ℕ, ◌+◌, ◌<◌, ◌≤◌, ◌^◌, ◌⊎◌, ◌∙◌, true, false, List, [], ◌∷◌, ◌++◌, length, take, Option, None, Some, Ok, Err, refl, ap, sym, arith, length-append, append_assoc, append-nil}
 use Rattle.std.specs.List.{concat}
-use Rattle.std.specs.Io.KnownBytes.{Appends, Consumes, IsAtEnd}
+use Rattle.std.specs.Io.KnownBytes.{Appends, Consumes, IsAtEnd, Keeps}
 use Rattle.std.proofs.KnownBytes.{Appends-nil, Appends-trans, Consumes-nil, Consumes-trans}
 use Rattle.std.proofs.lemmas.List.Folds.{concat-append}
 use Rattle.byte_streams.specs.Writings.{TakesPart}
@@ -25,6 +25,18 @@ pub record Progress {S : Type 0} (does : Meaning S) (old now : S) (reader : Line
   pub consumed : Consumes before after (ended lines ++ pending_of reader)
   pub came : came_of reader ≡ length (ended lines ++ pending_of reader)
   pub written : Appends held holds (concat answers)
+
+-- what stays of what was written
+stays : (held holds keeps : Option (List ℕ)) (text : List ℕ) → Appends held holds text → Keeps holds keeps → Appends held keeps text
+stays None holds keeps text w k = tt
+stays (Some xs) None keeps text w k = absurd w
+stays (Some xs) (Some ys) None text w k = absurd k
+stays (Some xs) (Some ys) (Some zs) text w k = k ∙ w
+
+-- the same where the sink handed on what it held
+pub still : {S : Type 0} (does : Meaning S) (old now : S) (reader : LineReader) (count : ℕ) (before after held holds keeps : Option (List ℕ)) → Progress does old now reader count before after held holds → Keeps holds keeps → Progress does old now reader count before after held keeps
+still does old now reader count before after held holds keeps p k =
+    record { lines = p.lines; answers = p.answers; done = p.done; count_is = p.count_is; number = p.number; consumed = p.consumed; came = p.came; written = stays held holds keeps _ p.written k }
 
 -- no line has an LF in it
 abbrev NoEnds : List (List ℕ) → Type 0

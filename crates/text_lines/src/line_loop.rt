@@ -1,11 +1,13 @@
 //! The one loop over the lines of an input: a line is read, understood and done, and its answer is written before the
 //! next line is read.
 
-ghost use Rattle.std.specs.Prelude.{◌≡◌, ℕ, ◌+◌, ◌-◌, ◌^◌, ◌<◌, List, [], Option, Some, Err, IfOk};
+ghost use Rattle.std.specs.Prelude.{◌≡◌, ℕ, ◌+◌, ◌-◌, ◌^◌, ◌<◌, ◌≤◌, List, [], Option, Some, Err, IfOk};
+ghost use Rattle.std.specs.Io.KnownBytes.{Keeps};
 ghost use Rattle.byte_streams.specs.Writings.{writing, Prints};
+ghost use Rattle.text_lines.specs.LineReaders.{came_of, most_of, FailsOnRead, NextLine};
 ghost use Rattle.text_lines.specs.LineLoop.{counted, told, text_of, CountsReads, CountsWrites, DoesAll, StopsAt, StopsForMemory, StopsReading, StopsTooLong, StopsWriting};
 
-use crate::fault::RunFault;
+use crate::fault::{ReadFault, RunFault};
 use crate::lines::LineReader;
 use crate::written::Line;
 use arrayvec::ArrayVec;
@@ -71,8 +73,32 @@ fn write_answer<W: Sink>(
     Ok(count + 1)
 }
 
-/// Interprets the lines of an input one by one, and writes the answer of each before the next is read. A line that is not
-/// understood, a device that fails and a refusal of memory end it.
+/// Hands out the next line. Where it has to be read, the sink hands on the answers before: a read may have to wait.
+#[inline(always)]
+fn next_line<R: Source, W: Sink>(
+    reader: &mut LineReader,
+    source: &mut R,
+    sink: &mut W,
+) -> Result<bool, ReadFault>
+    ensures line { NextLine result reader.old reader.new (R.remaining source.old)
+        (R.remaining source.new) }
+    ensures failures { FailsOnRead result (R.failures source.old) (R.failures source.new) }
+    ensures few { came_of reader.new ≤ most_of reader.new }
+    ensures limit { most_of reader.new ≡ most_of reader.old }
+    ensures written { Keeps (W.contents sink.old) (W.contents sink.new) }
+    ensures writes { W.failures sink.new ≡ W.failures sink.old }
+    ensures stalls { W.stalls sink.new ≡ W.stalls sink.old }
+{
+    if reader.take_line() {
+        return Ok(true);
+    }
+    sink.flush();
+    reader.next_line(source)
+}
+
+/// Interprets the lines of an input one by one, and writes the answer of each before the next is read; before a read that may
+/// have to wait, the sink hands on what it holds. A line that is not understood, a device that fails and a refusal of memory
+/// end it.
 pub fn interpret_lines<I: Interpreter, R: Source, W: Sink>(
     interpreter: &mut I,
     source: &mut R,
@@ -106,7 +132,7 @@ pub fn interpret_lines<I: Interpreter, R: Source, W: Sink>(
     let mut reader = LineReader::new();
     let mut answer: Line = ArrayVec::new();
     let mut count: u64 = 0;
-    'lines: while reader.next_line(source)? {
+    'lines: while next_line(&mut reader, source, sink)? {
         answer = ArrayVec::new();
         let answered = match interpreter.interpret(reader.line(), count, &mut answer) {
             Ok(answered) => answered,

@@ -1,6 +1,6 @@
 //! Lines out of a source, through one buffer of fixed size.
 
-ghost use Rattle.std.specs.Prelude.{◌≡◌, ◌+◌, ◌-◌, ◌^◌, ◌<◌, ◌≤◌, ◌==◌, ℕ, true, false, List, [], length, take, drop};
+ghost use Rattle.std.specs.Prelude.{◌≡◌, ◌+◌, ◌-◌, ◌^◌, ◌<◌, ◌≤◌, ◌==◌, ℕ, true, false, List, [], Ok, Option, length, take, drop};
 ghost use Rattle.std.specs.List.{position_or_len};
 ghost use Rattle.text_lines.specs.Lines.{without_return, EndsInput};
 
@@ -191,6 +191,28 @@ impl LineReader {
         };
         self.came += n as u64;
         Ok(n > 0)
+    }
+
+    /// Hands out the next line where it has come with its LF, and says so. Otherwise it lets go of the last one, and nothing
+    /// else changes: only a read can tell what comes next.
+    #[inline(always)]
+    pub fn take_line(&mut self) -> bool
+        ensures taken { result ≡ true → (known : Option (List ℕ))
+            → NextLine (Ok true) self.old self.new known known }
+        ensures pending { result ≡ false → pending_of self.new ≡ pending_of self.old }
+        ensures number { result ≡ false → number_of self.new ≡ number_of self.old }
+        ensures came { came_of self.new ≡ came_of self.old }
+        ensures limit { most_of self.new ≡ most_of self.old }
+    {
+        self.let_go();
+        let bytes = self.buffer.as_slice();
+        let held = bytes.len();
+        let len = line_len(bytes);
+        if len > LONGEST || len == held {
+            return false;
+        }
+        self.hand_out(len, len + 1);
+        true
     }
 
     /// Hands out the next line: true where there was one, false at the end of the input. Nothing is

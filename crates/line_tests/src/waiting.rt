@@ -1,0 +1,51 @@
+//! What a sink holds back when the input has to be waited for.
+
+ghost use Rattle.std.specs.Prelude.{None};
+
+use byte_streams::fakes::{PieceSink, PieceSource};
+use byte_streams::{DeviceFault, Sink};
+use pmp_encoding::{Bank, Limit};
+use text_lines::RunFault;
+use trace_judge::judge_trace;
+
+/// A sink that holds all that it takes until it is to hand it on.
+#[derive(Drop)]
+struct HoldingSink {
+    sink: PieceSink,
+    handed_on: usize,
+}
+
+impl Sink for HoldingSink {
+    ghost contents = { λ _. None };
+
+    ghost failures = { λ s. s.sink.failures };
+
+    ghost stalls = { λ s. s.sink.stalls };
+
+    fn write(&mut self, buf: &[u8]) -> Result<usize, DeviceFault> {
+        self.sink.write(buf)
+    }
+
+    fn flush(&mut self) {
+        self.handed_on = self.sink.written().len();
+    }
+}
+
+#[test]
+fn answers_are_handed_on_before_each_read(rt: HostRuntime) {
+    const TRACE: &[u8] = b"load s 8 0\nload s 8 8\nload s 8 16\n";
+    let bank = Bank::of(&[], Limit::Sixteen);
+    // Reads of 14 bytes: the first two end within the second and the third line. The third read fails.
+    for (failing, answered) in [(1, 0), (2, 10), (3, 20)] {
+        let mut source = PieceSource::new(TRACE, 14, Some(failing));
+        let mut sink = HoldingSink {
+            sink: PieceSink::new(4096, None),
+            handed_on: 99,
+        };
+        assert_eq!(rt;
+            judge_trace(&bank, &mut source, &mut sink),
+            Err(RunFault::Read)
+        );
+        assert_eq!(rt; sink.handed_on, answered);
+    }
+}
