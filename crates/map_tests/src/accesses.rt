@@ -26,8 +26,8 @@ fn word_before_page() -> Option<Bank> {
 #[test]
 fn an_access_within_the_first_region_is_allowed(rt: HostRuntime) -> Result<(), Fail> {
     let bank = word_before_page().ok_or("no block")?;
-    assert_eq!(rt; bank.cfg0(), 0x1F17);
-    assert_eq!(rt; load(&bank, Mode::Supervisor, 4, 0x8000_0000), Some(Ok(())));
+    assert!(rt; bank.cfg0() == 0x1F17);
+    assert!(rt; load(&bank, Mode::Supervisor, 4, 0x8000_0000) == Some(Ok(())));
     Ok(())
 }
 
@@ -35,10 +35,7 @@ fn an_access_within_the_first_region_is_allowed(rt: HostRuntime) -> Result<(), F
 fn a_partial_match_fails_in_every_mode(rt: HostRuntime) -> Result<(), Fail> {
     let bank = word_before_page().ok_or("no block")?;
     for mode in [Mode::Machine, Mode::Supervisor, Mode::User] {
-        assert_eq!(rt;
-            load(&bank, mode, 8, 0x8000_0000),
-            Some(Err(Cause::LoadFault))
-        );
+        assert!(rt; load(&bank, mode, 8, 0x8000_0000) == Some(Err(Cause::LoadFault)));
     }
     Ok(())
 }
@@ -65,9 +62,9 @@ fn the_first_region_wins_over_a_smaller_one(rt: HostRuntime) -> Result<(), Fail>
     let page = entry(0x8000_0000, 12, Perm::ReadWriteExecute).ok_or("no block")?;
     let word = entry(0x8000_0000, 2, Perm::NoAccess).ok_or("no block")?;
     let bank = Bank::of([page, word].as_slice(), Limit::Sixteen);
-    assert_eq!(rt; bank.cfg0(), 0x101F);
-    assert_eq!(rt; load(&bank, Mode::User, 8, 0x8000_0000), Some(Ok(())));
-    assert_eq!(rt; load(&bank, Mode::User, 4, 0x8000_0000), Some(Ok(())));
+    assert!(rt; bank.cfg0() == 0x101F);
+    assert!(rt; load(&bank, Mode::User, 8, 0x8000_0000) == Some(Ok(())));
+    assert!(rt; load(&bank, Mode::User, 4, 0x8000_0000) == Some(Ok(())));
     Ok(())
 }
 
@@ -76,15 +73,9 @@ fn misaligned_comes_before_out_of_range(rt: HostRuntime) -> Result<(), Fail> {
     let whole = entry(0, 56, Perm::ReadWriteExecute).ok_or("no block")?;
     let bank = Bank::of([whole].as_slice(), Limit::Sixteen);
     for mode in [Mode::Machine, Mode::Supervisor] {
-        assert_eq!(rt;
-            load(&bank, mode, 8, 0x8000_0004),
-            Some(Err(Cause::LoadMisaligned))
-        );
-        assert_eq!(rt; load(&bank, mode, 1, 1 << 56), Some(Err(Cause::LoadFault)));
-        assert_eq!(rt;
-            load(&bank, mode, 8, (1 << 56) + 4),
-            Some(Err(Cause::LoadMisaligned))
-        );
+        assert!(rt; load(&bank, mode, 8, 0x8000_0004) == Some(Err(Cause::LoadMisaligned)));
+        assert!(rt; load(&bank, mode, 1, 1 << 56) == Some(Err(Cause::LoadFault)));
+        assert!(rt; load(&bank, mode, 8, (1 << 56) + 4) == Some(Err(Cause::LoadMisaligned)));
     }
     Ok(())
 }
@@ -92,15 +83,9 @@ fn misaligned_comes_before_out_of_range(rt: HostRuntime) -> Result<(), Fail> {
 #[test]
 fn without_a_match_machine_mode_alone_may(rt: HostRuntime) {
     let bank = Bank::of([].as_slice(), Limit::SixtyFour);
-    assert_eq!(rt; load(&bank, Mode::Machine, 8, 0x8000_0000), Some(Ok(())));
-    assert_eq!(rt;
-        load(&bank, Mode::Supervisor, 8, 0x8000_0000),
-        Some(Err(Cause::LoadFault))
-    );
-    assert_eq!(rt;
-        load(&bank, Mode::User, 8, 0x8000_0000),
-        Some(Err(Cause::LoadFault))
-    );
+    assert!(rt; load(&bank, Mode::Machine, 8, 0x8000_0000) == Some(Ok(())));
+    assert!(rt; load(&bank, Mode::Supervisor, 8, 0x8000_0000) == Some(Err(Cause::LoadFault)));
+    assert!(rt; load(&bank, Mode::User, 8, 0x8000_0000) == Some(Err(Cause::LoadFault)));
 }
 
 #[test]
@@ -116,10 +101,7 @@ fn causes_of_each_kind(rt: HostRuntime) -> Result<(), Fail> {
     ];
     for (kind, addr, number) in numbers {
         let access = Access::new(Mode::User, kind, 2, addr).ok_or("no size")?;
-        assert_eq!(rt;
-            judge(&bank, &access).map_err(|cause| cause.number()),
-            Err(number)
-        );
+        assert!(rt; judge(&bank, &access).map_err(|cause| cause.number()) == Err(number));
     }
     Ok(())
 }
@@ -128,16 +110,16 @@ fn causes_of_each_kind(rt: HostRuntime) -> Result<(), Fail> {
 fn sizes_of_each_kind(rt: HostRuntime) -> Result<(), Fail> {
     for size in [1u8, 2, 4, 8] {
         let store = Access::new(Mode::User, Kind::Store, size, 0x1000).ok_or("no size")?;
-        assert_eq!(rt; store.size(), size);
-        assert_eq!(rt; store.addr(), 0x1000);
-        assert_eq!(rt; store.kind(), Kind::Store);
-        assert_eq!(rt; store.mode(), Mode::User);
+        assert!(rt; store.size() == size);
+        assert!(rt; store.addr() == 0x1000);
+        assert!(rt; store.kind() == Kind::Store);
+        assert!(rt; store.mode() == Mode::User);
     }
     for size in [0u8, 3, 16] {
-        assert_eq!(rt; Access::new(Mode::User, Kind::Load, size, 0x1000), None);
+        assert!(rt; Access::new(Mode::User, Kind::Load, size, 0x1000) == None);
     }
     for size in [1u8, 8] {
-        assert_eq!(rt; Access::new(Mode::User, Kind::Fetch, size, 0x1000), None);
+        assert!(rt; Access::new(Mode::User, Kind::Fetch, size, 0x1000) == None);
     }
     Ok(())
 }
@@ -148,17 +130,11 @@ fn the_views_of_a_boot(rt: HostRuntime) -> Result<(), Fail> {
     let monitor = entry(0x8000_0000, 21, Perm::NoAccess).ok_or("no block")?;
     let ram = entry(0x8000_0000, 27, Perm::ReadWriteExecute).ok_or("no block")?;
     let bank = Bank::of([device, monitor, ram].as_slice(), Limit::SixtyFour);
-    assert_eq!(rt; load(&bank, Mode::User, 4, 0x1000_0000), Some(Ok(())));
-    assert_eq!(rt;
-        load(&bank, Mode::User, 4, 0x801F_FFFC),
-        Some(Err(Cause::LoadFault))
-    );
-    assert_eq!(rt; load(&bank, Mode::Machine, 4, 0x801F_FFFC), Some(Ok(())));
-    assert_eq!(rt; load(&bank, Mode::User, 8, 0x8020_0000), Some(Ok(())));
-    assert_eq!(rt; load(&bank, Mode::User, 8, 0x87FF_FFF8), Some(Ok(())));
-    assert_eq!(rt;
-        load(&bank, Mode::User, 8, 0x8800_0000),
-        Some(Err(Cause::LoadFault))
-    );
+    assert!(rt; load(&bank, Mode::User, 4, 0x1000_0000) == Some(Ok(())));
+    assert!(rt; load(&bank, Mode::User, 4, 0x801F_FFFC) == Some(Err(Cause::LoadFault)));
+    assert!(rt; load(&bank, Mode::Machine, 4, 0x801F_FFFC) == Some(Ok(())));
+    assert!(rt; load(&bank, Mode::User, 8, 0x8020_0000) == Some(Ok(())));
+    assert!(rt; load(&bank, Mode::User, 8, 0x87FF_FFF8) == Some(Ok(())));
+    assert!(rt; load(&bank, Mode::User, 8, 0x8800_0000) == Some(Err(Cause::LoadFault)));
     Ok(())
 }

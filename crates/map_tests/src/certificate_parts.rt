@@ -43,38 +43,37 @@ fn fault_of(bytes: &[u8]) -> Option<ReadFault> {
 fn lower_half_reads_part_by_part(rt: HostRuntime) -> Result<(), ReadFault> {
     let mut reader = Reader::new(LOWER_HALF.as_slice());
     let header = reader.header()?;
-    assert_eq!(rt; header.version, Version::One);
-    assert_eq!(rt; header.version.limit(), Limit::Sixteen);
-    assert_eq!(rt; header.count, 1);
+    assert!(rt; header.version == Version::One);
+    assert!(rt; header.version.limit() == Limit::Sixteen);
+    assert!(rt; header.count == 1);
     let entry = reader.entry()?;
-    assert_eq!(rt; entry.cfg(), 0x1F);
-    assert_eq!(rt; entry.address(), 0x000F_FFFF_FFFF_FFFF);
-    assert_eq!(rt; reader.tag()?, Tag::Branch);
+    assert!(rt; entry.cfg() == 0x1F);
+    assert!(rt; entry.address() == 0x000F_FFFF_FFFF_FFFF);
+    assert!(rt; reader.tag()? == Tag::Branch);
     let costs = reader.costs()?;
-    assert_eq!(rt; costs.cost(Perm::NoAccess), 1);
-    assert_eq!(rt; costs.cost(Perm::Read), 2);
-    assert_eq!(rt; costs.cost(Perm::ReadWrite), 2);
-    assert_eq!(rt; costs.cost(Perm::Execute), 2);
-    assert_eq!(rt; costs.cost(Perm::ReadExecute), 2);
-    assert_eq!(rt; costs.cost(Perm::ReadWriteExecute), 1);
-    assert_eq!(rt; reader.tag()?, Tag::Leaf);
-    assert_eq!(rt; reader.perm()?, Perm::ReadWriteExecute);
-    assert_eq!(rt; reader.tag()?, Tag::Leaf);
-    assert_eq!(rt; reader.perm()?, Perm::NoAccess);
-    assert_eq!(rt; reader.rest().len(), 0);
+    assert!(rt; costs.cost(Perm::NoAccess) == 1);
+    assert!(rt; costs.cost(Perm::Read) == 2);
+    assert!(rt; costs.cost(Perm::ReadWrite) == 2);
+    assert!(rt; costs.cost(Perm::Execute) == 2);
+    assert!(rt; costs.cost(Perm::ReadExecute) == 2);
+    assert!(rt; costs.cost(Perm::ReadWriteExecute) == 1);
+    assert!(rt; reader.tag()? == Tag::Leaf);
+    assert!(rt; reader.perm()? == Perm::ReadWriteExecute);
+    assert!(rt; reader.tag()? == Tag::Leaf);
+    assert!(rt; reader.perm()? == Perm::NoAccess);
+    assert!(rt; reader.rest().len() == 0);
     Ok(())
 }
 
 #[test]
 fn each_cut_of_the_lower_half_is_truncated(rt: HostRuntime) {
     for n in 0..47 {
-        assert_eq!(rt;
-            fault_of(&LOWER_HALF[..n]),
-            Some(ReadFault::Truncated),
+        assert!(rt;
+            fault_of(&LOWER_HALF[..n]) == Some(ReadFault::Truncated),
             "{n} bytes"
         );
     }
-    assert_eq!(rt; fault_of(LOWER_HALF.as_slice()), None);
+    assert!(rt; fault_of(LOWER_HALF.as_slice()) == None);
 }
 
 #[test]
@@ -96,18 +95,17 @@ fn each_fault_is_told(rt: HostRuntime) {
         let mut bytes = LOWER_HALF;
         assert!(rt; place < 47);
         bytes[place] = byte;
-        assert_eq!(rt;
-            fault_of(bytes.as_slice()),
-            Some(fault),
+        assert!(rt;
+            fault_of(bytes.as_slice()) == Some(fault),
             "{byte} at {place}"
         );
     }
-    assert_eq!(rt; ReadFault::BadMagic as u8, 1);
-    assert_eq!(rt; ReadFault::BadVersion as u8, 2);
-    assert_eq!(rt; ReadFault::Truncated as u8, 3);
-    assert_eq!(rt; ReadFault::BadTag as u8, 4);
-    assert_eq!(rt; ReadFault::BadPerm as u8, 5);
-    assert_eq!(rt; ReadFault::BadLimit as u8, 16);
+    assert!(rt; ReadFault::BadMagic as u8 == 1);
+    assert!(rt; ReadFault::BadVersion as u8 == 2);
+    assert!(rt; ReadFault::Truncated as u8 == 3);
+    assert!(rt; ReadFault::BadTag as u8 == 4);
+    assert!(rt; ReadFault::BadPerm as u8 == 5);
+    assert!(rt; ReadFault::BadLimit as u8 == 16);
 }
 
 #[test]
@@ -117,29 +115,29 @@ fn second_form_names_its_limit(rt: HostRuntime) -> Result<(), ReadFault> {
         0x1F, 0, 0, 7,
     ];
     let (header, left) = read_whole(bytes.as_slice())?;
-    assert_eq!(rt; header.version, Version::Two(Limit::SixtyFour));
-    assert_eq!(rt; header.version.limit(), Limit::SixtyFour);
-    assert_eq!(rt; (header.count, left), (1, 0));
+    assert!(rt; header.version == Version::Two(Limit::SixtyFour));
+    assert!(rt; header.version.limit() == Limit::SixtyFour);
+    assert!(rt; (header.count, left) == (1, 0));
     let mut sixteen = bytes;
     sixteen[5] = 0x10;
     let (header, _) = read_whole(sixteen.as_slice())?;
-    assert_eq!(rt; header.version, Version::Two(Limit::Sixteen));
+    assert!(rt; header.version == Version::Two(Limit::Sixteen));
     let mut other = bytes;
     other[5] = 0x20;
-    assert_eq!(rt; fault_of(other.as_slice()), Some(ReadFault::BadLimit));
-    assert_eq!(rt; fault_of(&bytes[..5]), Some(ReadFault::Truncated));
+    assert!(rt; fault_of(other.as_slice()) == Some(ReadFault::BadLimit));
+    assert!(rt; fault_of(&bytes[..5]) == Some(ReadFault::Truncated));
     Ok(())
 }
 
 #[test]
 fn a_refusal_leaves_the_cursor_where_it_was(rt: HostRuntime) -> Result<(), ReadFault> {
     let mut reader = Reader::new(b"PMPC\x01\x00".as_slice());
-    assert_eq!(rt; reader.header(), Err(ReadFault::Truncated));
-    assert_eq!(rt; reader.rest().len(), 6);
-    assert_eq!(rt; reader.tag(), Err(ReadFault::BadTag));
-    assert_eq!(rt; reader.perm(), Err(ReadFault::BadPerm));
+    assert!(rt; reader.header() == Err(ReadFault::Truncated));
+    assert!(rt; reader.rest().len() == 6);
+    assert!(rt; reader.tag() == Err(ReadFault::BadTag));
+    assert!(rt; reader.perm() == Err(ReadFault::BadPerm));
     assert!(rt; reader.entry().is_err());
     assert!(rt; reader.costs().is_err());
-    assert_eq!(rt; reader.rest().len(), 6);
+    assert!(rt; reader.rest().len() == 6);
     Ok(())
 }

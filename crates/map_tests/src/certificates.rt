@@ -73,10 +73,7 @@ fn certificate(
 #[test]
 fn empty_map_has_eleven_bytes(rt: HostRuntime) -> Result<(), Fail> {
     let bytes = certificate(rt.alloc(), 0, 0, Perm::Read, Limit::Sixteen)?;
-    assert_eq!(rt;
-        bytes.as_slice(),
-        b"PMPC\x01\x00\x00\x00\x00\x00\x00".as_slice()
-    );
+    assert!(rt; bytes.as_slice() == b"PMPC\x01\x00\x00\x00\x00\x00\x00".as_slice());
     Ok(())
 }
 
@@ -88,13 +85,13 @@ fn whole_space_has_twenty_bytes(rt: HostRuntime) -> Result<(), Fail> {
         0, 7,
     ];
     let bytes = certificate(rt.alloc(), 0, 1 << 44, all, Limit::Sixteen)?;
-    assert_eq!(rt; bytes.as_slice(), first.as_slice());
+    assert!(rt; bytes.as_slice() == first.as_slice());
     let second = [
         0x50, 0x4D, 0x50, 0x43, 2, 0x40, 1, 0, 0, 0, 0x1F, 0xFF, 0xFF, 0xFF, 0xFF, 0xFF, 0xFF,
         0x1F, 0, 0, 7,
     ];
     let bytes = certificate(rt.alloc(), 0, 1 << 44, all, Limit::SixtyFour)?;
-    assert_eq!(rt; bytes.as_slice(), second.as_slice());
+    assert!(rt; bytes.as_slice() == second.as_slice());
     Ok(())
 }
 
@@ -107,7 +104,7 @@ fn lower_half_has_forty_seven_bytes(rt: HostRuntime) -> Result<(), Fail> {
         Perm::ReadWriteExecute,
         Limit::Sixteen,
     )?;
-    assert_eq!(rt; bytes.as_slice(), LOWER_HALF.as_slice());
+    assert!(rt; bytes.as_slice() == LOWER_HALF.as_slice());
     Ok(())
 }
 
@@ -120,28 +117,28 @@ fn one_page_splits_forty_four_blocks(rt: HostRuntime) -> Result<(), Fail> {
         Perm::ReadWriteExecute,
         Limit::Sixteen,
     )?;
-    assert_eq!(rt; bytes.len(), 1208);
+    assert!(rt; bytes.len() == 1208);
     let (header, left) = read_whole(bytes.as_slice())?;
-    assert_eq!(rt; (header.count, left), (1, 0));
+    assert!(rt; (header.count, left) == (1, 0));
     Ok(())
 }
 
 #[test]
 fn seven_pages_take_two_entries(rt: HostRuntime) -> Result<(), Fail> {
     let bytes = certificate(rt.alloc(), 0x80208, 7, Perm::ReadExecute, Limit::Sixteen)?;
-    assert_eq!(rt; bytes.len(), 1217);
+    assert!(rt; bytes.len() == 1217);
     let mut reader = Reader::new(bytes.as_slice());
     let header = reader.header()?;
-    assert_eq!(rt; header.count, 2);
+    assert!(rt; header.count == 2);
     let own = reader.entry()?;
-    assert_eq!(rt; (own.cfg(), own.address()), (0x18, 0x2008_3DFF));
+    assert!(rt; (own.cfg(), own.address()) == (0x18, 0x2008_3DFF));
     let round = reader.entry()?;
-    assert_eq!(rt; (round.cfg(), round.address()), (0x1D, 0x2008_2FFF));
-    assert_eq!(rt; reader.tag()?, Tag::Branch);
+    assert!(rt; (round.cfg(), round.address()) == (0x1D, 0x2008_2FFF));
+    assert!(rt; reader.tag()? == Tag::Branch);
     let costs = reader.costs()?;
-    assert_eq!(rt; costs.cost(Perm::NoAccess), 2);
+    assert!(rt; costs.cost(Perm::NoAccess) == 2);
     let (_, left) = read_whole(bytes.as_slice())?;
-    assert_eq!(rt; left, 0);
+    assert!(rt; left == 0);
     Ok(())
 }
 
@@ -168,6 +165,6 @@ fn a_certificate_that_is_sent_is_the_one_that_is_held(rt: HostRuntime) -> Result
     map.set_range(0x80208, 7, Perm::ReadExecute)?;
     let bytes = by_map(rt.alloc(), &map, Limit::SixtyFour)?;
     assert!(rt; is_sent(rt.alloc(), &map, bytes.as_slice())?);
-    assert_eq!(rt; taken_of_two_writes(rt.alloc(), &map)?, Some(200));
+    assert!(rt; taken_of_two_writes(rt.alloc(), &map)? == Some(200));
     Ok(())
 }

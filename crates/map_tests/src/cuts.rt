@@ -37,7 +37,7 @@ fn expect_stretches(
     wanted: &[Stretch],
 ) {
     let all = stretches_by_entries(alloc, map, entries).expect(rt, "memory");
-    assert_eq!(rt; all.as_slice(), wanted);
+    assert!(rt; all.as_slice() == wanted);
 }
 
 #[test]
@@ -105,13 +105,13 @@ fn next_entry_that_meets_a_piece(rt: HostRuntime) -> Result<(), Fail> {
     ];
     let extents = extents_of(alloc, entries.as_slice()).expect(&rt, "memory");
     let tree = ExtentTree::new(alloc, extents.as_slice()).expect(&rt, "memory");
-    assert_eq!(rt; tree.next_meeting(0, 0x3000, 0x3001), Some(0));
-    assert_eq!(rt; tree.next_meeting(1, 0x3000, 0x3001), Some(3));
-    assert_eq!(rt; tree.next_meeting(4, 0x3000, 0x3001), Some(4));
-    assert_eq!(rt; tree.next_meeting(5, 0x3000, 0x3001), None);
-    assert_eq!(rt; tree.next_meeting(0, 0x4000, 0x8000), None);
-    assert_eq!(rt; tree.next_meeting(0, 0x4000, 0x8001), Some(2));
-    assert_eq!(rt; tree.next_meeting(0, 0x8fff, 0x9000), Some(2));
-    assert_eq!(rt; tree.next_meeting(0, 0x9000, 0xa000), None);
+    assert!(rt; tree.next_meeting(0, 0x3000, 0x3001) == Some(0));
+    assert!(rt; tree.next_meeting(1, 0x3000, 0x3001) == Some(3));
+    assert!(rt; tree.next_meeting(4, 0x3000, 0x3001) == Some(4));
+    assert!(rt; tree.next_meeting(5, 0x3000, 0x3001) == None);
+    assert!(rt; tree.next_meeting(0, 0x4000, 0x8000) == None);
+    assert!(rt; tree.next_meeting(0, 0x4000, 0x8001) == Some(2));
+    assert!(rt; tree.next_meeting(0, 0x8fff, 0x9000) == Some(2));
+    assert!(rt; tree.next_meeting(0, 0x9000, 0xa000) == None);
     Ok(())
 }

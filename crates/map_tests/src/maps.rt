@@ -30,11 +30,11 @@ fn expect_runs(
     wanted: &[Run],
 ) -> Result<(), MapFault> {
     let map = map_of(alloc, ranges)?;
-    assert_eq!(rt; map.ranges(), wanted);
+    assert!(rt; map.ranges() == wanted);
     let Ok(copy) = map.try_clone() else {
         return Err(MapFault::Memory);
     };
-    assert_eq!(rt; copy.ranges(), wanted);
+    assert!(rt; copy.ranges() == wanted);
     Ok(())
 }
 
@@ -80,11 +80,11 @@ fn pages_and_blocks_of_the_example(rt: HostRuntime) -> Result<(), Fail> {
         (0x801FF, Perm::NoAccess),
         (0x80200, Perm::ReadWriteExecute),
     ] {
-        assert_eq!(rt; map.get(page), perm);
+        assert!(rt; map.get(page) == perm);
     }
-    assert_eq!(rt; map.uniform(0x84000, 14), Some(Perm::ReadWriteExecute));
-    assert_eq!(rt; map.uniform(0x80000, 15), None);
-    assert_eq!(rt; map.uniform(0x80000, 9), Some(Perm::NoAccess));
+    assert!(rt; map.uniform(0x84000, 14) == Some(Perm::ReadWriteExecute));
+    assert!(rt; map.uniform(0x80000, 15) == None);
+    assert!(rt; map.uniform(0x80000, 9) == Some(Perm::NoAccess));
     Ok(())
 }
 
@@ -96,10 +96,10 @@ fn one_run_above_the_limit_is_refused(rt: HostRuntime) -> Result<(), Fail> {
     }
     let before = map.try_clone()?;
     let refused = map.set_range(8192, 1, Perm::Read);
-    assert_eq!(rt; refused, Err(MapFault::TooManyRanges));
-    assert_eq!(rt; map.ranges(), before.ranges());
+    assert!(rt; refused == Err(MapFault::TooManyRanges));
+    assert!(rt; map.ranges() == before.ranges());
     map.set_range(8191, 1, Perm::Read)?;
-    assert_eq!(rt; map.ranges().len(), 4096);
+    assert!(rt; map.ranges().len() == 4096);
     Ok(())
 }
 
@@ -115,9 +115,9 @@ fn ranges_past_the_end_are_refused(rt: HostRuntime) {
         (u64::MAX, 1),
     ] {
         let refused = map.set_range(first, count, Perm::Read);
-        assert_eq!(rt; refused, Err(MapFault::PastEnd), "{first} {count}");
+        assert!(rt; refused == Err(MapFault::PastEnd), "{first} {count}");
     }
-    assert_eq!(rt; map.set_range(SPACE, 0, Perm::Read), Ok(()));
+    assert!(rt; map.set_range(SPACE, 0, Perm::Read) == Ok(()));
 }
 
 /// The map of a builder that is given these ranges.
@@ -141,8 +141,8 @@ fn a_built_map_is_the_map_of_its_ranges(rt: HostRuntime) -> Result<(), Fail> {
         run(0x803FF, 1, Perm::ReadWrite),
     ];
     let map = map_of(rt.alloc(), &over)?;
-    assert_eq!(rt; built_of(rt.alloc(), &over)?.ranges(), map.ranges());
-    assert_eq!(rt; built_of(rt.alloc(), &[])?.ranges().len(), 0);
+    assert!(rt; built_of(rt.alloc(), &over)?.ranges() == map.ranges());
+    assert!(rt; built_of(rt.alloc(), &[])?.ranges().len() == 0);
     Ok(())
 }
 
@@ -153,8 +153,8 @@ fn a_builder_counts_its_runs(rt: HostRuntime) -> Result<(), Fail> {
         built.set_range(2 * i, 1, Perm::Read)?;
     }
     let refused = built.set_range(8192, 1, Perm::Read);
-    assert_eq!(rt; refused, Err(MapFault::TooManyRanges));
+    assert!(rt; refused == Err(MapFault::TooManyRanges));
     built.set_range(8191, 1, Perm::Read)?;
-    assert_eq!(rt; built.finish()?.ranges().len(), 4096);
+    assert!(rt; built.finish()?.ranges().len() == 4096);
     Ok(())
 }

@@ -81,7 +81,7 @@ fn is_planned(
     let map = map_of(alloc, ranges)?;
     let plan = plan_map(alloc, &map)?;
     assert!(rt; are_written(plan.entries(), pairs));
-    assert_eq!(rt; plan.needed() as usize, pairs.len());
+    assert!(rt; plan.needed() as usize == pairs.len());
     assert!(rt; is_of_tree(alloc, &map, &plan)?);
     Ok(plan)
 }
@@ -95,7 +95,7 @@ fn first_word(plan: &Plan, rt: &impl Abort) -> u64 {
 #[test]
 fn empty_map_needs_no_entry(rt: HostRuntime) -> Result<(), Fail> {
     let plan = is_planned(&[], &[], rt.alloc(), &rt)?;
-    assert_eq!(rt; plan.branches(), 0);
+    assert!(rt; plan.branches() == 0);
     Ok(())
 }
 
@@ -140,7 +140,7 @@ fn boot_of_the_example_platform_uses_three_entries(rt: HostRuntime) -> Result<()
         rt.alloc(),
         &rt,
     )?;
-    assert_eq!(rt; first_word(&plan, &rt), 0x1F_181B);
+    assert!(rt; first_word(&plan, &rt) == 0x1F_181B);
     Ok(())
 }
 
@@ -152,7 +152,7 @@ fn seven_pages_need_two_entries(rt: HostRuntime) -> Result<(), Fail> {
         rt.alloc(),
         &rt,
     )?;
-    assert_eq!(rt; first_word(&plan, &rt), 0x1D18);
+    assert!(rt; first_word(&plan, &rt) == 0x1D18);
     Ok(())
 }
 
@@ -215,7 +215,7 @@ fn a_tie_is_settled_as_two_pages(rt: HostRuntime) -> Result<(), Fail> {
         rt.alloc(),
         &rt,
     )?;
-    assert_eq!(rt; first_word(&plan, &rt), 0x1B_1B1D);
+    assert!(rt; first_word(&plan, &rt) == 0x1B_1B1D);
     Ok(())
 }
 
@@ -236,8 +236,8 @@ fn needed_beside_scattered_pages(alloc: Global, pages: u32) -> Result<u32, Fail>
 
 #[test]
 fn thirteen_scattered_pages_fit_sixteen_entries(rt: HostRuntime) -> Result<(), Fail> {
-    assert_eq!(rt; needed_beside_scattered_pages(rt.alloc(), 13)?, 16);
-    assert_eq!(rt; needed_beside_scattered_pages(rt.alloc(), 14)?, 17);
+    assert!(rt; needed_beside_scattered_pages(rt.alloc(), 13)? == 16);
+    assert!(rt; needed_beside_scattered_pages(rt.alloc(), 14)? == 17);
     Ok(())
 }
 
@@ -253,9 +253,9 @@ fn one_shared_page_more_needs_one_entry_more(rt: HostRuntime) -> Result<(), Fail
     let text = (0x804AB, 170, Perm::ReadExecute);
     let data = (0x80555, 342, Perm::ReadWrite);
     let ten = [text, data, (0x81000, 10, Perm::ReadWrite)];
-    assert_eq!(rt; needed(rt.alloc(), &ten)?, 16);
+    assert!(rt; needed(rt.alloc(), &ten)? == 16);
     let eleven = [text, data, (0x81000, 11, Perm::ReadWrite)];
-    assert_eq!(rt; needed(rt.alloc(), &eleven)?, 17);
+    assert!(rt; needed(rt.alloc(), &eleven)? == 17);
     Ok(())
 }
 
@@ -264,12 +264,12 @@ fn the_lower_half_costs_one_under_either_permission(rt: HostRuntime) -> Result<(
     let ranges = [(0, 1 << 43, Perm::ReadWriteExecute)];
     let tree = tree_of(rt.alloc(), &ranges)?;
     let plan = plan(rt.alloc(), &tree)?;
-    assert_eq!(rt; plan.branches(), 1);
-    assert_eq!(rt; plan.cost(0, Perm::NoAccess), 1);
-    assert_eq!(rt; plan.cost(0, Perm::Read), 2);
-    assert_eq!(rt; plan.cost(0, Perm::ReadWrite), 2);
-    assert_eq!(rt; plan.cost(0, Perm::Execute), 2);
-    assert_eq!(rt; plan.cost(0, Perm::ReadExecute), 2);
-    assert_eq!(rt; plan.cost(0, Perm::ReadWriteExecute), 1);
+    assert!(rt; plan.branches() == 1);
+    assert!(rt; plan.cost(0, Perm::NoAccess) == 1);
+    assert!(rt; plan.cost(0, Perm::Read) == 2);
+    assert!(rt; plan.cost(0, Perm::ReadWrite) == 2);
+    assert!(rt; plan.cost(0, Perm::Execute) == 2);
+    assert!(rt; plan.cost(0, Perm::ReadExecute) == 2);
+    assert!(rt; plan.cost(0, Perm::ReadWriteExecute) == 1);
     Ok(())
 }
