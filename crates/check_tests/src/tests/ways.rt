@@ -1,11 +1,11 @@
 //! Certificates of trees that are split down to one page, written by hand.
 
-use super::{code, map_of, seven_pages_map};
-use certificate_check::{CheckRefusal, check};
+use super::{answers, code, map_of, seven_pages_map};
+use certificate_check::CheckRefusal;
 use permission_map::PermissionMap;
 use pmp_encoding::Perm;
 use std::alloc::{AllocError, Global};
-use std::test::Fail;
+use std::process::Abort;
 
 /// A tree that is split down to one page: blocks of fewer pages than `2^near` beside the way have one permission,
 /// larger ones have none.
@@ -108,60 +108,62 @@ const HOLE: (u8, u64) = (0x18, 0x2008_3DFF);
 
 const EIGHT_PAGES: (u8, u64) = (0x1D, 0x2008_2FFF);
 
-fn seven_pages(alloc: Global) -> Result<Vec<u8>, AllocError> {
-    certificate(alloc, [HOLE, EIGHT_PAGES].as_slice(), seven_pages_way())
+fn seven_pages(rt: &impl Abort, alloc: Global) -> Vec<u8> {
+    let entries = [HOLE, EIGHT_PAGES];
+    certificate(alloc, entries.as_slice(), seven_pages_way()).expect(rt, "memory")
 }
 
-/// The number for the bytes with one of them changed.
-fn code_with(
+/// The bytes with one of them changed are refused with this number.
+fn is_refused_with(
+    rt: &impl Abort,
     alloc: Global,
     map: &PermissionMap,
-    bytes: &[u8],
     place: usize,
     byte: u8,
-) -> Result<u8, AllocError> {
-    let mut changed = Vec::from_slice(alloc, bytes)?;
+    refusal: u8,
+) {
+    let mut changed = seven_pages(rt, alloc);
     if let Some(there) = changed.get_mut(place) {
         *there = byte;
     }
-    Ok(code(map, changed.as_slice()))
+    assert!(rt;
+        code(map, changed.as_slice()) == refusal,
+        "{byte} at {place}"
+    );
 }
 
 #[test]
-fn one_page_needs_one_entry(rt: HostRuntime) -> Result<(), Fail> {
-    let map = map_of(rt.alloc(), 0x80000, 1, Perm::ReadWriteExecute)?;
+fn one_page_needs_one_entry(rt: HostRuntime) {
+    let map = map_of(&rt, rt.alloc(), 0x80000, 1, Perm::ReadWriteExecute);
     let way = Way {
         page: 0x80000,
         perm: Perm::ReadWriteExecute,
         near: 0,
         near_perm: Perm::NoAccess,
     };
-    let bytes = certificate(rt.alloc(), [(0x1F, 0x2000_01FF)].as_slice(), way)?;
-    assert_eq!(rt; bytes.len(), 1208);
-    assert_eq!(rt; check(&map, bytes.as_slice()), Ok(1));
-    Ok(())
+    let entries = [(0x1F, 0x2000_01FF)];
+    let bytes = certificate(rt.alloc(), entries.as_slice(), way).expect(&rt, "memory");
+    assert!(rt; bytes.len() == 1208);
+    answers(&rt, &map, bytes.as_slice(), Ok(1));
 }
 
 #[test]
-fn seven_pages_need_two_entries_and_all_their_bytes(rt: HostRuntime) -> Result<(), Fail> {
-    let map = seven_pages_map(rt.alloc())?;
-    let bytes = seven_pages(rt.alloc())?;
-    assert_eq!(rt; bytes.len(), 1217);
-    assert_eq!(rt; check(&map, bytes.as_slice()), Ok(2));
+fn seven_pages_need_two_entries_and_all_their_bytes(rt: HostRuntime) {
+    let map = seven_pages_map(&rt, rt.alloc());
+    let bytes = seven_pages(&rt, rt.alloc());
+    assert!(rt; bytes.len() == 1217);
+    answers(&rt, &map, bytes.as_slice(), Ok(2));
     for n in 0..1217 {
-        let Some(front) = bytes.get(..n) else {
-            continue;
-        };
-        assert_eq!(rt; code(&map, front), 3, "{n} bytes");
+        let front = bytes.get(..n).unwrap_or_default();
+        answers(&rt, &map, front, Err(CheckRefusal::Truncated));
     }
-    Ok(())
 }
 
 #[test]
-fn each_refusal_has_its_place_in_the_seven_pages(rt: HostRuntime) -> Result<(), Fail> {
-    let map = seven_pages_map(rt.alloc())?;
-    let bytes = seven_pages(rt.alloc())?;
-    assert_eq!(rt; bytes.get(28), Some(&2));
+fn each_refusal_has_its_place_in_the_seven_pages(rt: HostRuntime) {
+    let map = seven_pages_map(&rt, rt.alloc());
+    let bytes = seven_pages(&rt, rt.alloc());
+    assert!(rt; bytes.get(28) == Some(&2));
     let cases = [
         (1216, 7, 10),
         (1216, 2, 5),
@@ -172,31 +174,33 @@ fn each_refusal_has_its_place_in_the_seven_pages(rt: HostRuntime) -> Result<(), 
         (28, 1, 13),
     ];
     for (place, byte, refusal) in cases {
-        assert_eq!(rt;
-            code_with(rt.alloc(), &map, &bytes, place, byte)?,
-            refusal,
-            "{byte} at {place}"
-        );
+        is_refused_with(&rt, rt.alloc(), &map, place, byte, refusal);
     }
-    let mut longer = seven_pages(rt.alloc())?;
-    longer.push(0)?;
-    assert_eq!(rt; check(&map, &longer), Err(CheckRefusal::Trailing));
-    Ok(())
+    let mut longer = seven_pages(&rt, rt.alloc());
+    longer.push(0).expect(&rt, "memory");
+    answers(&rt, &map, &longer, Err(CheckRefusal::Trailing));
+}
+
+/// The certificate of seven pages with three entries, the last of them for nothing, and with this cost at the root.
+fn with_three_entries(rt: &impl Abort, alloc: Global, cost: u8) -> Vec<u8> {
+    let entries = [HOLE, EIGHT_PAGES, EIGHT_PAGES];
+    let mut bytes = certificate(alloc, entries.as_slice(), seven_pages_way()).expect(rt, "memory");
+    assert!(rt; bytes.get(37) == Some(&2));
+    if let Some(there) = bytes.get_mut(37) {
+        *there = cost;
+    }
+    bytes
 }
 
 #[test]
-fn other_entries_are_refused_for_seven_pages(rt: HostRuntime) -> Result<(), Fail> {
+fn other_entries_are_refused_for_seven_pages(rt: HostRuntime) {
     let alloc = rt.alloc();
-    let map = seven_pages_map(alloc)?;
-    let way = seven_pages_way();
-    let exchanged = certificate(alloc, [EIGHT_PAGES, HOLE].as_slice(), way)?;
-    assert_eq!(rt; check(&map, &exchanged), Err(CheckRefusal::WrongMeaning));
-    let mut repeated = certificate(alloc, [HOLE, EIGHT_PAGES, EIGHT_PAGES].as_slice(), way)?;
-    assert_eq!(rt; check(&map, &repeated), Err(CheckRefusal::EntriesTooMany));
-    if let Some(cost) = repeated.get_mut(37) {
-        assert_eq!(rt; *cost, 2);
-        *cost = 3;
-    }
-    assert_eq!(rt; check(&map, &repeated), Err(CheckRefusal::CostTooHigh));
-    Ok(())
+    let map = seven_pages_map(&rt, alloc);
+    let entries = [EIGHT_PAGES, HOLE];
+    let exchanged = certificate(alloc, entries.as_slice(), seven_pages_way()).expect(&rt, "memory");
+    answers(&rt, &map, &exchanged, Err(CheckRefusal::WrongMeaning));
+    let repeated = with_three_entries(&rt, alloc, 2);
+    answers(&rt, &map, &repeated, Err(CheckRefusal::EntriesTooMany));
+    let dearer = with_three_entries(&rt, alloc, 3);
+    answers(&rt, &map, &dearer, Err(CheckRefusal::CostTooHigh));
 }
