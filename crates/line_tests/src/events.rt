@@ -42,16 +42,13 @@ fn says_nothing(line: &[u8]) -> bool {
 #[test]
 fn three_forms_are_accesses(rt: HostRuntime) {
     let load = (Mode::Supervisor, Kind::Load, 8, 0x80000FF8, 0);
-    assert_eq!(rt; access(b"load s 8 0x80000ff8"), Some(load));
-    assert_eq!(rt; access(b"load s 0x8 0x80000ff8"), Some(load));
-    assert_eq!(rt;
-        access(b"  load\ts 08  2147487736 \t# the last eight bytes"),
-        Some(load)
-    );
+    assert!(rt; access(b"load s 8 0x80000ff8") == Some(load));
+    assert!(rt; access(b"load s 0x8 0x80000ff8") == Some(load));
+    assert!(rt; access(b"  load\ts 08  2147487736 \t# the last eight bytes") == Some(load));
     let fetch = (Mode::User, Kind::Fetch, 2, 0, 0);
-    assert_eq!(rt; access(b"fetch u 2 0"), Some(fetch));
+    assert!(rt; access(b"fetch u 2 0") == Some(fetch));
     let store = (Mode::User, Kind::Store, 1, 18446744073709551615, 7);
-    assert_eq!(rt; access(b"store u 1 0xffffffffffffffff 7"), Some(store));
+    assert!(rt; access(b"store u 1 0xffffffffffffffff 7") == Some(store));
 }
 
 #[test]

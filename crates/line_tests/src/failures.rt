@@ -61,9 +61,6 @@ fn a_failing_or_full_sink_holds_a_beginning(rt: HostRuntime) {
     }
     let mut source = PieceSource::new(TRACE, 4096, None);
     let mut none = PieceSink::new(0, None);
-    assert_eq!(rt;
-        judge_trace(&bank, &mut source, &mut none),
-        Err(RunFault::Write)
-    );
-    assert_eq!(rt; none.written().len(), 0);
+    assert!(rt; judge_trace(&bank, &mut source, &mut none) == Err(RunFault::Write));
+    assert!(rt; none.written().len() == 0);
 }

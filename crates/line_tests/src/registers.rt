@@ -69,15 +69,9 @@ fn a_range_is_from_the_register_before_to_before_its_own(rt: HostRuntime) {
         );
     }
     let first = two((0x0c, 0x400), (0, 0));
-    assert_eq!(rt;
-        outcome(&first, Mode::User, Kind::Fetch, 4, 0),
-        Some(Ok(()))
-    );
+    assert!(rt; outcome(&first, Mode::User, Kind::Fetch, 4, 0) == Some(Ok(())));
     let empty = two((0, 0x800), (0x0f, 0x400));
-    assert_eq!(rt;
-        outcome(&empty, Mode::User, Kind::Load, 8, 0x1000),
-        Some(Err(Cause::LoadFault))
-    );
+    assert!(rt; outcome(&empty, Mode::User, Kind::Load, 8, 0x1000) == Some(Err(Cause::LoadFault)));
 }
 
 #[test]
@@ -96,7 +90,7 @@ fn a_locked_entry_binds_machine_mode(rt: HostRuntime) {
     }
     let locked = two((0x9d, PAGE), (0, 0));
     let found = outcome(&locked, Mode::Supervisor, Kind::Fetch, 4, 0x8000_0000);
-    assert_eq!(rt; found, Some(Ok(())));
+    assert!(rt; found == Some(Ok(())));
 }
 
 #[test]
@@ -120,26 +114,23 @@ fn a_partial_match_denies_every_mode(rt: HostRuntime) {
 fn the_first_entry_by_number_decides(rt: HostRuntime) {
     let registers = two((0x18, PAGE), (0x1f, ALL));
     let denied = outcome(&registers, Mode::Supervisor, Kind::Load, 8, 0x8000_0ff8);
-    assert_eq!(rt; denied, Some(Err(Cause::LoadFault)));
+    assert!(rt; denied == Some(Err(Cause::LoadFault)));
     let allowed = outcome(&registers, Mode::Supervisor, Kind::Load, 8, 0x8000_1000);
-    assert_eq!(rt; allowed, Some(Ok(())));
+    assert!(rt; allowed == Some(Ok(())));
 }
 
 #[test]
 fn no_entry_leaves_machine_mode_alone(rt: HostRuntime) {
     let none = two((0, PAGE), (0, ALL));
-    assert_eq!(rt;
-        outcome(&none, Mode::Machine, Kind::Store, 8, 0),
-        Some(Ok(()))
-    );
+    assert!(rt; outcome(&none, Mode::Machine, Kind::Store, 8, 0) == Some(Ok(())));
     for mode in [Mode::Supervisor, Mode::User] {
         let denied = outcome(&none, mode, Kind::Store, 8, 0);
         assert_eq!(rt; denied, Some(Err(Cause::StoreFault)));
     }
     let past = outcome(&none, Mode::Machine, Kind::Load, 1, 1 << 56);
-    assert_eq!(rt; past, Some(Err(Cause::LoadFault)));
+    assert!(rt; past == Some(Err(Cause::LoadFault)));
     let uneven = outcome(&none, Mode::Machine, Kind::Load, 8, 4);
-    assert_eq!(rt; uneven, Some(Err(Cause::LoadMisaligned)));
+    assert!(rt; uneven == Some(Err(Cause::LoadMisaligned)));
 }
 
 #[test]
@@ -192,6 +183,6 @@ fn a_listing_judges_a_trace_or_says_why_not(rt: HostRuntime) -> Result<(), Fail>
         assert_eq!(rt; written.as_slice(), wanted);
     }
     let fault = rules_in(rt.alloc(), b"pmpaddr0 1\nwhat\n").err();
-    assert_eq!(rt; fault, Some(RulesFault::Line(2)));
+    assert!(rt; fault == Some(RulesFault::Line(2)));
     Ok(())
 }
