@@ -18,16 +18,16 @@ pub long_sets : (raw : List ℕ) → 1024 ≤ length raw → raw_sets raw ≡ No
 long_sets raw long = grind (arith, nat_tests, common_steps, long)
 
 -- one line more
-pub set_by_more : (listing now : Listing) (n k : ℕ) (before : List (List ℕ)) (raw : List ℕ) (setting : Setting) → set_by_lines listing n before ≡ Some now → n + length before ≡ k → raw_sets raw ≡ Some setting
-    → set_by_lines listing n (before ++ raw ∷ []) ≡ Some (set_by now k setting)
-set_by_more listing now n k [] raw setting done at sets =
+pub set_by_more : (sets : List ℕ → Option Setting) (listing now : Listing) (n k : ℕ) (before : List (List ℕ)) (raw : List ℕ) (setting : Setting) → set_by_lines sets listing n before ≡ Some now → n + length before ≡ k
+    → sets raw ≡ Some setting → set_by_lines sets listing n (before ++ raw ∷ []) ≡ Some (set_by now k setting)
+set_by_more sets listing now n k [] raw setting done at is =
     let same : listing ≡ now = same_Some listing now done in
     let here : n ≡ k = omega (arith, at) in
-    ap (λ o. option_and_then (λ s. Some (set_by listing n s)) o) sets ∙ ap (λ r. Some (set_by r n setting)) same ∙ ap (λ m. Some (set_by now m setting)) here
-set_by_more listing now n k (first ∷ before) raw setting done at sets =
-    follow (raw_sets first) (λ s h. set_by_more (set_by listing n s) now (n + 1) k before raw setting h (omega (arith, at)) sets) done
+    ap (λ o. option_and_then (λ s. Some (set_by listing n s)) o) is ∙ ap (λ r. Some (set_by r n setting)) same ∙ ap (λ m. Some (set_by now m setting)) here
+set_by_more sets listing now n k (first ∷ before) raw setting done at is =
+    follow (sets first) (λ s h. set_by_more sets (set_by listing n s) now (n + 1) k before raw setting h (omega (arith, at)) is) done
   where
-    follow : (o : Option Setting) → ((s : Setting) → set_by_lines (set_by listing n s) (n + 1) before ≡ Some now → set_by_lines (set_by listing n s) (n + 1) (before ++ raw ∷ []) ≡ Some (set_by now k setting))
-        → option_and_then (λ s. set_by_lines (set_by listing n s) (n + 1) before) o ≡ Some now → option_and_then (λ s. set_by_lines (set_by listing n s) (n + 1) (before ++ raw ∷ [])) o ≡ Some (set_by now k setting)
+    follow : (o : Option Setting) → ((s : Setting) → set_by_lines sets (set_by listing n s) (n + 1) before ≡ Some now → set_by_lines sets (set_by listing n s) (n + 1) (before ++ raw ∷ []) ≡ Some (set_by now k setting))
+        → option_and_then (λ s. set_by_lines sets (set_by listing n s) (n + 1) before) o ≡ Some now → option_and_then (λ s. set_by_lines sets (set_by listing n s) (n + 1) (before ++ raw ∷ [])) o ≡ Some (set_by now k setting)
     follow None rest h = absurd cc
     follow (Some s) rest h = rest s h

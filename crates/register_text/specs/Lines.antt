@@ -1,11 +1,13 @@
 -- What a line of a listing sets.
-use Rattle.std.specs.Prelude.{ℕ, ◌+◌, ◌*◌, ◌%◌, ◌-◌, ◌<◌, ◌≤◌, ⊤, Bool, false, not, ◌&&◌, ◌||◌, ◌==◌, nat_lt, nat_le, if◌then◌else◌, List, [], ◌∷◌, length, take, drop, Option, Some, None, codes, bytes_eq}
+use Rattle.std.specs.Prelude.{ℕ, ◌+◌, ◌*◌, ◌%◌, ◌-◌, ◌<◌, ◌≤◌, ⊤, Bool, false, not, ◌&&◌, ◌||◌, ◌==◌, nat_lt, nat_le, if◌then◌else◌, List, [], ◌∷◌, length, take, drop, Option, Some, None, codes, bytes_eq, option_map}
 use Rattle.std.specs.List.{list_all, position_or_len}
 use Rattle.std.specs.Option.{option_and_then}
 use Rattle.std.specs.Str.{str_eq_ignore_ascii_case}
 use Rattle.text_lines.specs.Words.{words_of}
 use Rattle.text_lines.specs.Numbers.{numeral_of, number_of}
 use Rattle.text_lines.specs.Lines.{without_return}
+use Rattle.boot_log.specs.declared.entry.RegionEntry.{RegionEntry}
+use Rattle.boot_log.specs.Lines.{log_says}
 use Rattle.register_text.specs.declared.setting.Setting.{Setting}
 use Rattle.register_text.specs.declared.setting.Setting.TheVariants as settings
 
@@ -140,3 +142,12 @@ line_sets line = option_and_then set_by_words (words_of line)
 -- what a line of at most 1023 bytes sets, its CR counted
 abbrev pub raw_sets : List ℕ → Option Setting
 raw_sets raw = if nat_le (length raw) 1023 then line_sets (without_return raw) else None
+
+-- what a line of a boot log sets: the pair of a region, or nothing
+abbrev pub region_setting : Option RegionEntry → Setting
+region_setting None = settings.Nothing
+region_setting (Some entry) = settings.Pair entry.place entry.cfg entry.address
+
+-- what it sets, where it is understood
+abbrev pub log_sets : List ℕ → Option Setting
+log_sets raw = option_map region_setting (log_says raw)

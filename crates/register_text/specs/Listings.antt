@@ -1,12 +1,13 @@
 -- What a listing leaves.
-use Rattle.std.specs.Prelude.{◌≡◌, ℕ, zero, suc, ◌+◌, ◌/◌, ◌%◌, List, [], ◌∷◌, ◌++◌, length, replicate, slice_set, Option, Some, None}
+use Rattle.std.specs.Prelude.{◌≡◌, if◌then◌else◌, ℕ, zero, suc, ◌+◌, ◌/◌, ◌%◌, List, [], ◌∷◌, ◌++◌, length, replicate, slice_set, Option, Some, None}
 use Rattle.std.specs.Option.{option_and_then}
 use Rattle.pmp_registers.specs.declared.registers.Registers.{Registers}
 use Rattle.register_text.specs.declared.listing.Listing.{Listing}
 use Rattle.register_text.specs.declared.setting.Setting.{Setting}
 use Rattle.register_text.specs.declared.setting.Setting.TheVariants as settings
 use Rattle.text_lines.specs.Lines.{raw_lines}
-use Rattle.register_text.specs.Lines.{raw_sets}
+use Rattle.boot_log.specs.Lines.{is_boot_log}
+use Rattle.register_text.specs.Lines.{log_sets, raw_sets}
 
 -- registers that are all zero, and no line that is passed over
 abbrev pub nothing_set : Listing
@@ -36,21 +37,33 @@ set_by listing n (settings.Security value) = record { registers = listing.regist
 set_by listing n setting = record { registers = registers_by listing.registers setting; mseccfg = listing.mseccfg; passed = listing.passed }
 
 -- what it says after lines from number n on, each of which is understood
-abbrev pub set_by_lines : Listing → ℕ → List (List ℕ) → Option Listing
-set_by_lines listing n [] = Some listing
-set_by_lines listing n (raw ∷ raws) = option_and_then (λ setting. set_by_lines (set_by listing n setting) (n + 1) raws) (raw_sets raw)
+abbrev pub set_by_lines : (List ℕ → Option Setting) → Listing → ℕ → List (List ℕ) → Option Listing
+set_by_lines sets listing n [] = Some listing
+set_by_lines sets listing n (raw ∷ raws) = option_and_then (λ setting. set_by_lines sets (set_by listing n setting) (n + 1) raws) (sets raw)
 
--- what the lines of a listing leave, where all are understood
-abbrev pub listed : List ℕ → Option Listing
-listed bytes = set_by_lines nothing_set 1 (raw_lines bytes)
+-- what the lines of a text leave, where all are understood
+abbrev pub listed_by : (List ℕ → Option Setting) → List ℕ → Option Listing
+listed_by sets bytes = set_by_lines sets nothing_set 1 (raw_lines bytes)
 
--- line n of a listing is not understood, and those before it are
-pub record IsFirstUnknown (bytes : List ℕ) (n : ℕ) : Type 0 where
+-- line n of a text is not understood, and those before it are
+pub record IsFirstUnknownBy (sets : List ℕ → Option Setting) (bytes : List ℕ) (n : ℕ) : Type 0 where
   pub before : List (List ℕ)
   pub raw : List ℕ
   pub rest : List (List ℕ)
   pub are_lines : raw_lines bytes ≡ before ++ raw ∷ rest
   pub number : length before + 1 ≡ n
   pub listing : Listing
-  pub understood : set_by_lines nothing_set 1 before ≡ Some listing
-  pub unknown : raw_sets raw ≡ None
+  pub understood : set_by_lines sets nothing_set 1 before ≡ Some listing
+  pub unknown : sets raw ≡ None
+
+-- what a line sets: by the regions of a boot log, or as a line of registers
+abbrev pub sets_in : List ℕ → List ℕ → Option Setting
+sets_in bytes = if is_boot_log bytes then log_sets else raw_sets
+
+-- what the lines of a listing leave, where all are understood
+abbrev pub listed : List ℕ → Option Listing
+listed bytes = listed_by (sets_in bytes) bytes
+
+-- line n of a listing is not understood, and those before it are
+abbrev pub IsFirstUnknown : List ℕ → ℕ → Type 0
+IsFirstUnknown bytes n = IsFirstUnknownBy (sets_in bytes) bytes n

@@ -2,7 +2,8 @@
 //!
 //! A listing is what `plan` prints, or lines `pmpaddrN VALUE` and `pmpcfgK VALUE` in any order, as gdb, OpenOCD or a boot log
 //! has them. A later line overrides an earlier one, and what no line sets is zero. Lines of other registers set nothing, and the
-//! first of them is named. For the layer above: [`listing_of`] answers the registers, `mseccfg` and that line, or the number of
+//! first of them is named. OpenSBI's boot log is a listing too: its lines on regions set entries, and all others nothing. For
+//! the layer above: [`listing_of`] answers the registers, `mseccfg` and that line, or the number of
 //! the first line that is not understood.
 //!
 //! ```rust
@@ -12,6 +13,7 @@
 #![tactic(auto)]
 
 mod listing;
+mod log;
 mod register_lines;
 mod setting;
 

@@ -1,10 +1,13 @@
 //! A listing of registers, line by line.
 
 ghost use Rattle.std.specs.Prelude.{◌≡◌, ◌-◌, ◌^◌, ◌<◌, IfErr, IfOk, Some, length};
-ghost use Rattle.register_text.specs.Listings.{IsFirstUnknown, listed};
+ghost use Rattle.register_text.specs.Lines.{raw_sets};
+ghost use Rattle.register_text.specs.Listings.{IsFirstUnknown, IsFirstUnknownBy, listed, listed_by};
 
+use crate::log::log_listing;
 use crate::register_lines::line_sets;
 use crate::setting::nothing_set;
+use boot_log::is_boot_log;
 use map_text::next_line;
 use pmp_registers::Registers;
 use text_lines::LineReader;
@@ -20,11 +23,11 @@ pub struct Listing {
     pub passed: Option<u64>,
 }
 
-/// What the lines of a listing leave, or the number of the first line that is not understood.
-pub fn listing_of(bytes: &[u8]) -> Result<Listing, u64>
+/// What lines of registers leave.
+fn register_listing(bytes: &[u8]) -> Result<Listing, u64>
     requires { length bytes.now < 2 ^ 64 - 1 }
-    ensures listing { IfOk result (λ listing. listed bytes.now ≡ Some listing) }
-    ensures unknown { IfErr result (IsFirstUnknown bytes.now) }
+    ensures listing { IfOk result (λ listing. listed_by raw_sets bytes.now ≡ Some listing) }
+    ensures unknown { IfErr result (IsFirstUnknownBy raw_sets bytes.now) }
 {
     let mut listing = nothing_set();
     let mut lines = LineReader::with_limit(u64::MAX);
@@ -37,4 +40,18 @@ pub fn listing_of(bytes: &[u8]) -> Result<Listing, u64>
         listing = setting.of(&listing, number);
     }
     Ok(listing)
+}
+
+/// What the lines of a listing leave, or the number of the first line that is not understood. Of a boot log only the lines on
+/// regions are looked at.
+pub fn listing_of(bytes: &[u8]) -> Result<Listing, u64>
+    requires { length bytes.now < 2 ^ 64 - 1 }
+    ensures listing { IfOk result (λ listing. listed bytes.now ≡ Some listing) }
+    ensures unknown { IfErr result (IsFirstUnknown bytes.now) }
+{
+    if is_boot_log(bytes) {
+        log_listing(bytes)
+    } else {
+        register_listing(bytes)
+    }
 }

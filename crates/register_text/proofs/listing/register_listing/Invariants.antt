@@ -3,11 +3,12 @@ use Rattle.text_lines.specs.LineReaders.{came_of, most_of, number_of}
 use Rattle.map_text.specs.Lines.{left_of}
 use Rattle.text_lines.specs.Lines.{raw_lines}
 use Rattle.register_text.specs.Listings.{nothing_set, set_by_lines}
-use Rattle.register_text.proofs.listing.listing_of.Given as goal
+use Rattle.register_text.specs.Lines.{raw_sets}
+use Rattle.register_text.proofs.listing.register_listing.Given as goal
 
 abbrev pub invariant-loop-lines : goal.invariant-loop-lines
 invariant-loop-lines l = record {
-  followed : (before : List (List ℕ)) × (raw_lines l.bytes ≡ before ++ raw_lines (left_of l.lines l.rest)) × (length before ≡ number_of l.lines) × (set_by_lines nothing_set 1 before ≡ Some l.listing);
+  followed : (before : List (List ℕ)) × (raw_lines l.bytes ≡ before ++ raw_lines (left_of l.lines l.rest)) × (length before ≡ number_of l.lines) × (set_by_lines raw_sets nothing_set 1 before ≡ Some l.listing);
   came : came_of l.lines + length l.rest ≡ length l.bytes;
   limit : most_of l.lines ≡ 2 ^ 64 - 1;
 }

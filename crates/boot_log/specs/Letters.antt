@@ -1,0 +1,46 @@
+-- The letters of a region, as `(R,W)`.
+use Rattle.std.specs.Prelude.{ℕ, ◌-◌, ◌==◌, ◌||◌, ◌&&◌, Bool, true, false, nat_lt, nat_le, if◌then◌else◌, List, length, take, drop, Option, Some, None, codes, bytes_eq}
+use Rattle.std.specs.List.{list_all, position_or_len}
+use Rattle.std.specs.Option.{option_and_then}
+use Rattle.pmp_encoding.specs.declared.perm.Perm.{Perm}
+use Rattle.pmp_encoding.specs.declared.perm.Perm.TheVariants.{NoAccess, Read, ReadWrite, Execute, ReadExecute, ReadWriteExecute}
+
+-- what stands after a name that a word begins with
+abbrev pub behind : List ℕ → List ℕ → Option (List ℕ)
+behind word name = if nat_le (length name) (length word) && bytes_eq (take (length name) word) name then Some (drop (length name) word) else None
+
+-- what stands before a closing parenthesis at the end
+abbrev pub before_end : List ℕ → Option (List ℕ)
+before_end text = if bytes_eq (drop (length text - 1) text) (codes ")") then Some (take (length text - 1) text) else None
+
+-- F for firmware, I for a device, M for machine mode too; R, W and X; and commas between them
+abbrev pub is_letter : ℕ → Bool
+is_letter b = b == 44 || (b == 70 || (b == 73 || (b == 77 || (b == 82 || (b == 87 || b == 88)))))
+
+abbrev pub of_letters : List ℕ → Option (List ℕ)
+of_letters text = if list_all is_letter text then Some text else None
+
+-- the letters in parentheses
+abbrev pub letters_of : List ℕ → Option (List ℕ)
+letters_of word = option_and_then of_letters (option_and_then before_end (behind word (codes "(")))
+
+-- whether a letter is among them
+abbrev pub has_letter : ℕ → List ℕ → Bool
+has_letter letter letters = nat_lt (position_or_len (λ b. b == letter) letters) (length letters)
+
+-- the permission to read, write and execute or not; W without R is reserved
+abbrev pub perm_by : Bool → Bool → Bool → Option Perm
+perm_by false false false = Some NoAccess
+perm_by true false false = Some Read
+perm_by true true false = Some ReadWrite
+perm_by false false true = Some Execute
+perm_by true false true = Some ReadExecute
+perm_by true true true = Some ReadWriteExecute
+perm_by false true x = None
+
+abbrev pub perm_by_letters : List ℕ → Option Perm
+perm_by_letters letters = perm_by (has_letter 82 letters) (has_letter 87 letters) (has_letter 88 letters)
+
+-- the permission that a word of letters says
+abbrev pub perm_of : List ℕ → Option Perm
+perm_of word = option_and_then perm_by_letters (letters_of word)
