@@ -1,8 +1,11 @@
 -- Entries that stand on a hart from one of its entries on.
-use Rattle.std.specs.Prelude.{ℕ, ◌+◌, ◌-◌, ◌*◌, ◌/◌, nat_lt, if◌then◌else◌, List, [], ◌∷◌, Option, Some, None, slice_get}
-use Rattle.std.specs.Int.{from_le_bytes, w64}
+use Rattle.std.specs.Prelude.{ℕ, ◌+◌, ◌-◌, ◌*◌, nat_lt, if◌then◌else◌, List, [], ◌∷◌, map, Option, Some, None, slice_get}
+use Rattle.std.specs.Int.{Width, from_le_bytes, w32, w64}
 use Rattle.pmp_encoding.specs.declared.region.Entry.{Entry}
 use Rattle.pmp_encoding.specs.Encoding.{cfg_of}
+use Rattle.register_width.specs.declared.xlen.Xlen.{Xlen}
+use Rattle.register_width.specs.declared.xlen.Xlen.TheVariants.{Rv32, Rv64}
+use Rattle.register_width.specs.Widths.{word_entries}
 
 -- what stands at entry i of the hart: nothing below the first, and after the last
 abbrev pub entry_from : ℕ → List Entry → ℕ → Option Entry
@@ -17,12 +20,16 @@ cfg_or_zero None = 0
 abbrev pub cfg_from : ℕ → List Entry → ℕ → ℕ
 cfg_from first entries i = cfg_or_zero (entry_from first entries i)
 
--- the word pmpcfg(2 * i): the bytes of eight entries, the lowest first
-abbrev pub word_from : ℕ → List Entry → ℕ → ℕ
-word_from first entries i =
-    let cfg = λ (j : ℕ). cfg_from first entries (8 * i + j) in
-    from_le_bytes w64 (cfg 0 ∷ cfg 1 ∷ cfg 2 ∷ cfg 3 ∷ cfg 4 ∷ cfg 5 ∷ cfg 6 ∷ cfg 7 ∷ [])
+-- a register as a number of so many bits
+abbrev pub width_of : Xlen → Width
+width_of Rv32 = w32
+width_of Rv64 = w64
 
--- the first word that has no byte of an entry below `first`, by its place among the words
-abbrev pub whole_word : ℕ → ℕ
-whole_word first = (first + 7) / 8
+-- the places of the entries of a configuration word, from its first one
+abbrev pub places_in_word : Xlen → List ℕ
+places_in_word Rv32 = 0 ∷ 1 ∷ 2 ∷ 3 ∷ []
+places_in_word Rv64 = 0 ∷ 1 ∷ 2 ∷ 3 ∷ 4 ∷ 5 ∷ 6 ∷ 7 ∷ []
+
+-- the i-th configuration word: the bytes of its entries, the lowest first
+abbrev pub word_from : Xlen → ℕ → List Entry → ℕ → ℕ
+word_from xlen first entries i = from_le_bytes (width_of xlen) (map (λ j. cfg_from first entries (word_entries xlen * i + j)) (places_in_word xlen))

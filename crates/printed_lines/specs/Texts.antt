@@ -2,18 +2,24 @@
 use Rattle.std.specs.Prelude.{ℕ, List, ◌++◌, codes, decimal}
 use Rattle.hex.specs.Hex.{encode_lower}
 use Rattle.text_lines.specs.Written.{hex}
+use Rattle.register_width.specs.declared.xlen.Xlen.{Xlen}
+use Rattle.register_width.specs.Widths.{register_digits}
 
 -- `entries N`
 abbrev pub count_text : ℕ → List ℕ
 count_text n = codes "entries " ++ decimal n ++ codes "\n"
 
--- `I 0xCC 0xAAAAAAAAAAAAAAAA`
-abbrev pub entry_text : ℕ → ℕ → ℕ → List ℕ
-entry_text i cfg addr = decimal i ++ codes " 0x" ++ hex 2 cfg ++ codes " 0x" ++ hex 16 addr ++ codes "\n"
+-- all digits of a register: eight, or sixteen
+abbrev pub register_text : Xlen → ℕ → List ℕ
+register_text xlen value = hex (register_digits xlen) value
 
--- `pmpcfgK 0xWWWWWWWWWWWWWWWW`
-abbrev pub word_text : ℕ → ℕ → List ℕ
-word_text k word = codes "pmpcfg" ++ decimal k ++ codes " 0x" ++ hex 16 word ++ codes "\n"
+-- `I 0xCC 0xAAAAAAAAAAAAAAAA`, and with 32 bits `I 0xCC 0xAAAAAAAA`
+abbrev pub entry_text : Xlen → ℕ → ℕ → ℕ → List ℕ
+entry_text xlen i cfg addr = decimal i ++ codes " 0x" ++ hex 2 cfg ++ codes " 0x" ++ register_text xlen addr ++ codes "\n"
+
+-- `pmpcfgK 0xWWWWWWWWWWWWWWWW`, and with 32 bits `pmpcfgK 0xWWWWWWWW`
+abbrev pub word_text : Xlen → ℕ → ℕ → List ℕ
+word_text xlen k word = codes "pmpcfg" ++ decimal k ++ codes " 0x" ++ register_text xlen word ++ codes "\n"
 
 -- `accepted N`
 abbrev pub accepted_text : ℕ → List ℕ

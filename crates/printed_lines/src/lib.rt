@@ -5,7 +5,7 @@
 //! entry and in a word of a hart on which a list begins at some entry. Sizes and permissions are put in words here.
 //!
 //! ```rust
-//! print_plan(plan.entries(), 0, Limit::Sixteen, &mut out)?;
+//! print_plan(Xlen::Rv64, plan.entries(), 0, Limit::Sixteen, &mut out)?;
 //! ```
 #![tactic(auto)]
 
@@ -18,6 +18,8 @@ mod texts;
 
 pub use digests::{digest_text, measure_line};
 pub use fields::{letters, push_size};
-pub use placed::{entry_from, room_from, whole_word, word_from};
+pub use placed::{entry_from, room_from, word_from};
 pub use plan::print_plan;
-pub use texts::{accepted_line, accepted_of_line, count_line, entry_line, refused_line, word_line};
+pub use texts::{
+    accepted_line, accepted_of_line, count_line, entry_line, push_register, refused_line, word_line,
+};

@@ -1,10 +1,12 @@
 //! Entries that stand on a hart from one of its entries on.
 
-ghost use Rattle.std.specs.Prelude.{◌≡◌, ◌-◌, ◌<◌, ◌≤◌};
+ghost use Rattle.std.specs.Prelude.{◌≡◌, ◌+◌, ◌-◌, ◌<◌, map};
+ghost use Rattle.std.specs.Int.{from_le_bytes, w32, w64};
 ghost use Rattle.pmp_encoding.specs.Limits.{limit_number};
-ghost use Rattle.printed_lines.specs.Placed.{cfg_from, entry_from, whole_word, word_from};
+ghost use Rattle.printed_lines.specs.Placed.{cfg_from, entry_from, places_in_word, word_from};
 
 use pmp_encoding::{Entry, Limit};
+use register_width::Xlen;
 
 /// What stands at entry i of the hart.
 pub fn entry_from(entries: &[Entry], first: u8, i: usize) -> Option<Entry>
@@ -27,12 +29,26 @@ fn cfg_from(entries: &[Entry], first: u8, i: usize) -> u8
     }
 }
 
-/// The word pmpcfg(2 * i).
-pub fn word_from(entries: &[Entry], first: u8, i: usize) -> u64
-    requires { i < 64 }
-    ensures { result ≡ word_from first entries.now i }
+/// A word of 32 bits, from that of entry `at` on.
+fn short_word(entries: &[Entry], first: u8, at: usize) -> u64
+    requires { at < 256 }
+    ensures { result ≡ from_le_bytes w32 (map (λ j. cfg_from first entries.now (at + j))
+        (places_in_word Xlen.Rv32)) }
 {
-    let at = 8 * i;
+    u64::from(u32::from_le_bytes([
+        cfg_from(entries, first, at),
+        cfg_from(entries, first, at + 1),
+        cfg_from(entries, first, at + 2),
+        cfg_from(entries, first, at + 3),
+    ]))
+}
+
+/// A word of 64 bits, from that of entry `at` on.
+fn long_word(entries: &[Entry], first: u8, at: usize) -> u64
+    requires { at < 512 }
+    ensures { result ≡ from_le_bytes w64 (map (λ j. cfg_from first entries.now (at + j))
+        (places_in_word Xlen.Rv64)) }
+{
     u64::from_le_bytes([
         cfg_from(entries, first, at),
         cfg_from(entries, first, at + 1),
@@ -45,12 +61,15 @@ pub fn word_from(entries: &[Entry], first: u8, i: usize) -> u64
     ])
 }
 
-/// The first word that has no byte of an entry below `first`.
-pub fn whole_word(first: u8) -> usize
-    ensures value { result ≡ whole_word first }
-    ensures most { result ≤ 32 }
+/// The i-th configuration word.
+pub fn word_from(xlen: Xlen, entries: &[Entry], first: u8, i: usize) -> u64
+    requires { i < 64 }
+    ensures { result ≡ word_from xlen first entries.now i }
 {
-    (usize::from(first) + 7) / 8
+    match xlen {
+        Xlen::Rv32 => short_word(entries, first, 4 * i),
+        Xlen::Rv64 => long_word(entries, first, 8 * i),
+    }
 }
 
 /// How many entries the hart has from `first` on.

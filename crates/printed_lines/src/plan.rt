@@ -2,82 +2,101 @@
 
 ghost use Rattle.std.specs.Prelude.{◌+◌, ◌-◌, ◌<◌, ◌≤◌, ◌^◌, length};
 ghost use Rattle.byte_streams.specs.Writings.{writing, Prints, PrintsOne};
-ghost use Rattle.printed_lines.specs.Placed.{whole_word};
+ghost use Rattle.register_width.specs.Widths.{whole_word, AreReached};
 ghost use Rattle.printed_lines.specs.Plans.{IsPlanText, entries_text, list_text, words_text};
 
-use crate::placed::{room_from, whole_word, word_from};
+use crate::placed::{room_from, word_from};
 use crate::texts::{count_line, push_entry, word_line};
 use arrayvec::ArrayVec;
 use byte_streams::{DeviceFault, Sink, write_whole};
 use pmp_encoding::{Entry, Limit};
+use register_width::Xlen;
 
 /// Writes a line for each entry.
-fn print_entries<W: Sink>(entries: &[Entry], first: u8, out: &mut W) -> Result<(), DeviceFault>
+fn print_entries<W: Sink>(
+    xlen: Xlen,
+    entries: &[Entry],
+    first: u8,
+    out: &mut W,
+) -> Result<(), DeviceFault>
     requires { first + length entries.now < 2 ^ 64 }
-    ensures { Prints (entries_text first entries.now)
+    ensures { Prints (entries_text xlen first entries.now)
         (writing W.contents W.failures W.stalls out.old out.new) result }
 {
     for (i, entry) in entries.iter().enumerate() {
         let (cfg, address) = entry.encode();
         let mut line = ArrayVec::new();
-        push_entry(&mut line, u64::from(first) + i as u64, cfg, address);
+        push_entry(&mut line, xlen, u64::from(first) + i as u64, cfg, address);
         write_whole(out, line.as_slice())?;
     }
     Ok(())
 }
 
 /// Writes the number of entries, and a line for each.
-fn print_list<W: Sink>(entries: &[Entry], first: u8, out: &mut W) -> Result<(), DeviceFault>
+fn print_list<W: Sink>(
+    xlen: Xlen,
+    entries: &[Entry],
+    first: u8,
+    out: &mut W,
+) -> Result<(), DeviceFault>
     requires { first + length entries.now < 2 ^ 64 }
-    ensures { Prints (list_text first entries.now)
+    ensures { Prints (list_text xlen first entries.now)
         (writing W.contents W.failures W.stalls out.old out.new) result }
 {
     let count = count_line(entries.len() as u64);
     write_whole(out, count.as_slice())?;
-    print_entries(entries, first, out)?;
+    print_entries(xlen, entries, first, out)?;
     Ok(())
 }
 
 /// Writes the words below `end` that have no entry below the first, a line for each.
 fn print_words<W: Sink>(
+    xlen: Xlen,
     entries: &[Entry],
     first: u8,
     end: usize,
     out: &mut W,
 ) -> Result<(), DeviceFault>
-    requires end { end ≤ 8 }
-    ensures { Prints (words_text first entries.now (whole_word first) (end - whole_word first))
+    requires end { end ≤ 16 }
+    ensures { Prints (words_text xlen first entries.now (whole_word xlen first)
+        (end - whole_word xlen first))
         (writing W.contents W.failures W.stalls out.old out.new) result }
 {
-    let begin = whole_word(first);
+    let begin = xlen.whole_word(first);
     for i in begin..end {
-        let line = word_line(2 * i as u64, word_from(entries, first, i));
+        let line = word_line(
+            xlen,
+            xlen.word_number(i),
+            word_from(xlen, entries, first, i),
+        );
         write_whole(out, line.as_slice())?;
     }
     Ok(())
 }
 
 /// Writes the number of entries, a line for each, numbered from the first on, and the configuration words that have no entry
-/// below it, where the hart has room for the entries.
+/// below it, where the hart has room for the entries. Its address registers have to reach their regions.
 ///
 /// On an `Err` a beginning of this text was written, not all of it, and the device failed, or took none of some bytes, in
 /// this call.
 pub fn print_plan<W: Sink>(
+    xlen: Xlen,
     entries: &[Entry],
     first: u8,
     limit: Limit,
     out: &mut W,
 ) -> Result<(), DeviceFault>
-    requires { first + length entries.now < 2 ^ 64 }
-    ensures { PrintsOne (IsPlanText limit first entries.now)
+    requires reached { AreReached xlen entries.now }
+    requires numbers { first + length entries.now < 2 ^ 64 }
+    ensures { PrintsOne (IsPlanText xlen limit first entries.now)
         (writing W.contents W.failures W.stalls out.old out.new) result }
 {
     let room = room_from(first, limit);
-    let count = limit.words();
-    print_list(entries, first, out)?;
+    let count = xlen.words(limit);
+    print_list(xlen, entries, first, out)?;
     if entries.len() > room {
         return Ok(());
     }
-    print_words(entries, first, count, out)?;
+    print_words(xlen, entries, first, count, out)?;
     Ok(())
 }

@@ -2,11 +2,12 @@
 
 ghost use Rattle.std.specs.Prelude.{◌≡◌, ◌+◌, ◌≤◌, ◌++◌, length};
 ghost use Rattle.arrayvec.specs.ArrayVec.{array_vec_len};
-ghost use Rattle.printed_lines.specs.Texts.{accepted_of_text, accepted_text, count_text, entry_text, refused_text, word_text};
+ghost use Rattle.printed_lines.specs.Texts.{accepted_of_text, accepted_text, count_text, entry_text, refused_text, register_text, word_text};
 
 use crate::hexadecimal::{byte_digits, word_digits};
 use arrayvec::ArrayVec;
-use text_lines::{Line, push_decimal, push_text};
+use register_width::Xlen;
+use text_lines::{Line, push_decimal, push_hex, push_text};
 
 /// `entries N`.
 pub fn count_line(n: u64) -> Line
@@ -19,37 +20,49 @@ pub fn count_line(n: u64) -> Line
     line
 }
 
-/// Appends `I 0xCC 0xAAAAAAAAAAAAAAAA`.
-pub fn push_entry(line: &mut Line, i: u64, cfg: u8, addr: u64)
+/// Appends all digits of a register.
+pub fn push_register(line: &mut Line, xlen: Xlen, value: u64)
+    requires { array_vec_len line.old + 16 ≤ 128 }
+    ensures items { line.new.items ≡ line.old.items ++ register_text xlen value }
+    ensures len { array_vec_len line.new ≤ array_vec_len line.old + 16 }
+{
+    match xlen {
+        Xlen::Rv32 => push_hex(line, value, 8),
+        Xlen::Rv64 => push_text(line, word_digits(value).as_slice()),
+    }
+}
+
+/// Appends `I 0xCC 0xAAAAAAAAAAAAAAAA`, or an address register of 32 bits.
+pub fn push_entry(line: &mut Line, xlen: Xlen, i: u64, cfg: u8, addr: u64)
     requires { array_vec_len line.old + 45 ≤ 128 }
-    ensures { line.new.items ≡ line.old.items ++ entry_text i cfg addr }
+    ensures { line.new.items ≡ line.old.items ++ entry_text xlen i cfg addr }
 {
     push_decimal(line, i);
     push_text(line, b" 0x");
     push_text(line, byte_digits(cfg).as_slice());
     push_text(line, b" 0x");
-    push_text(line, word_digits(addr).as_slice());
+    push_register(line, xlen, addr);
     line.push(b'\n');
 }
 
-/// `I 0xCC 0xAAAAAAAAAAAAAAAA`.
-pub fn entry_line(i: u64, cfg: u8, addr: u64) -> Line
-    ensures { result.items ≡ entry_text i cfg addr }
+/// `I 0xCC 0xAAAAAAAAAAAAAAAA`, or with an address register of 32 bits.
+pub fn entry_line(xlen: Xlen, i: u64, cfg: u8, addr: u64) -> Line
+    ensures { result.items ≡ entry_text xlen i cfg addr }
 {
     let mut line = ArrayVec::new();
-    push_entry(&mut line, i, cfg, addr);
+    push_entry(&mut line, xlen, i, cfg, addr);
     line
 }
 
-/// `pmpcfgK 0xWWWWWWWWWWWWWWWW`.
-pub fn word_line(k: u64, word: u64) -> Line
-    ensures { result.items ≡ word_text k word }
+/// `pmpcfgK 0xWWWWWWWWWWWWWWWW`, or with a word of 32 bits.
+pub fn word_line(xlen: Xlen, k: u64, word: u64) -> Line
+    ensures { result.items ≡ word_text xlen k word }
 {
     let mut line = ArrayVec::new();
     push_text(&mut line, b"pmpcfg");
     push_decimal(&mut line, k);
     push_text(&mut line, b" 0x");
-    push_text(&mut line, word_digits(word).as_slice());
+    push_register(&mut line, xlen, word);
     line.push(b'\n');
     line
 }

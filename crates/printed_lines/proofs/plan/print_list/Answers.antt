@@ -8,7 +8,7 @@ pub returns-in_err-write_whole : goal.returns-in_err-write_whole
 returns-in_err-write_whole g c =
     let count = rw (c.as_slice.ensures.value ∙ c.count_line-count.ensures) at c.in_err-write_whole.ensures in
     rw (err_from_is_err_and c.from_residual.result c.from_residual.ensures.1).1
-    (breaks_before g.W.Sink.contents g.W.Sink.failures g.W.Sink.stalls (entries_text c.args.first c.args.entries.now) count)
+    (breaks_before g.W.Sink.contents g.W.Sink.failures g.W.Sink.stalls (entries_text c.args.xlen c.args.first c.args.entries.now) count)
 
 pub returns-in_err-print_entries : goal.returns-in_err-print_entries
 returns-in_err-print_entries g c =
