@@ -1,13 +1,15 @@
 -- The registers as assembly.
-use Rattle.std.specs.Prelude.{◌≡◌, ℕ, ◌+◌, ◌-◌, ◌*◌, ◌/◌, ◌==◌, if◌then◌else◌, List, [], ◌∷◌, ◌++◌, Option, Some, None, codes, decimal, length, slice_get}
+use Rattle.std.specs.Prelude.{◌≡◌, ℕ, ◌+◌, ◌-◌, ◌/◌, ◌==◌, if◌then◌else◌, List, [], ◌∷◌, ◌++◌, Option, Some, None, codes, decimal, length, slice_get}
 use Rattle.std.specs.List.{concat}
 use Rattle.pmp_encoding.specs.declared.limit.Limit.{Limit}
 use Rattle.pmp_encoding.specs.declared.region.Entry.{Entry}
-use Rattle.pmp_encoding.specs.Limits.{limit_number}
-use Rattle.printed_lines.specs.Placed.{whole_word, word_from}
-use Rattle.text_lines.specs.Written.{hex}
+use Rattle.register_width.specs.declared.xlen.Xlen.{Xlen}
+use Rattle.register_width.specs.declared.xlen.Xlen.TheVariants.{Rv32, Rv64}
+use Rattle.register_width.specs.Widths.{whole_word, word_count, word_entries, word_number}
+use Rattle.printed_lines.specs.Placed.{word_from}
+use Rattle.printed_lines.specs.Texts.{register_text}
 use Rattle.register_formats.specs.Names.{address_or_zero, note_text}
-use Rattle.register_formats.specs.Heads.{head_begin, head_below, head_end}
+use Rattle.register_formats.specs.Heads.{head_begin, head_below, head_end, head_rules, head_width}
 use Rattle.register_formats.specs.Shared.{kept_bits, shared_words}
 use Rattle.register_formats.specs.Rows.{rows_text}
 
@@ -22,44 +24,54 @@ label_end None = []
 label_end (Some name) = codes "_load:\n"
 
 -- what stands at the head, with that label
-abbrev pub asm_head : ℕ → List ℕ → List ℕ → List ℕ
-asm_head first label end = concat (head_begin ∷ head_below first ∷ head_end ∷ label ∷ end ∷ [])
+abbrev pub asm_head : Xlen → ℕ → List ℕ → List ℕ → List ℕ
+asm_head xlen first label end = concat (head_begin ∷ head_width xlen ∷ head_rules ∷ head_below first ∷ head_end ∷ label ∷ end ∷ [])
 
--- which registers are changed, and an instruction that changes nothing, and that RV32 lacks
-abbrev pub asm_begin : Limit → ℕ → List ℕ
-asm_begin limit first =
-    if shared_words limit first == 0 then codes "/* Only t0 is changed. */\n    addiw   zero, zero, 0 /* an assembler for RV32 refuses this */\n"
-    else codes "/* Only t0 and t1 are changed. */\n    addiw   zero, zero, 0 /* an assembler for RV32 refuses this */\n"
+-- which registers are changed
+abbrev pub asm_changed : Xlen → Limit → ℕ → List ℕ
+asm_changed xlen limit first =
+    if shared_words xlen limit first == 0 then codes "/* Only t0 is changed. */\n"
+    else codes "/* Only t0 and t1 are changed. */\n"
+
+-- an instruction that the other width lacks: for RV64 one that changes nothing, and for RV32 one that is passed over
+abbrev pub asm_guard : Xlen → List ℕ
+asm_guard Rv32 = codes "    j       1f /* over what an assembler for RV64 refuses */\n    rdtimeh zero\n1:\n"
+asm_guard Rv64 = codes "    addiw   zero, zero, 0 /* an assembler for RV32 refuses this */\n"
+
+-- both
+abbrev pub asm_begin : Xlen → Limit → ℕ → List ℕ
+asm_begin xlen limit first = asm_changed xlen limit first ++ asm_guard xlen
 
 -- the instructions that write the address register of the list's entry i, with that entry
-abbrev pub asm_address_row : ℕ → List Entry → ℕ → List ℕ
-asm_address_row first entries i =
-    (codes "    li      t0, 0x" ++ hex 16 (address_or_zero (slice_get entries i)) ++ codes " /* " ++ note_text (first + i) (slice_get entries i) ++ codes " */\n")
+abbrev pub asm_address_row : Xlen → ℕ → List Entry → ℕ → List ℕ
+asm_address_row xlen first entries i =
+    (codes "    li      t0, 0x" ++ register_text xlen (address_or_zero (slice_get entries i)) ++ codes " /* " ++ note_text (first + i) (slice_get entries i) ++ codes " */\n")
     ++ (codes "    csrw    pmpaddr" ++ decimal (first + i) ++ codes ", t0\n")
 
 -- those that read a shared word, and keep the bits of the entries below the first
-abbrev pub asm_kept : ℕ → List ℕ
-asm_kept first = codes "    csrr    t1, pmpcfg" ++ decimal (2 * (first / 8)) ++ codes "\n    li      t0, 0x" ++ hex 16 (kept_bits first) ++ codes "\n    and     t1, t1, t0\n"
+abbrev pub asm_kept : Xlen → ℕ → List ℕ
+asm_kept xlen first =
+    codes "    csrr    t1, pmpcfg" ++ decimal (word_number xlen (first / word_entries xlen)) ++ codes "\n    li      t0, 0x" ++ register_text xlen (kept_bits xlen first) ++ codes "\n    and     t1, t1, t0\n"
 
 -- and those that write them with the bytes of the list
-abbrev pub asm_joined : ℕ → List Entry → List ℕ
-asm_joined first entries =
-    codes "    li      t0, 0x" ++ hex 16 (word_from first entries (first / 8)) ++ codes "\n    or      t0, t0, t1\n    csrw    pmpcfg" ++ decimal (2 * (first / 8)) ++ codes ", t0\n"
+abbrev pub asm_joined : Xlen → ℕ → List Entry → List ℕ
+asm_joined xlen first entries =
+    codes "    li      t0, 0x" ++ register_text xlen (word_from xlen first entries (first / word_entries xlen)) ++ codes "\n    or      t0, t0, t1\n    csrw    pmpcfg" ++ decimal (word_number xlen (first / word_entries xlen)) ++ codes ", t0\n"
 
 -- the write of the word that is shared
-abbrev pub asm_shared_row : ℕ → List Entry → ℕ → List ℕ
-asm_shared_row first entries i = asm_kept first ++ asm_joined first entries
+abbrev pub asm_shared_row : Xlen → ℕ → List Entry → ℕ → List ℕ
+asm_shared_row xlen first entries i = asm_kept xlen first ++ asm_joined xlen first entries
 
 -- those that write a word which has no entry below the first
-abbrev pub asm_word_row : ℕ → List Entry → ℕ → List ℕ
-asm_word_row first entries i =
-    (codes "    li      t0, 0x" ++ hex 16 (word_from first entries (whole_word first + i)) ++ codes "\n")
-    ++ (codes "    csrw    pmpcfg" ++ decimal (2 * (whole_word first + i)) ++ codes ", t0\n")
+abbrev pub asm_word_row : Xlen → ℕ → List Entry → ℕ → List ℕ
+asm_word_row xlen first entries i =
+    (codes "    li      t0, 0x" ++ register_text xlen (word_from xlen first entries (whole_word xlen first + i)) ++ codes "\n")
+    ++ (codes "    csrw    pmpcfg" ++ decimal (word_number xlen (whole_word xlen first + i)) ++ codes ", t0\n")
 
 -- all words that have an entry from the first on, in which those after the list are off
-abbrev pub asm_words : Limit → ℕ → List Entry → List ℕ
-asm_words limit first entries =
-    rows_text (asm_shared_row first entries) 0 (shared_words limit first) ++ rows_text (asm_word_row first entries) 0 (limit_number limit / 8 - whole_word first)
+abbrev pub asm_words : Xlen → Limit → ℕ → List Entry → List ℕ
+asm_words xlen limit first entries =
+    rows_text (asm_shared_row xlen first entries) 0 (shared_words xlen limit first) ++ rows_text (asm_word_row xlen first entries) 0 (word_count xlen limit - whole_word xlen first)
 
 -- the last instruction, and after it the end of a routine
 abbrev pub asm_end : Option (List ℕ) → List ℕ
@@ -67,13 +79,13 @@ asm_end None = codes "    sfence.vma\n"
 asm_end (Some name) = codes "    sfence.vma\n    ret\n"
 
 -- the address registers of the entries, then the configuration words
-abbrev pub asm_text : Option (List ℕ) → Limit → ℕ → List Entry → List ℕ
-asm_text name limit first entries =
-    asm_head first (label_of name) (label_end name)
-    ++ ((asm_begin limit first ++ rows_text (asm_address_row first entries) 0 (length entries))
-    ++ (asm_words limit first entries
+abbrev pub asm_text : Option (List ℕ) → Xlen → Limit → ℕ → List Entry → List ℕ
+asm_text name xlen limit first entries =
+    asm_head xlen first (label_of name) (label_end name)
+    ++ ((asm_begin xlen limit first ++ rows_text (asm_address_row xlen first entries) 0 (length entries))
+    ++ (asm_words xlen limit first entries
     ++ asm_end name))
 
 -- the text of entries that stand on a hart from `first` on
-abbrev pub IsAsmText : Option (List ℕ) → Limit → ℕ → List Entry → List ℕ → Type 0
-IsAsmText name limit first entries text = text ≡ asm_text name limit first entries
+abbrev pub IsAsmText : Option (List ℕ) → Xlen → Limit → ℕ → List Entry → List ℕ → Type 0
+IsAsmText name xlen limit first entries text = text ≡ asm_text name xlen limit first entries

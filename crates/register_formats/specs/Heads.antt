@@ -1,13 +1,23 @@
 -- What must hold where the registers are written.
 use Rattle.std.specs.Prelude.{ℕ, ◌==◌, if◌then◌else◌, List, [], ◌++◌, codes}
+use Rattle.register_width.specs.declared.xlen.Xlen.{Xlen}
+use Rattle.register_width.specs.declared.xlen.Xlen.TheVariants.{Rv32, Rv64}
 
 -- the comment at the head of C and of assembly
 abbrev pub head_begin : List ℕ
 head_begin =
     codes "/*\n * PMP registers, planned by pmpmon. With them a hart lets supervisor and user mode\n"
     ++ codes " * do exactly what the map says, where all of this holds:\n"
-    ++ codes " *  - the hart is RV64: its configuration words have 64 bits;\n"
-    ++ codes " *  - machine mode writes them, on each hart;\n"
+
+-- its first condition: how wide the hart's registers are
+abbrev pub head_width : Xlen → List ℕ
+head_width Rv32 = codes " *  - the hart is RV32: its configuration words have 32 bits;\n"
+head_width Rv64 = codes " *  - the hart is RV64: its configuration words have 64 bits;\n"
+
+-- and the others that hold of each list
+abbrev pub head_rules : List ℕ
+head_rules =
+    codes " *  - machine mode writes them, on each hart;\n"
     ++ codes " *  - no entry is locked (L = 0), and mseccfg is 0 where the hart has it;\n"
     ++ codes " *  - the hart protects whole pages of 4096 bytes: its grain is no larger;\n"
 

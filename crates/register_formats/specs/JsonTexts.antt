@@ -1,11 +1,15 @@
 -- A plan as JSON.
-use Rattle.std.specs.Prelude.{◌≡◌, ℕ, ◌+◌, ◌-◌, ◌*◌, ◌/◌, ◌^◌, ◌<◌, ◌≤◌, ◌==◌, nat_lt, if◌then◌else◌, List, [], ◌∷◌, ◌++◌, Option, Some, None, codes, decimal, length, slice_get, slice_index}
+use Rattle.std.specs.Prelude.{◌≡◌, ℕ, ◌+◌, ◌-◌, ◌^◌, ◌<◌, ◌≤◌, ◌==◌, nat_lt, if◌then◌else◌, List, [], ◌∷◌, ◌++◌, Option, Some, None, codes, decimal, length, slice_get, slice_index}
 use Rattle.pmp_encoding.specs.declared.limit.Limit.{Limit}
 use Rattle.pmp_encoding.specs.declared.limit.Limit.TheVariants.{Sixteen, SixtyFour}
 use Rattle.pmp_encoding.specs.declared.region.Entry.{Entry}
 use Rattle.pmp_encoding.specs.Encoding.{address_of, cfg_of}
 use Rattle.pmp_encoding.specs.Limits.{limit_number}
+use Rattle.register_width.specs.declared.xlen.Xlen.{Xlen}
+use Rattle.register_width.specs.declared.xlen.Xlen.TheVariants.{Rv32, Rv64}
+use Rattle.register_width.specs.Widths.{word_count}
 use Rattle.printed_lines.specs.Placed.{word_from}
+use Rattle.printed_lines.specs.Texts.{register_text}
 use Rattle.text_lines.specs.Written.{hex}
 use Rattle.pmp_encoding.specs.Perms.{perm_word}
 use Rattle.register_formats.specs.Rows.{rows_text}
@@ -35,47 +39,52 @@ json_limit SixtyFour = codes "\",\n  \"limit\": 64,\n"
 abbrev pub json_first : ℕ → List ℕ
 json_first first = if first == 0 then [] else codes "  \"first\": " ++ decimal first ++ codes ",\n"
 
--- both, and what stands before the entries
-abbrev pub json_entries_begin : Limit → ℕ → List ℕ
-json_entries_begin limit first = json_limit limit ++ json_first first ++ codes "  \"entries\": ["
+-- the width, where it is not that of RV64
+abbrev pub json_width : Xlen → List ℕ
+json_width Rv32 = codes "  \"xlen\": 32,\n"
+json_width Rv64 = []
+
+-- all three, and what stands before the entries
+abbrev pub json_entries_begin : Xlen → Limit → ℕ → List ℕ
+json_entries_begin xlen limit first = json_limit limit ++ json_width xlen ++ json_first first ++ codes "  \"entries\": ["
 
 -- the number and the pair of the list's entry i
-abbrev pub json_registers : ℕ → ℕ → Entry → List ℕ
-json_registers first i e =
-    json_before i ++ codes "    {\"index\": " ++ decimal (first + i) ++ codes ", \"cfg\": " ++ decimal (cfg_of e) ++ codes ", \"addr\": \"0x" ++ hex 16 (address_of e)
+abbrev pub json_registers : Xlen → ℕ → ℕ → Entry → List ℕ
+json_registers xlen first i e =
+    json_before i ++ codes "    {\"index\": " ++ decimal (first + i) ++ codes ", \"cfg\": " ++ decimal (cfg_of e) ++ codes ", \"addr\": \"0x" ++ register_text xlen (address_of e)
 
 -- its region in bytes, and what may be done there
 abbrev pub json_region : Entry → List ℕ
 json_region e = codes "\", \"base\": \"0x" ++ hex 16 e.region.base ++ codes "\", \"size\": " ++ decimal (2 ^ e.region.log2) ++ codes ", \"perm\": \"" ++ perm_word e.perm ++ codes "\"}"
 
 -- an entry: both of these
-abbrev pub json_entry : ℕ → ℕ → Option Entry → List ℕ
-json_entry first i (Some e) = json_registers first i e ++ json_region e
-json_entry first i None = []
+abbrev pub json_entry : Xlen → ℕ → ℕ → Option Entry → List ℕ
+json_entry xlen first i (Some e) = json_registers xlen first i e ++ json_region e
+json_entry xlen first i None = []
 
 -- the list's entry i
-abbrev pub json_entry_row : ℕ → List Entry → ℕ → List ℕ
-json_entry_row first entries i = json_entry first i (slice_get entries i)
+abbrev pub json_entry_row : Xlen → ℕ → List Entry → ℕ → List ℕ
+json_entry_row xlen first entries i = json_entry xlen first i (slice_get entries i)
 
 -- what stands before the configuration words
 abbrev pub json_words_begin : List ℕ
 json_words_begin = codes "\n  ],\n  \"pmpcfg\": ["
 
 -- a configuration word, in which the bytes of entries below the first are zero
-abbrev pub json_word_row : ℕ → List Entry → ℕ → List ℕ
-json_word_row first entries i = json_before i ++ codes "    \"0x" ++ hex 16 (word_from first entries i) ++ codes "\""
+abbrev pub json_word_row : Xlen → ℕ → List Entry → ℕ → List ℕ
+json_word_row xlen first entries i = json_before i ++ codes "    \"0x" ++ register_text xlen (word_from xlen first entries i) ++ codes "\""
 
 -- the object, with so many words
-abbrev pub json_text : List ℕ → Limit → ℕ → List Entry → ℕ → List ℕ
-json_text name limit first entries words =
+abbrev pub json_text : List ℕ → Xlen → Limit → ℕ → List Entry → ℕ → List ℕ
+json_text name xlen limit first entries words =
     (json_map_begin ++ rows_text (json_name_row name) 0 (length name))
-    ++ ((json_entries_begin limit first ++ rows_text (json_entry_row first entries) 0 (length entries))
-    ++ ((json_words_begin ++ rows_text (json_word_row first entries) 0 words)
+    ++ ((json_entries_begin xlen limit first ++ rows_text (json_entry_row xlen first entries) 0 (length entries))
+    ++ ((json_words_begin ++ rows_text (json_word_row xlen first entries) 0 words)
     ++ codes "\n  ]\n}\n"))
 
 -- the object, with all words of the hart, and with none where it has no room for the entries
-pub record IsJsonText (name : List ℕ) (limit : Limit) (first : ℕ) (entries : List Entry) (text : List ℕ) : Type 0 where
+pub record IsJsonText (name : List ℕ) (xlen : Xlen) (limit : Limit) (first : ℕ) (entries : List Entry) (text : List ℕ) : Type 0 where
   pub words : ℕ
-  pub fits : length entries ≤ limit_number limit - first → words ≡ limit_number limit / 8
+  pub fits : length entries ≤ limit_number limit - first → words ≡ word_count xlen limit
   pub too_many : limit_number limit - first < length entries → words ≡ 0
-  pub lines : text ≡ json_text name limit first entries words
+  pub lines : text ≡ json_text name xlen limit first entries words

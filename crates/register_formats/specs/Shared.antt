@@ -2,11 +2,13 @@
 use Rattle.std.specs.Prelude.{ℕ, ◌-◌, ◌*◌, ◌%◌, ◌^◌, ◌==◌, ◌&&◌, not, nat_lt, if◌then◌else◌}
 use Rattle.pmp_encoding.specs.declared.limit.Limit.{Limit}
 use Rattle.pmp_encoding.specs.Limits.{limit_number}
+use Rattle.register_width.specs.declared.xlen.Xlen.{Xlen}
+use Rattle.register_width.specs.Widths.{word_entries}
 
 -- how many words are shared: one, where the list begins inside a word of the hart
-abbrev pub shared_words : Limit → ℕ → ℕ
-shared_words limit first = if not (first % 8 == 0) && nat_lt first (limit_number limit) then 1 else 0
+abbrev pub shared_words : Xlen → Limit → ℕ → ℕ
+shared_words xlen limit first = if not (first % word_entries xlen == 0) && nat_lt first (limit_number limit) then 1 else 0
 
 -- the bits of the entries below the first in the word that it stands in
-abbrev pub kept_bits : ℕ → ℕ
-kept_bits first = 2 ^ (8 * (first % 8)) - 1
+abbrev pub kept_bits : Xlen → ℕ → ℕ
+kept_bits xlen first = 2 ^ (8 * (first % word_entries xlen)) - 1

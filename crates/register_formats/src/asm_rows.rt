@@ -1,15 +1,16 @@
 //! The rows of assembly.
 
-ghost use Rattle.std.specs.Prelude.{◌≡◌, option_map};
-ghost use Rattle.register_formats.specs.AsmTexts.{asm_begin, asm_end, asm_joined, asm_kept, label_end, label_of};
+ghost use Rattle.std.specs.Prelude.{◌≡◌, ◌≤◌, length, option_map};
+ghost use Rattle.register_formats.specs.AsmTexts.{asm_begin, asm_changed, asm_end, asm_guard, asm_joined, asm_kept, label_end, label_of};
 
 use crate::names::{address_or_zero, entry_at, push_note};
 use crate::rows::{Row, Rows};
 use crate::shared::{kept_bits, shared_words};
 use arrayvec::ArrayVec;
 use pmp_encoding::{Entry, Limit};
-use printed_lines::{whole_word, word_from};
-use text_lines::{Line, push_decimal, push_hex, push_text};
+use printed_lines::{push_register, word_from};
+use register_width::Xlen;
+use text_lines::{Line, push_decimal, push_text};
 
 /// The last instruction, and after it the end of a routine, where it has a name.
 pub(crate) fn end(name: Option<&str>) -> &'static [u8]
@@ -41,19 +42,44 @@ pub(crate) fn label_end<'a>(name: Option<&str>) -> &'a [u8]
     }
 }
 
-/// Which registers are changed, and an instruction that changes nothing, and that RV32 lacks.
-pub(crate) fn begin<'a>(limit: Limit, first: u8) -> &'a [u8]
-    ensures { result.now ≡ asm_begin limit first }
+/// Which registers are changed.
+fn changed<'a>(xlen: Xlen, limit: Limit, first: u8) -> &'a [u8]
+    ensures text { result.now ≡ asm_changed xlen limit first }
+    ensures most { length result.now ≤ 34 }
 {
-    if shared_words(limit, first) == 0 {
-        return b"/* Only t0 is changed. */\n    addiw   zero, zero, 0 /* an assembler for RV32 refuses this */\n";
+    if shared_words(xlen, limit, first) == 0 {
+        return b"/* Only t0 is changed. */\n";
     }
-    b"/* Only t0 and t1 are changed. */\n    addiw   zero, zero, 0 /* an assembler for RV32 refuses this */\n"
+    b"/* Only t0 and t1 are changed. */\n"
+}
+
+/// An instruction that the other width lacks.
+fn guard<'a>(xlen: Xlen) -> &'a [u8]
+    ensures text { result.now ≡ asm_guard xlen }
+    ensures most { length result.now ≤ 90 }
+{
+    match xlen {
+        Xlen::Rv32 => {
+            b"    j       1f /* over what an assembler for RV64 refuses */\n    rdtimeh zero\n1:\n"
+        }
+        Xlen::Rv64 => b"    addiw   zero, zero, 0 /* an assembler for RV32 refuses this */\n",
+    }
+}
+
+/// Both.
+pub(crate) fn begin(xlen: Xlen, limit: Limit, first: u8) -> Line
+    ensures { result.items ≡ asm_begin xlen limit first }
+{
+    let mut line = ArrayVec::new();
+    push_text(&mut line, changed(xlen, limit, first));
+    push_text(&mut line, guard(xlen));
+    line
 }
 
 /// Two instructions for each address register of the list.
 #[derive(Drop)]
 pub(crate) struct Addresses<'a> {
+    pub(crate) xlen: Xlen,
     pub(crate) entries: &'a [Entry],
     pub(crate) first: u8,
 }
@@ -62,7 +88,7 @@ impl Rows for Addresses<'_> {
     ghost use Rattle.std.specs.Prelude.{◌^◌, ◌-◌};
     ghost use Rattle.register_formats.specs.AsmTexts.{asm_address_row};
 
-    ghost row_text = { λ rows. asm_address_row rows.first rows.entries.now };
+    ghost row_text = { λ rows. asm_address_row rows.xlen rows.first rows.entries.now };
 
     ghost most = { λ rows. 2 ^ 64 - rows.first };
 
@@ -71,7 +97,7 @@ impl Rows for Addresses<'_> {
         let place = u64::from(self.first) + i as u64;
         let mut front = ArrayVec::new();
         push_text(&mut front, b"    li      t0, 0x");
-        push_hex(&mut front, address_or_zero(entry), 16);
+        push_register(&mut front, self.xlen, address_or_zero(entry));
         push_text(&mut front, b" /* ");
         push_note(&mut front, place, entry);
         push_text(&mut front, b" */\n");
@@ -84,28 +110,28 @@ impl Rows for Addresses<'_> {
 }
 
 /// The instructions that read a shared word, and keep the bits of the entries below the first.
-fn kept(first: u8) -> Line
-    ensures { result.items ≡ asm_kept first }
+fn kept(xlen: Xlen, first: u8) -> Line
+    ensures { result.items ≡ asm_kept xlen first }
 {
     let mut line = ArrayVec::new();
     push_text(&mut line, b"    csrr    t1, pmpcfg");
-    push_decimal(&mut line, 2 * u64::from(first / 8));
+    push_decimal(&mut line, xlen.word_number(xlen.word_of(first)));
     push_text(&mut line, b"\n    li      t0, 0x");
-    push_hex(&mut line, kept_bits(first), 16);
+    push_register(&mut line, xlen, kept_bits(xlen, first));
     push_text(&mut line, b"\n    and     t1, t1, t0\n");
     line
 }
 
 /// Those that write them with the bytes of the list.
-fn joined(entries: &[Entry], first: u8) -> Line
-    ensures { result.items ≡ asm_joined first entries.now }
+fn joined(xlen: Xlen, entries: &[Entry], first: u8) -> Line
+    ensures { result.items ≡ asm_joined xlen first entries.now }
 {
-    let word = usize::from(first / 8);
+    let word = xlen.word_of(first);
     let mut line = ArrayVec::new();
     push_text(&mut line, b"    li      t0, 0x");
-    push_hex(&mut line, word_from(entries, first, word), 16);
+    push_register(&mut line, xlen, word_from(xlen, entries, first, word));
     push_text(&mut line, b"\n    or      t0, t0, t1\n    csrw    pmpcfg");
-    push_decimal(&mut line, 2 * word as u64);
+    push_decimal(&mut line, xlen.word_number(word));
     push_text(&mut line, b", t0\n");
     line
 }
@@ -113,6 +139,7 @@ fn joined(entries: &[Entry], first: u8) -> Line
 /// The instructions for a word that is shared.
 #[derive(Drop)]
 pub(crate) struct SharedWords<'a> {
+    pub(crate) xlen: Xlen,
     pub(crate) entries: &'a [Entry],
     pub(crate) first: u8,
 }
@@ -120,14 +147,14 @@ pub(crate) struct SharedWords<'a> {
 impl Rows for SharedWords<'_> {
     ghost use Rattle.register_formats.specs.AsmTexts.{asm_shared_row};
 
-    ghost row_text = { λ rows. asm_shared_row rows.first rows.entries.now };
+    ghost row_text = { λ rows. asm_shared_row rows.xlen rows.first rows.entries.now };
 
     ghost most = { λ rows. 1 };
 
     fn row(&self, i: usize) -> Row {
         Row {
-            front: kept(self.first),
-            back: joined(self.entries, self.first),
+            front: kept(self.xlen, self.first),
+            back: joined(self.xlen, self.entries, self.first),
         }
     }
 }
@@ -135,26 +162,33 @@ impl Rows for SharedWords<'_> {
 /// Two instructions for each word that has no entry below the first.
 #[derive(Drop)]
 pub(crate) struct Words<'a> {
+    pub(crate) xlen: Xlen,
     pub(crate) entries: &'a [Entry],
     pub(crate) first: u8,
 }
 
 impl Rows for Words<'_> {
+    ghost use Rattle.std.specs.Prelude.{◌-◌};
+    ghost use Rattle.register_width.specs.Widths.{whole_word};
     ghost use Rattle.register_formats.specs.AsmTexts.{asm_word_row};
 
-    ghost row_text = { λ rows. asm_word_row rows.first rows.entries.now };
+    ghost row_text = { λ rows. asm_word_row rows.xlen rows.first rows.entries.now };
 
-    ghost most = { λ rows. 8 };
+    ghost most = { λ rows. 64 - whole_word rows.xlen rows.first };
 
     fn row(&self, i: usize) -> Row {
-        let word = whole_word(self.first) + i;
+        let word = self.xlen.whole_word(self.first) + i;
         let mut front = ArrayVec::new();
         push_text(&mut front, b"    li      t0, 0x");
-        push_hex(&mut front, word_from(self.entries, self.first, word), 16);
+        push_register(
+            &mut front,
+            self.xlen,
+            word_from(self.xlen, self.entries, self.first, word),
+        );
         push_text(&mut front, b"\n");
         let mut back = ArrayVec::new();
         push_text(&mut back, b"    csrw    pmpcfg");
-        push_decimal(&mut back, 2 * word as u64);
+        push_decimal(&mut back, self.xlen.word_number(word));
         push_text(&mut back, b", t0\n");
         Row { front, back }
     }

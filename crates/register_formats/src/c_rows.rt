@@ -1,27 +1,36 @@
 //! The rows of C.
 
 ghost use Rattle.std.specs.Prelude.{◌≡◌, decimal};
-ghost use Rattle.register_formats.specs.CTexts.{c_addresses_size, c_begin, c_between, c_count_begin, c_count_is, c_joined, c_kept, c_load_addresses, c_load_begin, c_load_words, c_loader_note, c_loader_reason, c_loader_writes, c_words_size};
+ghost use Rattle.register_formats.specs.CTexts.{c_addresses_size, c_begin, c_between, c_count_begin, c_count_is, c_load_addresses, c_load_begin, c_load_words, c_loader_note, c_loader_reason, c_loader_writes, c_words_size};
 
 use crate::names::{address_or_zero, push_place};
 use crate::rows::{Row, Rows};
-use crate::shared::kept_bits;
 use arrayvec::ArrayVec;
 use pmp_encoding::{Entry, Limit};
-use printed_lines::{entry_from, whole_word, word_from};
-use text_lines::{Line, push_decimal, push_hex, push_text};
+use printed_lines::{entry_from, push_register, word_from};
+use register_width::Xlen;
+use text_lines::{Line, push_decimal, push_text};
 
-/// What stands before the arrays, with a guard that a compiler for RV32 refuses.
-pub(crate) fn begin<'a>() -> &'a [u8]
-    ensures { result.now ≡ c_begin }
+/// What stands before the arrays, with a guard that a compiler for the other width refuses.
+pub(crate) fn begin<'a>(xlen: Xlen) -> &'a [u8]
+    ensures { result.now ≡ c_begin xlen }
 {
-    b"#if defined(__riscv) && __riscv_xlen != 64
+    match xlen {
+        Xlen::Rv32 => b"#if defined(__riscv) && __riscv_xlen != 32
+#error \"these are the registers of RV32\"
+#endif
+
+#include <stdint.h>
+
+static const uint32_t ",
+        Xlen::Rv64 => b"#if defined(__riscv) && __riscv_xlen != 64
 #error \"these are the registers of RV64\"
 #endif
 
 #include <stdint.h>
 
-static const uint64_t "
+static const uint64_t ",
+    }
 }
 
 /// The rest of the name of the array of address registers, and its size.
@@ -35,19 +44,24 @@ pub(crate) fn addresses_size<'a>(limit: Limit) -> &'a [u8]
 }
 
 /// The end of that array, and the beginning of the array of configuration words.
-pub(crate) fn between<'a>() -> &'a [u8]
-    ensures { result.now ≡ c_between }
+pub(crate) fn between<'a>(xlen: Xlen) -> &'a [u8]
+    ensures { result.now ≡ c_between xlen }
 {
-    b"};\n\nstatic const uint64_t "
+    match xlen {
+        Xlen::Rv32 => b"};\n\nstatic const uint32_t ",
+        Xlen::Rv64 => b"};\n\nstatic const uint64_t ",
+    }
 }
 
 /// The rest of its name, and its size.
-pub(crate) fn words_size<'a>(limit: Limit) -> &'a [u8]
-    ensures { result.now ≡ c_words_size limit }
+pub(crate) fn words_size<'a>(xlen: Xlen, limit: Limit) -> &'a [u8]
+    ensures { result.now ≡ c_words_size xlen limit }
 {
-    match limit {
-        Limit::Sixteen => b"cfg[2] = {\n",
-        Limit::SixtyFour => b"cfg[8] = {\n",
+    match (xlen, limit) {
+        (Xlen::Rv32, Limit::Sixteen) => b"cfg[4] = {\n",
+        (Xlen::Rv32, Limit::SixtyFour) => b"cfg[16] = {\n",
+        (Xlen::Rv64, Limit::Sixteen) => b"cfg[2] = {\n",
+        (Xlen::Rv64, Limit::SixtyFour) => b"cfg[8] = {\n",
     }
 }
 
@@ -115,17 +129,23 @@ static inline void "
 }
 
 /// The rest of that function's name, and what stands before the array of address registers.
-pub(crate) fn load_addresses<'a>() -> &'a [u8]
-    ensures { result.now ≡ c_load_addresses }
+pub(crate) fn load_addresses<'a>(xlen: Xlen) -> &'a [u8]
+    ensures { result.now ≡ c_load_addresses xlen }
 {
-    b"_load(void)\n{\n    const uint64_t *addr = "
+    match xlen {
+        Xlen::Rv32 => b"_load(void)\n{\n    const uint32_t *addr = ",
+        Xlen::Rv64 => b"_load(void)\n{\n    const uint64_t *addr = ",
+    }
 }
 
 /// What stands before the array of configuration words.
-pub(crate) fn load_words<'a>() -> &'a [u8]
-    ensures { result.now ≡ c_load_words }
+pub(crate) fn load_words<'a>(xlen: Xlen) -> &'a [u8]
+    ensures { result.now ≡ c_load_words xlen }
 {
-    b"addr;\n    const uint64_t *cfg = "
+    match xlen {
+        Xlen::Rv32 => b"addr;\n    const uint32_t *cfg = ",
+        Xlen::Rv64 => b"addr;\n    const uint64_t *cfg = ",
+    }
 }
 
 /// What stands before the instructions.
@@ -138,6 +158,7 @@ pub(crate) fn load_begin<'a>() -> &'a [u8]
 /// A row for each address register.
 #[derive(Drop)]
 pub(crate) struct Addresses<'a> {
+    pub(crate) xlen: Xlen,
     pub(crate) entries: &'a [Entry],
     pub(crate) first: u8,
 }
@@ -146,7 +167,7 @@ impl Rows for Addresses<'_> {
     ghost use Rattle.std.specs.Prelude.{◌≡◌, ◌^◌};
     ghost use Rattle.register_formats.specs.CTexts.{c_address_row};
 
-    ghost row_text = { λ rows. c_address_row rows.first rows.entries.now };
+    ghost row_text = { λ rows. c_address_row rows.xlen rows.first rows.entries.now };
 
     ghost most = { λ rows. 2 ^ 64 };
 
@@ -154,7 +175,7 @@ impl Rows for Addresses<'_> {
         let entry = entry_from(self.entries, self.first, i);
         let mut front = ArrayVec::new();
         push_text(&mut front, b"    0x");
-        push_hex(&mut front, address_or_zero(entry), 16);
+        push_register(&mut front, self.xlen, address_or_zero(entry));
         push_text(&mut front, b", /* ");
         push_place(&mut front, self.first, i as u64, entry);
         push_text(&mut front, b" */\n");
@@ -168,6 +189,7 @@ impl Rows for Addresses<'_> {
 /// A row for each configuration word.
 #[derive(Drop)]
 pub(crate) struct Words<'a> {
+    pub(crate) xlen: Xlen,
     pub(crate) entries: &'a [Entry],
     pub(crate) first: u8,
 }
@@ -176,128 +198,22 @@ impl Rows for Words<'_> {
     ghost use Rattle.std.specs.Prelude.{◌≡◌};
     ghost use Rattle.register_formats.specs.CTexts.{c_word_row};
 
-    ghost row_text = { λ rows. c_word_row rows.first rows.entries.now };
+    ghost row_text = { λ rows. c_word_row rows.xlen rows.first rows.entries.now };
 
-    ghost most = { λ rows. 8 };
+    ghost most = { λ rows. 64 };
 
     fn row(&self, i: usize) -> Row {
         let mut front = ArrayVec::new();
         push_text(&mut front, b"    0x");
-        push_hex(&mut front, word_from(self.entries, self.first, i), 16);
-        push_text(&mut front, b", /* pmpcfg");
-        push_decimal(&mut front, 2 * i as u64);
-        push_text(&mut front, b" */\n");
-        Row {
-            front,
-            back: ArrayVec::new(),
-        }
-    }
-}
-
-/// An instruction for each address register from the first on.
-#[derive(Drop)]
-pub(crate) struct AddressWrites {
-    pub(crate) first: u8,
-}
-
-impl Rows for AddressWrites {
-    ghost use Rattle.std.specs.Prelude.{◌^◌, ◌-◌};
-    ghost use Rattle.register_formats.specs.CTexts.{c_address_write};
-
-    ghost row_text = { λ rows. c_address_write rows.first };
-
-    ghost most = { λ rows. 2 ^ 64 - rows.first };
-
-    fn row(&self, i: usize) -> Row {
-        let place = u64::from(self.first) + i as u64;
-        let mut front = ArrayVec::new();
-        push_text(&mut front, b"    __asm__ volatile(\"csrw pmpaddr");
-        push_decimal(&mut front, place);
-        push_text(&mut front, b", %0\" : : \"r\"(addr[");
-        push_decimal(&mut front, place);
-        push_text(&mut front, b"]));\n");
-        Row {
-            front,
-            back: ArrayVec::new(),
-        }
-    }
-}
-
-/// The instructions that read a shared word, and keep the bits of the entries below the first.
-fn kept(first: u8) -> Line
-    ensures { result.items ≡ c_kept first }
-{
-    let mut line = ArrayVec::new();
-    push_text(
-        &mut line,
-        b"    uint64_t kept;\n    __asm__ volatile(\"csrr %0, pmpcfg",
-    );
-    push_decimal(&mut line, 2 * u64::from(first / 8));
-    push_text(&mut line, b"\" : \"=r\"(kept));\n    kept &= 0x");
-    push_hex(&mut line, kept_bits(first), 16);
-    push_text(&mut line, b";\n");
-    line
-}
-
-/// The one that writes them with the bytes of the list.
-fn joined(first: u8) -> Line
-    ensures { result.items ≡ c_joined first }
-{
-    let word = u64::from(first / 8);
-    let mut line = ArrayVec::new();
-    push_text(&mut line, b"    __asm__ volatile(\"csrw pmpcfg");
-    push_decimal(&mut line, 2 * word);
-    push_text(&mut line, b", %0\" : : \"r\"(kept | cfg[");
-    push_decimal(&mut line, word);
-    push_text(&mut line, b"]));\n");
-    line
-}
-
-/// The instructions for a word that is shared.
-#[derive(Drop)]
-pub(crate) struct SharedWrites {
-    pub(crate) first: u8,
-}
-
-impl Rows for SharedWrites {
-    ghost use Rattle.register_formats.specs.CTexts.{c_shared_write};
-
-    ghost row_text = { λ rows. c_shared_write rows.first };
-
-    ghost most = { λ rows. 1 };
-
-    fn row(&self, i: usize) -> Row {
-        Row {
-            front: kept(self.first),
-            back: joined(self.first),
-        }
-    }
-}
-
-/// An instruction for each configuration word that has no entry below the first.
-#[derive(Drop)]
-pub(crate) struct WordWrites {
-    pub(crate) first: u8,
-}
-
-impl Rows for WordWrites {
-    ghost use Rattle.register_formats.specs.CTexts.{c_word_write};
-
-    ghost row_text = { λ rows. c_word_write rows.first };
-
-    ghost most = { λ rows. 8 };
-
-    fn row(&self, i: usize) -> Row {
-        let word = (whole_word(self.first) + i) as u64;
-        let mut front = ArrayVec::new();
-        push_text(&mut front, b"    __asm__ volatile(\"csrw pmpcfg");
-        push_decimal(&mut front, 2 * word);
-        push_text(&mut front, b", %0\" : : \"r\"(cfg[");
-        push_decimal(&mut front, word);
-        push_text(&mut front, b"]));\n");
-        Row {
-            front,
-            back: ArrayVec::new(),
-        }
+        push_register(
+            &mut front,
+            self.xlen,
+            word_from(self.xlen, self.entries, self.first, i),
+        );
+        let mut back = ArrayVec::new();
+        push_text(&mut back, b", /* pmpcfg");
+        push_decimal(&mut back, self.xlen.word_number(i));
+        push_text(&mut back, b" */\n");
+        Row { front, back }
     }
 }

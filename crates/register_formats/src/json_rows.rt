@@ -2,13 +2,14 @@
 
 ghost use Rattle.std.specs.Prelude.{◌≡◌, ◌+◌, ◌++◌, ◌≤◌, ◌<◌, ◌^◌, length};
 ghost use Rattle.arrayvec.specs.ArrayVec.{array_vec_len};
-ghost use Rattle.register_formats.specs.JsonTexts.{json_before, json_byte, json_entries_begin, json_first, json_limit, json_region, json_registers};
+ghost use Rattle.register_formats.specs.JsonTexts.{json_before, json_byte, json_entries_begin, json_first, json_limit, json_region, json_registers, json_width};
 
 use crate::names::{entry_at, power_of_two};
 use crate::rows::{Row, Rows};
 use arrayvec::ArrayVec;
 use pmp_encoding::{Entry, Limit};
-use printed_lines::word_from;
+use printed_lines::{push_register, word_from};
+use register_width::Xlen;
 use text_lines::{Line, push_decimal, push_hex, push_text};
 
 /// The limit.
@@ -35,12 +36,24 @@ fn push_first(line: &mut Line, first: u8)
     }
 }
 
-/// Both, and what stands before the entries.
-pub(crate) fn entries_begin(limit: Limit, first: u8) -> Line
-    ensures { result.items ≡ json_entries_begin limit first }
+/// The width, where it is not that of RV64.
+fn width_text<'a>(xlen: Xlen) -> &'a [u8]
+    ensures text { result.now ≡ json_width xlen }
+    ensures most { length result.now ≤ 16 }
+{
+    match xlen {
+        Xlen::Rv32 => b"  \"xlen\": 32,\n",
+        Xlen::Rv64 => b"",
+    }
+}
+
+/// All three, and what stands before the entries.
+pub(crate) fn entries_begin(xlen: Xlen, limit: Limit, first: u8) -> Line
+    ensures { result.items ≡ json_entries_begin xlen limit first }
 {
     let mut line = ArrayVec::new();
     push_text(&mut line, limit_text(limit));
+    push_text(&mut line, width_text(xlen));
     push_first(&mut line, first);
     push_text(&mut line, b"  \"entries\": [");
     line
@@ -101,14 +114,15 @@ impl Rows for Name<'_> {
 /// A row for each entry.
 #[derive(Drop)]
 pub(crate) struct Entries<'a> {
+    pub(crate) xlen: Xlen,
     pub(crate) entries: &'a [Entry],
     pub(crate) first: u8,
 }
 
 /// What is said of the registers of the list's entry i.
-fn registers_of(first: u8, i: usize, entry: &Entry) -> Line
+fn registers_of(xlen: Xlen, first: u8, i: usize, entry: &Entry) -> Line
     requires { first + i < 2 ^ 64 }
-    ensures { result.items ≡ json_registers first i entry.now }
+    ensures { result.items ≡ json_registers xlen first i entry.now }
 {
     let (cfg, address) = entry.encode();
     let mut line = ArrayVec::new();
@@ -118,7 +132,7 @@ fn registers_of(first: u8, i: usize, entry: &Entry) -> Line
     push_text(&mut line, b", \"cfg\": ");
     push_decimal(&mut line, u64::from(cfg));
     push_text(&mut line, b", \"addr\": \"0x");
-    push_hex(&mut line, address, 16);
+    push_register(&mut line, xlen, address);
     line
 }
 
@@ -141,14 +155,14 @@ impl Rows for Entries<'_> {
     ghost use Rattle.std.specs.Prelude.{◌≡◌, ◌^◌, ◌-◌};
     ghost use Rattle.register_formats.specs.JsonTexts.{json_entry_row};
 
-    ghost row_text = { λ rows. json_entry_row rows.first rows.entries.now };
+    ghost row_text = { λ rows. json_entry_row rows.xlen rows.first rows.entries.now };
 
     ghost most = { λ rows. 2 ^ 64 - rows.first };
 
     fn row(&self, i: usize) -> Row {
         match entry_at(self.entries, i) {
             Some(entry) => Row {
-                front: registers_of(self.first, i, &entry),
+                front: registers_of(self.xlen, self.first, i, &entry),
                 back: region_of(&entry),
             },
             None => Row {
@@ -162,6 +176,7 @@ impl Rows for Entries<'_> {
 /// A row for each configuration word.
 #[derive(Drop)]
 pub(crate) struct Words<'a> {
+    pub(crate) xlen: Xlen,
     pub(crate) entries: &'a [Entry],
     pub(crate) first: u8,
 }
@@ -170,15 +185,19 @@ impl Rows for Words<'_> {
     ghost use Rattle.std.specs.Prelude.{◌≡◌};
     ghost use Rattle.register_formats.specs.JsonTexts.{json_word_row};
 
-    ghost row_text = { λ rows. json_word_row rows.first rows.entries.now };
+    ghost row_text = { λ rows. json_word_row rows.xlen rows.first rows.entries.now };
 
-    ghost most = { λ rows. 8 };
+    ghost most = { λ rows. 64 };
 
     fn row(&self, i: usize) -> Row {
         let mut front = ArrayVec::new();
         push_text(&mut front, json_before(i));
         push_text(&mut front, b"    \"0x");
-        push_hex(&mut front, word_from(self.entries, self.first, i), 16);
+        push_register(
+            &mut front,
+            self.xlen,
+            word_from(self.xlen, self.entries, self.first, i),
+        );
         push_text(&mut front, b"\"");
         Row {
             front,

@@ -3,77 +3,54 @@
 ghost use Rattle.std.specs.Prelude.{◌≡◌, ◌+◌, ◌-◌, ◌^◌, ◌/◌, ◌<◌, ◌≤◌, Some, length, option_map};
 ghost use Rattle.byte_streams.specs.Writings.{writing, Prints, PrintsOne};
 ghost use Rattle.pmp_encoding.specs.Limits.{limit_number};
-ghost use Rattle.printed_lines.specs.Placed.{whole_word};
+ghost use Rattle.register_width.specs.Widths.{whole_word, word_count, AreReached};
 ghost use Rattle.register_formats.specs.AsmTexts.{IsAsmText, asm_head, asm_words};
 ghost use Rattle.register_formats.specs.CTexts.{IsCText, c_arrays, c_loader, c_loader_begin, c_word_writes};
-ghost use Rattle.register_formats.specs.Heads.{head_begin, head_below, head_end};
+ghost use Rattle.register_formats.specs.Heads.{head_begin, head_below, head_end, head_rules, head_width};
 ghost use Rattle.register_formats.specs.JsonTexts.{IsJsonText, json_text};
 ghost use Rattle.register_formats.specs.Shared.{shared_words};
 
+use crate::heads::{head_begin, head_below, head_end, head_rules, head_width};
 use crate::names::{array_link, prefix_of};
 use crate::rows::{print_both, print_section, print_texts, print_titled};
 use crate::shared::shared_words;
-use crate::{asm_rows, c_rows, json_rows};
+use crate::{asm_rows, c_rows, c_writes, json_rows};
 use byte_streams::{DeviceFault, Sink, write_whole};
 use pmp_encoding::{Entry, Limit};
-use printed_lines::{room_from, whole_word};
-
-/// What must hold where the registers are written.
-fn head_begin<'a>() -> &'a [u8]
-    ensures { result.now ≡ head_begin }
-{
-    b"/*
- * PMP registers, planned by pmpmon. With them a hart lets supervisor and user mode
- * do exactly what the map says, where all of this holds:
- *  - the hart is RV64: its configuration words have 64 bits;
- *  - machine mode writes them, on each hart;
- *  - no entry is locked (L = 0), and mseccfg is 0 where the hart has it;
- *  - the hart protects whole pages of 4096 bytes: its grain is no larger;
-"
-}
-
-/// What must hold too where the list does not begin at entry 0.
-fn head_below<'a>(first: u8) -> &'a [u8]
-    ensures { result.now ≡ head_below first }
-{
-    if first == 0 {
-        return b"";
-    }
-    b" *  - no entry below these says otherwise where it matches: they are left as they are
- *    and come first, and `pmpmon audit` of all registers tells what all of them mean;
-"
-}
-
-/// The rest of it.
-fn head_end<'a>() -> &'a [u8]
-    ensures { result.now ≡ head_end }
-{
-    b" *  - the address registers are written first, then the configuration words, 0 to
- *    each word after these too, and then comes sfence.vma.
- */
-"
-}
+use printed_lines::room_from;
+use register_width::Xlen;
 
 /// Writes the arrays of a hart's registers in C.
 fn print_arrays<W: Sink>(
     prefix: &[u8],
     link: &[u8],
+    xlen: Xlen,
     entries: &[Entry],
     first: u8,
     limit: Limit,
     out: &mut W,
 ) -> Result<(), DeviceFault>
-    ensures { Prints (c_arrays prefix.now link.now limit first entries.now)
+    ensures { Prints (c_arrays prefix.now link.now xlen limit first entries.now)
         (writing W.contents W.failures W.stalls out.old out.new) result }
 {
-    let addresses = c_rows::Addresses { entries, first };
-    let words = c_rows::Words { entries, first };
+    let addresses = c_rows::Addresses {
+        xlen,
+        entries,
+        first,
+    };
+    let words = c_rows::Words {
+        xlen,
+        entries,
+        first,
+    };
     print_titled(
         &[
             head_begin(),
+            head_width(xlen),
+            head_rules(),
             head_below(first),
             head_end(),
-            c_rows::begin(),
+            c_rows::begin(xlen),
             prefix,
             link,
             c_rows::addresses_size(limit),
@@ -83,23 +60,33 @@ fn print_arrays<W: Sink>(
         out,
     )?;
     print_titled(
-        &[c_rows::between(), prefix, link, c_rows::words_size(limit)],
+        &[
+            c_rows::between(xlen),
+            prefix,
+            link,
+            c_rows::words_size(xlen, limit),
+        ],
         &words,
-        limit.words(),
+        xlen.words(limit),
         out,
     )?;
     Ok(())
 }
 
 /// Writes the instructions for the configuration words.
-fn print_word_writes<W: Sink>(first: u8, limit: Limit, out: &mut W) -> Result<(), DeviceFault>
-    ensures { Prints (c_word_writes limit first)
+fn print_word_writes<W: Sink>(
+    xlen: Xlen,
+    first: u8,
+    limit: Limit,
+    out: &mut W,
+) -> Result<(), DeviceFault>
+    ensures { Prints (c_word_writes xlen limit first)
         (writing W.contents W.failures W.stalls out.old out.new) result }
 {
-    let shared = c_rows::SharedWrites { first };
-    let words = c_rows::WordWrites { first };
-    let shared_count = shared_words(limit, first);
-    let count = limit.words().saturating_sub(whole_word(first));
+    let shared = c_writes::SharedWrites { xlen, first };
+    let words = c_writes::WordWrites { xlen, first };
+    let shared_count = shared_words(xlen, limit, first);
+    let count = xlen.words(limit).saturating_sub(xlen.whole_word(first));
     print_both(&shared, shared_count, &words, count, out)
 }
 
@@ -107,12 +94,13 @@ fn print_word_writes<W: Sink>(first: u8, limit: Limit, out: &mut W) -> Result<()
 fn print_loader<W: Sink>(
     prefix: &[u8],
     link: &[u8],
+    xlen: Xlen,
     first: u8,
     limit: Limit,
     count: &[u8],
     out: &mut W,
 ) -> Result<(), DeviceFault>
-    ensures { Prints (c_loader prefix.now link.now limit first count.now)
+    ensures { Prints (c_loader prefix.now link.now xlen limit first count.now)
         (writing W.contents W.failures W.stalls out.old out.new) result }
 {
     let address_count = room_from(first, limit);
@@ -126,19 +114,19 @@ fn print_loader<W: Sink>(
             c_rows::loader_writes(first),
             c_rows::loader_reason(),
             prefix,
-            c_rows::load_addresses(),
+            c_rows::load_addresses(xlen),
             prefix,
             link,
-            c_rows::load_words(),
+            c_rows::load_words(xlen),
             prefix,
             link,
             c_rows::load_begin(),
         ],
-        &c_rows::AddressWrites { first },
+        &c_writes::AddressWrites { first },
         address_count,
         out,
     )?;
-    print_word_writes(first, limit, out)?;
+    print_word_writes(xlen, first, limit, out)?;
     write_whole(
         out,
         b"    __asm__ volatile(\"sfence.vma\" : : : \"memory\");\n}\n#endif\n",
@@ -156,20 +144,22 @@ fn print_loader<W: Sink>(
 /// this call.
 pub fn print_c<W: Sink>(
     name: Option<&str>,
+    xlen: Xlen,
     entries: &[Entry],
     first: u8,
     limit: Limit,
     out: &mut W,
 ) -> Result<(), DeviceFault>
+    requires reached { AreReached xlen entries.now }
     requires fits { length entries.now ≤ limit_number limit - first }
-    ensures { PrintsOne (IsCText (option_map (λ s. s.now) name.entry) limit first entries.now)
+    ensures { PrintsOne (IsCText (option_map (λ s. s.now) name.entry) xlen limit first entries.now)
         (writing W.contents W.failures W.stalls out.old out.new) result }
 {
     let prefix = prefix_of(name);
     let link = array_link(name);
-    print_arrays(prefix, link, entries, first, limit, out)?;
+    print_arrays(prefix, link, xlen, entries, first, limit, out)?;
     let count = c_rows::number_text(entries.len());
-    print_loader(prefix, link, first, limit, count.as_slice(), out)?;
+    print_loader(prefix, link, xlen, first, limit, count.as_slice(), out)?;
     Ok(())
 }
 
@@ -177,32 +167,50 @@ pub fn print_c<W: Sink>(
 fn print_asm_head<W: Sink>(
     label: &[u8],
     end: &[u8],
+    xlen: Xlen,
     first: u8,
     out: &mut W,
 ) -> Result<(), DeviceFault>
-    ensures { Prints (asm_head first label.now end.now)
+    ensures { Prints (asm_head xlen first label.now end.now)
         (writing W.contents W.failures W.stalls out.old out.new) result }
 {
     print_texts(
-        &[head_begin(), head_below(first), head_end(), label, end],
+        &[
+            head_begin(),
+            head_width(xlen),
+            head_rules(),
+            head_below(first),
+            head_end(),
+            label,
+            end,
+        ],
         out,
     )
 }
 
 /// Writes the instructions for the configuration words.
 fn print_asm_words<W: Sink>(
+    xlen: Xlen,
     entries: &[Entry],
     first: u8,
     limit: Limit,
     out: &mut W,
 ) -> Result<(), DeviceFault>
-    ensures { Prints (asm_words limit first entries.now)
+    ensures { Prints (asm_words xlen limit first entries.now)
         (writing W.contents W.failures W.stalls out.old out.new) result }
 {
-    let shared = asm_rows::SharedWords { entries, first };
-    let words = asm_rows::Words { entries, first };
-    let shared_count = shared_words(limit, first);
-    let count = limit.words().saturating_sub(whole_word(first));
+    let shared = asm_rows::SharedWords {
+        xlen,
+        entries,
+        first,
+    };
+    let words = asm_rows::Words {
+        xlen,
+        entries,
+        first,
+    };
+    let shared_count = shared_words(xlen, limit, first);
+    let count = xlen.words(limit).saturating_sub(xlen.whole_word(first));
     print_both(&shared, shared_count, &words, count, out)
 }
 
@@ -215,26 +223,28 @@ fn print_asm_words<W: Sink>(
 /// this call.
 pub fn print_asm<W: Sink>(
     name: Option<&str>,
+    xlen: Xlen,
     entries: &[Entry],
     first: u8,
     limit: Limit,
     out: &mut W,
 ) -> Result<(), DeviceFault>
+    requires reached { AreReached xlen entries.now }
     requires fits { length entries.now ≤ limit_number limit - first }
-    ensures { PrintsOne (IsAsmText (option_map (λ s. s.now) name.entry) limit first entries.now)
+    ensures { PrintsOne (IsAsmText (option_map (λ s. s.now) name.entry) xlen limit first entries.now)
         (writing W.contents W.failures W.stalls out.old out.new) result }
 {
-    let addresses = asm_rows::Addresses { entries, first };
+    let addresses = asm_rows::Addresses {
+        xlen,
+        entries,
+        first,
+    };
     let label = asm_rows::label_of(name);
     let label_end = asm_rows::label_end(name);
-    print_asm_head(label, label_end, first, out)?;
-    print_section(
-        asm_rows::begin(limit, first),
-        &addresses,
-        entries.len(),
-        out,
-    )?;
-    print_asm_words(entries, first, limit, out)?;
+    print_asm_head(label, label_end, xlen, first, out)?;
+    let begin = asm_rows::begin(xlen, limit, first);
+    print_section(begin.as_slice(), &addresses, entries.len(), out)?;
+    print_asm_words(xlen, entries, first, limit, out)?;
     write_whole(out, asm_rows::end(name))?;
     Ok(())
 }
@@ -242,6 +252,7 @@ pub fn print_asm<W: Sink>(
 /// Writes the object, with the first words of the hart.
 fn print_object<W: Sink>(
     name: &[u8],
+    xlen: Xlen,
     entries: &[Entry],
     first: u8,
     limit: Limit,
@@ -249,15 +260,23 @@ fn print_object<W: Sink>(
     out: &mut W,
 ) -> Result<(), DeviceFault>
     requires numbers { first + length entries.now < 2 ^ 64 }
-    requires count { count ≤ 8 }
-    ensures { Prints (json_text name.now limit first entries.now count)
+    requires count { count ≤ 16 }
+    ensures { Prints (json_text name.now xlen limit first entries.now count)
         (writing W.contents W.failures W.stalls out.old out.new) result }
 {
     let letters = json_rows::Name { bytes: name };
-    let listed = json_rows::Entries { entries, first };
-    let words = json_rows::Words { entries, first };
+    let listed = json_rows::Entries {
+        xlen,
+        entries,
+        first,
+    };
+    let words = json_rows::Words {
+        xlen,
+        entries,
+        first,
+    };
     print_section(b"{\n  \"map\": \"", &letters, name.len(), out)?;
-    let begin = json_rows::entries_begin(limit, first);
+    let begin = json_rows::entries_begin(xlen, limit, first);
     print_section(begin.as_slice(), &listed, entries.len(), out)?;
     print_section(b"\n  ],\n  \"pmpcfg\": [", &words, count, out)?;
     write_whole(out, b"\n  ]\n}\n")?;
@@ -265,15 +284,15 @@ fn print_object<W: Sink>(
 }
 
 /// How many words are printed: none where the hart has no room for so many entries.
-fn words_printed(entries: usize, first: u8, limit: Limit) -> usize
-    ensures fits { entries ≤ limit_number limit - first → result ≡ limit_number limit / 8 }
+fn words_printed(xlen: Xlen, entries: usize, first: u8, limit: Limit) -> usize
+    ensures fits { entries ≤ limit_number limit - first → result ≡ word_count xlen limit }
     ensures too_many { limit_number limit - first < entries → result ≡ 0 }
-    ensures most { result ≤ 8 }
+    ensures most { result ≤ 16 }
 {
     if entries > room_from(first, limit) {
         return 0;
     }
-    limit.words()
+    xlen.words(limit)
 }
 
 /// Writes a list as one JSON object: the map's name, the limit, the first entry where it is not 0, each entry with its pair, its
@@ -284,16 +303,18 @@ fn words_printed(entries: usize, first: u8, limit: Limit) -> usize
 /// this call.
 pub fn print_json<W: Sink>(
     map: &str,
+    xlen: Xlen,
     entries: &[Entry],
     first: u8,
     limit: Limit,
     out: &mut W,
 ) -> Result<(), DeviceFault>
-    requires { first + length entries.now < 2 ^ 64 }
-    ensures { PrintsOne (IsJsonText map.now limit first entries.now)
+    requires reached { AreReached xlen entries.now }
+    requires numbers { first + length entries.now < 2 ^ 64 }
+    ensures { PrintsOne (IsJsonText map.now xlen limit first entries.now)
         (writing W.contents W.failures W.stalls out.old out.new) result }
 {
-    let count = words_printed(entries.len(), first, limit);
-    print_object(map.as_bytes(), entries, first, limit, count, out)?;
+    let count = words_printed(xlen, entries.len(), first, limit);
+    print_object(map.as_bytes(), xlen, entries, first, limit, count, out)?;
     Ok(())
 }

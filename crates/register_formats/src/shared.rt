@@ -4,13 +4,14 @@ ghost use Rattle.std.specs.Prelude.{◌≡◌, ◌≤◌};
 ghost use Rattle.register_formats.specs.Shared.{kept_bits, shared_words};
 
 use pmp_encoding::Limit;
+use register_width::Xlen;
 
 /// How many words are shared.
-pub(crate) fn shared_words(limit: Limit, first: u8) -> usize
-    ensures value { result ≡ shared_words limit first }
+pub(crate) fn shared_words(xlen: Xlen, limit: Limit, first: u8) -> usize
+    ensures value { result ≡ shared_words xlen limit first }
     ensures most { result ≤ 1 }
 {
-    if first % 8 != 0 && u32::from(first) < limit.number() {
+    if first % xlen.word_entries() != 0 && u32::from(first) < limit.number() {
         1
     } else {
         0
@@ -18,8 +19,8 @@ pub(crate) fn shared_words(limit: Limit, first: u8) -> usize
 }
 
 /// The bits of the entries below the first in the word that it stands in.
-pub(crate) fn kept_bits(first: u8) -> u64
-    ensures { result ≡ kept_bits first }
+pub(crate) fn kept_bits(xlen: Xlen, first: u8) -> u64
+    ensures { result ≡ kept_bits xlen first }
 {
-    (1 << (8 * (first % 8))) - 1
+    (1 << (8 * (first % xlen.word_entries()))) - 1
 }
