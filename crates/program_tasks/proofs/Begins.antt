@@ -1,19 +1,20 @@
 -- A plan that begins at no entry of the hart.
-use Rattle.std.proofs.Common.{ℕ, ◌<◌, ◌≡◌, ◌≢◌, ◌∙◌, Option, Some, None, IfSome, codes, refl, sym, inl, inr, true, option_map}
+use Rattle.std.proofs.Common.{ℕ, ◌≡◌, ◌≢◌, ◌∙◌, Option, Some, None, IfSome, codes, refl, sym, inl, inr, true, option_map}
 use Rattle.std.specs.Borrow.{Bor}
 use Rattle.pmp_encoding.specs.declared.limit.Limit.{Limit}
+use Rattle.register_width.specs.declared.xlen.Xlen.{Xlen}
 use Rattle.program_tasks.specs.declared.fault.Fault.{Fault}
 use Rattle.program_tasks.specs.declared.subcommand.Subcommand.TheVariants as subcommands
 use Rattle.program_tasks.specs.declared.task.Format.{Format}
 use Rattle.program_tasks.specs.declared.task.Task.TheVariants.{Run, Plan, Judge, Check, Show, Audit, Map, Lint}
 use Rattle.program_tasks.specs.Faults.{Breaks, IsFirst, Lacks, begins_inside, demands_of}
 use Rattle.program_tasks.specs.Subcommands.{Text}
-use Rattle.program_tasks.specs.Tasks.{Counts, NamesNone, format_word, is_identifier, limit_word}
+use Rattle.program_tasks.specs.Tasks.{Counts, NamesNone, format_word, is_identifier, limit_word, width_word}
 use Rattle.program_tasks.proofs.Twice.{differ, given}
 
 -- no such plan is sound
 pub begins_nowhere : (value flag : Text → Option Text) → Lacks value flag begins_inside → NamesNone (codes "plan") value flag
-begins_nowhere value flag lacks (Plan map cert limit at_most format name first) e v sound = lacks first limit v.6 v.2 sound.2
+begins_nowhere value flag lacks (Plan map cert limit at_most format name first xlen) e v sound = lacks first limit v.6 v.2 sound.2
 begins_nowhere value flag lacks (Run p t s) e v sound = differ _ _ _ _ refl e
 begins_nowhere value flag lacks (Judge p t s b) e v sound = differ _ _ _ _ refl e
 begins_nowhere value flag lacks (Check p t) e v sound = differ _ _ _ _ refl e
@@ -34,12 +35,12 @@ named_well value (Some name) word e well is bad = bad (rw (same name.now word (s
 
 -- the fault of the last demand of `plan`, where the values meet the others
 pub begins_wrongly :
-    (value flag : Text → Option Text) (map : Text) (cert : Option (Bor Text)) (limit : Limit) (at_most : Option ℕ) (format : Format) (name : Option (Bor Text)) (fault : Fault)
+    (value flag : Text → Option Text) (map : Text) (cert : Option (Bor Text)) (limit : Limit) (at_most : Option ℕ) (format : Format) (xlen : Xlen) (name : Option (Bor Text)) (fault : Fault)
     → value (codes "MAP") ≡ Some map → value (codes "CERT") ≡ option_map (λ s. s.now) cert → option_map (λ s. s.now) cert ≢ Some map
-    → value (codes "entries") ≡ Some (limit_word limit) → Counts (value (codes "at-most")) at_most → value (codes "format") ≡ Some (format_word format)
+    → value (codes "entries") ≡ Some (limit_word limit) → Counts (value (codes "at-most")) at_most → value (codes "format") ≡ Some (format_word format) → value (codes "xlen") ≡ Some (width_word xlen)
     → value (codes "name") ≡ option_map (λ s. s.now) name → IfSome name (λ s. is_identifier s.now ≡ true)
     → Breaks value flag begins_inside fault → IsFirst value flag (demands_of subcommands.Plan) fault
-begins_wrongly value flag map cert limit at_most format name fault m c other l a f n well broken =
+begins_wrongly value flag map cert limit at_most format xlen name fault m c other l a f w n well broken =
     inr (
       given value (codes "MAP") map m,
       inr (
@@ -55,8 +56,14 @@ begins_wrongly value flag map cert limit at_most format name fault m c other l a
                 inr (
                   λ lacks. lacks format f,
                   inr (
-                    λ lacks. named_well _ name lacks.0 n well lacks.1 lacks.2,
-                    inl broken,
+                    given value (codes "xlen") _ w,
+                    inr (
+                      λ lacks. lacks xlen w,
+                      inr (
+                        λ lacks. named_well _ name lacks.0 n well lacks.1 lacks.2,
+                        inl broken,
+                      ),
+                    ),
                   ),
                 ),
               ),

@@ -43,7 +43,7 @@ pub twice_audited : (value flag : Text → Option Text) (map registers : Text) �
     → map ≡ input_word → registers ≡ input_word → NamesNone (codes "audit") value flag
 twice_audited value flag map registers m r mi ri (Audit named other all) e v sound = sound (same _ _ (sym v.0 ∙ m) ∙ mi, same _ _ (sym v.1 ∙ r) ∙ ri)
 twice_audited value flag map registers m r mi ri (Run p t s) e v sound = differ _ _ _ _ refl e
-twice_audited value flag map registers m r mi ri (Plan p t s a f n i) e v sound = differ _ _ _ _ refl e
+twice_audited value flag map registers m r mi ri (Plan p t s a f n i w) e v sound = differ _ _ _ _ refl e
 twice_audited value flag map registers m r mi ri (Judge p t s b) e v sound = differ _ _ _ _ refl e
 twice_audited value flag map registers m r mi ri (Check p t) e v sound = differ _ _ _ _ refl e
 twice_audited value flag map registers m r mi ri (Show p t s b) e v sound = differ _ _ _ _ refl e
@@ -53,7 +53,7 @@ twice_audited value flag map registers m r mi ri (Map p) e v sound = differ _ _ 
 pub unlisted : (value flag : Text → Option Text) → value (codes "REGISTERS") ≡ None → NamesNone (codes "audit") value flag
 unlisted value flag none (Audit named other all) e v sound = given value (codes "REGISTERS") _ v.1 none
 unlisted value flag none (Run p t s) e v sound = differ _ _ _ _ refl e
-unlisted value flag none (Plan p t s a f n i) e v sound = differ _ _ _ _ refl e
+unlisted value flag none (Plan p t s a f n i w) e v sound = differ _ _ _ _ refl e
 unlisted value flag none (Judge p t s b) e v sound = differ _ _ _ _ refl e
 unlisted value flag none (Check p t) e v sound = differ _ _ _ _ refl e
 unlisted value flag none (Show p t s b) e v sound = differ _ _ _ _ refl e

@@ -2,13 +2,14 @@
 use Rattle.std.specs.Prelude.{List, [], ◌∷◌, ℕ, ◌<◌, Option, Some, None, ◌++◌, ◌≡◌, ◌≢◌, ◌⊎◌, codes, true}
 use Rattle.pmp_encoding.specs.declared.limit.Limit.{Limit}
 use Rattle.pmp_encoding.specs.Limits.{limit_number}
+use Rattle.register_width.specs.declared.xlen.Xlen.{Xlen}
 use Rattle.program_tasks.specs.declared.fault.Fault.{Fault}
 use Rattle.program_tasks.specs.declared.fault.Fault.TheVariants as faults
 use Rattle.program_tasks.specs.declared.task.Format.{Format}
 use Rattle.program_tasks.specs.declared.subcommand.Subcommand.{Subcommand}
 use Rattle.program_tasks.specs.declared.subcommand.Subcommand.TheVariants as subcommands
 use Rattle.program_tasks.specs.Subcommands.{Text, subcommand_word}
-use Rattle.program_tasks.specs.Tasks.{BeginsAt, Counts, IsGiven, NamesNone, format_word, input_word, is_identifier, limit_word}
+use Rattle.program_tasks.specs.Tasks.{BeginsAt, Counts, IsGiven, NamesNone, format_word, input_word, is_identifier, limit_word, width_word}
 
 -- what is said of a value that an option does not take
 abbrev pub value_text : List ℕ → List ℕ → List ℕ
@@ -22,6 +23,7 @@ fault_text (faults.Format word) = value_text word.now (codes "' for '--format <t
 fault_text (faults.AtMost word) = value_text word.now (codes "' for '--at-most <N>': no number below 2^64")
 fault_text (faults.Name word) = value_text word.now (codes "' for '--name <NAME>': no C identifier of at most 32 bytes")
 fault_text (faults.First word) = value_text word.now (codes "' for '--first <K>': no number below that of --entries")
+fault_text (faults.Xlen word) = value_text word.now (codes "' for '--xlen <32|64>'\n  [possible values: 32, 64]")
 fault_text faults.InputTwice = codes "standard input, '-', cannot be read twice"
 fault_text faults.TwoKinds = codes "the argument '--registers' cannot be used with '--trace'"
 fault_text faults.PlatformAlone = codes "the argument '--platform <PLATFORM>' cannot be used without '--trace'"
@@ -32,6 +34,7 @@ pub data Demand : Type 0 where
   has : Text → Demand
   names_limit : Demand
   names_format : Demand
+  names_width : Demand
   counts : Demand
   identifies : Demand
   begins_inside : Demand
@@ -41,12 +44,13 @@ pub data Demand : Type 0 where
   of_trace : Demand
 
 -- the values lack it: the argument of that name has no value; the word of `--entries` names no limit, that of `--format` no
--- format, that of `--at-most` no number, that of `--name` is no identifier, that of `--first` names no entry below the limit; the map and that other file are both standard input; the certificate is the map; the file is
+-- format, that of `--xlen` no width, that of `--at-most` no number, that of `--name` is no identifier, that of `--first` names no entry below the limit; the map and that other file are both standard input; the certificate is the map; the file is
 -- said to be a listing and a trace; or a platform is named where it is said to be no trace
 abbrev pub Lacks : (Text → Option Text) → (Text → Option Text) → Demand → Type 0
 Lacks value flag (has name) = value name ≡ None
 Lacks value flag names_limit = (limit : Limit) → value (codes "entries") ≢ Some (limit_word limit)
 Lacks value flag names_format = (format : Format) → value (codes "format") ≢ Some (format_word format)
+Lacks value flag names_width = (xlen : Xlen) → value (codes "xlen") ≢ Some (width_word xlen)
 Lacks value flag counts = (count : Option ℕ) → ¬ Counts (value (codes "at-most")) count
 Lacks value flag identifies = (word : Text) × (value (codes "name") ≡ Some word) × (is_identifier word ≢ true)
 Lacks value flag begins_inside = (first : ℕ) (limit : Limit) → BeginsAt (value (codes "first")) first → value (codes "entries") ≡ Some (limit_word limit) → ¬ (first < limit_number limit)
@@ -60,6 +64,7 @@ abbrev pub Tells : (Text → Option Text) → Demand → Fault → Type 0
 Tells value (has name) fault = fault ≡ faults.Missing
 Tells value names_limit (faults.Entries word) = value (codes "entries") ≡ Some word.now
 Tells value names_format (faults.Format word) = value (codes "format") ≡ Some word.now
+Tells value names_width (faults.Xlen word) = value (codes "xlen") ≡ Some word.now
 Tells value counts (faults.AtMost word) = value (codes "at-most") ≡ Some word.now
 Tells value identifies (faults.Name word) = value (codes "name") ≡ Some word.now
 Tells value begins_inside (faults.First word) = value (codes "first") ≡ Some word.now
@@ -82,7 +87,7 @@ IsFirst value flag (demand ∷ demands) fault = Breaks value flag demand fault �
 abbrev pub demands_of : Subcommand → List Demand
 demands_of subcommands.Run = has (codes "PLATFORM") ∷ has (codes "TRACE") ∷ []
 demands_of subcommands.Plan =
-    has (codes "MAP") ∷ keeps_map ∷ has (codes "entries") ∷ names_limit ∷ counts ∷ has (codes "format") ∷ names_format ∷ identifies ∷ begins_inside ∷ []
+    has (codes "MAP") ∷ keeps_map ∷ has (codes "entries") ∷ names_limit ∷ counts ∷ has (codes "format") ∷ names_format ∷ has (codes "xlen") ∷ names_width ∷ identifies ∷ begins_inside ∷ []
 demands_of subcommands.Judge = has (codes "MAP") ∷ has (codes "TRACE") ∷ has (codes "entries") ∷ names_limit ∷ reads_once (codes "TRACE") ∷ []
 demands_of subcommands.Check = has (codes "MAP") ∷ has (codes "CERT") ∷ []
 demands_of subcommands.Show = has (codes "MAP") ∷ has (codes "entries") ∷ names_limit ∷ counts ∷ []

@@ -4,6 +4,8 @@ use Rattle.std.specs.List.{list_all}
 use Rattle.pmp_encoding.specs.declared.limit.Limit.{Limit}
 use Rattle.pmp_encoding.specs.declared.limit.Limit.TheVariants.{Sixteen, SixtyFour}
 use Rattle.pmp_encoding.specs.Limits.{limit_number}
+use Rattle.register_width.specs.declared.xlen.Xlen.{Xlen}
+use Rattle.register_width.specs.declared.xlen.Xlen.TheVariants.{Rv32, Rv64}
 use Rattle.text_lines.specs.Numbers.{number_of}
 use Rattle.program_tasks.specs.declared.task.Format.{Format}
 use Rattle.program_tasks.specs.declared.task.Format.TheVariants as formats
@@ -25,6 +27,11 @@ format_word formats.Text = codes "text"
 format_word formats.C = codes "c"
 format_word formats.Asm = codes "asm"
 format_word formats.Json = codes "json"
+
+-- the word that names a width of registers
+abbrev pub width_word : Xlen → Text
+width_word Rv32 = codes "32"
+width_word Rv64 = codes "64"
 
 -- the number that a word names, where there is one
 abbrev pub Counts : Option Text → Option ℕ → Type 0
@@ -70,7 +77,7 @@ HasValues value flag (Run platform trace measure) =
     (value (codes "PLATFORM") ≡ Some platform.now)
     × (value (codes "TRACE") ≡ Some trace.now)
     × IsFlag (flag (codes "measure")) measure
-HasValues value flag (Plan map cert limit at_most format name first) =
+HasValues value flag (Plan map cert limit at_most format name first xlen) =
     (value (codes "MAP") ≡ Some map.now)
     × (value (codes "CERT") ≡ option_map (λ s. s.now) cert)
     × (value (codes "entries") ≡ Some (limit_word limit))
@@ -78,6 +85,7 @@ HasValues value flag (Plan map cert limit at_most format name first) =
     × (value (codes "format") ≡ Some (format_word format))
     × (value (codes "name") ≡ option_map (λ s. s.now) name)
     × BeginsAt (value (codes "first")) first
+    × (value (codes "xlen") ≡ Some (width_word xlen))
 HasValues value flag (Judge map trace limit registers) =
     (value (codes "MAP") ≡ Some map.now)
     × (value (codes "TRACE") ≡ Some trace.now)
@@ -105,7 +113,7 @@ input_word = codes "-"
 -- standard input is read once at most, a certificate never takes the place of its map, a name is an identifier, and a plan
 -- begins at an entry that such a hart has
 abbrev pub IsSound : Task → Type 0
-IsSound (Plan map cert limit at_most format name first) =
+IsSound (Plan map cert limit at_most format name first xlen) =
     (option_map (λ s. s.now) cert ≢ Some map.now)
     × IfSome name (λ s. is_identifier s.now ≡ true)
     × (first < limit_number limit)

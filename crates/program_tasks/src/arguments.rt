@@ -1,19 +1,21 @@
-//! What the arguments of a command line mean: a limit, a format, a bound, an entry, a name.
+//! What the arguments of a command line mean: a limit, a format, a bound, an entry, a name, a width.
 
 ghost use Rattle.std.specs.Prelude.{◌≡◌, ◌≢◌, ◌<◌, ℕ, [], ◌∷◌, IfErr, IfOk, IfSome, Option, None, Some, codes, false, true, option_map};
 ghost use Rattle.std.specs.List.{list_all};
 ghost use Rattle.pmp_encoding.specs.declared.limit.Limit.{Limit};
 ghost use Rattle.pmp_encoding.specs.Limits.{limit_number};
+ghost use Rattle.register_width.specs.declared.xlen.Xlen.{Xlen};
 ghost use Rattle.text_lines.specs.Numbers.{number_of};
 ghost use Rattle.program_tasks.specs.declared.task.Format.{Format};
 ghost use Rattle.program_tasks.specs.Faults.{Breaks, IsFirst};
-ghost use Rattle.program_tasks.specs.Faults.Demand.{begins_inside, counts, has, identifies, names_limit, names_format};
-ghost use Rattle.program_tasks.specs.Tasks.{limit_word, format_word, is_identifier, is_letter, is_letter_or_digit, BeginsAt, Counts};
+ghost use Rattle.program_tasks.specs.Faults.Demand.{begins_inside, counts, has, identifies, names_limit, names_format, names_width};
+ghost use Rattle.program_tasks.specs.Tasks.{limit_word, format_word, width_word, is_identifier, is_letter, is_letter_or_digit, BeginsAt, Counts};
 
 use crate::fault::Fault;
 use crate::given::Values;
 use crate::task::Format;
 use pmp_encoding::Limit;
+use register_width::Xlen;
 use text_lines::number;
 
 /// The limit that a word names.
@@ -46,6 +48,20 @@ fn format_of(word: &str) -> Option<Format>
     }
     if word == "json" {
         return Some(Format::Json);
+    }
+    None
+}
+
+/// The width of registers that a word names.
+fn width_of(word: &str) -> Option<Xlen>
+    ensures some { IfSome result (λ xlen. word.now ≡ width_word xlen) }
+    ensures none { result ≡ None → (xlen : Xlen) → word.now ≢ width_word xlen }
+{
+    if word == "32" {
+        return Some(Xlen::Rv32);
+    }
+    if word == "64" {
+        return Some(Xlen::Rv64);
     }
     None
 }
@@ -90,6 +106,22 @@ pub(crate) fn format_in<'a, V: Values<'a>>(given: &V) -> Result<Format, Fault<'a
     match format_of(word) {
         Some(format) => Ok(format),
         None => Err(Fault::Format(word)),
+    }
+}
+
+/// The value of `--xlen`.
+pub(crate) fn width_in<'a, V: Values<'a>>(given: &V) -> Result<Xlen, Fault<'a>>
+    ensures value { IfOk result (λ xlen.
+        V.value given.now (codes "xlen") ≡ Some (width_word xlen)) }
+    ensures other { IfErr result (λ _.
+        (xlen : Xlen) → V.value given.now (codes "xlen") ≢ Some (width_word xlen)) }
+    ensures fault { IfErr result (IsFirst (V.value given.now) (V.flag given.now)
+        (has (codes "xlen") ∷ names_width ∷ [])) }
+{
+    let word = value_in(given, "xlen")?;
+    match width_of(word) {
+        Some(xlen) => Ok(xlen),
+        None => Err(Fault::Xlen(word)),
     }
 }
 

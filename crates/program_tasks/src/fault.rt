@@ -20,6 +20,8 @@ pub enum Fault<'a> {
     Name(&'a str),
     /// `--first` has one, or names no entry of such a hart.
     First(&'a str),
+    /// `--xlen` has one.
+    Xlen(&'a str),
     /// Standard input is named twice.
     InputTwice,
     /// `--registers` and `--trace` are both given.
@@ -60,6 +62,11 @@ impl Fault<'_> {
             Fault::First(word) => {
                 format!(in alloc;
                     "invalid value '{word}' for '--first <K>': no number below that of --entries"
+                )
+            }
+            Fault::Xlen(word) => {
+                format!(in alloc;
+                    "invalid value '{word}' for '--xlen <32|64>'\n  [possible values: 32, 64]"
                 )
             }
             Fault::InputTwice => format!(in alloc; "standard input, '-', cannot be read twice"),

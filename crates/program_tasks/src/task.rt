@@ -1,6 +1,7 @@
 //! What the program is asked to do.
 
 use pmp_encoding::Limit;
+use register_width::Xlen;
 
 /// How a plan is printed.
 #[derive(Clone, Copy, Debug, PartialEq, Eq)]
@@ -57,6 +58,8 @@ pub enum Task<'a> {
         name: Option<&'a str>,
         /// The number of the register file's entry that the plan begins at.
         first: u8,
+        /// How many bits the hart's registers have.
+        xlen: Xlen,
     },
     /// Load a map's entries, or take registers as they stand, and judge the accesses of a trace by them.
     Judge {

@@ -7,7 +7,7 @@ ghost use Rattle.program_tasks.specs.Faults.Demand.{of_trace, one_kind};
 ghost use Rattle.program_tasks.specs.Subcommands.{word_of};
 ghost use Rattle.program_tasks.specs.Tasks.{input_word, HasKind, HasValues, IsSound, IsTaskOf, NamesNone};
 
-use crate::arguments::{at_most_in, first_in, format_in, limit_in, name_in, value_in};
+use crate::arguments::{at_most_in, first_in, format_in, limit_in, name_in, value_in, width_in};
 use crate::fault::Fault;
 use crate::given::Values;
 use crate::subcommand::Subcommand;
@@ -69,6 +69,7 @@ fn plan_in<'a, V: Values<'a>>(given: &V) -> Result<Task<'a>, Fault<'a>>
     let limit = limit_in(given)?;
     let at_most = at_most_in(given)?;
     let format = format_in(given)?;
+    let xlen = width_in(given)?;
     let name = name_in(given)?;
     let first = first_in(given, limit)?;
     Ok(Task::Plan {
@@ -79,6 +80,7 @@ fn plan_in<'a, V: Values<'a>>(given: &V) -> Result<Task<'a>, Fault<'a>>
         format,
         name,
         first,
+        xlen,
     })
 }
 

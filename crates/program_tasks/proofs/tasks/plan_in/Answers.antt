@@ -11,6 +11,6 @@ returns-in_err-first-clause-refused g c =
     let broken = c.in_err-first.ensures.fault in
     handed_on c.from_residual-in_err-first.result c.in_err-first.field-0.0 (RefusesTask subcommands.Plan value flag) c.from_residual-in_err-first.ensures.1 (record {
       none = begins_nowhere value flag broken.0;
-      first = begins_wrongly value flag _ _ _ _ _ _ _ c.in_ok-map.ensures.value c.in_ok-cert.ensures.value c.in_ok-cert.ensures.other c.in_ok-limit.ensures.value c.in_ok-at_most.ensures.value
-          c.in_ok-format.ensures.value c.in_ok-name.ensures.value c.in_ok-name.ensures.identifier broken;
+      first = begins_wrongly value flag _ _ _ _ _ _ _ _ c.in_ok-map.ensures.value c.in_ok-cert.ensures.value c.in_ok-cert.ensures.other c.in_ok-limit.ensures.value c.in_ok-at_most.ensures.value
+          c.in_ok-format.ensures.value c.in_ok-xlen.ensures.value c.in_ok-name.ensures.value c.in_ok-name.ensures.identifier broken;
     })
