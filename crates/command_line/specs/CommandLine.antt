@@ -50,6 +50,10 @@ name_rule = option_rule (codes "name") []
 abbrev pub first_rule : Rule
 first_rule = option_rule (codes "first") []
 
+-- `--xlen`, which is 64 where it is not given
+abbrev pub xlen_rule : Rule
+xlen_rule = option_rule (codes "xlen") (codes "64" ∷ [])
+
 -- `--registers`, which takes no value
 abbrev pub registers_rule : Rule
 registers_rule = record (new_rule (codes "registers")) { long = Some (codes "registers"); action = Some SetTrue }
@@ -77,12 +81,14 @@ plan_app = with_rule
     (with_rule
     (with_rule
     (with_rule
+    (with_rule
     (with_rule (with_rule (new_app (codes "plan")) (file_rule (codes "MAP") true)) (file_rule (codes "CERT") false))
     entries_rule)
     at_most_rule)
     format_rule)
     name_rule)
-    first_rule
+    first_rule)
+    xlen_rule
 
 abbrev pub judge_app : App
 judge_app = with_rule

@@ -2,7 +2,7 @@
 
 ghost use Rattle.std.specs.Prelude.{◌≡◌, false};
 ghost use Rattle.clap.specs.Words.{rule_of};
-ghost use Rattle.command_line.specs.CommandLine.{all_rule, at_most_rule, entries_rule, file_rule, first_rule, format_rule, measure_rule, name_rule, platform_rule, registers_rule, trace_rule};
+ghost use Rattle.command_line.specs.CommandLine.{all_rule, at_most_rule, entries_rule, file_rule, first_rule, format_rule, measure_rule, name_rule, platform_rule, registers_rule, trace_rule, xlen_rule};
 ghost use Rattle.command_line.specs.ClapModel.{rule_by};
 
 use clap::{Arg, ArgAction};
@@ -27,6 +27,8 @@ pub enum Argument<'a> {
     Name,
     /// `--first`, the entry that a plan begins at.
     First,
+    /// `--xlen`, how many bits the registers of a plan have.
+    Xlen,
     /// `--registers`, whether a file has registers in place of a map, and what is said of it.
     Registers(&'a str),
     /// `--trace`, whether a file has a trace.
@@ -52,6 +54,7 @@ impl<'a> Argument<'a> {
             Argument::Measure => measure_arg(alloc),
             Argument::Name => name_arg(alloc),
             Argument::First => first_arg(alloc),
+            Argument::Xlen => xlen_arg(alloc),
             Argument::Registers(help) => registers_arg(alloc, help),
             Argument::Trace => trace_arg(alloc),
             Argument::Platform => platform_arg(alloc),
@@ -142,6 +145,19 @@ fn first_arg<'a>(alloc: Global) -> Arg<'a>
         .value_name("K")
         .help("Begin at entry K, and leave those below it as they are")
         .action(ArgAction::Set)
+}
+
+/// The option that says how many bits the registers of a plan have.
+fn xlen_arg<'a>(alloc: Global) -> Arg<'a>
+    ensures rule { rule_of result ≡ xlen_rule }
+    ensures local { result.global ≡ false }
+{
+    Arg::new(alloc, "xlen")
+        .long("xlen")
+        .value_name("32|64")
+        .help("How many bits the hart's registers have")
+        .action(ArgAction::Set)
+        .default_value("64")
 }
 
 /// The flag that says that a file has registers.

@@ -82,6 +82,7 @@ fn plan_command<'a>(alloc: Global) -> Result<Command<'a>, AllocError>
         Argument::Format,
         Argument::Name,
         Argument::First,
+        Argument::Xlen,
     ];
     command(alloc, Subcommand::Plan.name(), about, PLAN_HELP, &arguments)
 }
