@@ -6,8 +6,10 @@ use Rattle.register_width.specs.declared.xlen.Xlen.{Xlen}
 use Rattle.program_tasks.specs.declared.fault.Fault.{Fault}
 use Rattle.program_tasks.specs.declared.fault.Fault.TheVariants as faults
 use Rattle.program_tasks.specs.declared.task.Format.{Format}
+use Rattle.program_tasks.specs.declared.hints.Hints.{Hints}
 use Rattle.program_tasks.specs.declared.subcommand.Subcommand.{Subcommand}
 use Rattle.program_tasks.specs.declared.subcommand.Subcommand.TheVariants as subcommands
+use Rattle.program_tasks.specs.Hints.{hints_word}
 use Rattle.program_tasks.specs.Subcommands.{Text, subcommand_word}
 use Rattle.program_tasks.specs.Tasks.{BeginsAt, Counts, IsGiven, NamesNone, format_word, input_word, is_identifier, limit_word, width_word}
 
@@ -24,6 +26,7 @@ fault_text (faults.AtMost word) = value_text word.now (codes "' for '--at-most <
 fault_text (faults.Name word) = value_text word.now (codes "' for '--name <NAME>': no C identifier of at most 32 bytes")
 fault_text (faults.First word) = value_text word.now (codes "' for '--first <K>': no number below that of --entries")
 fault_text (faults.Xlen word) = value_text word.now (codes "' for '--xlen <32|64>'\n  [possible values: 32, 64]")
+fault_text (faults.Hints word) = value_text word.now (codes "' for '--hints <auto|always|never>'\n  [possible values: auto, always, never]")
 fault_text faults.InputTwice = codes "standard input, '-', cannot be read twice"
 fault_text faults.TwoKinds = codes "the argument '--registers' cannot be used with '--trace'"
 fault_text faults.PlatformAlone = codes "the argument '--platform <PLATFORM>' cannot be used without '--trace'"
@@ -38,13 +41,14 @@ pub data Demand : Type 0 where
   counts : Demand
   identifies : Demand
   begins_inside : Demand
+  names_hints : Demand
   reads_once : Text → Demand
   keeps_map : Demand
   one_kind : Demand
   of_trace : Demand
 
 -- the values lack it: the argument of that name has no value; the word of `--entries` names no limit, that of `--format` no
--- format, that of `--xlen` no width, that of `--at-most` no number, that of `--name` is no identifier, that of `--first` names no entry below the limit; the map and that other file are both standard input; the certificate is the map; the file is
+-- format, that of `--xlen` no width, that of `--at-most` no number, that of `--name` is no identifier, that of `--first` names no entry below the limit, that of `--hints` not whether hints are told; the map and that other file are both standard input; the certificate is the map; the file is
 -- said to be a listing and a trace; or a platform is named where it is said to be no trace
 abbrev pub Lacks : (Text → Option Text) → (Text → Option Text) → Demand → Type 0
 Lacks value flag (has name) = value name ≡ None
@@ -54,6 +58,7 @@ Lacks value flag names_width = (xlen : Xlen) → value (codes "xlen") ≢ Some (
 Lacks value flag counts = (count : Option ℕ) → ¬ Counts (value (codes "at-most")) count
 Lacks value flag identifies = (word : Text) × (value (codes "name") ≡ Some word) × (is_identifier word ≢ true)
 Lacks value flag begins_inside = (first : ℕ) (limit : Limit) → BeginsAt (value (codes "first")) first → value (codes "entries") ≡ Some (limit_word limit) → ¬ (first < limit_number limit)
+Lacks value flag names_hints = (hints : Hints) → value (codes "hints") ≢ Some (hints_word hints)
 Lacks value flag (reads_once other) = (value (codes "MAP") ≡ Some input_word) × (value other ≡ Some input_word)
 Lacks value flag keeps_map = value (codes "CERT") ≡ value (codes "MAP")
 Lacks value flag one_kind = IsGiven (flag (codes "registers")) × IsGiven (flag (codes "trace"))
@@ -68,6 +73,7 @@ Tells value names_width (faults.Xlen word) = value (codes "xlen") ≡ Some word.
 Tells value counts (faults.AtMost word) = value (codes "at-most") ≡ Some word.now
 Tells value identifies (faults.Name word) = value (codes "name") ≡ Some word.now
 Tells value begins_inside (faults.First word) = value (codes "first") ≡ Some word.now
+Tells value names_hints (faults.Hints word) = value (codes "hints") ≡ Some word.now
 Tells value (reads_once other) fault = fault ≡ faults.InputTwice
 Tells value keeps_map (faults.TakesPlace map) = value (codes "MAP") ≡ Some map.now
 Tells value one_kind fault = fault ≡ faults.TwoKinds

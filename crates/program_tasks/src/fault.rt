@@ -22,6 +22,8 @@ pub enum Fault<'a> {
     First(&'a str),
     /// `--xlen` has one.
     Xlen(&'a str),
+    /// `--hints` has one.
+    Hints(&'a str),
     /// Standard input is named twice.
     InputTwice,
     /// `--registers` and `--trace` are both given.
@@ -67,6 +69,11 @@ impl Fault<'_> {
             Fault::Xlen(word) => {
                 format!(in alloc;
                     "invalid value '{word}' for '--xlen <32|64>'\n  [possible values: 32, 64]"
+                )
+            }
+            Fault::Hints(word) => {
+                format!(in alloc;
+                    "invalid value '{word}' for '--hints <auto|always|never>'\n  [possible values: auto, always, never]"
                 )
             }
             Fault::InputTwice => format!(in alloc; "standard input, '-', cannot be read twice"),

@@ -1,0 +1,22 @@
+-- What a command line asks for: a task, and when hints are told.
+use Rattle.std.specs.Prelude.{[], ◌∷◌, Option, Some, codes, ◌≡◌}
+use Rattle.program_tasks.specs.declared.fault.Fault.{Fault}
+use Rattle.program_tasks.specs.declared.hints.Hints.{Hints}
+use Rattle.program_tasks.specs.declared.request.Request.{Request}
+use Rattle.program_tasks.specs.Faults.{IsFaultOf, IsFirst, has, names_hints}
+use Rattle.program_tasks.specs.Hints.{hints_word}
+use Rattle.program_tasks.specs.Subcommands.{Text, word_of}
+use Rattle.program_tasks.specs.Tasks.{HasValues, IsSound}
+
+-- the request has these values: those of its task, and the word of `--hints`
+abbrev pub HasRequest : (Text → Option Text) → (Text → Option Text) → Request → Type 0
+HasRequest value flag request = HasValues value flag request.task × (value (codes "hints") ≡ Some (hints_word request.hints))
+
+-- no request for a sound task is that subcommand with these values
+abbrev pub NamesNoRequest : Text → (Text → Option Text) → (Text → Option Text) → Type 0
+NamesNoRequest name value flag = (request : Request) → word_of request.task ≡ name → HasRequest value flag request → ¬ IsSound request.task
+
+-- the fault of a subcommand's values: `--hints` is looked at first, and then what its task asks
+pub data IsFaultOfRequest (name : Text) (value flag : Text → Option Text) (fault : Fault) : Type 0 where
+  of_hints : IsFirst value flag (has (codes "hints") ∷ names_hints ∷ []) fault → IsFaultOfRequest name value flag fault
+  of_task : (hints : Hints) → value (codes "hints") ≡ Some (hints_word hints) → IsFaultOf name value flag fault → IsFaultOfRequest name value flag fault

@@ -1,0 +1,68 @@
+//! When the program tells hints: what is wrong with an input, behind the line of the trouble.
+
+ghost use Rattle.std.specs.Prelude.{◌≡◌, ◌≢◌, [], ◌∷◌, IfErr, IfOk, IfSome, None, Some, codes};
+ghost use Rattle.program_tasks.specs.declared.hints.Hints.{Hints};
+ghost use Rattle.program_tasks.specs.Faults.{IsFirst};
+ghost use Rattle.program_tasks.specs.Faults.Demand.{has, names_hints};
+ghost use Rattle.program_tasks.specs.Hints.{are_told, hints_word};
+
+use crate::arguments::value_in;
+use crate::fault::Fault;
+use crate::given::Values;
+
+/// When hints are told.
+#[derive(Clone, Copy, Debug, PartialEq, Eq)]
+pub enum Hints {
+    /// Where standard error is a terminal.
+    Auto,
+    /// Always.
+    Always,
+    /// Never.
+    Never,
+}
+
+impl Hints {
+    /// Whether they are told, by whether standard error is a terminal.
+    pub fn are_told(self, is_terminal: bool) -> bool
+        ensures { result ≡ are_told self is_terminal }
+    {
+        match self {
+            Hints::Auto => is_terminal,
+            Hints::Always => true,
+            Hints::Never => false,
+        }
+    }
+}
+
+/// When hints are told that a word names.
+fn hints_of(word: &str) -> Option<Hints>
+    ensures some { IfSome result (λ hints. word.now ≡ hints_word hints) }
+    ensures none { result ≡ None → (hints : Hints) → word.now ≢ hints_word hints }
+{
+    if word == "auto" {
+        return Some(Hints::Auto);
+    }
+    if word == "always" {
+        return Some(Hints::Always);
+    }
+    if word == "never" {
+        return Some(Hints::Never);
+    }
+    None
+}
+
+/// The value of `--hints`.
+pub(crate) fn hints_in<'a, V: Values<'a>>(given: &V) -> Result<Hints, Fault<'a>>
+    ensures value { IfOk result (λ hints.
+        V.value given.now (codes "hints") ≡ Some (hints_word hints)) }
+    ensures other { IfErr result (λ _.
+        (hints : Hints) → V.value given.now (codes "hints") ≢ Some (hints_word hints)) }
+    ensures fault { IfErr result (IsFirst (V.value given.now) (V.flag given.now)
+        (has (codes "hints") ∷ names_hints ∷ [])) }
+{
+    let word = value_in(given, "hints")?;
+    match hints_of(word) {
+        Some(hints) => Ok(hints),
+        None => Err(Fault::Hints(word)),
+    }
+}
