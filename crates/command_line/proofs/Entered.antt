@@ -1,4 +1,4 @@
--- The subcommand that was entered, by its name and its rows, and the tasks that it may be.
+-- The subcommand that was entered, by its name and its rows, and the requests that it may be.
 use Rattle.std.proofs.Common.{List, Option, Some, None, Result, Ok, Err, IfOk, IfErr, Box, ◌≡◌, ◌∙◌, ap, subst, sym, option_map}
 use Rattle.std.specs.Option.{option_map_or}
 use Rattle.std.specs.Box.{box_value}
@@ -7,11 +7,10 @@ use Rattle.clap.specs.declared.parser.matches.ArgMatches.{ArgMatches}
 use Rattle.clap.specs.declared.parser.matches.ArgMatches.TheViews.{out-ArgMatches, out-SubCommand}
 use Rattle.clap.specs.declared.parser.matches.SubCommand.{SubCommand}
 use Rattle.program_tasks.specs.declared.fault.Fault.{Fault}
-use Rattle.program_tasks.specs.declared.task.Task.{Task}
-use Rattle.program_tasks.specs.Faults.{IsFaultOf}
+use Rattle.program_tasks.specs.declared.request.Request.{Request}
+use Rattle.program_tasks.specs.Requests.{HasRequest, IsFaultOfRequest, NamesNoRequest}
 use Rattle.program_tasks.specs.Subcommands.{word_of}
-use Rattle.program_tasks.specs.Tasks.{HasValues, NamesNone}
-use Rattle.command_line.specs.CommandLine.{AreNone, IsFaultIn, IsTask}
+use Rattle.command_line.specs.CommandLine.{AreNone, IsFaultIn, IsRequest}
 
 joined : {Z : Type 0} (sub : Option (Box SubCommand Z)) (name : Text) (rows : List Row) → Some name ≡ option_map (λ b. (out-SubCommand (box_value b)).name.now) sub → Some rows ≡ option_map (λ p. p.1) (subcommand_rows sub) → subcommand_rows sub ≡ Some (name, rows)
 joined None name rows p q = cc
@@ -24,22 +23,22 @@ absent : {Z : Type 0} (sub : Option (Box SubCommand Z)) → None ≡ option_map 
 absent None p = cc
 absent (Some b) p = cc
 
--- no task is a subcommand that was not entered
+-- no request is a subcommand that was not entered
 pub none_entered : (m : ArgMatches) → None ≡ subcommand_name_of m → AreNone (subcommand_rows_of m)
-none_entered m p task (rows, e, values) sound = nothing _ _ (absent (out-ArgMatches m).subcommand p) e
+none_entered m p request (rows, e, values) sound = nothing _ _ (absent (out-ArgMatches m).subcommand p) e
   where
     nothing : (found : Option (Text × List Row)) (p : Text × List Row) → found ≡ None → found ≡ Some p → ⊥
     nothing found p e f = cc
 
 pub with_rows :
-    {E : Type 0} (result : Result Task E) (found : Option (Text × List Row)) (name : Text) (rows : List Row) → found ≡ Some (name, rows)
-    → IfOk result (λ task. word_of task ≡ name) → IfOk result (HasValues (λ id. first_of id rows) (λ id. one_of id rows)) → IfOk result (IsTask found)
-with_rows (Ok task) found name rows e word values = (rows, rw (sym word) at e, values)
+    {E : Type 0} (result : Result Request E) (found : Option (Text × List Row)) (name : Text) (rows : List Row) → found ≡ Some (name, rows)
+    → IfOk result (λ request. word_of request.task ≡ name) → IfOk result (HasRequest (λ id. first_of id rows) (λ id. one_of id rows)) → IfOk result (IsRequest found)
+with_rows (Ok request) found name rows e word values = (rows, rw (sym word) at e, values)
 with_rows (Err error) found name rows e word values = tt
 
 pub fault_with_rows :
     {E : Type 0} (result : Result E Fault) (found : Option (Text × List Row)) (name : Text) (rows : List Row) → found ≡ Some (name, rows)
-    → IfErr result (IsFaultOf name (λ id. first_of id rows) (λ id. one_of id rows)) → IfErr result (IsFaultIn found)
+    → IfErr result (IsFaultOfRequest name (λ id. first_of id rows) (λ id. one_of id rows)) → IfErr result (IsFaultIn found)
 fault_with_rows result found name rows e is = subst (λ it. IfErr result (IsFaultIn it)) (sym e) is
 
 same_name : (found : Option (Text × List Row)) (name word : Text) (rows others : List Row) → found ≡ Some (name, rows) → found ≡ Some (word, others) → word ≡ name
@@ -49,9 +48,9 @@ same_rows : (found : Option (Text × List Row)) (name word : Text) (rows others 
 same_rows found name word rows others e f = ap (λ o. option_map_or (λ p. p.1) o rows) (sym f ∙ e)
 
 pub none_with_rows :
-    {E : Type 0} (result : Result Task E) (found : Option (Text × List Row)) (name : Text) (rows : List Row) → found ≡ Some (name, rows)
-    → IfErr result (λ _. NamesNone name (λ id. first_of id rows) (λ id. one_of id rows)) → IfErr result (λ _. AreNone found)
-none_with_rows (Ok task) found name rows e none = tt
-none_with_rows (Err error) found name rows e none = λ task is sound.
-    let same = same_rows found name (word_of task) rows is.0 e is.1 in
-    none task (same_name found name (word_of task) rows is.0 e is.1) (rw same at is.2) sound
+    {E : Type 0} (result : Result Request E) (found : Option (Text × List Row)) (name : Text) (rows : List Row) → found ≡ Some (name, rows)
+    → IfErr result (λ _. NamesNoRequest name (λ id. first_of id rows) (λ id. one_of id rows)) → IfErr result (λ _. AreNone found)
+none_with_rows (Ok request) found name rows e none = tt
+none_with_rows (Err error) found name rows e none = λ request is sound.
+    let same = same_rows found name (word_of request.task) rows is.0 e is.1 in
+    none request (same_name found name (word_of request.task) rows is.0 e is.1) (rw same at is.2) sound

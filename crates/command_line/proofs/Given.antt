@@ -1,5 +1,5 @@
 -- Whether a flag is given, by the text that is read of it.
-use Rattle.std.proofs.Common.{◌≡◌, ◌∙◌, ◌↔◌, Option, Some, None, Bool, true, false, ap, codes, refl, sym, true≢false}
+use Rattle.std.proofs.Common.{◌≡◌, ◌↔◌, Option, Some, None, Bool, true, false, ap, codes, refl, sym, true≢false}
 use Rattle.std.specs.Prelude.{unwrap_or}
 use Rattle.std.specs.Str.Parse.{ParsesBool}
 use Rattle.clap.specs.Words.{ReadsOne, Text}

@@ -5,10 +5,10 @@ use Rattle.clap.specs.Words.{App, HasMatchesOf, Text, fault_of, is_simple, is_si
 use Rattle.clap.specs.declared.error.kind.ErrorKind.{ErrorKind}
 use Rattle.clap.specs.declared.error.kind.ErrorKind.TheVariants.{OutOfMemory}
 use Rattle.clap.specs.declared.parser.matches.ArgMatches.{ArgMatches}
-use Rattle.command_line.specs.CommandLine.{program_app, AreNone, IsFaultIn, IsTask, Refuses}
+use Rattle.command_line.specs.CommandLine.{program_app, AreNone, IsFaultIn, IsRequest, Refuses}
 use Rattle.command_line.specs.Faults.{fault_kind}
 use Rattle.program_tasks.specs.declared.fault.Fault.{Fault}
-use Rattle.program_tasks.specs.declared.task.Task.{Task}
+use Rattle.program_tasks.specs.declared.request.Request.{Request}
 
 program_told : is_simple_and_free program_app ≡ true
 program_told = refl
@@ -26,14 +26,14 @@ some_kind app words kind e h =
     let told = subst (λ a. is_simple_and_free a ≡ true → (kind ≡ OutOfMemory) ⊎ IsAmong kind (fault_of a words)) e h program_told in
     ⊎_elim (λ m. inl m) (λ k. inr (inl k)) told
 
-pub some_task :
-    (app : App) (words : List Text) (m : ArgMatches) (task : Task) → app ≡ program_app → HasMatchesOf app words m → IsTask (subcommand_rows_of m) task
-    → IsTask (subcommand_of program_app words) task
-some_task app words m task e h is = subst (λ found. IsTask found task) (subst (λ a. HasMatchesOf a words m) e h program_simple).1 is
+pub some_request :
+    (app : App) (words : List Text) (m : ArgMatches) (request : Request) → app ≡ program_app → HasMatchesOf app words m → IsRequest (subcommand_rows_of m) request
+    → IsRequest (subcommand_of program_app words) request
+some_request app words m request e h is = subst (λ found. IsRequest found request) (subst (λ a. HasMatchesOf a words m) e h program_simple).1 is
 
-pub no_task :
+pub no_request :
     (app : App) (words : List Text) (m : ArgMatches) (kind : ErrorKind) (fault : Fault) → app ≡ program_app → HasMatchesOf app words m → AreNone (subcommand_rows_of m)
     → IsFaultIn (subcommand_rows_of m) fault → kind ≡ fault_kind fault → Refuses words kind
-no_task app words m kind fault e h none first told =
+no_request app words m kind fault e h none first told =
     let same = (subst (λ a. HasMatchesOf a words m) e h program_simple).1 in
     inr (inr (record { none = subst AreNone same none; fault = fault; first = subst (λ found. IsFaultIn found fault) same first; told = told }))

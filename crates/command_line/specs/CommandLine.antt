@@ -1,4 +1,4 @@
--- The program's command line, as `clap` sees it, and the task that it names.
+-- The program's command line, as `clap` sees it, and the request that it names.
 use Rattle.std.specs.Prelude.{Bool, true, false, List, [], ◌∷◌, Option, Some, None, codes, ◌≡◌, ◌⊎◌, bytes_eq, find}
 use Rattle.clap.specs.Kinds.{IsAmong}
 use Rattle.clap.specs.Words.{App, Row, Rule, Shape, Text, fault_of, first_of, one_of, new_app, new_rule, subcommand_of, with_rule, with_subcommand}
@@ -7,10 +7,10 @@ use Rattle.clap.specs.declared.error.kind.ErrorKind.{ErrorKind}
 use Rattle.clap.specs.declared.error.kind.ErrorKind.TheVariants.{OutOfMemory}
 use Rattle.program_tasks.specs.declared.fault.Fault.{Fault}
 use Rattle.program_tasks.specs.declared.fault.Fault.TheVariants.{Missing}
-use Rattle.program_tasks.specs.declared.task.Task.{Task}
-use Rattle.program_tasks.specs.Faults.{IsFaultOf}
+use Rattle.program_tasks.specs.declared.request.Request.{Request}
+use Rattle.program_tasks.specs.Requests.{HasRequest, IsFaultOfRequest}
 use Rattle.program_tasks.specs.Subcommands.{word_of}
-use Rattle.program_tasks.specs.Tasks.{HasValues, IsSound}
+use Rattle.program_tasks.specs.Tasks.{IsSound}
 use Rattle.command_line.specs.Faults.{fault_kind}
 
 -- a file that is named by its place among the words
@@ -70,13 +70,20 @@ platform_rule = option_rule (codes "platform") []
 abbrev pub all_rule : Rule
 all_rule = record (new_rule (codes "all")) { long = Some (codes "all"); action = Some SetTrue }
 
+-- `--hints`, which is auto where it is not given
+abbrev pub hints_rule : Rule
+hints_rule = option_rule (codes "hints") (codes "auto" ∷ [])
+
 abbrev pub run_app : App
 run_app = with_rule
+    (with_rule
     (with_rule (with_rule (new_app (codes "run")) (file_rule (codes "PLATFORM") true)) (file_rule (codes "TRACE") true))
-    measure_rule
+    measure_rule)
+    hints_rule
 
 abbrev pub plan_app : App
 plan_app = with_rule
+    (with_rule
     (with_rule
     (with_rule
     (with_rule
@@ -88,33 +95,44 @@ plan_app = with_rule
     format_rule)
     name_rule)
     first_rule)
-    xlen_rule
+    xlen_rule)
+    hints_rule
 
 abbrev pub judge_app : App
 judge_app = with_rule
+    (with_rule
     (with_rule (with_rule (with_rule (new_app (codes "judge")) (file_rule (codes "MAP") true)) (file_rule (codes "TRACE") true)) entries_rule)
-    registers_rule
+    registers_rule)
+    hints_rule
 
 abbrev pub check_app : App
-check_app = with_rule (with_rule (new_app (codes "check")) (file_rule (codes "MAP") true)) (file_rule (codes "CERT") true)
+check_app = with_rule
+    (with_rule (with_rule (new_app (codes "check")) (file_rule (codes "MAP") true)) (file_rule (codes "CERT") true))
+    hints_rule
 
 abbrev pub show_app : App
 show_app = with_rule
+    (with_rule
     (with_rule (with_rule (with_rule (new_app (codes "show")) (file_rule (codes "MAP") true)) entries_rule) at_most_rule)
-    registers_rule
+    registers_rule)
+    hints_rule
 
 abbrev pub audit_app : App
 audit_app = with_rule
+    (with_rule
     (with_rule (with_rule (new_app (codes "audit")) (file_rule (codes "MAP") true)) (file_rule (codes "REGISTERS") true))
-    all_rule
+    all_rule)
+    hints_rule
 
 abbrev pub map_app : App
-map_app = with_rule (new_app (codes "map")) (file_rule (codes "REGISTERS") true)
+map_app = with_rule (with_rule (new_app (codes "map")) (file_rule (codes "REGISTERS") true)) hints_rule
 
 abbrev pub lint_app : App
 lint_app = with_rule
+    (with_rule
     (with_rule (with_rule (with_rule (new_app (codes "lint")) (file_rule (codes "FILE") true)) registers_rule) trace_rule)
-    platform_rule
+    platform_rule)
+    hints_rule
 
 -- the program before its subcommands, which tells its version: one of them has to be named
 abbrev pub bare_app : App
@@ -140,27 +158,28 @@ app_alone (Some shape) = record { top = shape; subs = [] }
 abbrev pub app_named : Text → App
 app_named name = app_alone (find (λ shape. bytes_eq name shape.name) program_app.subs)
 
--- the task is the subcommand that was entered, with the values of its rows
-abbrev pub IsTask : Option (Text × List Row) → Task → Type 0
-IsTask found task = (rows : List Row) × (found ≡ Some (word_of task, rows)) × HasValues (λ name. first_of name rows) (λ name. one_of name rows) task
+-- the request is the subcommand that was entered, with the values of its rows
+abbrev pub IsRequest : Option (Text × List Row) → Request → Type 0
+IsRequest found request =
+    (rows : List Row) × (found ≡ Some (word_of request.task, rows)) × HasRequest (λ name. first_of name rows) (λ name. one_of name rows) request
 
--- no sound task is the subcommand that was entered
+-- no request for a sound task is the subcommand that was entered
 abbrev pub AreNone : Option (Text × List Row) → Type 0
-AreNone found = (task : Task) → IsTask found task → ¬ IsSound task
+AreNone found = (request : Request) → IsRequest found request → ¬ IsSound request.task
 
 -- the fault of what was entered: the first demand of the subcommand that its rows lack, or that there is no subcommand
 abbrev pub IsFaultIn : Option (Text × List Row) → Fault → Type 0
 IsFaultIn None fault = fault ≡ Missing
-IsFaultIn (Some (name, rows)) fault = IsFaultOf name (λ id. first_of id rows) (λ id. one_of id rows) fault
+IsFaultIn (Some (name, rows)) fault = IsFaultOfRequest name (λ id. first_of id rows) (λ id. one_of id rows) fault
 
--- no sound task was entered, and this is the kind of the fault of what was
+-- no request for a sound task was entered, and this is the kind of the fault of what was
 pub record IsUnsound (found : Option (Text × List Row)) (kind : ErrorKind) : Type 0 where
   pub none : AreNone found
   pub fault : Fault
   pub first : IsFaultIn found fault
   pub told : kind ≡ fault_kind fault
 
--- words are refused by an error of this kind: where memory runs out, by a kind that `clap` has for them, or where no sound
--- task is the subcommand that they enter, by the kind of its fault
+-- words are refused by an error of this kind: where memory runs out, by a kind that `clap` has for them, or where no request
+-- for a sound task is the subcommand that they enter, by the kind of its fault
 abbrev pub Refuses : List Text → ErrorKind → Type 0
 Refuses words kind = (kind ≡ OutOfMemory) ⊎ (IsAmong kind (fault_of program_app words) ⊎ IsUnsound (subcommand_of program_app words) kind)

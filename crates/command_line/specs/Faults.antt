@@ -10,6 +10,7 @@ fault_kind faults.Missing = MissingRequiredArgument
 fault_kind (faults.Entries word) = InvalidValue
 fault_kind (faults.Format word) = InvalidValue
 fault_kind (faults.Xlen word) = InvalidValue
+fault_kind (faults.Hints word) = InvalidValue
 fault_kind (faults.AtMost word) = ValueValidation
 fault_kind (faults.Name word) = ValueValidation
 fault_kind (faults.First word) = ValueValidation

@@ -2,7 +2,7 @@
 
 ghost use Rattle.std.specs.Prelude.{◌≡◌, false};
 ghost use Rattle.clap.specs.Words.{rule_of};
-ghost use Rattle.command_line.specs.CommandLine.{all_rule, at_most_rule, entries_rule, file_rule, first_rule, format_rule, measure_rule, name_rule, platform_rule, registers_rule, trace_rule, xlen_rule};
+ghost use Rattle.command_line.specs.CommandLine.{all_rule, at_most_rule, entries_rule, file_rule, first_rule, format_rule, hints_rule, measure_rule, name_rule, platform_rule, registers_rule, trace_rule, xlen_rule};
 ghost use Rattle.command_line.specs.ClapModel.{rule_by};
 
 use clap::{Arg, ArgAction};
@@ -37,6 +37,8 @@ pub enum Argument<'a> {
     Platform,
     /// `--all`, whether each stretch that differs is asked for.
     All,
+    /// `--hints`, when standard error is told what is wrong with an input.
+    Hints,
 }
 
 impl<'a> Argument<'a> {
@@ -59,6 +61,7 @@ impl<'a> Argument<'a> {
             Argument::Trace => trace_arg(alloc),
             Argument::Platform => platform_arg(alloc),
             Argument::All => all_arg(alloc),
+            Argument::Hints => hints_arg(alloc),
         }
     }
 }
@@ -203,4 +206,17 @@ fn all_arg<'a>(alloc: Global) -> Arg<'a>
         .long("all")
         .help("Print each stretch that differs, not the first alone")
         .action(ArgAction::SetTrue)
+}
+
+/// The option that says when hints are told.
+fn hints_arg<'a>(alloc: Global) -> Arg<'a>
+    ensures rule { rule_of result ≡ hints_rule }
+    ensures local { result.global ≡ false }
+{
+    Arg::new(alloc, "hints")
+        .long("hints")
+        .value_name("auto|always|never")
+        .help("Say what is wrong with an input, by line and column; auto: on a terminal")
+        .action(ArgAction::Set)
+        .default_value("auto")
 }

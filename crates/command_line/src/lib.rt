@@ -1,11 +1,11 @@
 //! The program's command line: what its words ask for.
 //!
-//! For the layer above: [`command_of`] answers the [`Task`] that the words of a command line name, as `clap` reads them by
-//! the program's subcommands. This crate alone knows of `clap`; what a task is, and which one a subcommand's values are,
-//! stands below it.
+//! For the layer above: [`command_of`] answers the [`Request`] that the words of a command line name, a task and when hints are
+//! told, as `clap` reads them by the program's subcommands. This crate alone knows of `clap`; what a request is, and which one
+//! a subcommand's values are, stands below it.
 //!
 //! ```rust
-//! let task = command_of(rt.alloc(), &["pmpmon", "plan", "map.txt"])?;
+//! let request = command_of(rt.alloc(), &["pmpmon", "plan", "map.txt"])?;
 //! ```
 #![tactic(auto)]
 
@@ -17,5 +17,5 @@ mod texts;
 mod words;
 
 pub use fault::takes_place;
-pub use program_tasks::{Format, LintKind, Task};
+pub use program_tasks::{Format, Hints, LintKind, Request, Task};
 pub use words::command_of;

@@ -66,6 +66,7 @@ fn run_command<'a>(alloc: Global) -> Result<Command<'a>, AllocError>
         Argument::File("PLATFORM", "The platform file"),
         Argument::File("TRACE", "The trace of events"),
         Argument::Measure,
+        Argument::Hints,
     ];
     command(alloc, Subcommand::Run.name(), about, RUN_HELP, &arguments)
 }
@@ -83,6 +84,7 @@ fn plan_command<'a>(alloc: Global) -> Result<Command<'a>, AllocError>
         Argument::Name,
         Argument::First,
         Argument::Xlen,
+        Argument::Hints,
     ];
     command(alloc, Subcommand::Plan.name(), about, PLAN_HELP, &arguments)
 }
@@ -100,6 +102,7 @@ fn judge_command<'a>(alloc: Global) -> Result<Command<'a>, AllocError>
         Argument::File("TRACE", "The trace of accesses"),
         Argument::Entries,
         Argument::Registers(AS_THEY_STAND),
+        Argument::Hints,
     ];
     command(
         alloc,
@@ -117,6 +120,7 @@ fn check_command<'a>(alloc: Global) -> Result<Command<'a>, AllocError>
     let arguments = [
         Argument::File("MAP", "The map file"),
         Argument::File("CERT", "The certificate"),
+        Argument::Hints,
     ];
     command(
         alloc,
@@ -140,6 +144,7 @@ fn show_command<'a>(alloc: Global) -> Result<Command<'a>, AllocError>
         Argument::Entries,
         Argument::AtMost,
         Argument::Registers(AS_THEY_STAND),
+        Argument::Hints,
     ];
     command(alloc, Subcommand::Show.name(), about, SHOW_HELP, &arguments)
 }
@@ -152,6 +157,7 @@ fn audit_command<'a>(alloc: Global) -> Result<Command<'a>, AllocError>
         Argument::File("MAP", "The map file"),
         Argument::File("REGISTERS", "The listing of the registers"),
         Argument::All,
+        Argument::Hints,
     ];
     command(
         alloc,
@@ -166,7 +172,10 @@ fn map_command<'a>(alloc: Global) -> Result<Command<'a>, AllocError>
     ensures { IfOk result (IsCommandOf (app_by Subcommand.Map)) }
 {
     let about = "Print the map that registers mean, where they mean one by whole pages";
-    let arguments = [Argument::File("REGISTERS", "The listing of the registers")];
+    let arguments = [
+        Argument::File("REGISTERS", "The listing of the registers"),
+        Argument::Hints,
+    ];
     command(alloc, Subcommand::Map.name(), about, MAP_HELP, &arguments)
 }
 
@@ -182,6 +191,7 @@ fn lint_command<'a>(alloc: Global) -> Result<Command<'a>, AllocError>
         Argument::Registers("Read FILE as a listing of registers"),
         Argument::Trace,
         Argument::Platform,
+        Argument::Hints,
     ];
     command(alloc, Subcommand::Lint.name(), about, LINT_HELP, &arguments)
 }

@@ -1,5 +1,5 @@
 use Rattle.std.proofs.lemmas.Result.{err_from_is_err_and}
-use Rattle.command_line.proofs.Program.{no_kind, no_task, some_kind, some_task}
+use Rattle.command_line.proofs.Program.{no_kind, no_request, some_kind, some_request}
 use Rattle.command_line.proofs.words.command_of.Goals as goal
 
 pub returns-in_err-matches-clause-refused : goal.returns-in_err-matches-clause-refused
@@ -10,8 +10,8 @@ returns-in_err-matches-clause-refused c =
 pub returns-in-Ok-clause-taken : goal.returns-in-Ok-clause-taken
 returns-in-Ok-clause-taken c = no_kind _ _ c.in_ok-program.ensures.app c.in_ok-matches.ensures.kinds
 
-pub returns-in-Ok-clause-task : goal.returns-in-Ok-clause-task
-returns-in-Ok-clause-task c = some_task _ _ _ c.in-Ok.task c.in_ok-program.ensures.app c.in_ok-matches.ensures.ok.2 c.in-Ok.ensures.task
+pub returns-in-Ok-clause-request : goal.returns-in-Ok-clause-request
+returns-in-Ok-clause-request c = some_request _ _ _ c.in-Ok.request c.in_ok-program.ensures.app c.in_ok-matches.ensures.ok.2 c.in-Ok.ensures.request
 
 pub returns-clause-refused : goal.returns-clause-refused
-returns-clause-refused c = no_task _ _ _ _ _ c.in_ok-program.ensures.app c.in_ok-matches.ensures.ok.2 c.in-Err.ensures.refused c.in-Err.ensures.fault c.in_ok-explained-in-Err.ensures
+returns-clause-refused c = no_request _ _ _ _ _ c.in_ok-program.ensures.app c.in_ok-matches.ensures.ok.2 c.in-Err.ensures.refused c.in-Err.ensures.fault c.in_ok-explained-in-Err.ensures
