@@ -1,10 +1,52 @@
 //! Command lines, and the tasks or faults that they are.
 
+use clap::Error;
 use clap::error::ErrorKind;
-use command_line::{Format, LintKind, Task, command_of, takes_place};
+use command_line::{Format, Hints, LintKind, Task, takes_place};
 use pmp_encoding::Limit;
 use std::alloc::Global;
 use std::test::Fail;
+
+/// The task that a command line names.
+fn command_of<'a>(alloc: Global, words: &'a [&'a str]) -> Result<Task<'a>, Error> {
+    Ok(command_line::command_of(alloc, words)?.task)
+}
+
+#[test]
+fn hints_are_told_as_asked(rt: HostRuntime) -> Result<(), Fail> {
+    let rows: [(&[&str], Hints); 6] = [
+        (&["pmpmon", "plan", "map.txt"], Hints::Auto),
+        (
+            &["pmpmon", "plan", "map.txt", "--hints", "auto"],
+            Hints::Auto,
+        ),
+        (
+            &[
+                "pmpmon", "check", "--hints", "always", "map.txt", "map.pmpc",
+            ],
+            Hints::Always,
+        ),
+        (
+            &["pmpmon", "run", "p.toml", "t.txt", "--hints=never"],
+            Hints::Never,
+        ),
+        (
+            &["pmpmon", "map", "board.txt", "--hints=always"],
+            Hints::Always,
+        ),
+        (
+            &["pmpmon", "lint", "map.txt", "--hints=never"],
+            Hints::Never,
+        ),
+    ];
+    for (words, wanted) in rows {
+        let request = command_line::command_of(rt.alloc(), words)?;
+        assert_eq!(rt; request.hints, wanted);
+    }
+    assert!(rt; Hints::Auto.are_told(true) && !Hints::Auto.are_told(false));
+    assert!(rt; Hints::Always.are_told(false) && !Hints::Never.are_told(true));
+    Ok(())
+}
 
 #[test]
 fn run_takes_a_platform_and_a_trace(rt: HostRuntime) -> Result<(), Fail> {
