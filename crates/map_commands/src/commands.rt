@@ -15,7 +15,7 @@ mod verdicts;
 pub use audit::do_audit;
 pub use check::do_check;
 pub use judge::do_judge_as;
-pub use lint::{do_lint, do_lint_listing};
+pub use lint::{do_lint, do_lint_listing, lint_as_platform, lint_listing, lint_map};
 pub use map::do_map;
 pub use plan::{Asked, do_plan};
 pub use show::do_show_as;

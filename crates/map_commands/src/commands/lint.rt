@@ -22,8 +22,8 @@ fn names_platform(name: &str) -> bool
     name.as_bytes().ends_with(b".toml")
 }
 
-/// Prints what is wrong with the bytes of a map file.
-fn lint_map<W: Sink>(
+/// Prints what is wrong with the bytes of a map file. The status is 0 where they make a map, and 1 where they make none.
+pub fn lint_map<W: Sink>(
     alloc: Global,
     name: &str,
     bytes: &[u8],
@@ -40,8 +40,8 @@ fn lint_map<W: Sink>(
     }
 }
 
-/// Prints what is wrong with the bytes of a platform file.
-fn lint_as_platform<W: Sink>(
+/// Prints what is wrong with the bytes of a platform file. The status is 0 where they are a platform, and 1 where they are none.
+pub fn lint_as_platform<W: Sink>(
     alloc: Global,
     name: &str,
     bytes: &[u8],
@@ -101,8 +101,8 @@ fn print_listing_fault<W: Sink>(name: &str, n: u64, out: &mut W) -> Result<(), D
     Ok(())
 }
 
-/// Prints what is wrong with the bytes of a listing of registers.
-fn lint_listing<W: Sink>(name: &str, bytes: &[u8], out: &mut W) -> Result<u8, Trouble<'static>>
+/// Prints what is wrong with the bytes of a listing of registers. The status is 0 where each line is understood, and otherwise 1.
+pub fn lint_listing<W: Sink>(name: &str, bytes: &[u8], out: &mut W) -> Result<u8, Trouble<'static>>
     requires { length bytes.now < 2 ^ 64 - 1 }
     ensures { Tells (IsListingLint name.now bytes.now)
         (writing W.contents W.failures W.stalls out.old out.new) result }
