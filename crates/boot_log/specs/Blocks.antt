@@ -26,10 +26,11 @@ is_all first last = first == 0 && last == 18446744073709551615
 abbrev pub block_from : ℕ → ℕ → Option (ℕ × ℕ)
 block_from first last = if is_all first last then Some (0, 56) else option_and_then (block_at first) (exponent_of (last + 1 - first))
 
--- the canonical pair of a block and a permission: NA4 for four bytes, otherwise NAPOT
+-- the configuration byte of a block and a permission: NA4 for four bytes, otherwise NAPOT
 abbrev pub cfg_by : ℕ → Perm → ℕ
 cfg_by log2 perm = bits_of perm + 8 * (if nat_eq log2 2 then 2 else 3)
 
+-- the canonical address register of a block, by its base and its exponent
 abbrev pub address_by : ℕ → ℕ → ℕ
 address_by base log2 = if nat_eq log2 2 then base / 4 else base / 4 + 2 ^ (log2 - 3) - 1
 

@@ -17,6 +17,7 @@ before_end text = if bytes_eq (drop (length text - 1) text) (codes ")") then Som
 abbrev pub is_letter : ℕ → Bool
 is_letter b = b == 44 || (b == 70 || (b == 73 || (b == 77 || (b == 82 || (b == 87 || b == 88)))))
 
+-- a text of such letters alone
 abbrev pub of_letters : List ℕ → Option (List ℕ)
 of_letters text = if list_all is_letter text then Some text else None
 
@@ -38,6 +39,7 @@ perm_by true false true = Some ReadExecute
 perm_by true true true = Some ReadWriteExecute
 perm_by false true x = None
 
+-- the permission of letters
 abbrev pub perm_by_letters : List ℕ → Option Perm
 perm_by_letters letters = perm_by (has_letter 82 letters) (has_letter 87 letters) (has_letter 88 letters)
 

@@ -14,30 +14,33 @@ use Rattle.boot_log.specs.Letters.{behind, perm_of}
 abbrev pub words_in : List ℕ → List (List ℕ)
 words_in raw = unwrap_or (words_of (without_return raw)) []
 
--- a line on a region of the first domain: `Domain0`, and a word that begins with `Region`
+-- words on a region of the first domain: `Domain0`, and a word that begins with `Region`
 abbrev pub is_region : List (List ℕ) → Bool
 is_region (domain ∷ region ∷ rest) = bytes_eq domain (codes "Domain0") && is_some (behind region (codes "Region"))
 is_region _ = false
 
+-- a line on a region of the first domain
 abbrev pub is_region_line : List ℕ → Bool
 is_region_line raw = is_region (words_in raw)
 
--- a line on a register of the protection: its first word begins with `pmp`
+-- words on a register of the protection: its first word begins with `pmp`
 abbrev pub is_register : List (List ℕ) → Bool
 is_register [] = false
 is_register (name ∷ rest) = is_some (behind name (codes "pmp"))
 
--- `RegionNN`
+-- the number of a region, of `RegionNN`
 abbrev pub number_in : List ℕ → Option ℕ
 number_in region = option_and_then (numeral_of 10) (behind region (codes "Region"))
 
--- `FIRST-LAST`
+-- how many bytes stand before the dash of `FIRST-LAST`
 abbrev pub dash_at : List ℕ → ℕ
 dash_at word = position_or_len (λ b. b == 45) word
 
+-- the block from a first to a last address, where both are numbers
 abbrev pub block_by : Option ℕ → Option ℕ → Option (ℕ × ℕ)
 block_by first last = option_and_then (λ f. option_and_then (block_from f) last) first
 
+-- the block that `FIRST-LAST` names
 abbrev pub block_in : List ℕ → Option (ℕ × ℕ)
 block_in word = if nat_lt (dash_at word) (length word) then block_by (number_of (take (dash_at word) word)) (number_of (drop (dash_at word + 1) word)) else None
 
@@ -51,6 +54,7 @@ letters_in _ = None
 abbrev pub entry_at : ℕ → Perm → ℕ × ℕ → Option RegionEntry
 entry_at place perm block = if nat_lt place 64 then Some (record { place = place; cfg = cfg_by block.1 perm; address = address_by block.0 block.1 }) else None
 
+-- the entry of a number, a block and a permission, where each is one
 abbrev pub entry_by : Option ℕ → Option (ℕ × ℕ) → Option Perm → Option RegionEntry
 entry_by place block perm = option_and_then (λ n. option_and_then (λ b. option_and_then (λ p. entry_at n p b) perm) block) place
 

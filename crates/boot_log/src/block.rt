@@ -70,7 +70,8 @@ fn block_at(base: u64, log2: u32) -> Option<Region>
 pub fn block_from(first: u64, last: u64) -> Option<Region>
     ensures value { option_map (λ r. (r.base, r.log2)) result ≡ block_from first last }
     ensures some { IfSome result (IsBlockOf first last) }
-    ensures none { IfNone result ((log2 : ℕ) → IsBlock first log2 → first + 2 ^ log2 ≢ last + 1) }
+    ensures none { IfNone result ((log2 : ℕ) → IsBlock first log2
+        → first + 2 ^ log2 ≢ last + 1) }
 {
     if is_all(first, last) {
         return Region::new(0, 56);

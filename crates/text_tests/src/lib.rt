@@ -1,11 +1,13 @@
 //! Worked rows of the texts that the program reads and prints, as tests alone: maps and traces at fault, platforms, sizes and
-//! permissions in words, audits, registers as C, assembly and JSON, and listings.
+//! permissions in words, audits, registers as C, assembly and JSON, listings, and boot logs.
 //!
 //! They stand apart from the crates that they are of so that the gate proves each of these once.
 #![tactic(auto)]
 
 #[cfg(test)]
 mod audits;
+#[cfg(test)]
+mod boot_logs;
 #[cfg(test)]
 mod formats;
 #[cfg(test)]
