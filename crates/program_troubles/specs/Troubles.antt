@@ -12,7 +12,7 @@ use Rattle.enclave_table.specs.declared.boot.BootFault.TheVariants as boots
 use Rattle.program_files.specs.declared.whole.WholeFault.{WholeFault}
 use Rattle.program_files.specs.declared.whole.WholeFault.TheVariants as whole
 use Rattle.program_troubles.specs.declared.trouble.Trouble.{Trouble}
-use Rattle.program_troubles.specs.declared.trouble.Trouble.TheVariants.{NotUnderstood, TooManyRanges, TooLarge, NotAPlatform, NeedsEntries, CannotRead, CannotWrite, Output, Memory}
+use Rattle.program_troubles.specs.declared.trouble.Trouble.TheVariants.{NotUnderstood, TooManyRanges, TooLarge, NotAPlatform, TooFar, NeedsEntries, CannotRead, CannotWrite, Output, Memory}
 
 -- texts one after another
 abbrev pub joined : List (List ℕ) → List ℕ
@@ -29,6 +29,7 @@ trouble_text (NotUnderstood file line) = file_text file.now (codes ": line " ++ 
 trouble_text (TooManyRanges file) = file_text file.now (codes ": too many ranges\n")
 trouble_text (TooLarge file) = file_text file.now (codes ": too large\n")
 trouble_text (NotAPlatform file) = file_text file.now (codes ": not a platform\n")
+trouble_text (TooFar file) = file_text file.now (codes ": too far: 34 bits\n")
 trouble_text (NeedsEntries needed) = codes "pmpmon: needs " ++ decimal needed ++ codes " entries\n"
 trouble_text (CannotRead file) = file_text file.now (codes ": cannot read\n")
 trouble_text (CannotWrite file) = file_text file.now (codes ": cannot write\n")
@@ -41,6 +42,7 @@ trouble_status (NotUnderstood file line) = 2
 trouble_status (TooManyRanges file) = 2
 trouble_status (TooLarge file) = 2
 trouble_status (NotAPlatform file) = 2
+trouble_status (TooFar file) = 2
 trouble_status (NeedsEntries needed) = 2
 trouble_status (CannotRead file) = 3
 trouble_status (CannotWrite file) = 3

@@ -38,6 +38,11 @@ pub enum Trouble<'a> {
         /// The platform file.
         file: &'a str,
     },
+    /// The map has a byte beyond what the address registers of a hart reach.
+    TooFar {
+        /// The map.
+        file: &'a str,
+    },
     /// The map, or the host's view of a platform, needs more entries than a hart has.
     NeedsEntries {
         /// How many it needs.
@@ -135,6 +140,7 @@ impl<'a> Trouble<'a> {
             | Trouble::TooManyRanges { .. }
             | Trouble::TooLarge { .. }
             | Trouble::NotAPlatform { .. }
+            | Trouble::TooFar { .. }
             | Trouble::NeedsEntries { .. } => 2,
             Trouble::CannotRead { .. } | Trouble::CannotWrite { .. } | Trouble::Output => 3,
             Trouble::Memory => 4,
@@ -157,6 +163,7 @@ impl<'a> Trouble<'a> {
             Trouble::TooManyRanges { file } => about(*file, ": too many ranges\n", err),
             Trouble::TooLarge { file } => about(*file, ": too large\n", err),
             Trouble::NotAPlatform { file } => about(*file, ": not a platform\n", err),
+            Trouble::TooFar { file } => about(*file, ": too far: 34 bits\n", err),
             Trouble::NeedsEntries { needed } => {
                 let number = buffer.format(*needed);
                 write_parts(err, &["pmpmon: needs ", number, " entries\n"])
