@@ -5,4 +5,10 @@
 #![tactic(auto)]
 
 #[cfg(test)]
-mod tests;
+mod faults;
+#[cfg(test)]
+mod helps;
+#[cfg(test)]
+mod hints;
+#[cfg(test)]
+mod tasks;
