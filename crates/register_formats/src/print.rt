@@ -231,7 +231,8 @@ pub fn print_asm<W: Sink>(
 ) -> Result<(), DeviceFault>
     requires reached { AreReached xlen entries.now }
     requires fits { length entries.now ≤ limit_number limit - first }
-    ensures { PrintsOne (IsAsmText (option_map (λ s. s.now) name.entry) xlen limit first entries.now)
+    ensures { PrintsOne (IsAsmText (option_map (λ s. s.now) name.entry) xlen limit first
+        entries.now)
         (writing W.contents W.failures W.stalls out.old out.new) result }
 {
     let addresses = asm_rows::Addresses {

@@ -4,6 +4,7 @@ use byte_streams::fakes::PieceSink;
 use pmp_encoding::{Entry, Limit, Perm, Region};
 use printed_lines::print_plan;
 use register_formats::{print_asm, print_c, print_json};
+use register_width::Xlen;
 use std::process::Abort;
 
 /// What is said at the head of C and of assembly.
@@ -50,7 +51,17 @@ fn behind_head(sink: &PieceSink) -> &[u8] {
 #[test]
 fn c_of_a_board(rt: HostRuntime) {
     let mut sink = PieceSink::new(7, None);
-    assert!(rt; print_c(None, board(&rt).as_slice(), 0, Limit::Sixteen, &mut sink).is_ok());
+    assert!(rt;
+        print_c(
+            None,
+            Xlen::Rv64,
+            board(&rt).as_slice(),
+            0,
+            Limit::Sixteen,
+            &mut sink
+        )
+        .is_ok()
+    );
     let text = b"#if defined(__riscv) && __riscv_xlen != 64
 #error \"these are the registers of RV64\"
 #endif
@@ -138,7 +149,17 @@ fn times(text: &[u8], part: &[u8]) -> usize {
 fn c_has_the_name_that_is_given(rt: HostRuntime) {
     let mut sink = PieceSink::new(4096, None);
     let name = Some("_uart9");
-    assert!(rt; print_c(name, board(&rt).as_slice(), 0, Limit::Sixteen, &mut sink).is_ok());
+    assert!(rt;
+        print_c(
+            name,
+            Xlen::Rv64,
+            board(&rt).as_slice(),
+            0,
+            Limit::Sixteen,
+            &mut sink
+        )
+        .is_ok()
+    );
     let text = behind_head(&sink);
     assert_eq!(rt; times(text, b"uint64_t _uart9_pmpaddr[16] = {"), 1);
     assert_eq!(rt; times(text, b"uint64_t _uart9_pmpcfg[2] = {"), 1);
@@ -155,10 +176,30 @@ fn c_has_the_name_that_is_given(rt: HostRuntime) {
 #[test]
 fn assembly_with_a_name_is_a_routine(rt: HostRuntime) {
     let mut plain = PieceSink::new(4096, None);
-    assert!(rt; print_asm(None, board(&rt).as_slice(), 0, Limit::Sixteen, &mut plain).is_ok());
+    assert!(rt;
+        print_asm(
+            None,
+            Xlen::Rv64,
+            board(&rt).as_slice(),
+            0,
+            Limit::Sixteen,
+            &mut plain
+        )
+        .is_ok()
+    );
     let mut sink = PieceSink::new(4096, None);
     let name = Some("uart");
-    assert!(rt; print_asm(name, board(&rt).as_slice(), 0, Limit::Sixteen, &mut sink).is_ok());
+    assert!(rt;
+        print_asm(
+            name,
+            Xlen::Rv64,
+            board(&rt).as_slice(),
+            0,
+            Limit::Sixteen,
+            &mut sink
+        )
+        .is_ok()
+    );
     let body = behind_head(&plain);
     assert!(rt; behind_head(&sink).starts_with(b"uart_load:\n/* Only t0 is changed. */\n"));
     assert!(rt; behind_head(&sink).ends_with(b"    sfence.vma\n    ret\n"));
@@ -169,7 +210,17 @@ fn assembly_with_a_name_is_a_routine(rt: HostRuntime) {
 #[test]
 fn assembly_of_a_board(rt: HostRuntime) {
     let mut sink = PieceSink::new(4096, None);
-    assert!(rt; print_asm(None, board(&rt).as_slice(), 0, Limit::Sixteen, &mut sink).is_ok());
+    assert!(rt;
+        print_asm(
+            None,
+            Xlen::Rv64,
+            board(&rt).as_slice(),
+            0,
+            Limit::Sixteen,
+            &mut sink
+        )
+        .is_ok()
+    );
     let text = b"/* Only t0 is changed. */
     addiw   zero, zero, 0 /* an assembler for RV32 refuses this */
     li      t0, 0x00000000040001ff /* 0: 0x0000000010000000, 4 KiB, rw */
@@ -205,7 +256,17 @@ const HEAD_ABOVE: &[u8] = b"/*
 #[test]
 fn assembly_from_entry_three_keeps_three_bytes(rt: HostRuntime) {
     let mut sink = PieceSink::new(4096, None);
-    assert!(rt; print_asm(None, board(&rt).as_slice(), 3, Limit::Sixteen, &mut sink).is_ok());
+    assert!(rt;
+        print_asm(
+            None,
+            Xlen::Rv64,
+            board(&rt).as_slice(),
+            3,
+            Limit::Sixteen,
+            &mut sink
+        )
+        .is_ok()
+    );
     let text = b"/* Only t0 and t1 are changed. */
     addiw   zero, zero, 0 /* an assembler for RV32 refuses this */
     li      t0, 0x00000000040001ff /* 3: 0x0000000010000000, 4 KiB, rw */
@@ -230,7 +291,17 @@ fn assembly_from_entry_three_keeps_three_bytes(rt: HostRuntime) {
 #[test]
 fn assembly_from_entry_eight_shares_no_word(rt: HostRuntime) {
     let mut sink = PieceSink::new(4096, None);
-    assert!(rt; print_asm(None, board(&rt).as_slice(), 8, Limit::Sixteen, &mut sink).is_ok());
+    assert!(rt;
+        print_asm(
+            None,
+            Xlen::Rv64,
+            board(&rt).as_slice(),
+            8,
+            Limit::Sixteen,
+            &mut sink
+        )
+        .is_ok()
+    );
     let text = b"/* Only t0 is changed. */
     addiw   zero, zero, 0 /* an assembler for RV32 refuses this */
     li      t0, 0x00000000040001ff /* 8: 0x0000000010000000, 4 KiB, rw */
@@ -249,7 +320,17 @@ fn assembly_from_entry_eight_shares_no_word(rt: HostRuntime) {
 #[test]
 fn c_from_entry_six_shares_a_word(rt: HostRuntime) {
     let mut sink = PieceSink::new(4096, None);
-    assert!(rt; print_c(None, board(&rt).as_slice(), 6, Limit::Sixteen, &mut sink).is_ok());
+    assert!(rt;
+        print_c(
+            None,
+            Xlen::Rv64,
+            board(&rt).as_slice(),
+            6,
+            Limit::Sixteen,
+            &mut sink
+        )
+        .is_ok()
+    );
     let text = sink.written();
     assert!(rt; text.starts_with(HEAD_ABOVE));
     let arrays = b"    0x0000000000000000, /* 5: left as it is */
@@ -290,7 +371,17 @@ fn c_from_entry_six_shares_a_word(rt: HostRuntime) {
 #[test]
 fn json_from_entry_three_has_real_numbers(rt: HostRuntime) {
     let mut sink = PieceSink::new(4096, None);
-    assert!(rt; print_json("m", board(&rt).as_slice(), 3, Limit::Sixteen, &mut sink).is_ok());
+    assert!(rt;
+        print_json(
+            "m",
+            Xlen::Rv64,
+            board(&rt).as_slice(),
+            3,
+            Limit::Sixteen,
+            &mut sink
+        )
+        .is_ok()
+    );
     let begin =
         b"{\n  \"map\": \"m\",\n  \"limit\": 16,\n  \"first\": 3,\n  \"entries\": [\n    {\"index\": 3, \"cfg\": 27, ";
     let end =
@@ -299,7 +390,17 @@ fn json_from_entry_three_has_real_numbers(rt: HostRuntime) {
     assert_eq!(rt; times(sink.written(), b"{\"index\": 5, "), 1);
     assert!(rt; sink.written().ends_with(end.as_slice()));
     let mut many = PieceSink::new(4096, None);
-    assert!(rt; print_json("m", board(&rt).as_slice(), 14, Limit::Sixteen, &mut many).is_ok());
+    assert!(rt;
+        print_json(
+            "m",
+            Xlen::Rv64,
+            board(&rt).as_slice(),
+            14,
+            Limit::Sixteen,
+            &mut many
+        )
+        .is_ok()
+    );
     assert!(rt;
         many.written()
             .ends_with(b"\n  ],\n  \"pmpcfg\": [\n  ]\n}\n")
@@ -309,7 +410,16 @@ fn json_from_entry_three_has_real_numbers(rt: HostRuntime) {
 #[test]
 fn text_from_entry_three_leaves_a_shared_word_out(rt: HostRuntime) {
     let mut sink = PieceSink::new(4096, None);
-    assert!(rt; print_plan(board(&rt).as_slice(), 3, Limit::Sixteen, &mut sink).is_ok());
+    assert!(rt;
+        print_plan(
+            Xlen::Rv64,
+            board(&rt).as_slice(),
+            3,
+            Limit::Sixteen,
+            &mut sink
+        )
+        .is_ok()
+    );
     let text = b"entries 3
 3 0x1b 0x00000000040001ff
 4 0x18 0x000000002003ffff
@@ -324,6 +434,7 @@ fn json_of_a_board(rt: HostRuntime) {
     let mut sink = PieceSink::new(3, None);
     let printed = print_json(
         "boards/\"a\"\\b\t.map",
+        Xlen::Rv64,
         board(&rt).as_slice(),
         0,
         Limit::Sixteen,
@@ -351,7 +462,17 @@ fn json_of_a_board(rt: HostRuntime) {
 fn a_list_that_fits_no_bank_has_no_words(rt: HostRuntime) {
     let page = entry(&rt, 0x1000, 12, Perm::Execute);
     let mut sink = PieceSink::new(4096, None);
-    assert!(rt; print_json("-", [page; 17].as_slice(), 0, Limit::Sixteen, &mut sink).is_ok());
+    assert!(rt;
+        print_json(
+            "-",
+            Xlen::Rv64,
+            [page; 17].as_slice(),
+            0,
+            Limit::Sixteen,
+            &mut sink
+        )
+        .is_ok()
+    );
     let front =
         b"{\n  \"map\": \"-\",\n  \"limit\": 16,\n  \"entries\": [\n    {\"index\": 0, \"cfg\": 28, ";
     let back =
@@ -363,7 +484,7 @@ fn a_list_that_fits_no_bank_has_no_words(rt: HostRuntime) {
 #[test]
 fn no_entries_are_a_list_too(rt: HostRuntime) {
     let mut sink = PieceSink::new(4096, None);
-    assert!(rt; print_asm(None, &[], 0, Limit::Sixteen, &mut sink).is_ok());
+    assert!(rt; print_asm(None, Xlen::Rv64, &[], 0, Limit::Sixteen, &mut sink).is_ok());
     let text = b"/* Only t0 is changed. */
     addiw   zero, zero, 0 /* an assembler for RV32 refuses this */
     li      t0, 0x0000000000000000
@@ -374,7 +495,7 @@ fn no_entries_are_a_list_too(rt: HostRuntime) {
 ";
     assert!(rt; took(&sink, HEAD, text.as_slice()));
     let mut sink = PieceSink::new(4096, None);
-    assert!(rt; print_json("m", &[], 0, Limit::SixtyFour, &mut sink).is_ok());
+    assert!(rt; print_json("m", Xlen::Rv64, &[], 0, Limit::SixtyFour, &mut sink).is_ok());
     let begin =
         b"{\n  \"map\": \"m\",\n  \"limit\": 64,\n  \"entries\": [\n  ],\n  \"pmpcfg\": [\n    \"0x0";
     assert!(rt; sink.written().starts_with(begin.as_slice()));
@@ -390,7 +511,17 @@ fn sizes_are_told_in_their_largest_unit(rt: HostRuntime) {
         entry(&rt, 0, 56, Perm::Read),
     ];
     let mut sink = PieceSink::new(4096, None);
-    assert!(rt; print_asm(None, entries.as_slice(), 0, Limit::SixtyFour, &mut sink).is_ok());
+    assert!(rt;
+        print_asm(
+            None,
+            Xlen::Rv64,
+            entries.as_slice(),
+            0,
+            Limit::SixtyFour,
+            &mut sink
+        )
+        .is_ok()
+    );
     let front = b"/* Only t0 is changed. */
     addiw   zero, zero, 0 /* an assembler for RV32 refuses this */
     li      t0, 0x0000000000000800 /* 0: 0x0000000000002000, 4 B, r */
@@ -420,15 +551,55 @@ fn each_write_that_fails_ends_it(rt: HostRuntime) {
     let entries = board(&rt);
     for k in 1..8u64 {
         let mut sink = PieceSink::new(4096, Some(k));
-        assert!(rt; print_c(None, entries.as_slice(), 0, Limit::Sixteen, &mut sink).is_err());
+        assert!(rt;
+            print_c(
+                None,
+                Xlen::Rv64,
+                entries.as_slice(),
+                0,
+                Limit::Sixteen,
+                &mut sink
+            )
+            .is_err()
+        );
         let mut sink = PieceSink::new(4096, Some(k));
-        assert!(rt; print_asm(None, entries.as_slice(), 0, Limit::Sixteen, &mut sink).is_err());
+        assert!(rt;
+            print_asm(
+                None,
+                Xlen::Rv64,
+                entries.as_slice(),
+                0,
+                Limit::Sixteen,
+                &mut sink
+            )
+            .is_err()
+        );
         let mut sink = PieceSink::new(4096, Some(k));
-        assert!(rt; print_json("a.map", entries.as_slice(), 0, Limit::Sixteen, &mut sink).is_err());
+        assert!(rt;
+            print_json(
+                "a.map",
+                Xlen::Rv64,
+                entries.as_slice(),
+                0,
+                Limit::Sixteen,
+                &mut sink
+            )
+            .is_err()
+        );
         assert_eq!(rt; sink.failures, 1);
         assert_eq!(rt; sink.writes(), k);
     }
     let mut sink = PieceSink::new(0, None);
-    assert!(rt; print_json("a.map", entries.as_slice(), 0, Limit::Sixteen, &mut sink).is_err());
+    assert!(rt;
+        print_json(
+            "a.map",
+            Xlen::Rv64,
+            entries.as_slice(),
+            0,
+            Limit::Sixteen,
+            &mut sink
+        )
+        .is_err()
+    );
     assert!(rt; sink.written().is_empty());
 }

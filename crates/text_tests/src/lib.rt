@@ -17,6 +17,8 @@ mod listings;
 #[cfg(test)]
 mod maps;
 #[cfg(test)]
+mod narrow_formats;
+#[cfg(test)]
 mod platform_lints;
 #[cfg(test)]
 mod platforms;
