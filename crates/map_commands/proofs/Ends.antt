@@ -9,9 +9,10 @@ use Rattle.program_troubles.specs.declared.trouble.Trouble.{Trouble}
 use Rattle.pmp_encoding.specs.declared.limit.Limit.{Limit}
 use Rattle.pmp_encoding.specs.Limits.{limit_number}
 use Rattle.pmp_match.specs.Meaning.{View}
+use Rattle.register_width.specs.declared.xlen.Xlen.{Xlen}
 use Rattle.program_tasks.specs.declared.task.Format.TheVariants as formats
 use Rattle.program_troubles.specs.declared.trouble.Trouble.TheVariants.{Memory}
-use Rattle.map_commands.specs.Commands.{Placing, IsUnplanned, IsWithin, NeedsMore, beyond, most_entries, starved}
+use Rattle.map_commands.specs.Commands.{Placing, IsTooFar, IsUnplanned, IsWithin, NeedsMore, beyond, most_entries, starved, unreached}
 use Rattle.map_commands.specs.Parts.{Stops}
 
 pub stops :
@@ -30,11 +31,13 @@ stops does refuses starves old new before after held holds runs.Memory line long
 
 -- no plan, where there is none within the bound
 pub unplanned :
-    {C X : Type 0} (view : View) (limit : Limit) (most : Option ℕ) (file : Option (Bor (List ℕ))) (cert : Placing C) (result : Result X Trouble) → IsUnwritten cert.sink
-    → IfErr result (λ trouble. (trouble ≡ Memory) ⊎ NeedsMore view most trouble) → IfErr result (λ trouble. IsUnplanned view limit most file cert trouble)
-unplanned view limit most file cert (Ok x) quiet refused = tt
-unplanned view limit most file cert (Err trouble) quiet (inl e) = starved e quiet
-unplanned view limit most file cert (Err trouble) quiet (inr more) = beyond more quiet
+    {C X : Type 0} (view : View) (xlen : Xlen) (limit : Limit) (most : Option ℕ) (map : Bor (List ℕ)) (file : Option (Bor (List ℕ))) (cert : Placing C) (result : Result X Trouble) → IsUnwritten cert.sink
+    → IfErr result (λ trouble. (trouble ≡ Memory) ⊎ (NeedsMore view most trouble ⊎ IsTooFar view xlen most map trouble))
+    → IfErr result (λ trouble. IsUnplanned view xlen limit most map file cert trouble)
+unplanned view xlen limit most map file cert (Ok x) quiet refused = tt
+unplanned view xlen limit most map file cert (Err trouble) quiet (inl e) = starved e quiet
+unplanned view xlen limit most map file cert (Err trouble) quiet (inr (inl more)) = beyond more quiet
+unplanned view xlen limit most map file cert (Err trouble) quiet (inr (inr far)) = unreached far quiet
 
 -- what is within the bound of C and of assembly fits the hart
 pub fits_c : (limit : Limit) (first : ℕ) (at_most : Option ℕ) (n : ℕ) → IsWithin (most_entries limit first at_most formats.C) n → n ≤ limit_number limit - first

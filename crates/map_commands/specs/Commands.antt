@@ -33,6 +33,8 @@ use Rattle.certificate_format.specs.Spelling.{Spells}
 use Rattle.plan_certificate.specs.Written.{version_for}
 use Rattle.trace_judge.specs.Answers.{is_no_access, judged_by}
 use Rattle.printed_lines.specs.Plans.{IsPlanText}
+use Rattle.register_width.specs.declared.xlen.Xlen.{Xlen}
+use Rattle.register_width.specs.Widths.{AreReached}
 use Rattle.map_table.specs.Tables.{IsTable}
 use Rattle.register_formats.specs.AsmTexts.{IsAsmText}
 use Rattle.register_formats.specs.CTexts.{IsCText}
@@ -47,7 +49,7 @@ use Rattle.register_text.specs.Listings.{IsFirstUnknown, listed}
 use Rattle.program_tasks.specs.declared.task.Format.{Format}
 use Rattle.program_tasks.specs.declared.task.Format.TheVariants as formats
 use Rattle.program_troubles.specs.declared.trouble.Trouble.{Trouble}
-use Rattle.program_troubles.specs.declared.trouble.Trouble.TheVariants.{NotUnderstood, TooLarge, TooManyRanges, NeedsEntries, CannotRead, CannotWrite, Output, Memory}
+use Rattle.program_troubles.specs.declared.trouble.Trouble.TheVariants.{NotUnderstood, TooFar, TooLarge, TooManyRanges, NeedsEntries, CannotRead, CannotWrite, Output, Memory}
 use Rattle.map_commands.specs.Parts.{IsMapFault, IsWhole, Stops}
 use Rattle.program_troubles.specs.Troubles.{map_trouble, run_trouble}
 use Rattle.map_commands.specs.Verdicts.{IsVerdict}
@@ -166,11 +168,11 @@ most_entries limit first (Some n) format = Some (min n (limit_number limit - fir
 
 -- the text of a plan in a format, of the map of that name, which begins at that entry; C and assembly have the other name,
 -- where one is given
-abbrev pub IsPrinted : Format → List ℕ → Option (List ℕ) → Limit → ℕ → List Entry → List ℕ → Type 0
-IsPrinted formats.Text map name limit first entries text = IsPlanText limit first entries text
-IsPrinted formats.C map name limit first entries text = IsCText name limit first entries text
-IsPrinted formats.Asm map name limit first entries text = IsAsmText name limit first entries text
-IsPrinted formats.Json map name limit first entries text = IsJsonText map limit first entries text
+abbrev pub IsPrinted : Format → List ℕ → Option (List ℕ) → Xlen → Limit → ℕ → List Entry → List ℕ → Type 0
+IsPrinted formats.Text map name xlen limit first entries text = IsPlanText xlen limit first entries text
+IsPrinted formats.C map name xlen limit first entries text = IsCText name xlen limit first entries text
+IsPrinted formats.Asm map name xlen limit first entries text = IsAsmText name xlen limit first entries text
+IsPrinted formats.Json map name xlen limit first entries text = IsJsonText map xlen limit first entries text
 
 -- the plan of a map has more entries than may be
 pub record NeedsMore (view : View) (most : Option ℕ) (trouble : Trouble) : Type 0 where
@@ -179,30 +181,41 @@ pub record NeedsMore (view : View) (most : Option ℕ) (trouble : Trouble) : Typ
   pub beyond : IsBeyond most (length entries)
   pub told : trouble ≡ NeedsEntries (length entries)
 
--- why there is no plan with its certificate: memory, too many entries, or the certificate
-pub data IsUnplanned {C : Type 0} (view : View) (limit : Limit) (most : Option ℕ) (file : Option (Bor (List ℕ))) (cert : Placing C) (trouble : Trouble) : Type 0 where
-  starved : trouble ≡ Memory → IsUnwritten cert.sink → IsUnplanned view limit most file cert trouble
-  beyond : NeedsMore view most trouble → IsUnwritten cert.sink → IsUnplanned view limit most file cert trouble
-  uncertified : BreaksCertificate view limit most file cert trouble → IsUnplanned view limit most file cert trouble
+-- the plan of the map of that name has an entry that the hart's address registers do not reach
+pub record IsTooFar (view : View) (xlen : Xlen) (most : Option ℕ) (map : Bor (List ℕ)) (trouble : Trouble) : Type 0 where
+  pub entries : List Entry
+  pub planned : IsPlanned view most entries
+  pub far : ¬ AreReached xlen entries
+  pub told : trouble ≡ TooFar map
+
+-- why there is no plan with its certificate: memory, too many entries, one that is too far, or the certificate
+pub data IsUnplanned {C : Type 0} (view : View) (xlen : Xlen) (limit : Limit) (most : Option ℕ) (map : Bor (List ℕ)) (file : Option (Bor (List ℕ))) (cert : Placing C) (trouble : Trouble) : Type 0 where
+  starved : trouble ≡ Memory → IsUnwritten cert.sink → IsUnplanned view xlen limit most map file cert trouble
+  beyond : NeedsMore view most trouble → IsUnwritten cert.sink → IsUnplanned view xlen limit most map file cert trouble
+  unreached : IsTooFar view xlen most map trouble → IsUnwritten cert.sink → IsUnplanned view xlen limit most map file cert trouble
+  uncertified : BreaksCertificate view limit most file cert trouble → IsUnplanned view xlen limit most map file cert trouble
 
 -- `plan`: the map is read, the certificate is written where one is asked for, and the plan after it
-pub data Plans {R C W : Type 0} (map : Bor (List ℕ)) (file : Option (Bor (List ℕ))) (limit : Limit) (at_most : Option ℕ) (format : Format) (name : Option (List ℕ)) (first : ℕ) (source : Reading R) (cert : Placing C) (out : Writing W) : Result ℕ Trouble → Type 0 where
+pub data Plans {R C W : Type 0} (map : Bor (List ℕ)) (file : Option (Bor (List ℕ))) (xlen : Xlen) (limit : Limit) (at_most : Option ℕ) (format : Format) (name : Option (List ℕ)) (first : ℕ) (source : Reading R) (cert : Placing C) (out : Writing W) : Result ℕ Trouble → Type 0 where
   planned :
       (runs : List Run) (entries : List Entry) (text : List ℕ) → HasMap source runs → IsPlanned (view_of_runs runs) (most_entries limit first at_most format) entries
-      → IsCertified (view_of_runs runs) limit entries file cert → IsPrinted format map.now name limit first entries text → TakesAll text out
-      → Plans map file limit at_most format name first source cert out (Ok 0)
-  no_map : (trouble : Trouble) → HasNoMap map source trouble → IsUnwritten cert.sink → IsUnwritten out → Plans map file limit at_most format name first source cert out (Err trouble)
-  no_memory : (runs : List Run) → HasMap source runs → IsUnwritten cert.sink → IsUnwritten out → Plans map file limit at_most format name first source cert out (Err Memory)
+      → AreReached xlen entries → IsCertified (view_of_runs runs) limit entries file cert → IsPrinted format map.now name xlen limit first entries text → TakesAll text out
+      → Plans map file xlen limit at_most format name first source cert out (Ok 0)
+  no_map : (trouble : Trouble) → HasNoMap map source trouble → IsUnwritten cert.sink → IsUnwritten out → Plans map file xlen limit at_most format name first source cert out (Err trouble)
+  no_memory : (runs : List Run) → HasMap source runs → IsUnwritten cert.sink → IsUnwritten out → Plans map file xlen limit at_most format name first source cert out (Err Memory)
   too_many :
       (runs : List Run) (trouble : Trouble) → HasMap source runs → NeedsMore (view_of_runs runs) (most_entries limit first at_most format) trouble → IsUnwritten cert.sink → IsUnwritten out
-      → Plans map file limit at_most format name first source cert out (Err trouble)
+      → Plans map file xlen limit at_most format name first source cert out (Err trouble)
+  too_far :
+      (runs : List Run) (trouble : Trouble) → HasMap source runs → IsTooFar (view_of_runs runs) xlen (most_entries limit first at_most format) map trouble → IsUnwritten cert.sink → IsUnwritten out
+      → Plans map file xlen limit at_most format name first source cert out (Err trouble)
   no_certificate :
       (runs : List Run) (trouble : Trouble) → HasMap source runs → BreaksCertificate (view_of_runs runs) limit (most_entries limit first at_most format) file cert trouble → IsUnwritten out
-      → Plans map file limit at_most format name first source cert out (Err trouble)
+      → Plans map file xlen limit at_most format name first source cert out (Err trouble)
   no_output :
       (runs : List Run) (entries : List Entry) (text : List ℕ) → HasMap source runs → IsPlanned (view_of_runs runs) (most_entries limit first at_most format) entries
-      → IsCertified (view_of_runs runs) limit entries file cert → IsPrinted format map.now name limit first entries text → Breaks text out
-      → Plans map file limit at_most format name first source cert out (Err Output)
+      → AreReached xlen entries → IsCertified (view_of_runs runs) limit entries file cert → IsPrinted format map.now name xlen limit first entries text → Breaks text out
+      → Plans map file xlen limit at_most format name first source cert out (Err Output)
 
 -- `show`: the map is read, and the table of its stretches is printed
 pub data Shows {R W : Type 0} (map : Bor (List ℕ)) (limit : Limit) (at_most : Option ℕ) (first : Reading R) (out : Writing W) : Result ℕ Trouble → Type 0 where

@@ -12,7 +12,8 @@ ghost use Rattle.entry_planner.specs.Choice.{AreChosen};
 ghost use Rattle.entry_planner.specs.Order.{AreInOrder};
 ghost use Rattle.plan_certificate.specs.Written.{certificate_for};
 ghost use Rattle.byte_streams.specs.Writings.{writing, TakesAll};
-ghost use Rattle.map_commands.specs.Commands.{placing, IsBeyond, IsCertified, IsLoaded, IsNotPlaced, IsPlanned, IsUnplanned, IsWithin, NeedsMore};
+ghost use Rattle.register_width.specs.Widths.{AreReached};
+ghost use Rattle.map_commands.specs.Commands.{placing, IsBeyond, IsCertified, IsLoaded, IsNotPlaced, IsPlanned, IsTooFar, IsUnplanned, IsWithin, NeedsMore};
 
 use byte_streams::DeviceFault;
 use entry_planner::{Plan, plan_map};
@@ -21,6 +22,7 @@ use plan_certificate::send_map;
 use pmp_encoding::{Bank, Entry, Limit};
 use program_files::WholeSink;
 use program_troubles::Trouble;
+use register_width::Xlen;
 use std::alloc::Global;
 
 /// The plan of a map: the fewest entries that mean it, of the lists of so many the one that the planner chooses.
@@ -87,6 +89,38 @@ fn within<'a>(plan: &Plan, most: Option<u64>) -> Result<(), Trouble<'a>>
     }
 }
 
+/// Refuses a plan that has an entry which the hart's address registers do not reach.
+fn reached<'a>(plan: &Plan, xlen: Xlen, file: &'a str) -> Result<(), Trouble<'a>>
+    ensures reached { IfOk result (λ _. AreReached xlen plan.now.entries) }
+    ensures beyond { IfErr result (λ trouble. (AreReached xlen plan.now.entries → ⊥)
+        × (trouble ≡ Trouble.TooFar file.entry)) }
+{
+    if xlen.reaches(plan.entries()) {
+        return Ok(());
+    }
+    Err(Trouble::TooFar { file })
+}
+
+/// The fewest entries of a map, where they are within the bound and the hart's address registers reach them.
+fn planned_near<'a>(
+    alloc: Global,
+    file: &'a str,
+    map: &PermissionMap,
+    xlen: Xlen,
+    most: Option<u64>,
+) -> Result<Plan, Trouble<'a>>
+    ensures planned { IfOk result (λ plan. IsPlanned (view_of_runs map.now) most plan.entries) }
+    ensures reached { IfOk result (λ plan. AreReached xlen plan.entries) }
+    ensures small { IfOk result (λ plan. length plan.entries < 2 ^ 32) }
+    ensures refused { IfErr result (λ trouble.
+        (trouble ≡ Trouble.Memory) ⊎ (NeedsMore (view_of_runs map.now) most trouble
+        ⊎ IsTooFar (view_of_runs map.now) xlen most file.entry trouble)) }
+{
+    let plan = planned_within(alloc, map, most)?;
+    reached(&plan, xlen, file)?;
+    Ok(plan)
+}
+
 /// Writes the certificate of a map's plan and puts it in its place.
 fn put<'a, C: WholeSink>(
     map: &PermissionMap,
@@ -114,29 +148,34 @@ fn put<'a, C: WholeSink>(
     }
 }
 
-/// The fewest entries of a map, where they are within the bound, whose certificate is put where a file for it is named.
+/// The fewest entries of a map, where they are within the bound and the hart's address registers reach them, whose
+/// certificate is put where a file for it is named.
 pub fn plan_and_certify<'a, C: WholeSink>(
     alloc: Global,
+    name: &'a str,
     map: &PermissionMap,
+    xlen: Xlen,
     limit: Limit,
     most: Option<u64>,
     cert: Option<&'a str>,
     sink: &mut C,
 ) -> Result<Plan, Trouble<'a>>
     ensures planned { IfOk result (λ plan. IsPlanned (view_of_runs map.now) most plan.entries) }
+    ensures reached { IfOk result (λ plan. AreReached xlen plan.entries) }
     ensures small { IfOk result (λ plan. length plan.entries < 2 ^ 32) }
     ensures certified { IfOk result (λ plan.
         IsCertified (view_of_runs map.now) limit plan.entries cert.entry
         (placing C.contents C.failures C.stalls C.stands sink.old sink.new)) }
     ensures refused { IfErr result (λ trouble.
-        IsUnplanned (view_of_runs map.now) limit most cert.entry
+        IsUnplanned (view_of_runs map.now) xlen limit most name.entry cert.entry
         (placing C.contents C.failures C.stalls C.stands sink.old sink.new) trouble) }
 {
     let Some(file) = cert else {
-        return planned_within(alloc, map, most);
+        return planned_near(alloc, name, map, xlen, most);
     };
     let plan = plan_map(alloc, map)?;
     within(&plan, most)?;
+    reached(&plan, xlen, name)?;
     put(map, &plan, limit, file, sink)?;
     Ok(plan)
 }

@@ -79,6 +79,7 @@ fn run_task<'a, R: Source, C: WholeSink, W: Sink>(
             format,
             name,
             first: begin,
+            xlen,
         } => {
             let asked = Asked {
                 cert: *file,
@@ -87,6 +88,7 @@ fn run_task<'a, R: Source, C: WholeSink, W: Sink>(
                 format: *format,
                 name: *name,
                 first: *begin,
+                xlen: *xlen,
             };
             do_plan(alloc, *map, asked, first, cert, out)
         }

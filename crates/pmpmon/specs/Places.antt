@@ -16,7 +16,7 @@ place_of name = if bytes_eq name.now input_word then StandardInput else File nam
 
 -- the file of the certificate that a task writes
 abbrev pub cert_of : Task → Option (Bor (List ℕ))
-cert_of (tasks.Plan map cert limit at_most format name begin) = cert
+cert_of (tasks.Plan map cert limit at_most format name begin xlen) = cert
 cert_of task = None
 
 -- an input reads at a place; where there is none, the file of no name, which is not there
@@ -28,7 +28,7 @@ IsAt None input = (name : Bor (List ℕ)) × (name.now ≡ []) × IsOfFile name 
 -- what a task reads first; a platform is a file, whatever its name
 abbrev pub first_of : Task → Place
 first_of (tasks.Run platform trace measure) = File platform
-first_of (tasks.Plan map cert limit at_most format name begin) = place_of map
+first_of (tasks.Plan map cert limit at_most format name begin xlen) = place_of map
 first_of (tasks.Judge map trace limit registers) = place_of map
 first_of (tasks.Check map cert) = place_of map
 first_of (tasks.Audit map registers all) = place_of map

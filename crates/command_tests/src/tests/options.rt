@@ -104,6 +104,27 @@ fn lint_says_what_is_wrong_with_a_map(rt: HostRuntime) -> Result<(), Fail> {
 }
 
 #[test]
+fn plan_is_for_rv32(rt: HostRuntime) -> Result<(), Fail> {
+    let words = ["pmpmon", "plan", "m", "--xlen", "32"];
+    let text =
+        "entries 3\n0 0x1b 0x040001ff\n1 0x18 0x2003ffff\n2 0x1f 0x20ffffff\npmpcfg0 0x001f181b\npmpcfg1 0x00000000\npmpcfg2 0x00000000\npmpcfg3 0x00000000\n";
+    prints(&rt, rt.alloc(), &words, MAP, b"", text)?;
+    let last = b"0x3fffff000 0x1000 r\n";
+    let text =
+        "entries 1\n0 0x19 0xfffffdff\npmpcfg0 0x00000019\npmpcfg1 0x00000000\npmpcfg2 0x00000000\npmpcfg3 0x00000000\n";
+    prints(&rt, rt.alloc(), &words, last, b"", text)?;
+    let far = b"0x3fffff000 0x2000 r\n";
+    refuses(
+        &rt,
+        rt.alloc(),
+        &words,
+        far,
+        b"",
+        "pmpmon: m: too far: 34 bits\n",
+    )
+}
+
+#[test]
 fn plan_leaves_the_entries_below_the_first(rt: HostRuntime) -> Result<(), Fail> {
     let words = ["pmpmon", "plan", "m", "--first", "3"];
     let text =

@@ -3,6 +3,7 @@
 ghost use Rattle.std.specs.Prelude.{◌≡◌, ◌-◌, ◌^◌, ◌<◌, ℕ, List, Option, IfErr, IfOk, length, option_map};
 ghost use Rattle.map_commands.specs.Commands.{most_entries, placing, reading, IsPrinted, IsWithin, Plans};
 ghost use Rattle.byte_streams.specs.Writings.{writing, PrintsOne};
+ghost use Rattle.register_width.specs.Widths.{AreReached};
 
 use crate::certified_plan::plan_and_certify;
 use crate::inputs::map_in;
@@ -13,6 +14,7 @@ use program_files::WholeSink;
 use program_tasks::Format;
 use program_troubles::Trouble;
 use register_formats::{print_asm, print_c, print_json};
+use register_width::Xlen;
 use std::alloc::Global;
 
 /// What is asked of a plan.
@@ -30,6 +32,8 @@ pub struct Asked<'a> {
     pub name: Option<&'a str>,
     /// The hart's entry at which it begins.
     pub first: u8,
+    /// How many bits the hart's registers have.
+    pub xlen: Xlen,
 }
 
 /// How many entries a plan may have, where there is a bound: C and assembly are printed of a whole bank alone.
@@ -53,23 +57,25 @@ fn print_as<W: Sink>(
     format: Format,
     map: &str,
     name: Option<&str>,
+    xlen: Xlen,
     entries: &[Entry],
     first: u8,
     limit: Limit,
     out: &mut W,
 ) -> Result<(), DeviceFault>
+    requires reached { AreReached xlen entries.now }
     requires fits { (at_most : Option ℕ) × IsWithin (most_entries limit first at_most format)
         (length entries.now) }
     requires small { length entries.now < 2 ^ 32 }
     ensures { PrintsOne (IsPrinted format map.now
-        (option_map (λ s. s.now) name.entry) limit first entries.now)
+        (option_map (λ s. s.now) name.entry) xlen limit first entries.now)
         (writing W.contents W.failures W.stalls out.old out.new) result }
 {
     match format {
-        Format::Text => print_plan(entries, first, limit, out),
-        Format::C => print_c(name, entries, first, limit, out),
-        Format::Asm => print_asm(name, entries, first, limit, out),
-        Format::Json => print_json(map, entries, first, limit, out),
+        Format::Text => print_plan(xlen, entries, first, limit, out),
+        Format::C => print_c(name, xlen, entries, first, limit, out),
+        Format::Asm => print_asm(name, xlen, entries, first, limit, out),
+        Format::Json => print_json(map, xlen, entries, first, limit, out),
     }
 }
 
@@ -82,8 +88,9 @@ pub fn do_plan<'a, R: Source, C: WholeSink, W: Sink>(
     certificate: &mut C,
     out: &mut W,
 ) -> Result<u8, Trouble<'a>>
-    ensures { Plans map.entry asked.entry.cert asked.entry.limit asked.entry.at_most
-        asked.entry.format (option_map (λ s. s.now) asked.entry.name) asked.entry.first
+    ensures { Plans map.entry asked.entry.cert asked.entry.xlen asked.entry.limit
+        asked.entry.at_most asked.entry.format (option_map (λ s. s.now) asked.entry.name)
+        asked.entry.first
         (reading R.remaining R.failures source.old source.new)
         (placing C.contents C.failures C.stalls C.stands certificate.old certificate.new)
         (writing W.contents W.failures W.stalls out.old out.new) result }
@@ -95,12 +102,13 @@ pub fn do_plan<'a, R: Source, C: WholeSink, W: Sink>(
         format,
         name,
         first,
+        xlen,
     } = asked;
     let file = map;
     let map = map_in(alloc, file, source)?;
     let most = most(limit, first, at_most, format);
-    let plan = plan_and_certify(alloc, &map, limit, most, cert, certificate)?;
-    match print_as(format, file, name, plan.entries(), first, limit, out) {
+    let plan = plan_and_certify(alloc, file, &map, xlen, limit, most, cert, certificate)?;
+    match print_as(format, file, name, xlen, plan.entries(), first, limit, out) {
         Ok(()) => Ok(0),
         Err(DeviceFault) => Err(Trouble::Output),
     }

@@ -3,13 +3,13 @@ use Rattle.std.proofs.lemmas.Result.{err_from_is_err_and}
 use Rattle.permission_map.specs.Runs.{view_of_runs}
 use Rattle.prefix_tree.specs.TreeOf.{tree_of}
 use Rattle.plan_certificate.specs.Written.{certificate_for}
-use Rattle.map_commands.specs.Commands.{beyond, starved, uncertified}
+use Rattle.map_commands.specs.Commands.{beyond, starved, uncertified, unreached}
 use Rattle.map_commands.proofs.PlanCertificates.{certificate_is}
 use Rattle.map_commands.proofs.Ends.{unplanned}
 use Rattle.map_commands.proofs.certified_plan.plan_and_certify.Goals as goal
 
 pub returns-in_default-clause-refused : goal.returns-in_default-clause-refused
-returns-in_default-clause-refused g c = unplanned _ _ _ _ _ c.planned_within.result refl c.planned_within.ensures.refused
+returns-in_default-clause-refused g c = unplanned _ _ _ _ _ _ _ c.planned_near.result refl c.planned_near.ensures.refused
 
 pub returns-in_err-plan-clause-refused : goal.returns-in_err-plan-clause-refused
 returns-in_err-plan-clause-refused g c =
@@ -24,6 +24,18 @@ returns-in_err-within-clause-refused g c =
       entries = c.in_ok-plan.plan.entries;
       fewest = c.in_ok-plan.ensures.fewest;
       beyond = b.0;
+      told = b.1;
+    }) refl)
+
+pub returns-in_err-reached-clause-refused : goal.returns-in_err-reached-clause-refused
+returns-in_err-reached-clause-refused g c =
+    let p = err_from_is_err_and c.from_residual-in_err-reached.result c.from_residual-in_err-reached.ensures.1 in
+    let b = c.in_err-reached.ensures.beyond in
+    let made = c.in_ok-plan.ensures in
+    rw (p.1, p.2) (unreached (record {
+      entries = c.in_ok-plan.plan.entries;
+      planned = record { fewest = made.fewest; chosen = made.choice; order = made.order; within = c.in_ok-within.ensures.within };
+      far = b.0;
       told = b.1;
     }) refl)
 

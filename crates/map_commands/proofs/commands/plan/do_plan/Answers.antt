@@ -1,6 +1,6 @@
 use Rattle.std.proofs.Common.{refl, sym}
 use Rattle.std.proofs.lemmas.Result.{err_from_is_err_and}
-use Rattle.map_commands.specs.Commands.{beyond, planned, starved, uncertified}
+use Rattle.map_commands.specs.Commands.{beyond, planned, starved, uncertified, unreached}
 use Rattle.map_commands.specs.Commands as commands
 use Rattle.map_commands.proofs.commands.plan.do_plan.Goals as goal
 
@@ -16,11 +16,13 @@ returns-in_err-plan g c =
     rw (p.1, p.2) (elim refused [
       | starved e quiet ↦ rw e (commands.Plans.no_memory _ c.in_ok-map.ensures.made quiet refl)
       | beyond more quiet ↦ commands.Plans.too_many _ _ c.in_ok-map.ensures.made more quiet refl
+      | unreached far quiet ↦ commands.Plans.too_far _ _ c.in_ok-map.ensures.made far quiet refl
       | uncertified broken ↦ commands.Plans.no_certificate _ _ c.in_ok-map.ensures.made broken refl
     ])
 
 pub print_as-requires : goal.print_as-requires
 print_as-requires g c = record {
+  reached = rw (sym c.entries.ensures) at c.in_ok-plan.ensures.reached;
   fits = (_, rw (sym c.entries.ensures) at (rw c.most-most.ensures at c.in_ok-plan.ensures.planned).within);
   small = rw c.entries.ensures c.in_ok-plan.ensures.small;
 }
@@ -28,9 +30,9 @@ print_as-requires g c = record {
 pub returns-in-Ok : goal.returns-in-Ok
 returns-in-Ok g c =
     let w = rw c.entries.ensures at c.in-Ok.ensures in
-    planned _ _ w.0 c.in_ok-map.ensures.made (rw c.most-most.ensures at c.in_ok-plan.ensures.planned) c.in_ok-plan.ensures.certified w.1 w.2
+    planned _ _ w.0 c.in_ok-map.ensures.made (rw c.most-most.ensures at c.in_ok-plan.ensures.planned) c.in_ok-plan.ensures.reached c.in_ok-plan.ensures.certified w.1 w.2
 
 pub returns : goal.returns
 returns g c =
     let w = rw c.entries.ensures at c.in-Err.ensures in
-    commands.Plans.no_output _ _ w.0 c.in_ok-map.ensures.made (rw c.most-most.ensures at c.in_ok-plan.ensures.planned) c.in_ok-plan.ensures.certified w.1 w.2
+    commands.Plans.no_output _ _ w.0 c.in_ok-map.ensures.made (rw c.most-most.ensures at c.in_ok-plan.ensures.planned) c.in_ok-plan.ensures.reached c.in_ok-plan.ensures.certified w.1 w.2
