@@ -2,6 +2,7 @@
 
 use certificate_format::{Header, ReadFault, Reader, Tag, Version};
 use pmp_encoding::{Limit, Perm};
+use std::process::Abort;
 
 /// The lower half of the space with every right, in one entry.
 const LOWER_HALF: [u8; 47] = [
@@ -44,23 +45,24 @@ fn lower_half_reads_part_by_part(rt: HostRuntime) -> Result<(), ReadFault> {
     let mut reader = Reader::new(LOWER_HALF.as_slice());
     let header = reader.header()?;
     assert!(rt; header.version == Version::One);
-    assert!(rt; header.version.limit() == Limit::Sixteen);
-    assert!(rt; header.count == 1);
+    assert!(rt; (header.version.limit(), header.count) == (Limit::Sixteen, 1));
     let entry = reader.entry()?;
-    assert!(rt; entry.cfg() == 0x1F);
-    assert!(rt; entry.address() == 0x000F_FFFF_FFFF_FFFF);
+    assert!(rt; (entry.cfg(), entry.address()) == (0x1F, 0x000F_FFFF_FFFF_FFFF));
     assert!(rt; reader.tag()? == Tag::Branch);
     let costs = reader.costs()?;
-    assert!(rt; costs.cost(Perm::NoAccess) == 1);
-    assert!(rt; costs.cost(Perm::Read) == 2);
-    assert!(rt; costs.cost(Perm::ReadWrite) == 2);
-    assert!(rt; costs.cost(Perm::Execute) == 2);
-    assert!(rt; costs.cost(Perm::ReadExecute) == 2);
-    assert!(rt; costs.cost(Perm::ReadWriteExecute) == 1);
-    assert!(rt; reader.tag()? == Tag::Leaf);
-    assert!(rt; reader.perm()? == Perm::ReadWriteExecute);
-    assert!(rt; reader.tag()? == Tag::Leaf);
-    assert!(rt; reader.perm()? == Perm::NoAccess);
+    let all = [
+        costs.cost(Perm::NoAccess),
+        costs.cost(Perm::Read),
+        costs.cost(Perm::ReadWrite),
+        costs.cost(Perm::Execute),
+        costs.cost(Perm::ReadExecute),
+        costs.cost(Perm::ReadWriteExecute),
+    ];
+    assert!(rt; all == [1, 2, 2, 2, 2, 1]);
+    let lower = (reader.tag()?, reader.perm()?);
+    assert!(rt; lower == (Tag::Leaf, Perm::ReadWriteExecute));
+    let upper = (reader.tag()?, reader.perm()?);
+    assert!(rt; upper == (Tag::Leaf, Perm::NoAccess));
     assert!(rt; reader.rest().len() == 0);
     Ok(())
 }
@@ -74,6 +76,18 @@ fn each_cut_of_the_lower_half_is_truncated(rt: HostRuntime) {
         );
     }
     assert!(rt; fault_of(LOWER_HALF.as_slice()) == None);
+}
+
+/// The lower half with one byte changed has this fault.
+fn is_told(rt: &impl Abort, place: usize, byte: u8, fault: ReadFault) {
+    let mut bytes = LOWER_HALF;
+    if let Some(there) = bytes.get_mut(place) {
+        *there = byte;
+    }
+    assert!(rt;
+        fault_of(bytes.as_slice()) == Some(fault),
+        "{byte} at {place}"
+    );
 }
 
 #[test]
@@ -92,20 +106,17 @@ fn each_fault_is_told(rt: HostRuntime) {
         (5, 5, ReadFault::Truncated),
     ];
     for (place, byte, fault) in cases {
-        let mut bytes = LOWER_HALF;
-        assert!(rt; place < 47);
-        bytes[place] = byte;
-        assert!(rt;
-            fault_of(bytes.as_slice()) == Some(fault),
-            "{byte} at {place}"
-        );
+        is_told(&rt, place, byte, fault);
     }
-    assert!(rt; ReadFault::BadMagic as u8 == 1);
-    assert!(rt; ReadFault::BadVersion as u8 == 2);
-    assert!(rt; ReadFault::Truncated as u8 == 3);
-    assert!(rt; ReadFault::BadTag as u8 == 4);
-    assert!(rt; ReadFault::BadPerm as u8 == 5);
-    assert!(rt; ReadFault::BadLimit as u8 == 16);
+    let numbers = [
+        ReadFault::BadMagic as u8,
+        ReadFault::BadVersion as u8,
+        ReadFault::Truncated as u8,
+        ReadFault::BadTag as u8,
+        ReadFault::BadPerm as u8,
+        ReadFault::BadLimit as u8,
+    ];
+    assert!(rt; numbers == [1, 2, 3, 4, 5, 16]);
 }
 
 #[test]

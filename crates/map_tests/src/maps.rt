@@ -80,7 +80,7 @@ fn pages_and_blocks_of_the_example(rt: HostRuntime) -> Result<(), Fail> {
         (0x801FF, Perm::NoAccess),
         (0x80200, Perm::ReadWriteExecute),
     ] {
-        assert!(rt; map.get(page) == perm);
+        assert!(rt; map.get(page) == perm, "{page:#x}");
     }
     assert!(rt; map.uniform(0x84000, 14) == Some(Perm::ReadWriteExecute));
     assert!(rt; map.uniform(0x80000, 15) == None);

@@ -81,7 +81,10 @@ fn numbers_of_faults_and_limits(rt: HostRuntime) {
 #[test]
 fn bits_of_permissions(rt: HostRuntime) {
     for bits in [0u8, 1, 3, 4, 5, 7] {
-        assert!(rt; Perm::from_bits(bits).map(|p| p.bits()) == Some(bits));
+        assert!(rt;
+            Perm::from_bits(bits).map(|p| p.bits()) == Some(bits),
+            "{bits}"
+        );
     }
     for bits in [2u8, 6, 8, 255] {
         assert!(rt; Perm::from_bits(bits) == None, "{bits}");
@@ -136,7 +139,7 @@ fn refused_writes_change_nothing(rt: HostRuntime) {
     ];
     for (number, value, fault) in refusals {
         writes(&rt, &mut bank, number, value, Err(fault));
-        assert!(rt; bank == before);
+        assert!(rt; bank == before, "{number:#x} {value:#x}");
     }
 }
 
