@@ -1,3 +1,4 @@
 pub mod Ends
+pub mod HintTexts
 pub mod Live
 pub mod Refusals

@@ -3,5 +3,5 @@
 mod lint_trace;
 mod run;
 
-pub use lint_trace::do_lint_trace;
+pub use lint_trace::{TRACE_BYTES, do_lint_trace, lint_as_trace};
 pub use run::do_run;

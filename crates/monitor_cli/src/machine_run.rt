@@ -29,7 +29,7 @@ use std::alloc::Global;
 use std::str;
 
 /// How many bytes a platform file may have.
-const PLATFORM_BYTES: usize = 1 << 20;
+pub const PLATFORM_BYTES: usize = 1 << 20;
 
 /// The most enclaves that are live, and their largest id.
 const ENCLAVES: u64 = 64;

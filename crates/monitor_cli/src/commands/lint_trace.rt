@@ -13,7 +13,7 @@ use std::alloc::Global;
 use trace_lint::{LintFault, lint_trace};
 
 /// How many bytes a trace may have that is linted.
-const TRACE_BYTES: usize = 1 << 30;
+pub const TRACE_BYTES: usize = 1 << 30;
 
 /// How many harts a trace is for: those of a platform where one is named, otherwise four.
 fn harts_in<'a, R: Source>(
@@ -41,7 +41,7 @@ fn answer_status(yes: bool) -> u8
 }
 
 /// Prints what is wrong with the bytes of a trace.
-fn lint_as_trace<W: Sink>(
+pub fn lint_as_trace<W: Sink>(
     alloc: Global,
     name: &str,
     bytes: &[u8],

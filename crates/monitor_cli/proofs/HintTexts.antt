@@ -1,0 +1,63 @@
+-- The hints that a lint gives, by its status and what it wrote.
+use Rattle.std.proofs.Common.{ℕ, ◌≡◌, ◌≢◌, ◌^◌, ◌<◌, Bool, true, false, List, [], Option, Some, None, Result, Ok, Err, IfOk, arith, refl, subst, sym}
+use Rattle.byte_streams.specs.Writings.{Prints, Writing}
+use Rattle.enclave_table.specs.Platform.{Layout}
+use Rattle.program_tasks.specs.declared.task.Task.{Task}
+use Rattle.program_troubles.specs.declared.trouble.Trouble.{Trouble}
+use Rattle.map_commands.specs.Commands.{Reading, Tells, answer_status}
+use Rattle.map_commands.specs.Commands as commands
+use Rattle.monitor_cli.specs.declared.hints.Form.{Form}
+use Rattle.monitor_cli.specs.declared.hints.Form.TheVariants.{Map, Platform, Listing, Trace}
+use Rattle.monitor_cli.specs.Hints.{AreHints, HasHints, HasTaskHints, HasTraceHints, InOrder, TellsHints, cut, hints_in, most_bytes, of_second, told}
+use Rattle.monitor_cli.specs.Runs.{HasPlatform}
+
+-- no file of a form is beyond what can be read
+pub most_fits : (form : Form) → most_bytes form < 2 ^ 32
+most_fits Map = omega arith
+most_fits Platform = omega arith
+most_fits Listing = omega arith
+most_fits (Trace harts) = omega arith
+
+not_both : (status : ℕ) → status ≡ 1 → status ≡ 0 → ⊥
+not_both status one zero = omega (arith, one, zero)
+
+-- a lint with status 0 has no hints, and one with another has those that it wrote
+pub right : (IsText : Bool → List ℕ → Type 0) (status : ℕ) (is : Bool) (text : List ℕ) → status ≡ answer_status is → IsText is text → status ≡ 0 → AreHints IsText None
+right IsText status true text e said zero = (text, said)
+right IsText status false text e said zero = absurd (not_both status e zero)
+
+pub wrong : (IsText : Bool → List ℕ → Type 0) (status : ℕ) (is : Bool) (text : List ℕ) → status ≡ answer_status is → IsText is text → status ≢ 0 → AreHints IsText (Some (hints_in text))
+wrong IsText status true text e said other = absurd (other e)
+wrong IsText status false text e said other = (text, said, refl)
+
+same_status : (a b : ℕ) (done : Result ℕ Trouble) → done ≡ Ok a → done ≡ Ok b → b ≡ a
+same_status a b done e f = cc
+
+-- what a lint wrote to a sink that held nothing
+pub held : {W : Type 0} (IsText : Bool → List ℕ → Type 0) (out : Writing W) (done : Result ℕ Trouble) (status : ℕ) (text : List ℕ) → Tells IsText out done
+    → done ≡ Ok status → out.before ≡ Some [] → out.after ≡ Some text → (is : Bool) × (status ≡ answer_status is) × IsText is text
+held IsText out done status text (commands.Tells.whole is said is_text takes) e before after =
+    (is, same_status _ _ _ refl e, subst (IsText is) (sym (rw after at (rw before at takes.whole))) is_text)
+held IsText out done status text (commands.Tells.no_memory quiet) e before after = cc
+held IsText out done status text (commands.Tells.no_output is said is_text breaks) e before after = cc
+
+-- the hints of the second of two inputs, where the first has none
+pub in_second :
+    {R X E : Type 0} (First Second : Option (List ℕ) → Type 0) (second : Reading R) (text : Option X → Option (List ℕ)) (result : Result (Option X) E) → First None
+    → IfOk result (λ hints. Second (text hints)) → IfOk result (λ hints. InOrder First Second second (text hints))
+in_second First Second second text (Ok hints) none has = of_second (text hints) none has
+in_second First Second second text (Err fault) none has = tt
+
+-- the hints of a trace, for the harts of a platform
+pub of_trace :
+    {R X E : Type 0} (name : List ℕ) (first second : Reading R) (platform : Layout) (text : Option X → Option (List ℕ)) (result : Result (Option X) E) → HasPlatform first platform
+    → IfOk result (λ hints. HasHints (Trace platform.harts) name second (text hints)) → IfOk result (λ hints. HasTraceHints name first second (text hints))
+of_trace name first second platform text (Ok hints) is has = (platform, is, has)
+of_trace name first second platform text (Err fault) is has = tt
+
+-- hints that were written, whole or in part
+pub told_by :
+    {R E X Y : Type 0} (task : Task) (first second : Reading R) (err : Writing E) (hints : List ℕ) (printed : Result X Y) → HasTaskHints task first second (Some hints)
+    → Prints hints err printed → TellsHints task first second err
+told_by task first second err hints (Ok x) has whole = told hints has whole
+told_by task first second err hints (Err y) has broken = cut hints has broken

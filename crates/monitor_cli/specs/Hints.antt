@@ -1,0 +1,81 @@
+-- What is said of the inputs of a task that ended for bad input: the lint of the first that is not what it should be.
+use Rattle.std.specs.Prelude.{◌≡◌, ℕ, ◌^◌, Bool, true, false, List, [], ◌∷◌, ◌++◌, codes, Option, Some, None}
+use Rattle.std.specs.Borrow.{Bor}
+use Rattle.byte_streams.specs.Writings.{Breaks, IsUnwritten, TakesAll, Writing}
+use Rattle.text_lines.specs.Lines.{raw_lines}
+use Rattle.enclave_table.specs.Platform.{Layout}
+use Rattle.program_tasks.specs.declared.task.LintKind.TheVariants as kinds
+use Rattle.program_tasks.specs.declared.task.Task.{Task}
+use Rattle.program_tasks.specs.declared.task.Task.TheVariants as tasks
+use Rattle.map_commands.specs.Commands.{HasBytes, IsListingLint, IsMapLint, IsPlatformLint, IsUnread, Reading}
+use Rattle.monitor_cli.specs.declared.hints.Form.{Form}
+use Rattle.monitor_cli.specs.declared.hints.Form.TheVariants.{Map, Platform, Listing, Trace}
+use Rattle.monitor_cli.specs.Runs.{HasPlatform}
+use Rattle.monitor_cli.specs.Traces.{IsTraceLint}
+
+-- these lines, each behind `hint: ` and ended by LF
+abbrev pub hint_lines : List (List ℕ) → List ℕ
+hint_lines [] = []
+hint_lines (line ∷ lines) = codes "hint: " ++ (line ++ (10 ∷ hint_lines lines))
+
+-- the lines of a text as hints
+abbrev pub hints_in : List ℕ → List ℕ
+hints_in text = hint_lines (raw_lines text)
+
+-- what `lint` writes of bytes that should be of a form, and whether they are
+abbrev pub IsLintAs : Form → List ℕ → List ℕ → Bool → List ℕ → Type 0
+IsLintAs Map name bytes is text = IsMapLint name bytes is text
+IsLintAs Platform name bytes is text = IsPlatformLint name bytes is text
+IsLintAs Listing name bytes is text = IsListingLint name bytes is text
+IsLintAs (Trace harts) name bytes is text = IsTraceLint name harts bytes is text
+
+-- how many bytes a file of a form may have
+abbrev pub most_bytes : Form → ℕ
+most_bytes Map = 2 ^ 20
+most_bytes Platform = 2 ^ 20
+most_bytes Listing = 2 ^ 20
+most_bytes (Trace harts) = 2 ^ 30
+
+-- the hints for bytes, by their lint: none where they are what they should be, whatever else it says of them; otherwise its lines
+abbrev pub AreHints : (Bool → List ℕ → Type 0) → Option (List ℕ) → Type 0
+AreHints IsText None = (text : List ℕ) × IsText true text
+AreHints IsText (Some hints) = (text : List ℕ) × IsText false text × (hints ≡ hints_in text)
+
+-- an input of that form was read, and these are its hints
+abbrev pub HasHints : {R : Type 0} → Form → List ℕ → Reading R → Option (List ℕ) → Type 0
+HasHints form name source hints = (bytes : List ℕ) × HasBytes (most_bytes form) source bytes × AreHints (IsLintAs form name bytes) hints
+
+-- of two inputs the first has hints, and the second is not read; or the first has none, and these are those of the second
+pub data InOrder {R : Type 0} (First Second : Option (List ℕ) → Type 0) (second : Reading R) : Option (List ℕ) → Type 0 where
+  of_first : (hints : List ℕ) → First (Some hints) → IsUnread second → InOrder First Second second (Some hints)
+  of_second : (hints : Option (List ℕ)) → First None → Second hints → InOrder First Second second hints
+
+-- a file that is a listing of registers, or a map
+abbrev pub form_by : Bool → Form
+form_by true = Listing
+form_by false = Map
+
+-- the trace of `run`, for the harts of its platform
+abbrev pub HasTraceHints : {R : Type 0} → List ℕ → Reading R → Reading R → Option (List ℕ) → Type 0
+HasTraceHints name first second hints = (platform : Layout) × HasPlatform first platform × HasHints (Trace platform.harts) name second hints
+
+-- the hints of a task: those of its first input that is not what it should be. A certificate has none, nor has a file that `lint`
+-- itself speaks of; a trace is for the harts of its platform, and without one for four
+abbrev pub HasTaskHints : {R : Type 0} → Task → Reading R → Reading R → Option (List ℕ) → Type 0
+HasTaskHints (tasks.Run platform trace measure) first second hints = InOrder (HasHints Platform platform.now first) (HasTraceHints trace.now first second) second hints
+HasTaskHints (tasks.Plan map file limit at_most format name begin) first second hints = HasHints Map map.now first hints × IsUnread second
+HasTaskHints (tasks.Judge map trace limit registers) first second hints = InOrder (HasHints (form_by registers) map.now first) (HasHints (Trace 4) trace.now second) second hints
+HasTaskHints (tasks.Check map file) first second hints = HasHints Map map.now first hints × IsUnread second
+HasTaskHints (tasks.Audit map registers all) first second hints = InOrder (HasHints Map map.now first) (HasHints Listing registers.now second) second hints
+HasTaskHints (tasks.Map registers) first second hints = HasHints Listing registers.now first hints × IsUnread second
+HasTaskHints (tasks.Lint file (kinds.Trace (Some platform))) first second hints = HasHints Platform platform.now second hints × IsUnread first
+HasTaskHints (tasks.Lint file kind) first second hints = (hints ≡ None) × IsUnread first × IsUnread second
+HasTaskHints (tasks.Show map limit at_most registers) first second hints = HasHints (form_by registers) map.now first hints × IsUnread second
+
+-- standard error is told the hints of a task, whole or up to where the device fails; and nothing where it has none, or where an
+-- input could not be had or memory was refused
+pub data TellsHints {R E : Type 0} (task : Task) (first second : Reading R) (err : Writing E) : Type 0 where
+  told : (hints : List ℕ) → HasTaskHints task first second (Some hints) → TakesAll hints err → TellsHints task first second err
+  cut : (hints : List ℕ) → HasTaskHints task first second (Some hints) → Breaks hints err → TellsHints task first second err
+  none : HasTaskHints task first second None → IsUnwritten err → TellsHints task first second err
+  unknown : IsUnwritten err → TellsHints task first second err

@@ -1,0 +1,236 @@
+//! Hints: what is wrong with the inputs of a task that ended for bad input, line by line, as `lint` says it.
+
+ghost use Rattle.std.specs.Prelude.{◌≡◌, ◌≤◌, ◌-◌, ◌^◌, ◌<◌, IfOk, option_map, length};
+ghost use Rattle.byte_streams.specs.Writings.{writing};
+ghost use Rattle.map_commands.specs.Commands.{reading, Tells};
+ghost use Rattle.monitor_cli.specs.Hints.{form_by, hints_in, most_bytes, AreHints, HasHints, HasTaskHints, HasTraceHints, InOrder, IsLintAs, TellsHints};
+
+use crate::commands::{TRACE_BYTES, lint_as_trace};
+use crate::machine_run::{PLATFORM_BYTES, platform_in};
+use byte_streams::{Counted, Sink, Source, write_whole};
+use lint_texts::split_line;
+use map_commands::{MAP_BYTES, REGISTER_BYTES, bytes_in, lint_as_platform, lint_listing, lint_map};
+use program_tasks::{LintKind, Task};
+use program_troubles::Trouble;
+use std::alloc::{AllocError, Global};
+
+/// How many harts a trace may speak of that has no platform.
+const HARTS: u8 = 4;
+
+/// What an input should be.
+#[derive(Clone, Copy, Debug, PartialEq, Eq)]
+enum Form {
+    /// A map.
+    Map,
+    /// A platform.
+    Platform,
+    /// A listing of registers.
+    Listing,
+    /// A trace on so many harts.
+    Trace {
+        /// How many.
+        harts: u8,
+    },
+}
+
+impl Form {
+    /// A listing of registers, or a map.
+    fn by(is_listing: bool) -> Form
+        ensures { result ≡ form_by is_listing }
+    {
+        if is_listing { Form::Listing } else { Form::Map }
+    }
+
+    /// How many bytes such a file may have.
+    fn most_bytes(self) -> usize
+        ensures { result ≡ most_bytes self }
+    {
+        match self {
+            Form::Map => MAP_BYTES,
+            Form::Platform => PLATFORM_BYTES,
+            Form::Listing => REGISTER_BYTES,
+            Form::Trace { .. } => TRACE_BYTES,
+        }
+    }
+}
+
+/// Prints what is wrong with bytes that should be of that form.
+fn lint_as<W: Sink>(
+    alloc: Global,
+    form: Form,
+    name: &str,
+    bytes: &[u8],
+    out: &mut W,
+) -> Result<u8, Trouble<'static>>
+    requires { length bytes.now < 2 ^ 64 - 1 }
+    ensures { Tells (IsLintAs form name.now bytes.now)
+        (writing W.contents W.failures W.stalls out.old out.new) result }
+{
+    match form {
+        Form::Map => lint_map(alloc, name, bytes, out),
+        Form::Platform => lint_as_platform(alloc, name, bytes, out),
+        Form::Listing => lint_listing(name, bytes, out),
+        Form::Trace { harts } => lint_as_trace(alloc, name, bytes, harts, out),
+    }
+}
+
+/// The lines of a text, each behind `hint: `.
+fn hints_in(alloc: Global, text: &[u8]) -> Result<Vec<u8>, AllocError>
+    ensures { IfOk result (λ hints. hints.items ≡ hints_in text.now) }
+{
+    let mut hints = Vec::new(alloc);
+    let mut rest = text;
+    while !rest.is_empty() {
+        let (line, behind) = split_line(rest);
+        hints.extend_from_slice(b"hint: ")?;
+        hints.extend_from_slice(line)?;
+        hints.push(b'\n')?;
+        rest = behind;
+    }
+    Ok(hints)
+}
+
+/// The hints for bytes that should be of that form, and none where they are.
+fn hints_for(
+    alloc: Global,
+    form: Form,
+    name: &str,
+    bytes: &[u8],
+) -> Result<Option<Vec<u8>>, Trouble<'static>>
+    requires { length bytes.now < 2 ^ 64 - 1 }
+    ensures { IfOk result (λ hints. AreHints (IsLintAs form name.now bytes.now)
+        (option_map (λ text. text.items) hints)) }
+{
+    let mut held = Counted::new(Vec::new(alloc));
+    let status = lint_as(alloc, form, name, bytes, &mut held)?;
+    if status == 0 {
+        return Ok(None);
+    }
+    let text = held.into_inner();
+    Ok(Some(hints_in(alloc, text.as_slice())?))
+}
+
+/// The hints of an input that should be of that form, and none where it is.
+fn hints_of<'a, R: Source>(
+    alloc: Global,
+    form: Form,
+    name: &'a str,
+    source: &mut R,
+) -> Result<Option<Vec<u8>>, Trouble<'a>>
+    ensures { IfOk result (λ hints. HasHints form name.entry.now
+        (reading R.remaining R.failures source.old source.new)
+        (option_map (λ text. text.items) hints)) }
+{
+    let bytes = bytes_in(alloc, name, source, form.most_bytes())?;
+    hints_for(alloc, form, name, bytes.as_slice())
+}
+
+/// The hints of `run`: those of its platform, and of its trace where the platform is right.
+fn hints_of_run<'a, R: Source>(
+    alloc: Global,
+    platform: &'a str,
+    trace: &'a str,
+    first: &mut R,
+    second: &mut R,
+) -> Result<Option<Vec<u8>>, Trouble<'a>>
+    ensures { let source = reading R.remaining R.failures in
+        IfOk result (λ hints. InOrder
+        (HasHints Form.Platform platform.entry.now (source first.old first.new))
+        (HasTraceHints trace.entry.now (source first.old first.new)
+        (source second.old second.new))
+        (source second.old second.new) (option_map (λ text. text.items) hints)) }
+{
+    let bytes = bytes_in(alloc, platform, first, PLATFORM_BYTES)?;
+    let text = bytes.as_slice();
+    if let Some(hints) = hints_for(alloc, Form::Platform, platform, text)? {
+        return Ok(Some(hints));
+    }
+    let layout = platform_in(alloc, platform, text)?;
+    let harts = layout.harts();
+    hints_of(alloc, Form::Trace { harts }, trace, second)
+}
+
+/// The hints of the first of two inputs that is not what it should be.
+fn hints_in_order<'a, R: Source>(
+    alloc: Global,
+    one: (Form, &'a str),
+    other: (Form, &'a str),
+    first: &mut R,
+    second: &mut R,
+) -> Result<Option<Vec<u8>>, Trouble<'a>>
+    ensures { let source = reading R.remaining R.failures in
+        IfOk result (λ hints. InOrder
+        (HasHints one.entry.0 one.entry.1.now (source first.old first.new))
+        (HasHints other.entry.0 other.entry.1.now (source second.old second.new))
+        (source second.old second.new) (option_map (λ text. text.items) hints)) }
+{
+    if let Some(hints) = hints_of(alloc, one.0, one.1, first)? {
+        return Ok(Some(hints));
+    }
+    hints_of(alloc, other.0, other.1, second)
+}
+
+/// The hints of a task.
+fn task_hints<'a, R: Source>(
+    alloc: Global,
+    task: &Task<'a>,
+    first: &mut R,
+    second: &mut R,
+) -> Result<Option<Vec<u8>>, Trouble<'a>>
+    ensures { let source = reading R.remaining R.failures in
+        IfOk result (λ hints. HasTaskHints task.now (source first.old first.new)
+        (source second.old second.new) (option_map (λ text. text.items) hints)) }
+{
+    match *task {
+        Task::Run {
+            platform,
+            trace,
+            ..
+        } => hints_of_run(alloc, platform, trace, first, second),
+        Task::Plan { map, .. } | Task::Check { map, .. } => {
+            hints_of(alloc, Form::Map, map, first)
+        }
+        Task::Judge {
+            map,
+            trace,
+            registers,
+            ..
+        } => {
+            let trace = (Form::Trace { harts: HARTS }, trace);
+            hints_in_order(alloc, (Form::by(registers), map), trace, first, second)
+        }
+        Task::Audit { map, registers, .. } => {
+            let listing = (Form::Listing, registers);
+            hints_in_order(alloc, (Form::Map, map), listing, first, second)
+        }
+        Task::Map { registers } => hints_of(alloc, Form::Listing, registers, first),
+        Task::Show { map, registers, .. } => hints_of(alloc, Form::by(registers), map, first),
+        Task::Lint {
+            kind: LintKind::Trace {
+                platform: Some(platform),
+            },
+            ..
+        } => hints_of(alloc, Form::Platform, platform, second),
+        Task::Lint { .. } => Ok(None),
+    }
+}
+
+/// Says what is wrong with the inputs of a task that ended for bad input, which are read anew from `first` and `second`: of the
+/// first that is not what it should be each line of its lint, behind `hint: `. Nothing is said where each is what it should be,
+/// where one could not be had, or where memory is refused.
+pub fn tell_hints<R: Source, E: Sink>(
+    alloc: Global,
+    task: &Task<'_>,
+    first: &mut R,
+    second: &mut R,
+    err: &mut E,
+)
+    ensures { let source = reading R.remaining R.failures in
+        TellsHints task.now (source first.old first.new) (source second.old second.new)
+        (writing E.contents E.failures E.stalls err.old err.new) }
+{
+    let Ok(Some(hints)) = task_hints(alloc, task, first, second) else {
+        return;
+    };
+    let _ = write_whole(err, hints.as_slice());
+}
