@@ -44,3 +44,9 @@ second_of (tasks.Check map cert) = Some (File cert)
 second_of (tasks.Audit map registers all) = Some (place_of registers)
 second_of (tasks.Lint file (kinds.Trace (Some platform))) = Some (File platform)
 second_of task = None
+
+-- a place that is read a second time: standard input is not there again
+abbrev pub again : Option Place → Option Place
+again (Some (File name)) = Some (File name)
+again (Some StandardInput) = None
+again None = None

@@ -11,17 +11,17 @@ ghost use Rattle.program_troubles.specs.Troubles.{trouble_status};
 
 mod places;
 
-use crate::places::{Place, cert_of, first_of, second_of};
+use crate::places::{Place, again, cert_of, first_of, second_of};
 use byte_streams::Counted;
 use clap::Error;
 use clap::error::ErrorKind;
 use command_line::{command_of, takes_place};
-use monitor_cli::perform_and_close;
+use monitor_cli::{perform_and_close, tell_hints};
 use program_files::{CertificateFile, InputToRead, RetryInterrupted, is_same_file};
-use program_tasks::Task;
+use program_tasks::{Request, Task};
 use program_troubles::Trouble;
 use std::alloc::AllocError;
-use std::io::{BufWriter, Stderr, Stdin};
+use std::io::{BufWriter, IsTerminal, Stderr, Stdin};
 use std::process::ExitCode;
 use std::{env, io};
 
@@ -113,8 +113,20 @@ fn refused(rt: &HostRuntime, task: &Task<'_>) -> Option<ExitCode>
     }
 }
 
-/// Does the task on its files. Each is opened or made at its first read or write.
-fn done(rt: &HostRuntime, task: &Task<'_>) -> ExitCode {
+/// The status of a task that ended for bad input.
+const BAD_INPUT: u8 = 2;
+
+/// Says what is wrong with the inputs of a task that ended for bad input, which are opened anew. Standard input can't be, so
+/// there is nothing to say of it.
+fn hinted(rt: &HostRuntime, task: &Task<'_>, err: &mut Counted<RetryInterrupted<Stderr>>) {
+    let mut first = input(rt, again(Some(first_of(task))));
+    let mut second = input(rt, again(second_of(task)));
+    tell_hints(rt.alloc(), task, &mut first, &mut second, err);
+}
+
+/// Does what is asked for on the task's files. Each is opened or made at its first read or write.
+fn done(rt: &HostRuntime, request: &Request<'_>) -> ExitCode {
+    let task = &request.task;
     if let Some(code) = refused(rt, task) {
         return code;
     }
@@ -137,6 +149,9 @@ fn done(rt: &HostRuntime, task: &Task<'_>) -> ExitCode {
         Counted::new(out),
         &mut err,
     );
+    if status == BAD_INPUT && request.hints.are_told(rt.stderr().is_terminal()) {
+        hinted(rt, task, &mut err);
+    }
     ExitCode::from(status)
 }
 
@@ -158,7 +173,7 @@ fn main(rt: HostRuntime) -> ExitCode {
         };
     }
     match command_of(rt.alloc(), texts.as_slice()) {
-        Ok(task) => done(&rt, &task),
+        Ok(request) => done(&rt, &request),
         Err(error) => explained(&rt, &error),
     }
 }

@@ -1,7 +1,7 @@
 //! What a task reads and writes, by name.
 
 ghost use Rattle.std.specs.Prelude.{◌≡◌};
-ghost use Rattle.pmpmon.specs.Places.{cert_of, first_of, place_of, second_of};
+ghost use Rattle.pmpmon.specs.Places.{again, cert_of, first_of, place_of, second_of};
 
 use program_tasks::{LintKind, Task};
 
@@ -59,6 +59,16 @@ pub fn second_of<'a>(task: &Task<'a>) -> Option<Place<'a>>
             ..
         } => Some(Place::File(platform)),
         Task::Plan { .. } | Task::Map { .. } | Task::Lint { .. } | Task::Show { .. } => None,
+    }
+}
+
+/// A place that is read a second time: a file is opened anew, and standard input is not there again.
+pub fn again(place: Option<Place<'_>>) -> Option<Place<'_>>
+    ensures { result ≡ again place.entry }
+{
+    match place {
+        Some(Place::File(name)) => Some(Place::File(name)),
+        Some(Place::StandardInput) | None => None,
     }
 }
 
