@@ -3,6 +3,7 @@
 mod certificates;
 mod devices;
 mod failures;
+mod hints;
 mod inputs;
 mod judged;
 mod machine;

@@ -89,7 +89,7 @@ pub fn try_on(
     second: &[u8],
     failing: Failing,
 ) -> Result<Tried, Fail> {
-    let task = command_of(alloc, words)?;
+    let task = command_of(alloc, words)?.task;
     let mut first = PieceSource::new(first, failing.piece, failing.first);
     let mut second = PieceSource::new(second, failing.piece, failing.second);
     let mut cert = PlacedSink {

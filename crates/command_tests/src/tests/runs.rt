@@ -18,7 +18,7 @@ pub struct Ran {
 
 /// Runs a command line on two inputs.
 pub fn run(alloc: Global, words: &[&str], first: &[u8], second: &[u8]) -> Result<Ran, Fail> {
-    let task = command_of(alloc, words)?;
+    let task = command_of(alloc, words)?.task;
     let mut first = Counted::new(first);
     let mut second = Counted::new(second);
     let mut cert = Counted::new(Vec::new(alloc));
