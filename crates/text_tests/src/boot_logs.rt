@@ -21,7 +21,10 @@ fn regions_are_entries(rt: HostRuntime) -> Result<(), Fail> {
     let listing = listing_of(log.as_slice()).expect(&rt, "understood");
     let registers = listing.registers;
     assert_eq!(rt; &registers.cfgs[..3], [0x1c, 0x13, 0].as_slice());
-    assert_eq!(rt; &registers.addresses[..3], [0x2001_3fff, 0x400_0000, 0].as_slice());
+    assert_eq!(rt;
+        &registers.addresses[..3],
+        [0x2001_3fff, 0x400_0000, 0].as_slice()
+    );
     assert_eq!(rt; registers.cfgs[63], 0x1d);
     assert_eq!(rt; registers.addresses[63], 0x1f);
     Ok(())
@@ -30,13 +33,19 @@ fn regions_are_entries(rt: HostRuntime) -> Result<(), Fail> {
 #[test]
 fn lines_on_regions_that_are_not_understood(rt: HostRuntime) {
     for (log, line) in [
-        (b"OpenSBI\nDomain0 Region00 : 0x80000000-0x8002ffff ()\n".as_slice(), 2),
+        (
+            b"OpenSBI\nDomain0 Region00 : 0x80000000-0x8002ffff ()\n".as_slice(),
+            2,
+        ),
         (b"Domain0 Region00 : 0x80000000-0x80000001 ()", 1),
         (b"Domain0 Region00 : 0x80001000-0x80002fff ()", 1),
         (b"Domain0 Region00 : 0x1000-0xfff ()", 1),
         (b"Domain0 Region00 : 0x1000-0x7ff ()", 1),
         (b"Domain0 Region00 : 0-0x1ffffffffffffff ()", 1),
-        (b"Domain0 Region00 : 0x100000000000000-0x100000000000fff ()", 1),
+        (
+            b"Domain0 Region00 : 0x100000000000000-0x100000000000fff ()",
+            1,
+        ),
         (b"Domain0 Region00 : 0x1000 ()", 1),
         (b"Domain0 Region00 : 0-0xfff (W)", 1),
         (b"Domain0 Region00 : 0-0xfff M: (R) S/U: (W,X)", 1),
