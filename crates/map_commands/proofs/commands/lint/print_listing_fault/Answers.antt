@@ -1,4 +1,3 @@
-use Rattle.std.proofs.Common.{◌++◌, codes, decimal}
 use Rattle.std.proofs.lemmas.Result.{err_from_is_err_and}
 use Rattle.byte_streams.proofs.Writings.{breaks_after, breaks_before, takes_then}
 use Rattle.map_commands.proofs.commands.lint.print_listing_fault.Goals as goal

@@ -1,4 +1,4 @@
-use Rattle.std.proofs.Common.{◌≡◌, ◌∙◌, ℕ, [], Bool, true, false, List, Err, Ok, Option, ap, refl, sym}
+use Rattle.std.proofs.Common.{◌≡◌, ℕ, [], Bool, true, false, List, Err, Ok, Option, ap, refl, sym}
 use Rattle.byte_streams.specs.Writings.{writing, TakesAll}
 use Rattle.byte_streams.proofs.Writings.{takes_none}
 use Rattle.trace_lint.specs.Lints.{IsLintText, is_trace}
