@@ -97,7 +97,7 @@ fn is_told(alloc: Global, words: &[&str], wanted: &str) -> Result<bool, Fail> {
 
 #[test]
 fn a_fault_names_the_value_and_the_usage(rt: HostRuntime) -> Result<(), Fail> {
-    let rows: [(&[&str], &str); 6] = [
+    let rows: [(&[&str], &str); 8] = [
         (
             &["pmpmon", "judge", "map.txt", "trace.txt", "--entries", "32"],
             "error: invalid value '32' for '--entries <16|64>'\n  [possible values: 16, 64]\n\nUsage: pmpmon judge [OPTIONS] <MAP> <TRACE>\n\nFor more information, try '--help'.\n",
@@ -113,6 +113,14 @@ fn a_fault_names_the_value_and_the_usage(rt: HostRuntime) -> Result<(), Fail> {
         (
             &["pmpmon", "plan", "map.txt", "--first", "16"],
             "error: invalid value '16' for '--first <K>': no number below that of --entries\n\nUsage: pmpmon plan [OPTIONS] <MAP> [CERT]\n\nFor more information, try '--help'.\n",
+        ),
+        (
+            &["pmpmon", "plan", "map.txt", "--xlen", "128"],
+            "error: invalid value '128' for '--xlen <32|64>'\n  [possible values: 32, 64]\n\nUsage: pmpmon plan [OPTIONS] <MAP> [CERT]\n\nFor more information, try '--help'.\n",
+        ),
+        (
+            &["pmpmon", "check", "map.txt", "map.pmpc", "--hints", "on"],
+            "error: invalid value 'on' for '--hints <auto|always|never>'\n  [possible values: auto, always, never]\n\nUsage: pmpmon check [OPTIONS] <MAP> <CERT>\n\nFor more information, try '--help'.\n",
         ),
         (
             &["pmpmon", "lint", "f", "--registers", "--trace"],

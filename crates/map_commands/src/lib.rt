@@ -2,9 +2,8 @@
 //! are checked, judged and audited against them.
 //!
 //! For the layer above: `do_plan`, `do_check`, `do_judge_as`, `do_show_as`, `do_audit`, `do_map`, `do_lint` and
-//! `do_lint_listing` each do one command on the
-//! devices that are lent for it; the clause of each has a rule for each way in which it ends, with what was read and written
-//! in which order. [`planned`] answers the fewest entries of a map, [`plan_and_certify`] puts a certificate of them in its
+//! `do_lint_listing` each do one command on the devices that are lent for it; the clause of each has a rule for each way in
+//! which it ends, with what was read and written in which order. [`planned`] answers the fewest entries of a map, [`plan_and_certify`] puts a certificate of them in its
 //! place, which the checker accepts, and [`bank_of`] answers the bank of a list that fits it. [`bytes_in`] reads a file whole,
 //! and [`lint_map`], [`lint_as_platform`] and [`lint_listing`] say what is wrong with its bytes.
 //!

@@ -5,11 +5,19 @@
 #![tactic(auto)]
 
 #[cfg(test)]
+mod assembly;
+#[cfg(test)]
 mod audits;
+#[cfg(test)]
+mod boards;
 #[cfg(test)]
 mod boot_logs;
 #[cfg(test)]
+mod c_arrays;
+#[cfg(test)]
 mod formats;
+#[cfg(test)]
+mod json;
 #[cfg(test)]
 mod lints;
 #[cfg(test)]

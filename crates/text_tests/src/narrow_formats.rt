@@ -1,28 +1,11 @@
 //! The formats for RV32, by hand from their descriptions and the privileged architecture.
 
+use crate::boards::{board, entry};
 use byte_streams::fakes::PieceSink;
-use pmp_encoding::{Entry, Limit, Perm, Region};
+use pmp_encoding::{Limit, Perm};
 use printed_lines::print_plan;
 use register_formats::{print_asm, print_c, print_json};
 use register_width::Xlen;
-use std::process::Abort;
-
-/// The entry of a block.
-fn entry(rt: &impl Abort, base: u64, log2: u32, perm: Perm) -> Entry {
-    Entry {
-        region: Region::new(base, log2).expect(rt, "a block"),
-        perm,
-    }
-}
-
-/// A device page, the firmware's 2 MiB in front of 128 MiB of memory.
-fn board(rt: &impl Abort) -> [Entry; 3] {
-    [
-        entry(rt, 0x1000_0000, 12, Perm::ReadWrite),
-        entry(rt, 0x8000_0000, 21, Perm::NoAccess),
-        entry(rt, 0x8000_0000, 27, Perm::ReadWriteExecute),
-    ]
-}
 
 #[test]
 fn text_has_words_of_four_entries(rt: HostRuntime) {
