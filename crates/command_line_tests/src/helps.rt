@@ -10,7 +10,7 @@ use std::test::Fail;
 fn is_no_task(rt: &impl Abort, alloc: Global, words: &[&str], kind: ErrorKind) {
     match command_of(alloc, words) {
         Ok(_) => panic!(rt; "a task"),
-        Err(error) => assert_eq!(rt; error.kind(), kind),
+        Err(error) => assert!(rt; error.kind() == kind),
     }
 }
 

@@ -47,7 +47,7 @@ fn answered(value: u64, world: u64, used: u64) -> Reply {
 
 /// An enclave lives on both harts, and these are the replies.
 fn lives_on_both(rt: &impl Abort, machine: &mut Machine) {
-    assert_eq!(rt; machine.harts(), 2);
+    assert!(rt; machine.harts() == 2);
     if machine.harts() != 2 {
         return;
     }
@@ -67,8 +67,8 @@ fn lives_on_both(rt: &impl Abort, machine: &mut Machine) {
         answered(7, 0, 4),
         answered(0, 0, 3),
     ];
-    assert_eq!(rt; replies, wanted);
-    assert_eq!(rt; machine.world(1), World::Host);
+    assert!(rt; replies == wanted);
+    assert!(rt; machine.world(1) == World::Host);
 }
 
 #[test]

@@ -50,10 +50,7 @@ fn a_range_is_from_the_register_before_to_before_its_own(rt: HostRuntime) {
         (Kind::Fetch, 4, 0x1000, Err(Cause::FetchFault)),
     ];
     for (kind, size, addr, wanted) in rows {
-        assert_eq!(rt;
-            outcome(&registers, Mode::User, kind, size, addr),
-            Some(wanted)
-        );
+        assert!(rt; outcome(&registers, Mode::User, kind, size, addr) == Some(wanted));
     }
     let above = two((0x1f, PAGE), (0x09, 0x2000_1000));
     let rows = [
@@ -63,10 +60,7 @@ fn a_range_is_from_the_register_before_to_before_its_own(rt: HostRuntime) {
         (Kind::Load, 0x8000_4000, Err(Cause::LoadFault)),
     ];
     for (kind, addr, wanted) in rows {
-        assert_eq!(rt;
-            outcome(&above, Mode::Supervisor, kind, 8, addr),
-            Some(wanted)
-        );
+        assert!(rt; outcome(&above, Mode::Supervisor, kind, 8, addr) == Some(wanted));
     }
     let first = two((0x0c, 0x400), (0, 0));
     assert!(rt; outcome(&first, Mode::User, Kind::Fetch, 4, 0) == Some(Ok(())));
@@ -86,7 +80,7 @@ fn a_locked_entry_binds_machine_mode(rt: HostRuntime) {
     for (cfg, kind, wanted) in rows {
         let registers = two((cfg, PAGE), (0, 0));
         let found = outcome(&registers, Mode::Machine, kind, 8, 0x8000_0ff8);
-        assert_eq!(rt; found, Some(wanted));
+        assert!(rt; found == Some(wanted));
     }
     let locked = two((0x9d, PAGE), (0, 0));
     let found = outcome(&locked, Mode::Supervisor, Kind::Fetch, 4, 0x8000_0000);
@@ -98,15 +92,9 @@ fn a_partial_match_denies_every_mode(rt: HostRuntime) {
     let registers = two((0x17, 0x400), (0x1f, ALL));
     for mode in [Mode::Machine, Mode::Supervisor, Mode::User] {
         let cut = outcome(&registers, mode, Kind::Load, 8, 0x1000);
-        assert_eq!(rt; cut, Some(Err(Cause::LoadFault)));
-        assert_eq!(rt;
-            outcome(&registers, mode, Kind::Load, 4, 0x1000),
-            Some(Ok(()))
-        );
-        assert_eq!(rt;
-            outcome(&registers, mode, Kind::Load, 8, 0x1008),
-            Some(Ok(()))
-        );
+        assert!(rt; cut == Some(Err(Cause::LoadFault)));
+        assert!(rt; outcome(&registers, mode, Kind::Load, 4, 0x1000) == Some(Ok(())));
+        assert!(rt; outcome(&registers, mode, Kind::Load, 8, 0x1008) == Some(Ok(())));
     }
 }
 
@@ -125,7 +113,7 @@ fn no_entry_leaves_machine_mode_alone(rt: HostRuntime) {
     assert!(rt; outcome(&none, Mode::Machine, Kind::Store, 8, 0) == Some(Ok(())));
     for mode in [Mode::Supervisor, Mode::User] {
         let denied = outcome(&none, mode, Kind::Store, 8, 0);
-        assert_eq!(rt; denied, Some(Err(Cause::StoreFault)));
+        assert!(rt; denied == Some(Err(Cause::StoreFault)));
     }
     let past = outcome(&none, Mode::Machine, Kind::Load, 1, 1 << 56);
     assert!(rt; past == Some(Err(Cause::LoadFault)));
@@ -142,7 +130,7 @@ fn reserved_values_have_no_rules(rt: HostRuntime) {
     ];
     for ((first, second), place, value) in rows {
         let found = Rules::of(&two((first, ALL), (second, ALL))).err();
-        assert_eq!(rt; found, Some(ReservedAt { place, value }));
+        assert!(rt; found == Some(ReservedAt { place, value }));
     }
 }
 
@@ -180,7 +168,7 @@ fn a_listing_judges_a_trace_or_says_why_not(rt: HostRuntime) -> Result<(), Fail>
     ];
     for (listing, wanted) in rows {
         let written = answers(rt.alloc(), listing, trace)?;
-        assert_eq!(rt; written.as_slice(), wanted);
+        assert!(rt; written.as_slice() == wanted);
     }
     let fault = rules_in(rt.alloc(), b"pmpaddr0 1\nwhat\n").err();
     assert!(rt; fault == Some(RulesFault::Line(2)));

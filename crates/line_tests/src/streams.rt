@@ -17,7 +17,7 @@ fn each_write_that_fails_is_told(rt: HostRuntime) {
     for k in 1..7u64 {
         let mut sink = PieceSink::new(1, Some(k));
         assert!(rt; write_whole(&mut sink, b"12 ok\n").is_err());
-        assert_eq!(rt; sink.written().len() as u64, k - 1);
+        assert!(rt; sink.written().len() as u64 == k - 1);
     }
     let mut sink = PieceSink::new(0, None);
     assert!(rt; write_whole(&mut sink, b"12 ok\n").is_err());

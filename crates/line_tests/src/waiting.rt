@@ -42,10 +42,7 @@ fn answers_are_handed_on_before_each_read(rt: HostRuntime) {
             sink: PieceSink::new(4096, None),
             handed_on: 99,
         };
-        assert_eq!(rt;
-            judge_trace(&bank, &mut source, &mut sink),
-            Err(RunFault::Read)
-        );
-        assert_eq!(rt; sink.handed_on, answered);
+        assert!(rt; judge_trace(&bank, &mut source, &mut sink) == Err(RunFault::Read));
+        assert!(rt; sink.handed_on == answered);
     }
 }

@@ -5,7 +5,6 @@ use byte_streams::fakes::{PieceSink, PieceSource};
 use hart_sim::{Machine, RunFault, run};
 use std::alloc::Global;
 use std::process::Abort;
-use std::test::Fail;
 
 fn fails(
     machine: &mut Machine,
@@ -25,18 +24,19 @@ fn fails(
 
 /// The same on a new machine.
 fn fails_anew(
+    rt: &impl Abort,
     alloc: Global,
     trace: &[u8],
     read: Option<u64>,
     write: Option<u64>,
     report: &[u8],
-) -> Result<Option<RunFault>, Fail> {
-    let mut machine = example_machine(alloc, 1)?;
-    Ok(fails(&mut machine, trace, read, write, report))
+) -> Option<RunFault> {
+    let mut machine = example_machine(rt, alloc, 1);
+    fails(&mut machine, trace, read, write, report)
 }
 
 #[test]
-fn a_failing_device_ends_a_run_behind_what_it_took(rt: HostRuntime) -> Result<(), Fail> {
+fn a_failing_device_ends_a_run_behind_what_it_took(rt: HostRuntime) {
     let none: Option<u64> = None;
     let rows: [(&[u8], Option<u64>, Option<u64>, RunFault, &[u8]); 4] = [
         (
@@ -51,24 +51,22 @@ fn a_failing_device_ends_a_run_behind_what_it_took(rt: HostRuntime) -> Result<()
         (b"irq\nirq\n", none, Some(1), RunFault::Write, b""),
     ];
     for (trace, read, write, end, report) in rows {
-        let ended = fails_anew(rt.alloc(), trace, read, write, report)?;
-        assert_eq!(rt; ended, Some(end));
+        let ended = fails_anew(&rt, rt.alloc(), trace, read, write, report);
+        assert!(rt; ended == Some(end));
     }
-    Ok(())
 }
 
 /// The sink fails in the second reply, and the second event has happened.
 fn is_cut_in_a_reply(rt: &impl Abort, machine: &mut Machine) {
     let mut source = PieceSource::new(b"reg x5 7\nreg x5 8\nreg x5 9\n", 100, None);
     let mut sink = PieceSink::new(1, Some(8));
-    assert_eq!(rt; run(machine, &mut source, &mut sink), Err(RunFault::Write));
-    assert_eq!(rt; sink.written(), b"1 ok\n2 ".as_slice());
-    assert_eq!(rt; x(machine, 0, 5), 8);
+    assert!(rt; run(machine, &mut source, &mut sink) == Err(RunFault::Write));
+    assert!(rt; sink.written() == b"1 ok\n2 ".as_slice());
+    assert!(rt; x(machine, 0, 5) == 8);
 }
 
 #[test]
-fn an_event_whose_reply_is_cut_has_happened(rt: HostRuntime) -> Result<(), Fail> {
-    let mut machine = example_machine(rt.alloc(), 1)?;
+fn an_event_whose_reply_is_cut_has_happened(rt: HostRuntime) {
+    let mut machine = example_machine(&rt, rt.alloc(), 1);
     is_cut_in_a_reply(&rt, &mut machine);
-    Ok(())
 }

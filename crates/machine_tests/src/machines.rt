@@ -1,26 +1,26 @@
 //! Machines of the example platform, what runs on them answer, and what they hold.
 
 use byte_streams::fakes::{PieceSink, PieceSource};
-use enclave_table::{Platform, PlatformFault};
+use enclave_table::Platform;
 use hart_sim::{Machine, RunFault, run};
 use pmp_encoding::{Bank, Perm};
 use std::alloc::Global;
-use std::test::Fail;
+use std::process::Abort;
 
 /// The example platform.
-pub fn example_platform() -> Result<Platform, PlatformFault> {
+pub fn example_platform(rt: &impl Abort) -> Platform {
     Platform::new(
         (0x8000_0000, 0x20_0000),
         [(0x8000_0000, 0x800_0000)].as_slice(),
         [(0x1000_0000, 0x1000, Perm::ReadWrite)].as_slice(),
     )
+    .expect(rt, "a platform")
 }
 
 /// The machine of the example platform, with that many harts.
-pub fn example_machine(alloc: Global, harts: u8) -> Result<Machine, Fail> {
-    let platform = example_platform()?.with_harts(harts)?;
-    let machine = Machine::boot(alloc, platform)?;
-    Ok(machine)
+pub fn example_machine(rt: &impl Abort, alloc: Global, harts: u8) -> Machine {
+    let platform = example_platform(rt).with_harts(harts).expect(rt, "harts");
+    Machine::boot(alloc, platform).expect(rt, "memory")
 }
 
 /// Whether a run of a trace ends so, and writes this report.
@@ -37,19 +37,20 @@ pub fn answers(machine: &mut Machine, trace: &[u8], report: &[u8]) -> bool {
 
 /// Whether a run of a trace on a new machine ends so, and writes this report.
 pub fn ends_anew(
+    rt: &impl Abort,
     alloc: Global,
     harts: u8,
     trace: &[u8],
     end: Result<(), RunFault>,
     report: &[u8],
-) -> Result<bool, Fail> {
-    let mut machine = example_machine(alloc, harts)?;
-    Ok(ends(&mut machine, trace, end, report))
+) -> bool {
+    let mut machine = example_machine(rt, alloc, harts);
+    ends(&mut machine, trace, end, report)
 }
 
 /// Whether a trace on a new machine, which is understood to its end, is answered by this report.
-pub fn answers_anew(alloc: Global, trace: &[u8], report: &[u8]) -> Result<bool, Fail> {
-    ends_anew(alloc, 1, trace, Ok(()), report)
+pub fn answers_anew(rt: &impl Abort, alloc: Global, trace: &[u8], report: &[u8]) -> bool {
+    ends_anew(rt, alloc, 1, trace, Ok(()), report)
 }
 
 /// A register of a hart; 0 where there is none.

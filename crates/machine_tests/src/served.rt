@@ -6,7 +6,7 @@ ghost use Rattle.std.specs.Prelude.{replicate};
 use monitor_core::{Monitor, Onward, PageRange, Pages, Platform, Registers, Served, World};
 use pmp_encoding::Perm;
 use std::alloc::Global;
-use std::test::Fail;
+use std::process::Abort;
 
 const A0: usize = 10;
 
@@ -26,15 +26,16 @@ impl Pages for Zeros {
 }
 
 /// The monitor of the example platform, with two harts.
-fn example_monitor(alloc: Global) -> Result<Monitor, Fail> {
+fn example_monitor(rt: &impl Abort, alloc: Global) -> Monitor {
     let platform = Platform::new(
         (0x8000_0000, 0x20_0000),
         [(0x8000_0000, 0x800_0000)].as_slice(),
         [(0x1000_0000, 0x1000, Perm::ReadWrite)].as_slice(),
-    )?
-    .with_harts(2)?;
-    let monitor = Monitor::boot(alloc, platform)?;
-    Ok(monitor)
+    )
+    .expect(rt, "a platform")
+    .with_harts(2)
+    .expect(rt, "harts");
+    Monitor::boot(alloc, platform).expect(rt, "memory")
 }
 
 /// The registers of a call at an address: its function, and its first three arguments.
@@ -51,26 +52,25 @@ fn call_of(pc: u64, function: u64, arguments: [u64; 3]) -> Registers {
 
 /// A call on a hart that there is and that is not marked.
 fn served(
+    rt: &impl Abort,
     monitor: &mut Monitor,
     hart: u8,
     function: u64,
     arguments: [u64; 3],
-) -> Result<Served, Fail> {
-    if hart >= monitor.harts() || monitor.is_marked(hart) {
-        return Err("no hart, or a marked one".into());
-    }
+) -> Served {
+    assert!(rt; hart < monitor.harts());
+    assert!(rt; !monitor.is_marked(hart));
     let registers = call_of(0x8040_0000, function, arguments);
-    Ok(monitor.serve(hart, &registers, &Zeros {}))
+    monitor.serve(hart, &registers, &Zeros {})
 }
 
 /// An interrupt on such a hart, with this word in a0.
-fn interrupted(monitor: &mut Monitor, hart: u8, a0: u64) -> Result<Onward, Fail> {
-    if hart >= monitor.harts() || monitor.is_marked(hart) {
-        return Err("no hart, or a marked one".into());
-    }
+fn interrupted(rt: &impl Abort, monitor: &mut Monitor, hart: u8, a0: u64) -> Onward {
+    assert!(rt; hart < monitor.harts());
+    assert!(rt; !monitor.is_marked(hart));
     let mut registers = Registers::new();
     registers.set(A0, a0);
-    Ok(monitor.interrupt(hart, &registers))
+    monitor.interrupt(hart, &registers)
 }
 
 /// What a call was answered with, and whether the hart's entries are to be loaded anew.
@@ -99,87 +99,71 @@ fn standing(monitor: &Monitor) -> (World, u64, bool, bool) {
 }
 
 /// An enclave of one page of text at 0x80200000 is created on the first hart, and the second hart is woken.
-fn created(monitor: &mut Monitor) -> Result<(), Fail> {
-    let served = served(monitor, 0, 0, [0x8020_0000, 1, 0])?;
+fn created(rt: &impl Abort, monitor: &mut Monitor) {
+    let served = served(rt, monitor, 0, 0, [0x8020_0000, 1, 0]);
     monitor.wake(1);
-    if told(&served) != (0, 1, true) {
-        return Err("not created".into());
-    }
-    Ok(())
+    assert!(rt; told(&served) == (0, 1, true));
 }
 
 /// It runs on the first hart.
-fn entered(monitor: &mut Monitor) -> Result<(), Fail> {
-    created(monitor)?;
-    let served = served(monitor, 0, 2, [1, 0, 0])?;
-    if told(&served) != (0, 0, true) || pc_a0_a1(&served.onward) != [0x8020_0000, 1, 0] {
-        return Err("not entered".into());
-    }
-    Ok(())
+fn entered(rt: &impl Abort, monitor: &mut Monitor) {
+    created(rt, monitor);
+    let served = served(rt, monitor, 0, 2, [1, 0, 0]);
+    assert!(rt; told(&served) == (0, 0, true));
+    assert!(rt; pc_a0_a1(&served.onward) == [0x8020_0000, 1, 0]);
 }
 
-/// Whether a creation marks the other hart, and goes on past the call with the id.
-fn creation_marks(monitor: &mut Monitor) -> Result<bool, Fail> {
-    let served = served(monitor, 0, 0, [0x8020_0000, 1, 0])?;
-    Ok(
-        told(&served) == (0, 1, true)
-            && served.zero == None
-            && pc_a0_a1(&served.onward) == [0x8040_0004, 0, 1]
-            && standing(monitor) == (World::Host, 4, false, true),
-    )
+/// A creation marks the other hart, and goes on past the call with the id.
+fn creation_marks(rt: &impl Abort, monitor: &mut Monitor) {
+    let served = served(rt, monitor, 0, 0, [0x8020_0000, 1, 0]);
+    assert!(rt; told(&served) == (0, 1, true));
+    assert!(rt; served.zero == None);
+    assert!(rt; pc_a0_a1(&served.onward) == [0x8040_0004, 0, 1]);
+    assert!(rt; standing(monitor) == (World::Host, 4, false, true));
 }
 
-/// Whether an interrupt stops an enclave, and it is resumed on the other hart as it was.
-fn interrupt_stops(monitor: &mut Monitor) -> Result<bool, Fail> {
-    entered(monitor)?;
-    let inside = standing(monitor) == (World::Enclave(1), 1, false, false);
-    let onward = interrupted(monitor, 0, 77)?;
-    let outside = standing(monitor) == (World::Host, 4, false, false);
-    let resumed = served(monitor, 1, 4, [1, 0, 0])?;
-    Ok(
-        inside
-            && outside
-            && onward.load
-            && pc_a0_a1(&onward) == [0x8040_0004, 1, 0]
-            && pc_a0_a1(&resumed.onward) == [0, 77, 0],
-    )
+/// An interrupt stops an enclave, and it is resumed on the other hart as it was.
+fn interrupt_stops(rt: &impl Abort, monitor: &mut Monitor) {
+    entered(rt, monitor);
+    assert!(rt; standing(monitor) == (World::Enclave(1), 1, false, false));
+    let onward = interrupted(rt, monitor, 0, 77);
+    assert!(rt; onward.load);
+    assert!(rt; pc_a0_a1(&onward) == [0x8040_0004, 1, 0]);
+    assert!(rt; standing(monitor) == (World::Host, 4, false, false));
+    let resumed = served(rt, monitor, 1, 4, [1, 0, 0]);
+    assert!(rt; pc_a0_a1(&resumed.onward) == [0, 77, 0]);
 }
 
-/// Whether a destruction hands out the pages, and the same call again is refused and changes no entries.
-fn destruction_clears(monitor: &mut Monitor) -> Result<bool, Fail> {
-    created(monitor)?;
-    let first = served(monitor, 0, 1, [1, 0, 0])?;
-    let again = served(monitor, 0, 1, [1, 0, 0])?;
-    Ok(
-        told(&first) == (0, 0, true)
-            && first.zero
-                == Some(PageRange {
-                    first: 0x8_0200,
-                    count: 1,
-                })
-            && told(&again) == (-110, 0, false)
-            && again.zero == None
-            && standing(monitor) == (World::Host, 3, false, true),
-    )
+/// A destruction hands out the pages, and the same call again is refused and changes no entries.
+fn destruction_clears(rt: &impl Abort, monitor: &mut Monitor) {
+    let pages = PageRange {
+        first: 0x8_0200,
+        count: 1,
+    };
+    created(rt, monitor);
+    let first = served(rt, monitor, 0, 1, [1, 0, 0]);
+    assert!(rt; told(&first) == (0, 0, true));
+    assert!(rt; first.zero == Some(pages));
+    let again = served(rt, monitor, 0, 1, [1, 0, 0]);
+    assert!(rt; told(&again) == (-110, 0, false));
+    assert!(rt; again.zero == None);
+    assert!(rt; standing(monitor) == (World::Host, 3, false, true));
 }
 
 #[test]
-fn a_creation_marks_the_other_hosts(rt: HostRuntime) -> Result<(), Fail> {
-    let mut monitor = example_monitor(rt.alloc())?;
-    assert!(rt; creation_marks(&mut monitor)?);
-    Ok(())
+fn a_creation_marks_the_other_hosts(rt: HostRuntime) {
+    let mut monitor = example_monitor(&rt, rt.alloc());
+    creation_marks(&rt, &mut monitor);
 }
 
 #[test]
-fn an_interrupt_stops_an_enclave(rt: HostRuntime) -> Result<(), Fail> {
-    let mut monitor = example_monitor(rt.alloc())?;
-    assert!(rt; interrupt_stops(&mut monitor)?);
-    Ok(())
+fn an_interrupt_stops_an_enclave(rt: HostRuntime) {
+    let mut monitor = example_monitor(&rt, rt.alloc());
+    interrupt_stops(&rt, &mut monitor);
 }
 
 #[test]
-fn a_destruction_hands_out_the_pages(rt: HostRuntime) -> Result<(), Fail> {
-    let mut monitor = example_monitor(rt.alloc())?;
-    assert!(rt; destruction_clears(&mut monitor)?);
-    Ok(())
+fn a_destruction_hands_out_the_pages(rt: HostRuntime) {
+    let mut monitor = example_monitor(&rt, rt.alloc());
+    destruction_clears(&rt, &mut monitor);
 }

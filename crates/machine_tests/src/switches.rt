@@ -3,7 +3,7 @@
 use context_switch::{Contexts, Hart, switch};
 use pmp_encoding::{Bank, Entry, Limit, Perm, Region};
 use sbi_decode::Registers;
-use std::test::Fail;
+use std::process::Abort;
 use worlds::World;
 
 const A0: usize = 10;
@@ -17,46 +17,44 @@ fn registers_of(pc: u64, a0: u64) -> Registers {
 }
 
 /// The page at this base, with everything allowed there.
-fn page(base: u64) -> Result<Entry, Fail> {
-    let region = Region::new(base, 12).ok_or("no block")?;
-    Ok(Entry {
+fn page(rt: &impl Abort, base: u64) -> Entry {
+    let region = Region::new(base, 12).expect(rt, "a block");
+    Entry {
         region,
         perm: Perm::ReadWriteExecute,
-    })
+    }
 }
 
 #[test]
-fn a_new_hart_is_in_the_hosts_world(rt: HostRuntime) -> Result<(), Fail> {
-    let entries = [page(0x8000_0000)?];
+fn a_new_hart_is_in_the_hosts_world(rt: HostRuntime) {
+    let entries = [page(&rt, 0x8000_0000)];
     let hart = Hart::new(3, entries.as_slice(), Limit::SixtyFour);
-    assert_eq!(rt; hart.number(), 3);
-    assert_eq!(rt; hart.world(), World::Host);
-    assert_eq!(rt; *hart.registers(), Registers::new());
-    assert_eq!(rt; hart.bank().cfg0(), 0x1F);
-    assert_eq!(rt; hart.bank().addr(0), 0x2000_01FF);
-    assert_eq!(rt; hart.bank().limit(), Limit::SixtyFour);
-    Ok(())
+    assert!(rt; hart.number() == 3);
+    assert!(rt; hart.world() == World::Host);
+    assert!(rt; *hart.registers() == Registers::new());
+    assert!(rt; hart.bank().cfg0() == 0x1F);
+    assert!(rt; hart.bank().addr(0) == 0x2000_01FF);
+    assert!(rt; hart.bank().limit() == Limit::SixtyFour);
 }
 
 #[test]
-fn registers_and_bank_are_put_in_place(rt: HostRuntime) -> Result<(), Fail> {
+fn registers_and_bank_are_put_in_place(rt: HostRuntime) {
     let mut hart = Hart::new(1, [].as_slice(), Limit::Sixteen);
     hart.registers_mut().set(A0, 7);
     hart.registers_mut().set_pc(0x8000_0000);
-    assert_eq!(rt; *hart.registers(), registers_of(0x8000_0000, 7));
-    let bank = Bank::of([page(0x8020_0000)?].as_slice(), Limit::Sixteen);
+    assert!(rt; *hart.registers() == registers_of(0x8000_0000, 7));
+    let bank = Bank::of([page(&rt, 0x8020_0000)].as_slice(), Limit::Sixteen);
     hart.put_bank(bank);
-    assert_eq!(rt; *hart.bank(), bank);
-    assert_eq!(rt; *hart.registers(), registers_of(0x8000_0000, 7));
-    assert_eq!(rt; hart.number(), 1);
-    Ok(())
+    assert!(rt; *hart.bank() == bank);
+    assert!(rt; *hart.registers() == registers_of(0x8000_0000, 7));
+    assert!(rt; hart.number() == 1);
 }
 
 #[test]
 fn each_host_and_each_enclave_has_its_own_registers(rt: HostRuntime) {
     let mut contexts = Contexts::new();
-    assert_eq!(rt; contexts.get(3, World::Host), Registers::new());
-    assert_eq!(rt; contexts.get(0, World::Enclave(64)), Registers::new());
+    assert!(rt; contexts.get(3, World::Host) == Registers::new());
+    assert!(rt; contexts.get(0, World::Enclave(64)) == Registers::new());
     for hart in 0..4u8 {
         contexts.set(hart, World::Host, registers_of(0, 100 + hart as u64));
     }
@@ -64,17 +62,17 @@ fn each_host_and_each_enclave_has_its_own_registers(rt: HostRuntime) {
         contexts.set(0, World::Enclave(id), registers_of(0, id));
     }
     for hart in 0..4u8 {
-        assert_eq!(rt; contexts.get(hart, World::Host).get(A0), 100 + hart as u64);
+        assert!(rt; contexts.get(hart, World::Host).get(A0) == 100 + hart as u64);
         for id in 1..65u64 {
-            assert_eq!(rt; contexts.get(hart, World::Enclave(id)).get(A0), id);
+            assert!(rt; contexts.get(hart, World::Enclave(id)).get(A0) == id);
         }
     }
 }
 
 #[test]
-fn a_stopped_enclave_goes_on_where_it_stopped(rt: HostRuntime) -> Result<(), Fail> {
-    let host_entries = [page(0x8000_0000)?, page(0x8000_1000)?];
-    let enclave_entries = [page(0x8020_0000)?];
+fn a_stopped_enclave_goes_on_where_it_stopped(rt: HostRuntime) {
+    let host_entries = [page(&rt, 0x8000_0000), page(&rt, 0x8000_1000)];
+    let enclave_entries = [page(&rt, 0x8020_0000)];
     let enclave = World::Enclave(1);
     let mut hart = Hart::new(0, host_entries.as_slice(), Limit::Sixteen);
     let mut contexts = Contexts::new();
@@ -88,10 +86,10 @@ fn a_stopped_enclave_goes_on_where_it_stopped(rt: HostRuntime) -> Result<(), Fai
         enclave,
         enclave_entries.as_slice(),
     );
-    assert_eq!(rt; hart.world(), enclave);
-    assert_eq!(rt; *hart.registers(), registers_of(0x8020_0000, 1));
-    assert_eq!(rt; hart.bank().addr(0), 0x2008_01FF);
-    assert_eq!(rt; hart.bank().cfg0(), 0x1F);
+    assert!(rt; hart.world() == enclave);
+    assert!(rt; *hart.registers() == registers_of(0x8020_0000, 1));
+    assert!(rt; hart.bank().addr(0) == 0x2008_01FF);
+    assert!(rt; hart.bank().cfg0() == 0x1F);
 
     // It is stopped.
     *hart.registers_mut() = registers_of(0x8020_0040, 7);
@@ -101,9 +99,9 @@ fn a_stopped_enclave_goes_on_where_it_stopped(rt: HostRuntime) -> Result<(), Fai
         World::Host,
         host_entries.as_slice(),
     );
-    assert_eq!(rt; hart.world(), World::Host);
-    assert_eq!(rt; *hart.registers(), registers_of(4, 1));
-    assert_eq!(rt; hart.bank().cfg0(), 0x1F1F);
+    assert!(rt; hart.world() == World::Host);
+    assert!(rt; *hart.registers() == registers_of(4, 1));
+    assert!(rt; hart.bank().cfg0() == 0x1F1F);
 
     // It is resumed.
     switch(
@@ -112,17 +110,14 @@ fn a_stopped_enclave_goes_on_where_it_stopped(rt: HostRuntime) -> Result<(), Fai
         enclave,
         enclave_entries.as_slice(),
     );
-    assert_eq!(rt; *hart.registers(), registers_of(0x8020_0040, 7));
-    assert_eq!(rt; contexts.get(0, World::Host), registers_of(4, 1));
-    Ok(())
+    assert!(rt; *hart.registers() == registers_of(0x8020_0040, 7));
+    assert!(rt; contexts.get(0, World::Host) == registers_of(4, 1));
 }
 
 #[test]
-fn an_enclave_resumed_on_another_hart_returns_to_that_harts_host(
-    rt: HostRuntime,
-) -> Result<(), Fail> {
-    let host_entries = [page(0x8000_0000)?];
-    let enclave_entries = [page(0x8020_0000)?, page(0x8020_1000)?];
+fn an_enclave_resumed_on_another_hart_returns_to_that_harts_host(rt: HostRuntime) {
+    let host_entries = [page(&rt, 0x8000_0000)];
+    let enclave_entries = [page(&rt, 0x8020_0000), page(&rt, 0x8020_1000)];
     let enclave = World::Enclave(64);
     let mut first = Hart::new(0, host_entries.as_slice(), Limit::SixtyFour);
     let mut second = Hart::new(1, host_entries.as_slice(), Limit::SixtyFour);
@@ -144,7 +139,7 @@ fn an_enclave_resumed_on_another_hart_returns_to_that_harts_host(
         World::Host,
         host_entries.as_slice(),
     );
-    assert_eq!(rt; *first.registers(), registers_of(4, 10));
+    assert!(rt; *first.registers() == registers_of(4, 10));
 
     // The second one resumes it, until it stops again.
     *second.registers_mut() = registers_of(8, 11);
@@ -154,17 +149,16 @@ fn an_enclave_resumed_on_another_hart_returns_to_that_harts_host(
         enclave,
         enclave_entries.as_slice(),
     );
-    assert_eq!(rt; *second.registers(), registers_of(0x8020_0040, 7));
-    assert_eq!(rt; second.bank().limit(), Limit::SixtyFour);
+    assert!(rt; *second.registers() == registers_of(0x8020_0040, 7));
+    assert!(rt; second.bank().limit() == Limit::SixtyFour);
     switch(
         &mut second,
         &mut contexts,
         World::Host,
         host_entries.as_slice(),
     );
-    assert_eq!(rt; *second.registers(), registers_of(8, 11));
-    assert_eq!(rt; second.number(), 1);
-    assert_eq!(rt; *first.registers(), registers_of(4, 10));
-    assert_eq!(rt; contexts.get(0, World::Host), registers_of(4, 10));
-    Ok(())
+    assert!(rt; *second.registers() == registers_of(8, 11));
+    assert!(rt; second.number() == 1);
+    assert!(rt; *first.registers() == registers_of(4, 10));
+    assert!(rt; contexts.get(0, World::Host) == registers_of(4, 10));
 }

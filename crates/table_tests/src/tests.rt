@@ -75,7 +75,7 @@ fn table_of(alloc: Global, entries: u8, count: u64, apart: u64) -> Result<Table,
 
 /// The host creates an enclave, and is answered so.
 fn creates(rt: &impl Abort, table: &mut Table, asked: Create, wanted: Result<u64, Refusal>) {
-    assert_eq!(rt; table.create(World::Host, &Zeros {}, asked), wanted);
+    assert!(rt; table.create(World::Host, &Zeros {}, asked) == wanted);
 }
 
 /// The host destroys an enclave, and is answered by the first of its private pages or so refused.
@@ -86,7 +86,7 @@ fn destroys(rt: &impl Abort, table: &mut Table, id: u64, wanted: Result<u64, Ref
 
 /// The host's view uses that many entries.
 fn uses(rt: &impl Abort, table: &Table, wanted: usize) {
-    assert_eq!(rt; table.host_entries().len(), wanted);
+    assert!(rt; table.host_entries().len() == wanted);
 }
 
 /// A page has that owner.
@@ -97,7 +97,7 @@ fn owns(rt: &impl Abort, table: &Table, page: u32, wanted: Owner) {
 /// The bank of the host's entries has this first configuration word.
 fn configures(rt: &impl Abort, table: &Table, wanted: u64) {
     let bank = Bank::of(table.host_entries(), table.limit());
-    assert_eq!(rt; bank.cfg0(), wanted);
+    assert!(rt; bank.cfg0() == wanted);
 }
 
 /// What the host does with a table, or what is so then.

@@ -30,7 +30,7 @@ fn expect_audit(
     let mut out = PieceSink::new(7, None);
     let answer = audit(alloc, map, fewest, listing.as_bytes(), false, &mut out);
     assert!(rt; answer == Ok(means));
-    assert_eq!(rt; out.written(), line.as_bytes());
+    assert!(rt; out.written() == line.as_bytes());
 }
 
 /// That the audit of the listing that asks for each difference has this answer and writes this text.
@@ -45,7 +45,7 @@ fn expect_each(
     let mut out = PieceSink::new(7, None);
     let answer = audit(alloc, map, 3, listing.as_bytes(), true, &mut out);
     assert!(rt; answer == Ok(means));
-    assert_eq!(rt; out.written(), text.as_bytes());
+    assert!(rt; out.written() == text.as_bytes());
 }
 
 #[test]
@@ -246,9 +246,9 @@ fn a_line_and_a_device_that_fail(rt: HostRuntime) {
     let mut out = PieceSink::new(7, None);
     let unknown = audit(rt.alloc(), &map, 0, b"pmpaddr0 1\nwhat\n", false, &mut out);
     assert!(rt; unknown == Err(AuditFault::Line(2)));
-    assert_eq!(rt; out.written().len(), 0);
+    assert!(rt; out.written().len() == 0);
     let mut failing = PieceSink::new(7, Some(2));
     let stopped = audit(rt.alloc(), &map, 0, b"", false, &mut failing);
     assert!(rt; stopped == Err(AuditFault::Device));
-    assert_eq!(rt; failing.written(), b"means t".as_slice());
+    assert!(rt; failing.written() == b"means t".as_slice());
 }

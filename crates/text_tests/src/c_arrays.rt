@@ -108,16 +108,16 @@ fn c_has_the_name_that_is_given(rt: HostRuntime) {
         .is_ok()
     );
     let text = behind_head(&sink);
-    assert_eq!(rt; times(text, b"uint64_t _uart9_pmpaddr[16] = {"), 1);
-    assert_eq!(rt; times(text, b"uint64_t _uart9_pmpcfg[2] = {"), 1);
-    assert_eq!(rt; times(text, b"enum { _uart9_count = 3 };"), 1);
-    assert_eq!(rt; times(text, b"static inline void _uart9_load(void)"), 1);
-    assert_eq!(rt; times(text, b"*addr = _uart9_pmpaddr;"), 1);
-    assert_eq!(rt; times(text, b"*cfg = _uart9_pmpcfg;"), 1);
-    assert_eq!(rt; times(text, b"_uart9_"), 6);
-    assert_eq!(rt; times(text, b"csrw pmpaddr"), 16);
-    assert_eq!(rt; times(text, b"csrw pmpaddr15, %0\" : : \"r\"(addr[15])"), 1);
-    assert_eq!(rt; times(text, b"csrw pmpcfg2, %0\" : : \"r\"(cfg[1])"), 1);
+    assert!(rt; times(text, b"uint64_t _uart9_pmpaddr[16] = {") == 1);
+    assert!(rt; times(text, b"uint64_t _uart9_pmpcfg[2] = {") == 1);
+    assert!(rt; times(text, b"enum { _uart9_count = 3 };") == 1);
+    assert!(rt; times(text, b"static inline void _uart9_load(void)") == 1);
+    assert!(rt; times(text, b"*addr = _uart9_pmpaddr;") == 1);
+    assert!(rt; times(text, b"*cfg = _uart9_pmpcfg;") == 1);
+    assert!(rt; times(text, b"_uart9_") == 6);
+    assert!(rt; times(text, b"csrw pmpaddr") == 16);
+    assert!(rt; times(text, b"csrw pmpaddr15, %0\" : : \"r\"(addr[15])") == 1);
+    assert!(rt; times(text, b"csrw pmpcfg2, %0\" : : \"r\"(cfg[1])") == 1);
 }
 
 #[test]
@@ -142,19 +142,19 @@ fn c_from_entry_six_shares_a_word(rt: HostRuntime) {
     0x0000000020ffffff, /* 8: 0x0000000080000000, 128 MiB, rwx */
     0x0000000000000000, /* 9: off */
 ";
-    assert_eq!(rt; times(text, arrays.as_slice()), 1);
+    assert!(rt; times(text, arrays.as_slice()) == 1);
     let words = b"static const uint64_t pmpcfg[2] = {
     0x181b000000000000, /* pmpcfg0 */
     0x000000000000001f, /* pmpcfg2 */
 };
 ";
-    assert_eq!(rt; times(text, words.as_slice()), 1);
+    assert!(rt; times(text, words.as_slice()) == 1);
     let note = b"/*
  * Writes those of the first entry in use and of all after it. The others are left as
  * they are, and so are their bytes of a configuration word that they share with these.
  * Machine mode calls it on each hart, with mstatus.MPRV = 0.
 ";
-    assert_eq!(rt; times(text, note.as_slice()), 1);
+    assert!(rt; times(text, note.as_slice()) == 1);
     let end = b"    __asm__ volatile(\"csrw pmpaddr14, %0\" : : \"r\"(addr[14]));
     __asm__ volatile(\"csrw pmpaddr15, %0\" : : \"r\"(addr[15]));
     uint64_t kept;
@@ -167,6 +167,6 @@ fn c_from_entry_six_shares_a_word(rt: HostRuntime) {
 #endif
 ";
     assert!(rt; text.ends_with(end.as_slice()));
-    assert_eq!(rt; times(text, b"csrw pmpaddr"), 10);
-    assert_eq!(rt; times(text, b"csrw pmpaddr5,"), 0);
+    assert!(rt; times(text, b"csrw pmpaddr") == 10);
+    assert!(rt; times(text, b"csrw pmpaddr5,") == 0);
 }

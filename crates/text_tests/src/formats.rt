@@ -157,8 +157,8 @@ fn each_write_that_fails_ends_it(rt: HostRuntime) {
             )
             .is_err()
         );
-        assert_eq!(rt; sink.failures, 1);
-        assert_eq!(rt; sink.writes(), k);
+        assert!(rt; sink.failures == 1);
+        assert!(rt; sink.writes() == k);
     }
     let mut sink = PieceSink::new(0, None);
     assert!(rt;

@@ -25,7 +25,7 @@ fn json_from_entry_three_has_real_numbers(rt: HostRuntime) {
     let end =
         b"\n  \"pmpcfg\": [\n    \"0x00001f181b000000\",\n    \"0x0000000000000000\"\n  ]\n}\n";
     assert!(rt; sink.written().starts_with(begin.as_slice()));
-    assert_eq!(rt; times(sink.written(), b"{\"index\": 5, "), 1);
+    assert!(rt; times(sink.written(), b"{\"index\": 5, ") == 1);
     assert!(rt; sink.written().ends_with(end.as_slice()));
     let mut many = PieceSink::new(4096, None);
     assert!(rt;

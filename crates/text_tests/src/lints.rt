@@ -12,13 +12,13 @@ fn expect_lint(rt: &impl Abort, alloc: Global, bytes: &[u8], is_map: bool, wante
     let mut out = PieceSink::new(4096, None);
     let answer = lint(alloc, "m", bytes, &mut out);
     assert!(rt; answer == Ok(is_map));
-    assert_eq!(rt; out.written(), wanted.as_bytes());
+    assert!(rt; out.written() == wanted.as_bytes());
 }
 
 /// That two files make the same map.
 fn expect_same_map(rt: &impl Abort, alloc: Global, one: &[u8], other: &[u8]) {
     match (map_of(alloc, one), map_of(alloc, other)) {
-        (Ok(one), Ok(other)) => assert_eq!(rt; one.ranges(), other.ranges()),
+        (Ok(one), Ok(other)) => assert!(rt; one.ranges() == other.ranges()),
         _ => panic!(rt; "a file makes no map"),
     }
 }

@@ -9,11 +9,8 @@ fn what_plan_prints_is_read_back(rt: HostRuntime) -> Result<(), Fail> {
         b"entries 2\n0 0x18 0x0000000020083dff\n1 0x1d 0x0000000020082fff\npmpcfg0 0x0000000000001d18\npmpcfg2 0x0000000000000000\n";
     let listing = listing_of(listing.as_slice()).expect(&rt, "understood");
     let registers = listing.registers;
-    assert_eq!(rt; &registers.cfgs[..3], [0x18, 0x1d, 0].as_slice());
-    assert_eq!(rt;
-        &registers.addresses[..3],
-        [0x2008_3dff, 0x2008_2fff, 0].as_slice()
-    );
+    assert!(rt; &registers.cfgs[..3] == [0x18, 0x1d, 0].as_slice());
+    assert!(rt; &registers.addresses[..3] == [0x2008_3dff, 0x2008_2fff, 0].as_slice());
     Ok(())
 }
 
@@ -23,13 +20,12 @@ fn registers_in_any_order_and_set_twice(rt: HostRuntime) -> Result<(), Fail> {
         b"# from the boot log\r\npmpcfg14 0x1122334455667788 # the last eight\n\npmpaddr63 7\npmpaddr0 1\npmpaddr0 2\n\tpmpcfg0 255\n2 24 0x10";
     let listing = listing_of(listing.as_slice()).expect(&rt, "understood");
     let registers = listing.registers;
-    assert_eq!(rt; &registers.cfgs[..4], [255, 0, 24, 0].as_slice());
-    assert_eq!(rt;
-        &registers.cfgs[56..],
-        [0x88, 0x77, 0x66, 0x55, 0x44, 0x33, 0x22, 0x11].as_slice()
+    assert!(rt; &registers.cfgs[..4] == [255, 0, 24, 0].as_slice());
+    assert!(rt;
+        &registers.cfgs[56..] == [0x88, 0x77, 0x66, 0x55, 0x44, 0x33, 0x22, 0x11].as_slice()
     );
-    assert_eq!(rt; &registers.addresses[..3], [2, 0, 16].as_slice());
-    assert_eq!(rt; registers.addresses[63], 7);
+    assert!(rt; &registers.addresses[..3] == [2, 0, 16].as_slice());
+    assert!(rt; registers.addresses[63] == 7);
     Ok(())
 }
 
@@ -39,9 +35,9 @@ fn what_gdb_prints(rt: HostRuntime) -> Result<(), Fail> {
         b"mstatus        0x1800\t6144\npmpcfg0        0x1f\t31\npmpcfg2        0x8000000000000000\t-9223372036854775808\npmpaddr0       0x801fff\t8396799\nmseccfg        0x0\t0\n";
     let listing = listing_of(listing.as_slice()).expect(&rt, "understood");
     let registers = listing.registers;
-    assert_eq!(rt; &registers.cfgs[..3], [0x1f, 0, 0].as_slice());
-    assert_eq!(rt; registers.cfgs[15], 0x80);
-    assert_eq!(rt; &registers.addresses[..2], [0x80_1fff, 0].as_slice());
+    assert!(rt; &registers.cfgs[..3] == [0x1f, 0, 0].as_slice());
+    assert!(rt; registers.cfgs[15] == 0x80);
+    assert!(rt; &registers.addresses[..2] == [0x80_1fff, 0].as_slice());
     Ok(())
 }
 
@@ -51,11 +47,8 @@ fn what_openocd_prints(rt: HostRuntime) -> Result<(), Fail> {
         b"mstatus (/64): 0x0000000a00000000\npmpcfg0 (/64): 0x0000000000000f1f\npmpaddr0 (/64): 0x0000000000801fff\npmpaddr1: 0x20\npmpaddr2 : 33\npmpaddr3=0x22\npmpaddr4 = 35\n";
     let listing = listing_of(listing.as_slice()).expect(&rt, "understood");
     let registers = listing.registers;
-    assert_eq!(rt; &registers.cfgs[..3], [0x1f, 0x0f, 0].as_slice());
-    assert_eq!(rt;
-        &registers.addresses[..6],
-        [0x80_1fff, 32, 33, 34, 35, 0].as_slice()
-    );
+    assert!(rt; &registers.cfgs[..3] == [0x1f, 0x0f, 0].as_slice());
+    assert!(rt; &registers.addresses[..6] == [0x80_1fff, 32, 33, 34, 35, 0].as_slice());
     Ok(())
 }
 
@@ -64,9 +57,9 @@ fn other_registers_are_passed_over(rt: HostRuntime) -> Result<(), Fail> {
     let listing =
         b"# gdb\npmpcfg0 0x1f 31\npc 0x80000000 0x80000000 <_start>\nmstatus 0xa00000000 SD:0 VM:00 MXR:0\npriv 0x3 prv:3 [Machine]\nmseccfg 0x0 0\n";
     let listing = listing_of(listing.as_slice()).expect(&rt, "understood");
-    assert_eq!(rt; listing.registers.cfgs[0], 0x1f);
+    assert!(rt; listing.registers.cfgs[0] == 0x1f);
     assert!(rt; listing.passed == Some(3));
-    assert_eq!(rt; listing.mseccfg, 0);
+    assert!(rt; listing.mseccfg == 0);
     Ok(())
 }
 
@@ -74,7 +67,7 @@ fn other_registers_are_passed_over(rt: HostRuntime) -> Result<(), Fail> {
 fn smepmp_is_kept(rt: HostRuntime) -> Result<(), Fail> {
     let listing = b"MSECCFG (/64): 0x0000000000000004\nmseccfg=0x7\npmpaddr0 1\n";
     let listing = listing_of(listing.as_slice()).expect(&rt, "understood");
-    assert_eq!(rt; listing.mseccfg, 7);
+    assert!(rt; listing.mseccfg == 7);
     assert!(rt; listing.passed.is_none());
     Ok(())
 }
@@ -84,8 +77,8 @@ fn names_in_upper_case(rt: HostRuntime) -> Result<(), Fail> {
     let listing = b"PMPADDR0 1\nPmpAddr1: 2\nPMPCFG0=0x1f18\n";
     let listing = listing_of(listing.as_slice()).expect(&rt, "understood");
     let registers = listing.registers;
-    assert_eq!(rt; &registers.cfgs[..3], [0x18, 0x1f, 0].as_slice());
-    assert_eq!(rt; &registers.addresses[..3], [1, 2, 0].as_slice());
+    assert!(rt; &registers.cfgs[..3] == [0x18, 0x1f, 0].as_slice());
+    assert!(rt; &registers.addresses[..3] == [1, 2, 0].as_slice());
     Ok(())
 }
 

@@ -22,7 +22,7 @@ pmpcfg1 0x00000000
 pmpcfg2 0x00000000
 pmpcfg3 0x00000000
 ";
-    assert_eq!(rt; sink.written(), text.as_slice());
+    assert!(rt; sink.written() == text.as_slice());
     let mut sink = PieceSink::new(4096, None);
     assert!(rt; print_plan(Xlen::Rv32, entries.as_slice(), 3, Limit::Sixteen, &mut sink).is_ok());
     let text = b"entries 3
@@ -33,7 +33,7 @@ pmpcfg1 0x00001f18
 pmpcfg2 0x00000000
 pmpcfg3 0x00000000
 ";
-    assert_eq!(rt; sink.written(), text.as_slice());
+    assert!(rt; sink.written() == text.as_slice());
 }
 
 #[test]
@@ -130,7 +130,7 @@ fn c_and_json_say_that_they_are_for_rv32(rt: HostRuntime) {
   ]
 }
 ";
-    assert_eq!(rt; sink.written(), text.as_slice());
+    assert!(rt; sink.written() == text.as_slice());
     let mut sink = PieceSink::new(8192, None);
     assert!(rt;
         print_c(

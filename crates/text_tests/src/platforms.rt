@@ -9,13 +9,13 @@ fn the_example_is_a_platform(rt: HostRuntime) -> Result<(), Fail> {
     let text =
         "[monitor]\nbase = 0x80000000\nsize = 0x200000\n\n[[ram]]\nbase = 0x80000000\nsize = 0x8000000\n\n[[device]]\nbase = 0x10000000\nsize = 0x1000\nperm = \"rw\"\n";
     let platform = platform_of(rt.alloc(), text)?;
-    assert_eq!(rt; platform.harts(), 1);
-    assert_eq!(rt; platform.limit(), Limit::Sixteen);
+    assert!(rt; platform.harts() == 1);
+    assert!(rt; platform.limit() == Limit::Sixteen);
     let other =
         "harts = 4\n\"entries\" = 0o100\nmonitor = { size = 4096, base = 0 }\nram = [{ base = 0b0, size = 0x1_000 }]\ndevice = []";
     let platform = platform_of(rt.alloc(), other)?;
-    assert_eq!(rt; platform.harts(), 4);
-    assert_eq!(rt; platform.limit(), Limit::SixtyFour);
+    assert!(rt; platform.harts() == 4);
+    assert!(rt; platform.limit() == Limit::SixtyFour);
     Ok(())
 }
 
@@ -53,7 +53,7 @@ fn other_texts_are_no_platform(rt: HostRuntime) {
     for text in texts {
         match platform_of(rt.alloc(), text) {
             Ok(_) => assert!(rt; false, "taken"),
-            Err(fault) => assert_eq!(rt; fault, TextFault::NotAPlatform),
+            Err(fault) => assert!(rt; fault == TextFault::NotAPlatform),
         }
     }
 }

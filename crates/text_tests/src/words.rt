@@ -18,7 +18,7 @@ fn sizes_in_the_largest_unit_that_counts_them_whole(rt: HostRuntime) {
     ] {
         let mut line: Line = ArrayVec::new();
         push_size(&mut line, size);
-        assert_eq!(rt; line.as_slice(), text.as_bytes());
+        assert!(rt; line.as_slice() == text.as_bytes());
     }
 }
 
@@ -32,7 +32,7 @@ fn names_and_letters_of_the_six_permissions(rt: HostRuntime) {
         (Perm::ReadExecute, "rx", "r-x"),
         (Perm::ReadWriteExecute, "rwx", "rwx"),
     ] {
-        assert_eq!(rt; perm.word(), name);
-        assert_eq!(rt; letters(perm), text);
+        assert!(rt; perm.word() == name);
+        assert!(rt; letters(perm) == text);
     }
 }

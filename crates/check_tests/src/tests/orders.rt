@@ -51,7 +51,7 @@ fn answers(
     let planned = planned(rt, alloc, map);
     let tree = tree_in(planned.as_slice()).expect(rt, "a certificate");
     let bytes = certificate(alloc, entries, count, tree).expect(rt, "memory");
-    assert_eq!(rt; check(map, &bytes), wanted);
+    assert!(rt; check(map, &bytes) == wanted);
 }
 
 /// The entries of nine bytes each, from the last to the first.

@@ -4,7 +4,6 @@ use super::maps::{far_pages, pages};
 use super::runs::{Ran, denies, prints, refuses, run};
 use std::alloc::Global;
 use std::process::Abort;
-use std::test::Fail;
 
 const CHECK: [&str; 4] = ["pmpmon", "check", "map.txt", "map.pmpc"];
 
@@ -16,38 +15,32 @@ const CERTIFICATE: &[u8] =
     b"PMPC\x01\x01\0\0\0\x1F\xFF\xFF\xFF\xFF\xFF\xFF\x0F\0\x01\x01\0\0\0\x02\0\0\0\x02\0\0\0\x02\0\0\0\x02\0\0\0\x01\0\0\0\0\x07\0\0";
 
 /// The answer to the certificate with other bytes from a place on.
-fn with(alloc: Global, changes: &[(usize, &[u8])]) -> Result<Ran, Fail> {
-    let mut bytes = Vec::from_slice(alloc, CERTIFICATE)?;
+fn with(rt: &impl Abort, alloc: Global, changes: &[(usize, &[u8])]) -> Ran {
+    let mut bytes = Vec::from_slice(alloc, CERTIFICATE).expect(rt, "memory");
     for (at, put) in changes {
         for (i, byte) in put.iter().enumerate() {
             let place = at.saturating_add(i);
             if place < bytes.len() {
                 bytes[place] = *byte;
             } else {
-                bytes.push(*byte)?;
+                bytes.push(*byte).expect(rt, "memory");
             }
         }
     }
-    run(alloc, &CHECK, HALF, bytes.as_slice())
+    run(rt, alloc, &CHECK, HALF, bytes.as_slice())
 }
 
 /// The answer to the certificate with other bytes from a place on is this no.
-fn is_refused(
-    rt: &impl Abort,
-    alloc: Global,
-    changes: &[(usize, &[u8])],
-    line: &str,
-) -> Result<(), Fail> {
-    let ran = with(alloc, changes)?;
-    assert_eq!(rt; ran.out.as_slice(), line.as_bytes());
-    assert_eq!(rt; ran.status, 1);
-    assert_eq!(rt; ran.err.len(), 0);
-    Ok(())
+fn is_refused(rt: &impl Abort, alloc: Global, changes: &[(usize, &[u8])], line: &str) {
+    let ran = with(rt, alloc, changes);
+    assert!(rt; ran.out.as_slice() == line.as_bytes());
+    assert!(rt; ran.status == 1);
+    assert!(rt; ran.err.len() == 0);
 }
 
 #[test]
-fn each_fault_of_a_certificate_has_its_line(rt: HostRuntime) -> Result<(), Fail> {
-    prints(&rt, rt.alloc(), &CHECK, HALF, CERTIFICATE, "accepted 1\n")?;
+fn each_fault_of_a_certificate_has_its_line(rt: HostRuntime) {
+    prints(&rt, rt.alloc(), &CHECK, HALF, CERTIFICATE, "accepted 1\n");
     let rows: [(usize, &[u8], &str); 13] = [
         (0, b"\0", "refused 1 BadMagic\n"),
         (4, b"\x03", "refused 2 BadVersion\n"),
@@ -64,34 +57,32 @@ fn each_fault_of_a_certificate_has_its_line(rt: HostRuntime) -> Result<(), Fail>
         (4, b"\x02\x20", "refused 16 BadLimit\n"),
     ];
     for (at, put, line) in rows {
-        is_refused(&rt, rt.alloc(), &[(at, put)], line)?;
+        is_refused(&rt, rt.alloc(), &[(at, put)], line);
     }
-    Ok(())
 }
 
 #[test]
-fn each_beginning_of_a_certificate_is_truncated(rt: HostRuntime) -> Result<(), Fail> {
+fn each_beginning_of_a_certificate_is_truncated(rt: HostRuntime) {
     for n in 0..CERTIFICATE.len() {
         let cut = CERTIFICATE.get(..n).unwrap_or(&[]);
-        denies(&rt, rt.alloc(), &CHECK, HALF, cut, "refused 3 Truncated\n")?;
+        denies(&rt, rt.alloc(), &CHECK, HALF, cut, "refused 3 Truncated\n");
     }
-    Ok(())
 }
 
 /// A certificate of no entry, and of branches down to below a page.
-fn too_deep(alloc: Global) -> Result<Vec<u8>, Fail> {
-    let mut deep = Vec::from_slice(alloc, b"PMPC\x01\0\0\0\0")?;
+fn too_deep(rt: &impl Abort, alloc: Global) -> Vec<u8> {
+    let mut deep = Vec::from_slice(alloc, b"PMPC\x01\0\0\0\0").expect(rt, "memory");
     for _ in 0..44 {
-        deep.push(1)?;
-        deep.extend_from_slice(&[0; 24])?;
+        deep.push(1).expect(rt, "memory");
+        deep.extend_from_slice(&[0; 24]).expect(rt, "memory");
     }
-    deep.push(1)?;
-    Ok(deep)
+    deep.push(1).expect(rt, "memory");
+    deep
 }
 
 #[test]
-fn a_node_below_a_page_is_too_deep(rt: HostRuntime) -> Result<(), Fail> {
-    let deep = too_deep(rt.alloc())?;
+fn a_node_below_a_page_is_too_deep(rt: HostRuntime) {
+    let deep = too_deep(&rt, rt.alloc());
     denies(
         &rt,
         rt.alloc(),
@@ -103,9 +94,7 @@ fn a_node_below_a_page_is_too_deep(rt: HostRuntime) -> Result<(), Fail> {
 }
 
 #[test]
-fn too_many_entries_come_before_their_meaning_and_this_before_bytes_behind(
-    rt: HostRuntime,
-) -> Result<(), Fail> {
+fn too_many_entries_come_before_their_meaning_and_this_before_bytes_behind(rt: HostRuntime) {
     let few: (usize, &[u8]) = (19, b"\0");
     let another: (usize, &[u8]) = (16, b"\x1F");
     let behind: (usize, &[u8]) = (47, b"\0");
@@ -114,7 +103,7 @@ fn too_many_entries_come_before_their_meaning_and_this_before_bytes_behind(
         rt.alloc(),
         &[few, another, behind],
         "refused 13 EntriesTooMany\n",
-    )?;
+    );
     is_refused(
         &rt,
         rt.alloc(),
@@ -124,21 +113,20 @@ fn too_many_entries_come_before_their_meaning_and_this_before_bytes_behind(
 }
 
 #[test]
-fn a_certificate_of_version_2_names_its_limit(rt: HostRuntime) -> Result<(), Fail> {
+fn a_certificate_of_version_2_names_its_limit(rt: HostRuntime) {
     let whole = b"PMPC\x02\x10\x01\0\0\0\x1F\xFF\xFF\xFF\xFF\xFF\xFF\x1F\0\0\x07";
-    let ran = run(rt.alloc(), &CHECK, b"0 0x100000000000000 rwx", whole)?;
-    assert_eq!(rt; ran.out.as_slice(), b"accepted 1 of 16\n".as_slice());
-    assert_eq!(rt; ran.status, 0);
-    Ok(())
+    let ran = run(&rt, rt.alloc(), &CHECK, b"0 0x100000000000000 rwx", whole);
+    assert!(rt; ran.out.as_slice() == b"accepted 1 of 16\n".as_slice());
+    assert!(rt; ran.status == 0);
 }
 
 #[test]
-fn a_certificate_may_be_larger_than_a_map(rt: HostRuntime) -> Result<(), Fail> {
-    let map = far_pages(rt.alloc(), 4096)?;
+fn a_certificate_may_be_larger_than_a_map(rt: HostRuntime) {
+    let map = far_pages(&rt, rt.alloc(), 4096);
     let plan = ["pmpmon", "plan", "map.txt", "map.pmpc"];
-    let made = run(rt.alloc(), &plan, map.as_slice(), b"")?;
+    let made = run(&rt, rt.alloc(), &plan, map.as_slice(), b"");
     let cert = made.cert.as_slice();
-    assert_eq!(rt; made.status, 0);
+    assert!(rt; made.status == 0);
     assert!(rt; cert.len() > 3 << 20);
     prints(
         &rt,
@@ -147,7 +135,7 @@ fn a_certificate_may_be_larger_than_a_map(rt: HostRuntime) -> Result<(), Fail> {
         map.as_slice(),
         cert,
         "accepted 4096\n",
-    )?;
+    );
     refuses(
         &rt,
         rt.alloc(),
@@ -159,8 +147,8 @@ fn a_certificate_may_be_larger_than_a_map(rt: HostRuntime) -> Result<(), Fail> {
 }
 
 #[test]
-fn a_certificate_above_64_mebibytes_is_too_large(rt: HostRuntime) -> Result<(), Fail> {
-    let mut bytes = vec![in rt.alloc(); 0; 64 << 20]?;
+fn a_certificate_above_64_mebibytes_is_too_large(rt: HostRuntime) {
+    let mut bytes = vec![in rt.alloc(); 0; 64 << 20].expect(&rt, "memory");
     denies(
         &rt,
         rt.alloc(),
@@ -168,22 +156,28 @@ fn a_certificate_above_64_mebibytes_is_too_large(rt: HostRuntime) -> Result<(), 
         HALF,
         bytes.as_slice(),
         "refused 1 BadMagic\n",
-    )?;
-    bytes.push(0)?;
+    );
+    bytes.push(0).expect(&rt, "memory");
     let said = "pmpmon: map.pmpc: too large\n";
     refuses(&rt, rt.alloc(), &CHECK, HALF, bytes.as_slice(), said)
 }
 
 #[test]
-fn a_map_above_the_limit_has_a_certificate(rt: HostRuntime) -> Result<(), Fail> {
-    let map = pages(rt.alloc(), 17)?;
+fn a_map_above_the_limit_has_a_certificate(rt: HostRuntime) {
+    let map = pages(&rt, rt.alloc(), 17);
     let made = run(
+        &rt,
         rt.alloc(),
         &["pmpmon", "plan", "map.txt", "map.pmpc"],
         map.as_slice(),
         b"",
-    )?;
-    let ran = run(rt.alloc(), &CHECK, map.as_slice(), made.cert.as_slice())?;
-    assert_eq!(rt; ran.out.as_slice(), b"accepted 17\n".as_slice());
-    Ok(())
+    );
+    let ran = run(
+        &rt,
+        rt.alloc(),
+        &CHECK,
+        map.as_slice(),
+        made.cert.as_slice(),
+    );
+    assert!(rt; ran.out.as_slice() == b"accepted 17\n".as_slice());
 }

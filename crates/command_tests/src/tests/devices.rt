@@ -9,7 +9,7 @@ use command_line::command_of;
 use monitor_cli::perform;
 use program_files::WholeSink;
 use std::alloc::Global;
-use std::test::Fail;
+use std::process::Abort;
 
 /// A place, and a sink whose k-th call fails, the one that puts its bytes there among them. Nothing stands in the place until
 /// then, and afterwards what was written.
@@ -83,13 +83,14 @@ pub struct Tried {
 
 /// Runs a command line on two inputs and on devices that fail.
 pub fn try_on(
+    rt: &impl Abort,
     alloc: Global,
     words: &[&str],
     first: &[u8],
     second: &[u8],
     failing: Failing,
-) -> Result<Tried, Fail> {
-    let task = command_of(alloc, words)?.task;
+) -> Tried {
+    let task = command_of(alloc, words).expect(rt, "a command line").task;
     let mut first = PieceSource::new(first, failing.piece, failing.first);
     let mut second = PieceSource::new(second, failing.piece, failing.second);
     let mut cert = PlacedSink {
@@ -107,10 +108,10 @@ pub fn try_on(
         &mut out,
         &mut err,
     );
-    Ok(Tried {
+    Tried {
         status,
-        out: Vec::from_slice(alloc, out.written())?,
-        err: Vec::from_slice(alloc, err.written())?,
+        out: Vec::from_slice(alloc, out.written()).expect(rt, "memory"),
+        err: Vec::from_slice(alloc, err.written()).expect(rt, "memory"),
         is_placed: cert.is_placed,
         has_failed: first.failures > 0
             || second.failures > 0
@@ -118,5 +119,5 @@ pub fn try_on(
             || out.failures > 0
             || err.failures > 0,
         second_reads: second.reads(),
-    })
+    }
 }

@@ -4,7 +4,6 @@ use super::devices::{Failing, Tried, try_on};
 use super::runs::run;
 use std::alloc::Global;
 use std::process::Abort;
-use std::test::Fail;
 
 const MAP: &[u8] = b"0x80000000 0x1000 rwx\n0x10000000 0x1000 rw\n";
 
@@ -69,8 +68,8 @@ impl Device {
 /// What a command leaves behind where the device failed: its text, and a beginning of what it prints.
 fn ended_by(rt: &impl Abort, device: Device, tried: &Tried, ample: &Tried) {
     let printed = tried.out.as_slice();
-    assert_eq!(rt; tried.status, 3);
-    assert_eq!(rt; tried.err.as_slice(), device.said().as_bytes());
+    assert!(rt; tried.status == 3);
+    assert!(rt; tried.err.as_slice() == device.said().as_bytes());
     assert!(rt; ample.out.as_slice().starts_with(printed));
     // All lines may have been judged when the read after the last one fails.
     assert!(rt; matches!(device, Device::Second) || printed.len() < ample.out.len());
@@ -79,22 +78,16 @@ fn ended_by(rt: &impl Abort, device: Device, tried: &Tried, ample: &Tried) {
 }
 
 /// Each call of a device fails in turn, until none is left that could.
-fn each_call_fails(
-    rt: &impl Abort,
-    alloc: Global,
-    words: &[&str],
-    second: &[u8],
-    device: Device,
-) -> Result<(), Fail> {
-    let ample = try_on(alloc, words, MAP, second, Failing::none(9))?;
-    assert_eq!(rt; ample.status, 0);
+fn each_call_fails(rt: &impl Abort, alloc: Global, words: &[&str], second: &[u8], device: Device) {
+    let ample = try_on(rt, alloc, words, MAP, second, Failing::none(9));
+    assert!(rt; ample.status == 0);
     assert!(rt; !ample.has_failed);
     for k in 1..2000u64 {
-        let tried = try_on(alloc, words, MAP, second, device.failing_at(k))?;
+        let tried = try_on(rt, alloc, words, MAP, second, device.failing_at(k));
         if !tried.has_failed {
-            assert_eq!(rt; tried.status, 0);
-            assert_eq!(rt; tried.out.as_slice(), ample.out.as_slice());
-            return Ok(());
+            assert!(rt; tried.status == 0);
+            assert!(rt; tried.out.as_slice() == ample.out.as_slice());
+            return;
         }
         ended_by(rt, device, &tried, &ample);
     }
@@ -102,27 +95,21 @@ fn each_call_fails(
 }
 
 /// Each call of each device fails in turn.
-fn each_device_fails(
-    rt: &impl Abort,
-    alloc: Global,
-    words: &[&str],
-    second: &[u8],
-) -> Result<(), Fail> {
+fn each_device_fails(rt: &impl Abort, alloc: Global, words: &[&str], second: &[u8]) {
     for device in DEVICES {
-        each_call_fails(rt, alloc, words, second, device)?;
+        each_call_fails(rt, alloc, words, second, device);
     }
-    Ok(())
 }
 
 #[test]
-fn a_failing_device_ends_a_plan_with_its_text(rt: HostRuntime) -> Result<(), Fail> {
-    each_device_fails(&rt, rt.alloc(), &PLAN, b"")?;
+fn a_failing_device_ends_a_plan_with_its_text(rt: HostRuntime) {
+    each_device_fails(&rt, rt.alloc(), &PLAN, b"");
     let large = ["pmpmon", "plan", "m", "c", "--entries", "64"];
     each_device_fails(&rt, rt.alloc(), &large, b"")
 }
 
 #[test]
-fn a_failing_device_ends_a_judgement_with_its_text(rt: HostRuntime) -> Result<(), Fail> {
+fn a_failing_device_ends_a_judgement_with_its_text(rt: HostRuntime) {
     let words = ["pmpmon", "judge", "m", "s"];
     each_device_fails(
         &rt,
@@ -133,79 +120,81 @@ fn a_failing_device_ends_a_judgement_with_its_text(rt: HostRuntime) -> Result<()
 }
 
 #[test]
-fn a_failing_device_ends_a_check_with_its_text(rt: HostRuntime) -> Result<(), Fail> {
-    let made = run(rt.alloc(), &PLAN, MAP, b"")?;
+fn a_failing_device_ends_a_check_with_its_text(rt: HostRuntime) {
+    let made = run(&rt, rt.alloc(), &PLAN, MAP, b"");
     let words = ["pmpmon", "check", "m", "s"];
     each_device_fails(&rt, rt.alloc(), &words, made.cert.as_slice())
 }
 
 #[test]
-fn a_failing_device_ends_an_audit_with_its_text(rt: HostRuntime) -> Result<(), Fail> {
-    let made = run(rt.alloc(), &["pmpmon", "plan", "m"], MAP, b"")?;
+fn a_failing_device_ends_an_audit_with_its_text(rt: HostRuntime) {
+    let made = run(&rt, rt.alloc(), &["pmpmon", "plan", "m"], MAP, b"");
     let words = ["pmpmon", "audit", "m", "s"];
     each_device_fails(&rt, rt.alloc(), &words, made.out.as_slice())
 }
 
 #[test]
-fn a_failing_device_ends_a_table_with_its_text(rt: HostRuntime) -> Result<(), Fail> {
+fn a_failing_device_ends_a_table_with_its_text(rt: HostRuntime) {
     each_device_fails(&rt, rt.alloc(), &["pmpmon", "show", "m"], b"")
 }
 
 #[test]
-fn a_certificate_is_put_in_its_place_before_the_plan_is_printed(
-    rt: HostRuntime,
-) -> Result<(), Fail> {
-    let ample = try_on(rt.alloc(), &PLAN, MAP, b"", Failing::none(9))?;
+fn a_certificate_is_put_in_its_place_before_the_plan_is_printed(rt: HostRuntime) {
+    let ample = try_on(&rt, rt.alloc(), &PLAN, MAP, b"", Failing::none(9));
     assert!(rt; ample.is_placed);
-    let cut = try_on(rt.alloc(), &PLAN, MAP, b"", Device::Output.failing_at(1))?;
+    let cut = try_on(
+        &rt,
+        rt.alloc(),
+        &PLAN,
+        MAP,
+        b"",
+        Device::Output.failing_at(1),
+    );
     assert!(rt; cut.is_placed);
-    assert_eq!(rt; cut.out.len(), 0);
+    assert!(rt; cut.out.len() == 0);
     let unasked = try_on(
+        &rt,
         rt.alloc(),
         &["pmpmon", "plan", "m"],
         MAP,
         b"",
         Failing::none(9),
-    )?;
+    );
     assert!(rt; !unasked.is_placed);
-    Ok(())
 }
 
 #[test]
-fn a_certificate_that_is_not_put_in_its_place_ends_a_plan(rt: HostRuntime) -> Result<(), Fail> {
+fn a_certificate_that_is_not_put_in_its_place_ends_a_plan(rt: HostRuntime) {
     // The certificate of the empty map is one write of eleven bytes, and the second call puts it in its place.
     let tried = try_on(
+        &rt,
         rt.alloc(),
         &PLAN,
         b"",
         b"",
         Device::Certificate.failing_at(2),
-    )?;
+    );
     assert!(rt; tried.has_failed);
-    assert_eq!(rt; tried.status, 3);
-    assert_eq!(rt; tried.err.as_slice(), CERTIFICATE.as_bytes());
-    assert_eq!(rt; tried.out.len(), 0);
+    assert!(rt; tried.status == 3);
+    assert!(rt; tried.err.as_slice() == CERTIFICATE.as_bytes());
+    assert!(rt; tried.out.len() == 0);
     assert!(rt; !tried.is_placed);
-    Ok(())
 }
 
 #[test]
-fn a_map_at_fault_is_told_before_the_second_file_is_opened(rt: HostRuntime) -> Result<(), Fail> {
+fn a_map_at_fault_is_told_before_the_second_file_is_opened(rt: HostRuntime) {
     for command in ["check", "judge", "audit"] {
         let words = ["pmpmon", command, "m", "s"];
         let tried = try_on(
+            &rt,
             rt.alloc(),
             &words,
             b"what\n",
             b"",
             Device::Second.failing_at(1),
-        )?;
-        assert_eq!(rt; tried.status, 2);
-        assert_eq!(rt;
-            tried.err.as_slice(),
-            b"pmpmon: m: line 1 is not understood\n".as_slice()
         );
-        assert_eq!(rt; tried.second_reads, 0);
+        assert!(rt; tried.status == 2);
+        assert!(rt; tried.err.as_slice() == b"pmpmon: m: line 1 is not understood\n".as_slice());
+        assert!(rt; tried.second_reads == 0);
     }
-    Ok(())
 }

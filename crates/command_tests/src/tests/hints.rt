@@ -6,7 +6,6 @@ use command_line::command_of;
 use monitor_cli::tell_hints;
 use std::alloc::Global;
 use std::process::Abort;
-use std::test::Fail;
 
 const PLATFORM: &[u8] =
     b"harts = 2\n[monitor]\nbase = 0x80000000\nsize = 0x200000\n[[ram]]\nbase = 0x80000000\nsize = 0x8000000\n";
@@ -19,19 +18,18 @@ fn hints(
     first: &[u8],
     second: &[u8],
     wanted: &str,
-) -> Result<(), Fail> {
-    let task = command_of(alloc, words)?.task;
+) {
+    let task = command_of(alloc, words).expect(rt, "a command line").task;
     let mut first = Counted::new(first);
     let mut second = Counted::new(second);
     let mut err = Counted::new(Vec::new(alloc));
     tell_hints(alloc, &task, &mut first, &mut second, &mut err);
     let said = err.into_inner();
-    assert_eq!(rt; said.as_slice(), wanted.as_bytes());
-    Ok(())
+    assert!(rt; said.as_slice() == wanted.as_bytes());
 }
 
 #[test]
-fn the_first_input_at_fault_has_its_hints(rt: HostRuntime) -> Result<(), Fail> {
+fn the_first_input_at_fault_has_its_hints(rt: HostRuntime) {
     let map = b"0x80000000 0x1000 rwx\n";
     let wrong = b"0x80000000 0x8000000 rwx\n0x80000000 0x200400 none\n0x10000000 0x1000 wr\n";
     let of_map =
@@ -43,8 +41,8 @@ fn the_first_input_at_fault_has_its_hints(rt: HostRuntime) -> Result<(), Fail> {
         &["pmpmon", "judge", "m", "t"],
     ];
     for row in words {
-        hints(&rt, rt.alloc(), row, wrong, b"leap\n", of_map)?;
-        hints(&rt, rt.alloc(), row, map, b"", "")?;
+        hints(&rt, rt.alloc(), row, wrong, b"leap\n", of_map);
+        hints(&rt, rt.alloc(), row, map, b"", "");
     }
     let audit = &["pmpmon", "audit", "m", "r"];
     let of_listing =
@@ -56,7 +54,7 @@ fn the_first_input_at_fault_has_its_hints(rt: HostRuntime) -> Result<(), Fail> {
         map,
         b"pmpcfg0 0\nwhat is this\n",
         of_listing,
-    )?;
+    );
     hints(
         &rt,
         rt.alloc(),
@@ -64,10 +62,10 @@ fn the_first_input_at_fault_has_its_hints(rt: HostRuntime) -> Result<(), Fail> {
         b"pmpcfg0 0\nwhat is this\n",
         b"",
         of_listing,
-    )?;
+    );
     let judge = &["pmpmon", "judge", "m", "t"];
     let of_trace = "hint: t:1:1: 'lead' is no event; write load\n";
-    hints(&rt, rt.alloc(), judge, map, b"lead s 8 0\n", of_trace)?;
+    hints(&rt, rt.alloc(), judge, map, b"lead s 8 0\n", of_trace);
     let by_registers = &["pmpmon", "judge", "--registers", "r", "t"];
     hints(
         &rt,
@@ -76,12 +74,11 @@ fn the_first_input_at_fault_has_its_hints(rt: HostRuntime) -> Result<(), Fail> {
         b"pmpcfg0 0\n",
         b"lead s 8 0\n",
         of_trace,
-    )?;
-    Ok(())
+    );
 }
 
 #[test]
-fn a_trace_is_for_the_harts_of_its_platform(rt: HostRuntime) -> Result<(), Fail> {
+fn a_trace_is_for_the_harts_of_its_platform(rt: HostRuntime) {
     let run = &["pmpmon", "run", "p", "t"];
     let of_trace = "hint: t:2:1: '@2' is none of the harts; H is below 2\n";
     hints(
@@ -91,8 +88,8 @@ fn a_trace_is_for_the_harts_of_its_platform(rt: HostRuntime) -> Result<(), Fail>
         PLATFORM,
         b"@1 irq\n@2 irq\n",
         of_trace,
-    )?;
-    hints(&rt, rt.alloc(), run, PLATFORM, b"@1 irq\n", "")?;
+    );
+    hints(&rt, rt.alloc(), run, PLATFORM, b"@1 irq\n", "");
     let of_platform = "hint: p: the key monitor is missing\n";
     hints(
         &rt,
@@ -101,7 +98,7 @@ fn a_trace_is_for_the_harts_of_its_platform(rt: HostRuntime) -> Result<(), Fail>
         b"harts = 1\n",
         b"@2 irq\n",
         of_platform,
-    )?;
+    );
     let lint = &["pmpmon", "lint", "--trace", "t", "--platform", "p"];
     hints(
         &rt,
@@ -110,7 +107,7 @@ fn a_trace_is_for_the_harts_of_its_platform(rt: HostRuntime) -> Result<(), Fail>
         b"leap\n",
         b"harts = 1\n",
         of_platform,
-    )?;
+    );
     hints(
         &rt,
         rt.alloc(),
@@ -118,19 +115,19 @@ fn a_trace_is_for_the_harts_of_its_platform(rt: HostRuntime) -> Result<(), Fail>
         b"leap\n",
         b"",
         "",
-    )?;
-    Ok(())
+    );
 }
 
 #[test]
-fn nothing_is_said_of_an_input_that_is_not_there(rt: HostRuntime) -> Result<(), Fail> {
-    let task = command_of(rt.alloc(), &["pmpmon", "judge", "m", "t"])?.task;
+fn nothing_is_said_of_an_input_that_is_not_there(rt: HostRuntime) {
+    let task = command_of(rt.alloc(), &["pmpmon", "judge", "m", "t"])
+        .expect(&rt, "memory")
+        .task;
     let mut first = PieceSource::new(b"0 0x800 rwx\n", 4, Some(2));
     let mut second = PieceSource::new(b"leap\n", 4, None);
     let mut err = Counted::new(Vec::new(rt.alloc()));
     tell_hints(rt.alloc(), &task, &mut first, &mut second, &mut err);
-    assert_eq!(rt; second.reads(), 0);
+    assert!(rt; second.reads() == 0);
     let said = err.into_inner();
     assert!(rt; said.is_empty());
-    Ok(())
 }

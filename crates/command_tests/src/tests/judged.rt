@@ -3,7 +3,7 @@
 use super::maps::pages;
 use super::runs::{denies, prints, refuses, run, stops};
 use std::alloc::Global;
-use std::test::Fail;
+use std::process::Abort;
 
 const HOST: &[u8] = b"0x80000000 0x8000000 rwx\n0x80000000 0x200000 none\n0x10000000 0x1000 rw\n";
 
@@ -14,7 +14,7 @@ const LARGE: [&str; 6] = ["pmpmon", "judge", "map.txt", "trace.txt", "--entries"
 const CHECK: [&str; 4] = ["pmpmon", "check", "map.txt", "map.pmpc"];
 
 #[test]
-fn accesses_are_judged_by_the_entries_of_the_map(rt: HostRuntime) -> Result<(), Fail> {
+fn accesses_are_judged_by_the_entries_of_the_map(rt: HostRuntime) {
     let rows: [(&[u8], &[u8], &str); 5] = [
         (
             b"0x80000000 0x1000 rwx",
@@ -35,8 +35,8 @@ fn accesses_are_judged_by_the_entries_of_the_map(rt: HostRuntime) -> Result<(), 
         (HOST, b"# only a remark", ""),
     ];
     for (map, trace, out) in rows {
-        prints(&rt, rt.alloc(), &JUDGE, map, trace, out)?;
-        prints(&rt, rt.alloc(), &LARGE, map, trace, out)?;
+        prints(&rt, rt.alloc(), &JUDGE, map, trace, out);
+        prints(&rt, rt.alloc(), &LARGE, map, trace, out);
     }
     refuses(
         &rt,
@@ -49,9 +49,7 @@ fn accesses_are_judged_by_the_entries_of_the_map(rt: HostRuntime) -> Result<(), 
 }
 
 #[test]
-fn other_lines_are_not_understood_behind_the_answers_before_them(
-    rt: HostRuntime,
-) -> Result<(), Fail> {
+fn other_lines_are_not_understood_behind_the_answers_before_them(rt: HostRuntime) {
     let lines: [&[u8]; 13] = [
         b"irq",
         b"reg x1 5",
@@ -68,9 +66,13 @@ fn other_lines_are_not_understood_behind_the_answers_before_them(
         b"load s 8 0\r\r",
     ];
     for line in lines {
-        let mut trace = Vec::from_slice(rt.alloc(), b"fetch s 4 0x80200000\n\n")?;
-        trace.extend_from_slice(line)?;
-        trace.extend_from_slice(b"\nload s 8 0\n")?;
+        let mut trace = Vec::from_slice(rt.alloc(), b"fetch s 4 0x80200000\n\n").expect(
+            &rt, "memory",
+        );
+        trace.extend_from_slice(line).expect(&rt, "memory");
+        trace
+            .extend_from_slice(b"\nload s 8 0\n")
+            .expect(&rt, "memory");
         let said = "pmpmon: trace.txt: line 3 is not understood\n";
         stops(
             &rt,
@@ -80,25 +82,24 @@ fn other_lines_are_not_understood_behind_the_answers_before_them(
             trace.as_slice(),
             "1 ok\n",
             said,
-        )?;
+        );
     }
-    Ok(())
 }
 
 #[test]
-fn accesses_are_judged_by_registers_as_they_stand(rt: HostRuntime) -> Result<(), Fail> {
+fn accesses_are_judged_by_registers_as_they_stand(rt: HostRuntime) {
     let words = ["pmpmon", "judge", "--registers", "board.txt", "trace.txt"];
     let tor = b"pmpaddr0 0x400\npmpaddr1 0x800\npmpcfg0 0x8b00\nmstatus 0x1800\n";
     let trace = b"load u 8 0xff8\nload u 8 0x1000\nstore s 4 0x1ffc 1\nfetch s 4 0x1000\n";
     let answers = "1 fault 5\n2 ok\n3 ok\n4 fault 1\n";
-    prints(&rt, rt.alloc(), &words, tor, trace, answers)?;
+    prints(&rt, rt.alloc(), &words, tor, trace, answers);
     let reserved = b"mstatus 0x1800\n1 0x1a 0x400\n";
     let why =
         "pair 1 0x1a 0x0000000000000400: W without R\n# lines of other registers are passed over, line 1 first\n";
-    denies(&rt, rt.alloc(), &words, reserved, b"what", why)?;
+    denies(&rt, rt.alloc(), &words, reserved, b"what", why);
     let smepmp = b"0 0x1f 0x400\nmseccfg 0x1\n";
     let why = "mseccfg 0x0000000000000001: no verdict, Smepmp is not modelled\n";
-    denies(&rt, rt.alloc(), &words, smepmp, b"what", why)?;
+    denies(&rt, rt.alloc(), &words, smepmp, b"what", why);
     let said = "pmpmon: board.txt: line 1 is not understood\n";
     refuses(
         &rt,
@@ -107,7 +108,7 @@ fn accesses_are_judged_by_registers_as_they_stand(rt: HostRuntime) -> Result<(),
         b"0x80000000 0x1000 rwx\n",
         trace,
         said,
-    )?;
+    );
     let said = "pmpmon: trace.txt: line 2 is not understood\n";
     stops(
         &rt,
@@ -121,8 +122,8 @@ fn accesses_are_judged_by_registers_as_they_stand(rt: HostRuntime) -> Result<(),
 }
 
 #[test]
-fn a_map_that_needs_more_entries_than_there_are_is_not_loaded(rt: HostRuntime) -> Result<(), Fail> {
-    let map = pages(rt.alloc(), 17)?;
+fn a_map_that_needs_more_entries_than_there_are_is_not_loaded(rt: HostRuntime) {
+    let map = pages(&rt, rt.alloc(), 17);
     refuses(
         &rt,
         rt.alloc(),
@@ -130,7 +131,7 @@ fn a_map_that_needs_more_entries_than_there_are_is_not_loaded(rt: HostRuntime) -
         map.as_slice(),
         b"what",
         "pmpmon: needs 17 entries\n",
-    )?;
+    );
     prints(
         &rt,
         rt.alloc(),
@@ -142,8 +143,8 @@ fn a_map_that_needs_more_entries_than_there_are_is_not_loaded(rt: HostRuntime) -
 }
 
 #[test]
-fn a_map_of_sixteen_or_sixty_four_entries_is_judged(rt: HostRuntime) -> Result<(), Fail> {
-    let sixteen = pages(rt.alloc(), 16)?;
+fn a_map_of_sixteen_or_sixty_four_entries_is_judged(rt: HostRuntime) {
+    let sixteen = pages(&rt, rt.alloc(), 16);
     prints(
         &rt,
         rt.alloc(),
@@ -151,8 +152,8 @@ fn a_map_of_sixteen_or_sixty_four_entries_is_judged(rt: HostRuntime) -> Result<(
         sixteen.as_slice(),
         b"load s 8 184320\nload s 8 188416\n",
         "1 ok\n2 fault 5\n",
-    )?;
-    let more = pages(rt.alloc(), 65)?;
+    );
+    let more = pages(&rt, rt.alloc(), 65);
     refuses(
         &rt,
         rt.alloc(),
@@ -164,15 +165,15 @@ fn a_map_of_sixteen_or_sixty_four_entries_is_judged(rt: HostRuntime) -> Result<(
 }
 
 /// The certificate of a map.
-fn certificate(alloc: Global, words: &[&str], map: &[u8]) -> Result<Vec<u8>, Fail> {
-    let made = run(alloc, words, map, b"")?;
-    Ok(made.cert)
+fn certificate(rt: &impl Abort, alloc: Global, words: &[&str], map: &[u8]) -> Vec<u8> {
+    let made = run(rt, alloc, words, map, b"");
+    made.cert
 }
 
 #[test]
-fn a_certificate_is_accepted_for_its_own_map(rt: HostRuntime) -> Result<(), Fail> {
+fn a_certificate_is_accepted_for_its_own_map(rt: HostRuntime) {
     let plan = ["pmpmon", "plan", "map.txt", "map.pmpc"];
-    let cert = certificate(rt.alloc(), &plan, b"0x80208000 0x7000 rx")?;
+    let cert = certificate(&rt, rt.alloc(), &plan, b"0x80208000 0x7000 rx");
     prints(
         &rt,
         rt.alloc(),
@@ -180,12 +181,18 @@ fn a_certificate_is_accepted_for_its_own_map(rt: HostRuntime) -> Result<(), Fail
         b"0x80208000 0x7000 rx",
         cert.as_slice(),
         "accepted 2\n",
-    )?;
-    let other = run(rt.alloc(), &CHECK, b"0x80208000 0x6000 rx", cert.as_slice())?;
+    );
+    let other = run(
+        &rt,
+        rt.alloc(),
+        &CHECK,
+        b"0x80208000 0x6000 rx",
+        cert.as_slice(),
+    );
     assert!(rt; other.out.as_slice().starts_with(b"refused "));
-    assert_eq!(rt; other.status, 1);
+    assert!(rt; other.status == 1);
     let plan = ["pmpmon", "plan", "map.txt", "map.pmpc", "--entries", "64"];
-    let cert = certificate(rt.alloc(), &plan, HOST)?;
+    let cert = certificate(&rt, rt.alloc(), &plan, HOST);
     prints(
         &rt,
         rt.alloc(),
@@ -197,7 +204,7 @@ fn a_certificate_is_accepted_for_its_own_map(rt: HostRuntime) -> Result<(), Fail
 }
 
 #[test]
-fn certificates_are_accepted_or_refused_by_name(rt: HostRuntime) -> Result<(), Fail> {
+fn certificates_are_accepted_or_refused_by_name(rt: HostRuntime) {
     let whole = b"0 0x100000000000000 rwx";
     let right: [(&[u8], &str); 2] = [
         (
@@ -210,7 +217,7 @@ fn certificates_are_accepted_or_refused_by_name(rt: HostRuntime) -> Result<(), F
         ),
     ];
     for (cert, out) in right {
-        prints(&rt, rt.alloc(), &CHECK, whole, cert, out)?;
+        prints(&rt, rt.alloc(), &CHECK, whole, cert, out);
     }
     let wrong: [(&[u8], &str); 5] = [
         (
@@ -226,7 +233,6 @@ fn certificates_are_accepted_or_refused_by_name(rt: HostRuntime) -> Result<(), F
         ),
     ];
     for (cert, out) in wrong {
-        denies(&rt, rt.alloc(), &CHECK, whole, cert, out)?;
+        denies(&rt, rt.alloc(), &CHECK, whole, cert, out);
     }
-    Ok(())
 }

@@ -4,7 +4,6 @@ use super::devices::{Failing, try_on};
 use super::runs::{prints, refuses, run, stops};
 use std::alloc::Global;
 use std::process::Abort;
-use std::test::Fail;
 
 const PLATFORM: &[u8] =
     b"[monitor]\nbase = 0x80000000\nsize = 0x200000\n\n[[ram]]\nbase = 0x80000000\nsize = 0x8000000\n\n[[device]]\nbase = 0x10000000\nsize = 0x1000\nperm = \"rw\"\n";
@@ -14,7 +13,7 @@ const RUN: [&str; 4] = ["pmpmon", "run", "p.toml", "trace.txt"];
 const MEASURE: [&str; 5] = ["pmpmon", "run", "p.toml", "trace.txt", "--measure"];
 
 #[test]
-fn traces_have_their_reports(rt: HostRuntime) -> Result<(), Fail> {
+fn traces_have_their_reports(rt: HostRuntime) {
     let rows: [(&[u8], &str); 5] = [
         (
             b"store s 8 0x80200000 0x1122334455667788\necall 0x08454E43 0 0x80200000 1 0 0 0 0\nload s 8 0x80200000\necall 0x08454E43 2 1\necall 0x08454E43 2 1\nload u 8 0x80200000\nirq\necall 0x08454E43 4 1\necall 0x08454E43 5 7\necall 0x08454E43 4 1\necall 0x08454E43 1 1\necall 0x08454E43 1 1\nload s 8 0x80200000\n",
@@ -30,14 +29,13 @@ fn traces_have_their_reports(rt: HostRuntime) -> Result<(), Fail> {
     ];
     for (trace, report) in rows {
         for words in [RUN.as_slice(), MEASURE.as_slice()] {
-            prints(&rt, rt.alloc(), words, PLATFORM, trace, report)?;
+            prints(&rt, rt.alloc(), words, PLATFORM, trace, report);
         }
     }
-    Ok(())
 }
 
 #[test]
-fn a_line_that_is_not_understood_ends_a_run(rt: HostRuntime) -> Result<(), Fail> {
+fn a_line_that_is_not_understood_ends_a_run(rt: HostRuntime) {
     let rows: [(&[u8], &str, &str); 4] = [
         (
             b"load s 3 0x80200000",
@@ -61,9 +59,8 @@ fn a_line_that_is_not_understood_ends_a_run(rt: HostRuntime) -> Result<(), Fail>
         ),
     ];
     for (trace, report, said) in rows {
-        stops(&rt, rt.alloc(), &MEASURE, PLATFORM, trace, report, said)?;
+        stops(&rt, rt.alloc(), &MEASURE, PLATFORM, trace, report, said);
     }
-    Ok(())
 }
 
 /// The value of a hexadecimal digit.
@@ -96,7 +93,7 @@ fn word(digits: &[u8], is_little: bool) -> u64 {
 }
 
 /// The digits of the words that the calls after the first answered, and those of the line that is after all answers.
-fn digits(alloc: Global, plain: &[u8], measured: &[u8]) -> Result<(Vec<u64>, Vec<u64>), Fail> {
+fn digits(rt: &impl Abort, alloc: Global, plain: &[u8], measured: &[u8]) -> (Vec<u64>, Vec<u64>) {
     let answer: &[u8] = b"2 call 0 0x";
     let line = measured.get(plain.len()..).unwrap_or(&[]);
     let mut said = Vec::new(alloc);
@@ -104,21 +101,28 @@ fn digits(alloc: Global, plain: &[u8], measured: &[u8]) -> Result<(Vec<u64>, Vec
     for k in 0..4usize {
         let from = 32usize.saturating_add(k.saturating_mul(32));
         let call = plain.get(from.saturating_add(answer.len())..);
-        said.push(word(call.unwrap_or(&[]), false))?;
+        said.push(word(call.unwrap_or(&[]), false))
+            .expect(rt, "memory");
         let at = 10usize.saturating_add(k.saturating_mul(16));
-        told.push(word(line.get(at..).unwrap_or(&[]), true))?;
+        told.push(word(line.get(at..).unwrap_or(&[]), true))
+            .expect(rt, "memory");
     }
-    Ok((said, told))
+    (said, told)
 }
 
 #[test]
-fn measurements_are_those_that_the_call_answers(rt: HostRuntime) -> Result<(), Fail> {
+fn measurements_are_those_that_the_call_answers(rt: HostRuntime) {
     let trace =
         b"ecall 0x08454E43 0 0x80200000 1 0 0 0 0\necall 0x08454E43 6 1 0\necall 0x08454E43 6 1 1\necall 0x08454E43 6 1 2\necall 0x08454E43 6 1 3\n";
-    let plain = run(rt.alloc(), &RUN, PLATFORM, trace)?;
-    let measured = run(rt.alloc(), &MEASURE, PLATFORM, trace)?;
-    let (said, told) = digits(rt.alloc(), plain.out.as_slice(), measured.out.as_slice())?;
-    assert_eq!(rt; said.as_slice(), told.as_slice());
+    let plain = run(&rt, rt.alloc(), &RUN, PLATFORM, trace);
+    let measured = run(&rt, rt.alloc(), &MEASURE, PLATFORM, trace);
+    let (said, told) = digits(
+        &rt,
+        rt.alloc(),
+        plain.out.as_slice(),
+        measured.out.as_slice(),
+    );
+    assert!(rt; said.as_slice() == told.as_slice());
     assert!(rt; !said.contains(&0));
     assert!(rt; measured.out.as_slice().starts_with(plain.out.as_slice()));
     let line = measured
@@ -126,16 +130,15 @@ fn measurements_are_those_that_the_call_answers(rt: HostRuntime) -> Result<(), F
         .as_slice()
         .get(plain.out.len()..)
         .unwrap_or(&[]);
-    assert_eq!(rt; line.len(), 75);
+    assert!(rt; line.len() == 75);
     assert!(rt; line.starts_with(b"measure 1 "));
     assert!(rt; line.ends_with(b"\n"));
-    Ok(())
 }
 
 #[test]
-fn harts_are_those_of_the_platform(rt: HostRuntime) -> Result<(), Fail> {
-    let mut two = Vec::from_slice(rt.alloc(), b"harts = 2\n")?;
-    two.extend_from_slice(PLATFORM)?;
+fn harts_are_those_of_the_platform(rt: HostRuntime) {
+    let mut two = Vec::from_slice(rt.alloc(), b"harts = 2\n").expect(&rt, "memory");
+    two.extend_from_slice(PLATFORM).expect(&rt, "memory");
     let trace =
         b"ecall 0x08454E43 0 0x80200000 1 0 0 0 0\n@1 load s 8 0x80200000\n@0 ecall 0x08454E43 2 1\n@1 ecall 0x08454E43 2 1\n@1 ecall 0x08454E43 1 1\n@1 ecall 0x08454E43 0 0x80202000 1 0 0 0 0\n@0 load u 8 0x80200000\n@0 load u 8 0x80202000\n@0 irq\n@1 ecall 0x08454E43 4 1\n@0 ecall 0x08454E43 5 7\n@1 ecall 0x08454E43 5 7\n@0 ecall 0x08454E43 1 1\n@1 load s 8 0x80200000\n@2 irq\n";
     let report =
@@ -145,49 +148,58 @@ fn harts_are_those_of_the_platform(rt: HostRuntime) -> Result<(), Fail> {
 }
 
 /// Fourteen enclaves of a page, each two pages after the last.
-fn scattered(alloc: Global) -> Result<Vec<u8>, Fail> {
+fn scattered(rt: &impl Abort, alloc: Global) -> Vec<u8> {
     let mut trace = Vec::new(alloc);
     for i in 0..14u64 {
         let base = i.saturating_mul(0x2000).saturating_add(0x80200000);
-        let line = format!(in alloc; "ecall 0x08454E43 0 {} 1 0 0 0 0\n", base)?;
-        trace.extend_from_slice(line.as_bytes())?;
+        let line = format!(in alloc; "ecall 0x08454E43 0 {} 1 0 0 0 0\n", base).expect(
+            rt, "memory",
+        );
+        trace
+            .extend_from_slice(line.as_bytes())
+            .expect(rt, "memory");
     }
-    Ok(trace)
+    trace
 }
 
 #[test]
-fn entries_are_those_of_the_platform(rt: HostRuntime) -> Result<(), Fail> {
-    let trace = scattered(rt.alloc())?;
-    let sixteen = run(rt.alloc(), &RUN, PLATFORM, trace.as_slice())?;
+fn entries_are_those_of_the_platform(rt: HostRuntime) {
+    let trace = scattered(&rt, rt.alloc());
+    let sixteen = run(&rt, rt.alloc(), &RUN, PLATFORM, trace.as_slice());
     assert!(rt;
         sixteen.out.as_slice().ends_with(
             b"13 call 0 0x000000000000000d 0 16\n14 call -108 0x0000000000000000 0 16\n"
         )
     );
-    let mut many = Vec::from_slice(rt.alloc(), b"entries = 64\n")?;
-    many.extend_from_slice(PLATFORM)?;
-    let ran = run(rt.alloc(), &RUN, many.as_slice(), trace.as_slice())?;
+    let mut many = Vec::from_slice(rt.alloc(), b"entries = 64\n").expect(&rt, "memory");
+    many.extend_from_slice(PLATFORM).expect(&rt, "memory");
+    let ran = run(&rt, rt.alloc(), &RUN, many.as_slice(), trace.as_slice());
     assert!(rt;
         ran.out
             .as_slice()
             .ends_with(b"14 call 0 0x000000000000000e 0 17\n")
     );
-    Ok(())
 }
 
 /// A platform whose RAM is seventeen pages with gaps between them, and one page far from them.
-fn of_seventeen(alloc: Global) -> Result<Vec<u8>, Fail> {
-    let mut far = Vec::from_slice(alloc, b"monitor = { base = 0, size = 4096 }\nram = [")?;
+fn of_seventeen(rt: &impl Abort, alloc: Global) -> Vec<u8> {
+    let mut far = Vec::from_slice(alloc, b"monitor = { base = 0, size = 4096 }\nram = [").expect(
+        rt, "memory",
+    );
     for i in 0..17u64 {
-        let range = format!(in alloc; "{{ base = {}, size = 4096 }},", i.saturating_mul(12288))?;
-        far.extend_from_slice(range.as_bytes())?;
+        let range = format!(in alloc;
+            "{{ base = {}, size = 4096 }},",
+            i.saturating_mul(12288)
+        ).expect(rt, "memory");
+        far.extend_from_slice(range.as_bytes()).expect(rt, "memory");
     }
-    far.extend_from_slice(b"{ base = 409600, size = 4096 }]\n")?;
-    Ok(far)
+    far.extend_from_slice(b"{ base = 409600, size = 4096 }]\n")
+        .expect(rt, "memory");
+    far
 }
 
 #[test]
-fn a_platform_at_fault_is_told_before_the_trace_is_opened(rt: HostRuntime) -> Result<(), Fail> {
+fn a_platform_at_fault_is_told_before_the_trace_is_opened(rt: HostRuntime) {
     let rows: [&[u8]; 3] = [
         b"",
         b"\xFF",
@@ -195,13 +207,13 @@ fn a_platform_at_fault_is_told_before_the_trace_is_opened(rt: HostRuntime) -> Re
     ];
     for platform in rows {
         let said = "pmpmon: p.toml: not a platform\n";
-        refuses(&rt, rt.alloc(), &RUN, platform, b"what\n", said)?;
+        refuses(&rt, rt.alloc(), &RUN, platform, b"what\n", said);
     }
-    let mut large = vec![in rt.alloc(); b'#'; 1 << 20]?;
-    large.push(b'\n')?;
+    let mut large = vec![in rt.alloc(); b'#'; 1 << 20].expect(&rt, "memory");
+    large.push(b'\n').expect(&rt, "memory");
     let said = "pmpmon: p.toml: too large\n";
-    refuses(&rt, rt.alloc(), &RUN, large.as_slice(), b"what\n", said)?;
-    let far = of_seventeen(rt.alloc())?;
+    refuses(&rt, rt.alloc(), &RUN, large.as_slice(), b"what\n", said);
+    let far = of_seventeen(&rt, rt.alloc());
     let said = "pmpmon: needs 17 entries\n";
     refuses(&rt, rt.alloc(), &RUN, far.as_slice(), b"what\n", said)
 }
@@ -214,19 +226,18 @@ fn ends_behind(
     calls: (Option<u64>, Option<u64>),
     report: &str,
     said: &str,
-) -> Result<(), Fail> {
+) {
     let mut failing = Failing::none(1);
     failing.second = calls.0;
     failing.out = calls.1;
-    let tried = try_on(alloc, &RUN, PLATFORM, trace, failing)?;
-    assert_eq!(rt; tried.status, 3);
-    assert_eq!(rt; tried.out.as_slice(), report.as_bytes());
-    assert_eq!(rt; tried.err.as_slice(), said.as_bytes());
-    Ok(())
+    let tried = try_on(rt, alloc, &RUN, PLATFORM, trace, failing);
+    assert!(rt; tried.status == 3);
+    assert!(rt; tried.out.as_slice() == report.as_bytes());
+    assert!(rt; tried.err.as_slice() == said.as_bytes());
 }
 
 #[test]
-fn a_failing_device_ends_a_run_behind_what_it_took(rt: HostRuntime) -> Result<(), Fail> {
+fn a_failing_device_ends_a_run_behind_what_it_took(rt: HostRuntime) {
     let two = b"irq\nirq\n";
     let output = "pmpmon: standard output: cannot write\n";
     let trace = "pmpmon: trace.txt: cannot read\n";
@@ -237,8 +248,8 @@ fn a_failing_device_ends_a_run_behind_what_it_took(rt: HostRuntime) -> Result<()
         (None, Some(6)),
         "1 irq 0 3\n2 i",
         output,
-    )?;
-    ends_behind(&rt, rt.alloc(), two, (None, Some(1)), "", output)?;
+    );
+    ends_behind(&rt, rt.alloc(), two, (None, Some(1)), "", output);
     ends_behind(
         &rt,
         rt.alloc(),
@@ -246,6 +257,6 @@ fn a_failing_device_ends_a_run_behind_what_it_took(rt: HostRuntime) -> Result<()
         (Some(7), None),
         "1 irq 0 3\n",
         trace,
-    )?;
+    );
     ends_behind(&rt, rt.alloc(), b"irq", (Some(4), None), "", trace)
 }

@@ -3,10 +3,10 @@
 use super::maps::pages;
 use super::runs::{refuses, run};
 use std::alloc::Global;
-use std::test::Fail;
+use std::process::Abort;
 
 #[test]
-fn plans_print_the_fewest_entries_and_their_words(rt: HostRuntime) -> Result<(), Fail> {
+fn plans_print_the_fewest_entries_and_their_words(rt: HostRuntime) {
     let rows: [(&[u8], &[u8]); 7] = [
         (
             b"0x80000000 0x1000 rwx",
@@ -38,75 +38,76 @@ fn plans_print_the_fewest_entries_and_their_words(rt: HostRuntime) -> Result<(),
         ),
     ];
     for (map, out) in rows {
-        let ran = run(rt.alloc(), &["pmpmon", "plan", "map.txt"], map, b"")?;
-        assert_eq!(rt; ran.out.as_slice(), out);
-        assert_eq!(rt; ran.status, 0);
-        assert_eq!(rt; ran.err.len(), 0);
+        let ran = run(&rt, rt.alloc(), &["pmpmon", "plan", "map.txt"], map, b"");
+        assert!(rt; ran.out.as_slice() == out);
+        assert!(rt; ran.status == 0);
+        assert!(rt; ran.err.len() == 0);
     }
-    Ok(())
 }
 
 #[test]
-fn a_plan_for_sixty_four_entries_has_eight_words(rt: HostRuntime) -> Result<(), Fail> {
+fn a_plan_for_sixty_four_entries_has_eight_words(rt: HostRuntime) {
     let words = ["pmpmon", "plan", "map.txt", "--entries", "64"];
-    let ran = run(rt.alloc(), &words, b"0x80000000 0x1000 rwx", b"")?;
+    let ran = run(&rt, rt.alloc(), &words, b"0x80000000 0x1000 rwx", b"");
     let out =
         b"entries 1\n0 0x1f 0x00000000200001ff\npmpcfg0 0x000000000000001f\npmpcfg2 0x0000000000000000\npmpcfg4 0x0000000000000000\npmpcfg6 0x0000000000000000\npmpcfg8 0x0000000000000000\npmpcfg10 0x0000000000000000\npmpcfg12 0x0000000000000000\npmpcfg14 0x0000000000000000\n";
-    assert_eq!(rt; ran.out.as_slice(), out.as_slice());
-    assert_eq!(rt; ran.status, 0);
-    Ok(())
+    assert!(rt; ran.out.as_slice() == out.as_slice());
+    assert!(rt; ran.status == 0);
 }
 
 #[test]
-fn a_plan_that_fits_no_bank_is_printed_without_words(rt: HostRuntime) -> Result<(), Fail> {
-    let map = pages(rt.alloc(), 17)?;
+fn a_plan_that_fits_no_bank_is_printed_without_words(rt: HostRuntime) {
+    let map = pages(&rt, rt.alloc(), 17);
     let ran = run(
+        &rt,
         rt.alloc(),
         &["pmpmon", "plan", "map.txt"],
         map.as_slice(),
         b"",
-    )?;
-    assert_eq!(rt; ran.status, 0);
+    );
+    assert!(rt; ran.status == 0);
     assert!(rt; ran.out.as_slice().starts_with(b"entries 17\n"));
-    assert_eq!(rt; ran.out.iter().filter(|b| **b == b'\n').count(), 18);
+    assert!(rt; ran.out.iter().filter(|b| **b == b'\n').count() == 18);
     assert!(rt;
         ran.out
             .as_slice()
             .ends_with(b"\n16 0x1f 0x000000000000c1ff\n")
     );
     let larger = run(
+        &rt,
         rt.alloc(),
         &["pmpmon", "plan", "map.txt", "--entries", "64"],
         map.as_slice(),
         b"",
-    )?;
-    assert_eq!(rt; larger.out.iter().filter(|b| **b == b'\n').count(), 26);
-    Ok(())
+    );
+    assert!(rt; larger.out.iter().filter(|b| **b == b'\n').count() == 26);
 }
 
 /// How long the certificate of a map is.
-fn certificate_len(alloc: Global, map: &[u8]) -> Result<usize, Fail> {
-    let made = run(alloc, &["pmpmon", "plan", "map.txt", "map.pmpc"], map, b"")?;
-    Ok(made.cert.len())
-}
-
-#[test]
-fn a_plan_writes_its_certificate(rt: HostRuntime) -> Result<(), Fail> {
-    assert_eq!(rt;
-        certificate_len(rt.alloc(), b"0x80000000 0x1000 rwx")?,
-        1208
+fn certificate_len(rt: &impl Abort, alloc: Global, map: &[u8]) -> usize {
+    let made = run(
+        rt,
+        alloc,
+        &["pmpmon", "plan", "map.txt", "map.pmpc"],
+        map,
+        b"",
     );
-    assert_eq!(rt; certificate_len(rt.alloc(), b"0x80208000 0x7000 rx")?, 1217);
-    let words = ["pmpmon", "plan", "map.txt", "map.pmpc"];
-    let empty = run(rt.alloc(), &words, b"", b"")?;
-    assert_eq!(rt; empty.cert.as_slice(), b"PMPC\x01\0\0\0\0\0\0".as_slice());
-    let plain = run(rt.alloc(), &["pmpmon", "plan", "map.txt"], b"", b"")?;
-    assert_eq!(rt; plain.cert.len(), 0);
-    Ok(())
+    made.cert.len()
 }
 
 #[test]
-fn a_map_at_fault_is_named_with_its_first_line_at_fault(rt: HostRuntime) -> Result<(), Fail> {
+fn a_plan_writes_its_certificate(rt: HostRuntime) {
+    assert!(rt; certificate_len(&rt, rt.alloc(), b"0x80000000 0x1000 rwx") == 1208);
+    assert!(rt; certificate_len(&rt, rt.alloc(), b"0x80208000 0x7000 rx") == 1217);
+    let words = ["pmpmon", "plan", "map.txt", "map.pmpc"];
+    let empty = run(&rt, rt.alloc(), &words, b"", b"");
+    assert!(rt; empty.cert.as_slice() == b"PMPC\x01\0\0\0\0\0\0".as_slice());
+    let plain = run(&rt, rt.alloc(), &["pmpmon", "plan", "map.txt"], b"", b"");
+    assert!(rt; plain.cert.len() == 0);
+}
+
+#[test]
+fn a_map_at_fault_is_named_with_its_first_line_at_fault(rt: HostRuntime) {
     let long = [b'#'; 1024];
     let rows: [(&[u8], &str); 12] = [
         (
@@ -160,59 +161,55 @@ fn a_map_at_fault_is_named_with_its_first_line_at_fault(rt: HostRuntime) -> Resu
     ];
     for (map, said) in rows {
         let words = ["pmpmon", "plan", "map.txt", "map.pmpc"];
-        refuses(&rt, rt.alloc(), &words, map, b"", said)?;
+        refuses(&rt, rt.alloc(), &words, map, b"", said);
     }
-    Ok(())
 }
 
 #[test]
-fn a_map_has_at_most_4096_ranges_after_each_line(rt: HostRuntime) -> Result<(), Fail> {
-    let most = pages(rt.alloc(), 4096)?;
+fn a_map_has_at_most_4096_ranges_after_each_line(rt: HostRuntime) {
+    let most = pages(&rt, rt.alloc(), 4096);
     let ran = run(
+        &rt,
         rt.alloc(),
         &["pmpmon", "plan", "map.txt"],
         most.as_slice(),
         b"",
-    )?;
-    assert_eq!(rt; ran.status, 0);
-    let mut more = pages(rt.alloc(), 4097)?;
-    more.extend_from_slice(b"0 0x100000000000000 none\nwhat\n")?;
+    );
+    assert!(rt; ran.status == 0);
+    let mut more = pages(&rt, rt.alloc(), 4097);
+    more.extend_from_slice(b"0 0x100000000000000 none\nwhat\n")
+        .expect(&rt, "memory");
     let ran = run(
+        &rt,
         rt.alloc(),
         &["pmpmon", "plan", "map.txt"],
         more.as_slice(),
         b"",
-    )?;
-    assert_eq!(rt;
-        ran.err.as_slice(),
-        b"pmpmon: map.txt: too many ranges\n".as_slice()
     );
-    assert_eq!(rt; ran.status, 2);
-    Ok(())
+    assert!(rt; ran.err.as_slice() == b"pmpmon: map.txt: too many ranges\n".as_slice());
+    assert!(rt; ran.status == 2);
 }
 
 #[test]
-fn a_map_above_a_mebibyte_is_too_large_whatever_its_lines_are(rt: HostRuntime) -> Result<(), Fail> {
-    let mut map = vec![in rt.alloc(); b'\n'; 1048576]?;
+fn a_map_above_a_mebibyte_is_too_large_whatever_its_lines_are(rt: HostRuntime) {
+    let mut map = vec![in rt.alloc(); b'\n'; 1048576].expect(&rt, "memory");
     let ran = run(
+        &rt,
         rt.alloc(),
         &["pmpmon", "plan", "map.txt"],
         map.as_slice(),
         b"",
-    )?;
-    assert_eq!(rt; ran.status, 0);
-    map[0] = b'x';
-    map.push(b'\n')?;
-    let ran = run(
-        rt.alloc(),
-        &["pmpmon", "plan", "map.txt"],
-        map.as_slice(),
-        b"",
-    )?;
-    assert_eq!(rt;
-        ran.err.as_slice(),
-        b"pmpmon: map.txt: too large\n".as_slice()
     );
-    assert_eq!(rt; ran.status, 2);
-    Ok(())
+    assert!(rt; ran.status == 0);
+    map[0] = b'x';
+    map.push(b'\n').expect(&rt, "memory");
+    let ran = run(
+        &rt,
+        rt.alloc(),
+        &["pmpmon", "plan", "map.txt"],
+        map.as_slice(),
+        b"",
+    );
+    assert!(rt; ran.err.as_slice() == b"pmpmon: map.txt: too large\n".as_slice());
+    assert!(rt; ran.status == 2);
 }

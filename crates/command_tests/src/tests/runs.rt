@@ -5,7 +5,6 @@ use command_line::command_of;
 use monitor_cli::perform;
 use std::alloc::Global;
 use std::process::Abort;
-use std::test::Fail;
 
 /// What a command left behind.
 #[derive(Drop)]
@@ -17,8 +16,8 @@ pub struct Ran {
 }
 
 /// Runs a command line on two inputs.
-pub fn run(alloc: Global, words: &[&str], first: &[u8], second: &[u8]) -> Result<Ran, Fail> {
-    let task = command_of(alloc, words)?.task;
+pub fn run(rt: &impl Abort, alloc: Global, words: &[&str], first: &[u8], second: &[u8]) -> Ran {
+    let task = command_of(alloc, words).expect(rt, "a command line").task;
     let mut first = Counted::new(first);
     let mut second = Counted::new(second);
     let mut cert = Counted::new(Vec::new(alloc));
@@ -33,12 +32,12 @@ pub fn run(alloc: Global, words: &[&str], first: &[u8], second: &[u8]) -> Result
         &mut out,
         &mut err,
     );
-    Ok(Ran {
+    Ran {
         status,
         out: out.into_inner(),
         err: err.into_inner(),
         cert: cert.into_inner(),
-    })
+    }
 }
 
 /// The command line answers this status, prints this and says this. Of what it refuses as bad input it writes no certificate.
@@ -50,13 +49,12 @@ fn ends(
     status: u8,
     out: &[u8],
     err: &[u8],
-) -> Result<(), Fail> {
-    let ran = run(alloc, words, inputs.0, inputs.1)?;
-    assert_eq!(rt; ran.err.as_slice(), err);
-    assert_eq!(rt; ran.out.as_slice(), out);
-    assert_eq!(rt; ran.status, status);
-    assert!(rt; status != 2 || ran.cert.is_empty());
-    Ok(())
+) {
+    let ran = run(rt, alloc, words, inputs.0, inputs.1);
+    assert!(rt; ran.err.as_slice() == err, "{words:?}");
+    assert!(rt; ran.out.as_slice() == out, "{words:?}");
+    assert!(rt; ran.status == status, "{words:?}");
+    assert!(rt; status != 2 || ran.cert.is_empty(), "{words:?}");
 }
 
 /// The command line is done, and prints this.
@@ -67,7 +65,7 @@ pub fn prints(
     first: &[u8],
     second: &[u8],
     out: &str,
-) -> Result<(), Fail> {
+) {
     ends(rt, alloc, words, (first, second), 0, out.as_bytes(), b"")
 }
 
@@ -79,7 +77,7 @@ pub fn denies(
     first: &[u8],
     second: &[u8],
     out: &str,
-) -> Result<(), Fail> {
+) {
     ends(rt, alloc, words, (first, second), 1, out.as_bytes(), b"")
 }
 
@@ -91,7 +89,7 @@ pub fn refuses(
     first: &[u8],
     second: &[u8],
     said: &str,
-) -> Result<(), Fail> {
+) {
     ends(rt, alloc, words, (first, second), 2, b"", said.as_bytes())
 }
 
@@ -104,7 +102,7 @@ pub fn stops(
     second: &[u8],
     out: &str,
     said: &str,
-) -> Result<(), Fail> {
+) {
     ends(
         rt,
         alloc,

@@ -12,12 +12,12 @@ fn with_one_page(rt: &impl Abort, alloc: Global) -> Result<Table, Fail> {
 
 /// The host does not enter an enclave, and is refused so.
 fn refuses_entry(rt: &impl Abort, table: &mut Table, id: u64, entering: Entering, wanted: Refusal) {
-    assert_eq!(rt; table.enter(World::Host, id, entering), Err(wanted));
+    assert!(rt; table.enter(World::Host, id, entering) == Err(wanted));
 }
 
 /// The word of a digest is refused so.
 fn refuses_word(rt: &impl Abort, table: &Table, id: u64, k: u64, wanted: Refusal) {
-    assert_eq!(rt; table.word(id, k), Err(wanted));
+    assert!(rt; table.word(id, k) == Err(wanted));
 }
 
 /// Whether the host enters an enclave, which is not destroyed while it runs, and is then left.
