@@ -9,11 +9,10 @@ mod refusals;
 mod scattered;
 mod views;
 
-use enclave_table::{Create, Owner, Pages, Platform, PlatformFault, Refusal, Table, World};
+use enclave_table::{Create, Owner, Pages, Platform, Refusal, Table, World};
 use pmp_encoding::{Bank, Entry, Perm};
 use std::alloc::Global;
 use std::process::Abort;
-use std::test::Fail;
 
 /// Pages whose bytes are all zero.
 #[derive(Drop)]
@@ -29,20 +28,20 @@ impl Pages for Zeros {
 }
 
 /// The example platform, with that many entries to a hart.
-fn example_platform(entries: u8) -> Result<Platform, PlatformFault> {
+fn example_platform(rt: &impl Abort, entries: u8) -> Platform {
     Platform::new(
         (0x8000_0000, 0x20_0000),
         [(0x8000_0000, 0x800_0000)].as_slice(),
         [(0x1000_0000, 0x1000, Perm::ReadWrite)].as_slice(),
-    )?
+    )
+    .expect(rt, "a platform")
     .with_entries(entries)
+    .expect(rt, "entries")
 }
 
 /// The table of the example platform, with that many entries to a hart.
-fn example_table(alloc: Global, entries: u8) -> Result<Table, Fail> {
-    let platform = example_platform(entries)?;
-    let table = Table::boot(alloc, platform)?;
-    Ok(table)
+fn example_table(rt: &impl Abort, alloc: Global, entries: u8) -> Table {
+    Table::boot(alloc, example_platform(rt, entries)).expect(rt, "memory")
 }
 
 /// One page of text at this address, and nothing else.
@@ -58,19 +57,18 @@ fn page_at(base: u64) -> Create {
 }
 
 /// The host creates enclaves of one page each, the next so far after the last.
-fn creates_pages(table: &mut Table, count: u64, apart: u64) -> Result<(), Refusal> {
+fn creates_pages(rt: &impl Abort, table: &mut Table, count: u64, apart: u64) {
     for i in 0..count.min(64) {
         let asked = page_at(0x8020_0000 + i * apart.min(0x1_0000));
-        let _id = table.create(World::Host, &Zeros {}, asked)?;
+        creates(rt, table, asked, Ok(i + 1));
     }
-    Ok(())
 }
 
 /// The table with enclaves of one page each, the next so far after the last.
-fn table_of(alloc: Global, entries: u8, count: u64, apart: u64) -> Result<Table, Fail> {
-    let mut table = example_table(alloc, entries)?;
-    creates_pages(&mut table, count, apart)?;
-    Ok(table)
+fn table_of(rt: &impl Abort, alloc: Global, entries: u8, count: u64, apart: u64) -> Table {
+    let mut table = example_table(rt, alloc, entries);
+    creates_pages(rt, &mut table, count, apart);
+    table
 }
 
 /// The host creates an enclave, and is answered so.
@@ -118,15 +116,15 @@ enum Step {
 ///
 /// The tests hand their steps to this one and own no table meanwhile: each call beside a table that is owned has one
 /// more way out to prove, on which the table is dropped.
-fn takes(rt: &impl Abort, alloc: Global, table: &mut Table, steps: &[Step]) -> Result<(), Fail> {
+fn takes(rt: &impl Abort, alloc: Global, table: &mut Table, steps: &[Step]) {
     for step in steps {
         match *step {
             Step::Creates(asked, wanted) => creates(rt, table, asked, wanted),
             Step::CreatesSideBySide(count) => {
-                anew::creates_side_by_side(rt, alloc, table, count)?
+                anew::creates_side_by_side(rt, alloc, table, count)
             }
             Step::DestroysEverySecond(first, count) => {
-                anew::destroys_every_second(rt, alloc, table, first, count)?
+                anew::destroys_every_second(rt, alloc, table, first, count)
             }
             Step::Keeps(id) => anew::keeps(rt, table, id),
             Step::Uses(wanted) => uses(rt, table, wanted),
@@ -134,20 +132,12 @@ fn takes(rt: &impl Abort, alloc: Global, table: &mut Table, steps: &[Step]) -> R
             Step::Configures(wanted) => configures(rt, table, wanted),
         }
     }
-    Ok(())
 }
 
 /// Takes the steps on a new table with enclaves of one page each, the next so far after the last.
-fn takes_on(
-    rt: &impl Abort,
-    alloc: Global,
-    entries: u8,
-    count: u64,
-    apart: u64,
-    steps: &[Step],
-) -> Result<(), Fail> {
-    let mut table = table_of(alloc, entries, count, apart)?;
-    takes(rt, alloc, &mut table, steps)
+fn takes_on(rt: &impl Abort, alloc: Global, entries: u8, count: u64, apart: u64, steps: &[Step]) {
+    let mut table = table_of(rt, alloc, entries, count, apart);
+    takes(rt, alloc, &mut table, steps);
 }
 
 /// Whether the entries have these numbers in their address registers.

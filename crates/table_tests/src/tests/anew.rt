@@ -6,24 +6,23 @@ use plan_certificate::write;
 use prefix_tree::{Tree, build};
 
 /// The certificate of a tree and its plan.
-fn certificate(alloc: Global, table: &Table, tree: &Tree) -> Result<Vec<u8>, Fail> {
-    let plan = plan(alloc, tree)?;
-    let bytes = write(alloc, tree, &plan, table.limit())?;
-    Ok(bytes)
+fn certificate(rt: &impl Abort, alloc: Global, table: &Table, tree: &Tree) -> Vec<u8> {
+    let plan = plan(alloc, tree).expect(rt, "memory");
+    write(alloc, tree, &plan, table.limit()).expect(rt, "memory")
 }
 
 /// The certificate of a tree that is built anew of the host's view.
-fn certificate_anew(alloc: Global, table: &Table) -> Result<Vec<u8>, Fail> {
-    let map = table.host_view()?;
-    let tree = build(alloc, &map)?;
-    certificate(alloc, table, &tree)
+fn certificate_anew(rt: &impl Abort, alloc: Global, table: &Table) -> Vec<u8> {
+    let map = table.host_view().expect(rt, "memory");
+    let tree = build(alloc, &map).expect(rt, "memory");
+    certificate(rt, alloc, table, &tree)
 }
 
 /// Whether the tree that is kept has the certificate of one that is built anew of the host's view, and so the same plan.
-fn is_as_built_anew(alloc: Global, table: &Table) -> Result<bool, Fail> {
-    let anew = certificate_anew(alloc, table)?;
-    let kept = certificate(alloc, table, table.host_tree())?;
-    Ok(anew.as_slice() == kept.as_slice())
+fn is_as_built_anew(rt: &impl Abort, alloc: Global, table: &Table) -> bool {
+    let anew = certificate_anew(rt, alloc, table);
+    let kept = certificate(rt, alloc, table, table.host_tree());
+    anew.as_slice() == kept.as_slice()
 }
 
 /// Destroys every second enclave from the id `first` on; each call leaves the tree as if built anew.
@@ -33,27 +32,20 @@ pub fn destroys_every_second(
     table: &mut Table,
     first: u64,
     count: u64,
-) -> Result<(), Fail> {
+) {
     for k in 0..count.min(16) {
         let place = first.min(32) + 2 * k;
         destroys(rt, table, place, Ok(0x801FF + place));
-        assert!(rt; is_as_built_anew(alloc, table)?);
+        assert!(rt; is_as_built_anew(rt, alloc, table));
     }
-    Ok(())
 }
 
 /// Creates enclaves of one page each, side by side; each call leaves the tree as if built anew.
-pub fn creates_side_by_side(
-    rt: &impl Abort,
-    alloc: Global,
-    table: &mut Table,
-    count: u64,
-) -> Result<(), Fail> {
+pub fn creates_side_by_side(rt: &impl Abort, alloc: Global, table: &mut Table, count: u64) {
     for i in 0..count.min(64) {
         creates(rt, table, page_at(0x8020_0000 + i * 0x1000), Ok(i + 1));
-        assert!(rt; is_as_built_anew(alloc, table)?);
+        assert!(rt; is_as_built_anew(rt, alloc, table));
     }
-    Ok(())
 }
 
 /// The first word of an enclave's digest.
@@ -69,7 +61,7 @@ pub fn keeps(rt: &impl Abort, table: &mut Table, id: u64) {
 }
 
 #[test]
-fn destroying_every_second_page_is_refused_at_seventeen(rt: HostRuntime) -> Result<(), Fail> {
+fn destroying_every_second_page_is_refused_at_seventeen(rt: HostRuntime) {
     let steps = [
         Step::Uses(4),
         Step::DestroysEverySecond(1, 12),
@@ -78,11 +70,11 @@ fn destroying_every_second_page_is_refused_at_seventeen(rt: HostRuntime) -> Resu
         Step::Uses(16),
         Step::Owns(0x80218, Owner::Private(25)),
     ];
-    takes_on(&rt, rt.alloc(), 16, 32, 0x1000, steps.as_slice())
+    takes_on(&rt, rt.alloc(), 16, 32, 0x1000, steps.as_slice());
 }
 
 #[test]
-fn all_of_every_second_page_fit_sixty_four_entries(rt: HostRuntime) -> Result<(), Fail> {
+fn all_of_every_second_page_fit_sixty_four_entries(rt: HostRuntime) {
     let steps = [
         Step::Uses(4),
         Step::DestroysEverySecond(1, 13),
@@ -90,13 +82,11 @@ fn all_of_every_second_page_fit_sixty_four_entries(rt: HostRuntime) -> Result<()
         Step::DestroysEverySecond(27, 3),
         Step::Uses(19),
     ];
-    takes_on(&rt, rt.alloc(), 64, 32, 0x1000, steps.as_slice())
+    takes_on(&rt, rt.alloc(), 64, 32, 0x1000, steps.as_slice());
 }
 
 #[test]
-fn each_of_thirty_two_creations_leaves_the_tree_as_if_built_anew(
-    rt: HostRuntime,
-) -> Result<(), Fail> {
+fn each_of_thirty_two_creations_leaves_the_tree_as_if_built_anew(rt: HostRuntime) {
     let steps = [Step::CreatesSideBySide(32), Step::Uses(4)];
-    takes_on(&rt, rt.alloc(), 16, 0, 0, steps.as_slice())
+    takes_on(&rt, rt.alloc(), 16, 0, 0, steps.as_slice());
 }

@@ -4,10 +4,10 @@ use super::*;
 use enclave_table::{Entering, Leaving};
 
 /// The table of the example platform with one enclave of one page.
-fn with_one_page(rt: &impl Abort, alloc: Global) -> Result<Table, Fail> {
-    let mut table = example_table(alloc, 16)?;
+fn with_one_page(rt: &impl Abort, alloc: Global) -> Table {
+    let mut table = example_table(rt, alloc, 16);
     creates(rt, &mut table, page_at(0x8020_0000), Ok(1));
-    Ok(table)
+    table
 }
 
 /// The host does not enter an enclave, and is refused so.
@@ -54,8 +54,8 @@ fn refused_inside(table: &mut Table, id: u64, call: HostCall) -> Option<Refusal>
 }
 
 #[test]
-fn an_enclave_is_entered_stopped_resumed_and_exits(rt: HostRuntime) -> Result<(), Fail> {
-    let mut table = with_one_page(&rt, rt.alloc())?;
+fn an_enclave_is_entered_stopped_resumed_and_exits(rt: HostRuntime) {
+    let mut table = with_one_page(&rt, rt.alloc());
     refuses_entry(&rt, &mut table, 1, Entering::Resume, Refusal::BadState);
     refuses_entry(&rt, &mut table, 2, Entering::Run, Refusal::BadId);
     assert!(rt; runs(&mut table, 1, Entering::Run, Leaving::Stop));
@@ -64,28 +64,26 @@ fn an_enclave_is_entered_stopped_resumed_and_exits(rt: HostRuntime) -> Result<()
     refuses_word(&rt, &table, 1, 4, Refusal::BadWord);
     destroys(&rt, &mut table, 1, Ok(0x80200));
     refuses_word(&rt, &table, 1, 0, Refusal::BadId);
-    Ok(())
 }
 
 /// The answer where the host leaves an enclave that it is not in.
-fn left_by_the_host(rt: &impl Abort, alloc: Global) -> Result<Result<u64, Refusal>, Fail> {
-    let mut table = with_one_page(rt, alloc)?;
-    Ok(table.leave(World::Host, Leaving::Stop))
+fn left_by_the_host(rt: &impl Abort, alloc: Global) -> Result<u64, Refusal> {
+    let mut table = with_one_page(rt, alloc);
+    table.leave(World::Host, Leaving::Stop)
 }
 
 /// How the enclave of a new table is refused such a call.
-fn refused_to_one(rt: &impl Abort, alloc: Global, call: HostCall) -> Result<Option<Refusal>, Fail> {
-    let mut table = with_one_page(rt, alloc)?;
-    Ok(refused_inside(&mut table, 1, call))
+fn refused_to_one(rt: &impl Abort, alloc: Global, call: HostCall) -> Option<Refusal> {
+    let mut table = with_one_page(rt, alloc);
+    refused_inside(&mut table, 1, call)
 }
 
 #[test]
-fn calls_are_for_the_host_or_for_an_enclave(rt: HostRuntime) -> Result<(), Fail> {
-    let left = left_by_the_host(&rt, rt.alloc())?;
+fn calls_are_for_the_host_or_for_an_enclave(rt: HostRuntime) {
+    let left = left_by_the_host(&rt, rt.alloc());
     assert!(rt; left == Err(Refusal::NotEnclave));
     for call in [HostCall::Create, HostCall::Destroy, HostCall::Enter] {
-        let refused = refused_to_one(&rt, rt.alloc(), call)?;
+        let refused = refused_to_one(&rt, rt.alloc(), call);
         assert!(rt; refused == Some(Refusal::NotHost));
     }
-    Ok(())
 }

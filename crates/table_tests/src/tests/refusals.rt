@@ -3,7 +3,7 @@
 use super::*;
 
 #[test]
-fn checks_come_in_their_order(rt: HostRuntime) -> Result<(), Fail> {
+fn checks_come_in_their_order(rt: HostRuntime) {
     let mut many = page_at(0x8020_0800);
     many.text_pages = 0xFFFF_FFFF_FFFF_FFFF;
     let mut inside = page_at(0x8020_0800);
@@ -20,13 +20,13 @@ fn checks_come_in_their_order(rt: HostRuntime) -> Result<(), Fail> {
         Step::Creates(entry, Err(Refusal::BadEntry)),
         Step::Creates(device, Err(Refusal::NotRam)),
     ];
-    takes_on(&rt, rt.alloc(), 16, 0, 0, steps.as_slice())
+    takes_on(&rt, rt.alloc(), 16, 0, 0, steps.as_slice());
 }
 
 #[test]
-fn without_shared_pages_the_shared_base_is_not_read(rt: HostRuntime) -> Result<(), Fail> {
+fn without_shared_pages_the_shared_base_is_not_read(rt: HostRuntime) {
     let mut unused = page_at(0x8020_0000);
     unused.shared_base = 0x1234;
     let steps = [Step::Creates(unused, Ok(1))];
-    takes_on(&rt, rt.alloc(), 16, 0, 0, steps.as_slice())
+    takes_on(&rt, rt.alloc(), 16, 0, 0, steps.as_slice());
 }
