@@ -4,7 +4,6 @@ use permission_map::PermissionMap;
 use pmp_encoding::{Entry, Perm, Region, SPACE_SIZE};
 use std::alloc::Global;
 use std::process::Abort;
-use std::test::Fail;
 use stretches::{ExtentTree, Stretch, extents_of, stretches_by_entries};
 
 /// The entry of that block.
@@ -41,7 +40,7 @@ fn expect_stretches(
 }
 
 #[test]
-fn host_map_and_its_three_entries(rt: HostRuntime) -> Result<(), Fail> {
+fn host_map_and_its_three_entries(rt: HostRuntime) {
     let alloc = rt.alloc();
     let mut map = PermissionMap::new(alloc);
     map.set_range(0x80000, 0x8000, Perm::ReadWriteExecute)
@@ -67,11 +66,10 @@ fn host_map_and_its_three_entries(rt: HostRuntime) -> Result<(), Fail> {
         nothing(0x8800_0000, SPACE_SIZE),
     ];
     expect_stretches(&rt, alloc, &map, entries.as_slice(), wanted.as_slice());
-    Ok(())
 }
 
 #[test]
-fn four_bytes_of_a_page_and_a_run_without_entry(rt: HostRuntime) -> Result<(), Fail> {
+fn four_bytes_of_a_page_and_a_run_without_entry(rt: HostRuntime) {
     let alloc = rt.alloc();
     let mut map = PermissionMap::new(alloc);
     map.set_range(1, 2, Perm::Read).expect(&rt, "inside");
@@ -90,11 +88,10 @@ fn four_bytes_of_a_page_and_a_run_without_entry(rt: HostRuntime) -> Result<(), F
         nothing(0x3000, SPACE_SIZE),
     ];
     expect_stretches(&rt, alloc, &map, entries.as_slice(), wanted.as_slice());
-    Ok(())
 }
 
 #[test]
-fn next_entry_that_meets_a_piece(rt: HostRuntime) -> Result<(), Fail> {
+fn next_entry_that_meets_a_piece(rt: HostRuntime) {
     let alloc = rt.alloc();
     let entries = [
         entry(&rt, 0x3000, 12, Perm::Read),
@@ -113,5 +110,4 @@ fn next_entry_that_meets_a_piece(rt: HostRuntime) -> Result<(), Fail> {
     assert!(rt; tree.next_meeting(0, 0x4000, 0x8001) == Some(2));
     assert!(rt; tree.next_meeting(0, 0x8fff, 0x9000) == Some(2));
     assert!(rt; tree.next_meeting(0, 0x9000, 0xa000) == None);
-    Ok(())
 }

@@ -4,7 +4,6 @@ use permission_map::{MapBuilder, MapFault, PermissionMap, Run};
 use pmp_encoding::Perm;
 use std::alloc::Global;
 use std::process::Abort;
-use std::test::Fail;
 
 /// Pages of the space.
 const SPACE: u64 = 1 << 44;
@@ -48,33 +47,32 @@ fn example() -> [Run; 3] {
 }
 
 #[test]
-fn ranges_become_maximal_runs(rt: HostRuntime) -> Result<(), Fail> {
+fn ranges_become_maximal_runs(rt: HostRuntime) {
     let two_runs = [
         run(0x10000, 1, Perm::ReadWrite),
         run(0x80200, 0x7E00, Perm::ReadWriteExecute),
     ];
-    expect_runs(&rt, rt.alloc(), &example(), &two_runs)?;
+    expect_runs(&rt, rt.alloc(), &example(), &two_runs).expect(&rt, "memory");
     let joining = [
         run(10, 5, Perm::Read),
         run(20, 5, Perm::Read),
         run(15, 5, Perm::Read),
     ];
-    expect_runs(&rt, rt.alloc(), &joining, &[run(10, 15, Perm::Read)])?;
+    expect_runs(&rt, rt.alloc(), &joining, &[run(10, 15, Perm::Read)]).expect(&rt, "memory");
     let splitting = [run(10, 10, Perm::Read), run(13, 2, Perm::Execute)];
     let split = [
         run(10, 3, Perm::Read),
         run(13, 2, Perm::Execute),
         run(15, 5, Perm::Read),
     ];
-    expect_runs(&rt, rt.alloc(), &splitting, &split)?;
+    expect_runs(&rt, rt.alloc(), &splitting, &split).expect(&rt, "memory");
     let last_page = [run(SPACE - 1, 1, Perm::ReadExecute)];
-    expect_runs(&rt, rt.alloc(), &last_page, &last_page)?;
-    Ok(())
+    expect_runs(&rt, rt.alloc(), &last_page, &last_page).expect(&rt, "memory");
 }
 
 #[test]
-fn pages_and_blocks_of_the_example(rt: HostRuntime) -> Result<(), Fail> {
-    let map = map_of(rt.alloc(), &example())?;
+fn pages_and_blocks_of_the_example(rt: HostRuntime) {
+    let map = map_of(rt.alloc(), &example()).expect(&rt, "memory");
     for (page, perm) in [
         (0x10000, Perm::ReadWrite),
         (0x801FF, Perm::NoAccess),
@@ -85,22 +83,20 @@ fn pages_and_blocks_of_the_example(rt: HostRuntime) -> Result<(), Fail> {
     assert!(rt; map.uniform(0x84000, 14) == Some(Perm::ReadWriteExecute));
     assert!(rt; map.uniform(0x80000, 15) == None);
     assert!(rt; map.uniform(0x80000, 9) == Some(Perm::NoAccess));
-    Ok(())
 }
 
 #[test]
-fn one_run_above_the_limit_is_refused(rt: HostRuntime) -> Result<(), Fail> {
+fn one_run_above_the_limit_is_refused(rt: HostRuntime) {
     let mut map = PermissionMap::new(rt.alloc());
     for i in 0..4096u64 {
-        map.set_range(2 * i, 1, Perm::Read)?;
+        map.set_range(2 * i, 1, Perm::Read).expect(&rt, "memory");
     }
-    let before = map.try_clone()?;
+    let before = map.try_clone().expect(&rt, "memory");
     let refused = map.set_range(8192, 1, Perm::Read);
     assert!(rt; refused == Err(MapFault::TooManyRanges));
     assert!(rt; map.ranges() == before.ranges());
-    map.set_range(8191, 1, Perm::Read)?;
+    map.set_range(8191, 1, Perm::Read).expect(&rt, "memory");
     assert!(rt; map.ranges().len() == 4096);
-    Ok(())
 }
 
 #[test]
@@ -121,17 +117,16 @@ fn ranges_past_the_end_are_refused(rt: HostRuntime) {
 }
 
 /// The map of a builder that is given these ranges.
-fn built_of(alloc: Global, ranges: &[Run]) -> Result<PermissionMap, Fail> {
+fn built_of(rt: &impl Abort, alloc: Global, ranges: &[Run]) -> PermissionMap {
     let mut built = MapBuilder::new(alloc);
     for Run { first, count, perm } in ranges {
-        built.set_range(*first, *count, *perm)?;
+        built.set_range(*first, *count, *perm).expect(rt, "memory");
     }
-    let map = built.finish()?;
-    Ok(map)
+    built.finish().expect(rt, "memory")
 }
 
 #[test]
-fn a_built_map_is_the_map_of_its_ranges(rt: HostRuntime) -> Result<(), Fail> {
+fn a_built_map_is_the_map_of_its_ranges(rt: HostRuntime) {
     let over = [
         run(0x80000, 0x8000, Perm::ReadWriteExecute),
         run(0x80000, 0x200, Perm::NoAccess),
@@ -140,21 +135,19 @@ fn a_built_map_is_the_map_of_its_ranges(rt: HostRuntime) -> Result<(), Fail> {
         run(SPACE - 1, 1, Perm::Execute),
         run(0x803FF, 1, Perm::ReadWrite),
     ];
-    let map = map_of(rt.alloc(), &over)?;
-    assert!(rt; built_of(rt.alloc(), &over)?.ranges() == map.ranges());
-    assert!(rt; built_of(rt.alloc(), &[])?.ranges().len() == 0);
-    Ok(())
+    let map = map_of(rt.alloc(), &over).expect(&rt, "memory");
+    assert!(rt; built_of(&rt, rt.alloc(), &over).ranges() == map.ranges());
+    assert!(rt; built_of(&rt, rt.alloc(), &[]).ranges().len() == 0);
 }
 
 #[test]
-fn a_builder_counts_its_runs(rt: HostRuntime) -> Result<(), Fail> {
+fn a_builder_counts_its_runs(rt: HostRuntime) {
     let mut built = MapBuilder::new(rt.alloc());
     for i in 0..4096u64 {
-        built.set_range(2 * i, 1, Perm::Read)?;
+        built.set_range(2 * i, 1, Perm::Read).expect(&rt, "memory");
     }
     let refused = built.set_range(8192, 1, Perm::Read);
     assert!(rt; refused == Err(MapFault::TooManyRanges));
-    built.set_range(8191, 1, Perm::Read)?;
-    assert!(rt; built.finish()?.ranges().len() == 4096);
-    Ok(())
+    built.set_range(8191, 1, Perm::Read).expect(&rt, "memory");
+    assert!(rt; built.finish().expect(&rt, "memory").ranges().len() == 4096);
 }

@@ -6,7 +6,6 @@ use pmp_encoding::{Bank, Entry, Limit, Perm};
 use prefix_tree::{Tree, build};
 use std::alloc::Global;
 use std::process::Abort;
-use std::test::Fail;
 
 /// All permissions, in the order of their costs.
 const PERMS: [Perm; 6] = [
@@ -19,18 +18,17 @@ const PERMS: [Perm; 6] = [
 ];
 
 /// The map that gives these ranges their permissions: the first page, the number of pages, the permission.
-fn map_of(alloc: Global, ranges: &[(u64, u64, Perm)]) -> Result<PermissionMap, Fail> {
+fn map_of(rt: &impl Abort, alloc: Global, ranges: &[(u64, u64, Perm)]) -> PermissionMap {
     let mut map = PermissionMap::new(alloc);
     for (first, count, perm) in ranges {
-        map.set_range(*first, *count, *perm)?;
+        map.set_range(*first, *count, *perm).expect(rt, "memory");
     }
-    Ok(map)
+    map
 }
 
 /// The tree of that map.
-fn tree_of(alloc: Global, ranges: &[(u64, u64, Perm)]) -> Result<Tree, Fail> {
-    let tree = build(alloc, &map_of(alloc, ranges)?)?;
-    Ok(tree)
+fn tree_of(rt: &impl Abort, alloc: Global, ranges: &[(u64, u64, Perm)]) -> Tree {
+    build(alloc, &map_of(rt, alloc, ranges)).expect(rt, "memory")
 }
 
 /// Whether entries are written as these pairs, in this order.
@@ -59,15 +57,13 @@ fn have_same_costs(one: &Plan, other: &Plan) -> bool {
 }
 
 /// Whether a plan without a tree is that of the map's tree, with the same entries and costs.
-fn is_of_tree(alloc: Global, map: &PermissionMap, of_map: &Plan) -> Result<bool, Fail> {
-    let tree = build(alloc, map)?;
-    let plan = plan(alloc, &tree)?;
-    Ok(
-        plan.branches() == tree.branches()
-            && plan.needed() == of_map.needed()
-            && plan.entries() == of_map.entries()
-            && have_same_costs(&plan, of_map),
-    )
+fn is_of_tree(rt: &impl Abort, alloc: Global, map: &PermissionMap, of_map: &Plan) -> bool {
+    let tree = build(alloc, map).expect(rt, "memory");
+    let plan = plan(alloc, &tree).expect(rt, "memory");
+    plan.branches() == tree.branches()
+        && plan.needed() == of_map.needed()
+        && plan.entries() == of_map.entries()
+        && have_same_costs(&plan, of_map)
 }
 
 /// The plan of the ranges has these entries, written as pairs, in this order, and so has that of their map's tree, with
@@ -77,13 +73,13 @@ fn is_planned(
     pairs: &[(u8, u64)],
     alloc: Global,
     rt: &impl Abort,
-) -> Result<Plan, Fail> {
-    let map = map_of(alloc, ranges)?;
-    let plan = plan_map(alloc, &map)?;
+) -> Plan {
+    let map = map_of(rt, alloc, ranges);
+    let plan = plan_map(alloc, &map).expect(rt, "memory");
     assert!(rt; are_written(plan.entries(), pairs));
     assert!(rt; plan.needed() as usize == pairs.len());
-    assert!(rt; is_of_tree(alloc, &map, &plan)?);
-    Ok(plan)
+    assert!(rt; is_of_tree(rt, alloc, &map, &plan));
+    plan
 }
 
 /// The first configuration word of the bank that has the plan's list.
@@ -93,25 +89,23 @@ fn first_word(plan: &Plan, rt: &impl Abort) -> u64 {
 }
 
 #[test]
-fn empty_map_needs_no_entry(rt: HostRuntime) -> Result<(), Fail> {
-    let plan = is_planned(&[], &[], rt.alloc(), &rt)?;
+fn empty_map_needs_no_entry(rt: HostRuntime) {
+    let plan = is_planned(&[], &[], rt.alloc(), &rt);
     assert!(rt; plan.branches() == 0);
-    Ok(())
 }
 
 #[test]
-fn the_whole_space_needs_one_entry(rt: HostRuntime) -> Result<(), Fail> {
+fn the_whole_space_needs_one_entry(rt: HostRuntime) {
     let _ = is_planned(
         &[(0, 1 << 44, Perm::ReadWriteExecute)],
         &[(0x1F, 0x001F_FFFF_FFFF_FFFF)],
         rt.alloc(),
         &rt,
-    )?;
-    Ok(())
+    );
 }
 
 #[test]
-fn a_page_denied_in_the_whole_space_needs_one_more(rt: HostRuntime) -> Result<(), Fail> {
+fn a_page_denied_in_the_whole_space_needs_one_more(rt: HostRuntime) {
     let _ = is_planned(
         &[
             (0, 1 << 44, Perm::ReadWriteExecute),
@@ -120,12 +114,11 @@ fn a_page_denied_in_the_whole_space_needs_one_more(rt: HostRuntime) -> Result<()
         &[(0x18, 0x2000_01FF), (0x1F, 0x001F_FFFF_FFFF_FFFF)],
         rt.alloc(),
         &rt,
-    )?;
-    Ok(())
+    );
 }
 
 #[test]
-fn boot_of_the_example_platform_uses_three_entries(rt: HostRuntime) -> Result<(), Fail> {
+fn boot_of_the_example_platform_uses_three_entries(rt: HostRuntime) {
     let plan = is_planned(
         &[
             (0x80000, 0x8000, Perm::ReadWriteExecute),
@@ -139,49 +132,43 @@ fn boot_of_the_example_platform_uses_three_entries(rt: HostRuntime) -> Result<()
         ],
         rt.alloc(),
         &rt,
-    )?;
+    );
     assert!(rt; first_word(&plan, &rt) == 0x1F_181B);
-    Ok(())
 }
 
 #[test]
-fn seven_pages_need_two_entries(rt: HostRuntime) -> Result<(), Fail> {
+fn seven_pages_need_two_entries(rt: HostRuntime) {
     let plan = is_planned(
         &[(0x80208, 7, Perm::ReadExecute)],
         &[(0x18, 0x2008_3DFF), (0x1D, 0x2008_2FFF)],
         rt.alloc(),
         &rt,
-    )?;
+    );
     assert!(rt; first_word(&plan, &rt) == 0x1D18);
-    Ok(())
 }
 
 #[test]
-fn one_page_of_four_is_overridden(rt: HostRuntime) -> Result<(), Fail> {
+fn one_page_of_four_is_overridden(rt: HostRuntime) {
     let _ = is_planned(
         &[(0x80000, 4, Perm::Read), (0x80001, 1, Perm::ReadWrite)],
         &[(0x1B, 0x2000_05FF), (0x19, 0x2000_07FF)],
         rt.alloc(),
         &rt,
-    )?;
-    Ok(())
+    );
 }
 
 #[test]
-fn the_inherited_permission_stays_where_it_is_best_for_a_half(rt: HostRuntime) -> Result<(), Fail> {
+fn the_inherited_permission_stays_where_it_is_best_for_a_half(rt: HostRuntime) {
     let _ = is_planned(
         &[(0x80000, 4, Perm::Read), (0x80001, 1, Perm::NoAccess)],
         &[(0x19, 0x2000_01FF), (0x19, 0x2000_0BFF)],
         rt.alloc(),
         &rt,
-    )?;
-    Ok(())
+    );
 }
 
 #[test]
-fn the_first_permission_that_is_best_for_both_halves_is_placed(
-    rt: HostRuntime,
-) -> Result<(), Fail> {
+fn the_first_permission_that_is_best_for_both_halves_is_placed(rt: HostRuntime) {
     let _ = is_planned(
         &[
             (0x80000, 4, Perm::Read),
@@ -195,12 +182,11 @@ fn the_first_permission_that_is_best_for_both_halves_is_placed(
         ],
         rt.alloc(),
         &rt,
-    )?;
-    Ok(())
+    );
 }
 
 #[test]
-fn a_tie_is_settled_as_two_pages(rt: HostRuntime) -> Result<(), Fail> {
+fn a_tie_is_settled_as_two_pages(rt: HostRuntime) {
     let plan = is_planned(
         &[
             (0x80200, 1, Perm::ReadExecute),
@@ -214,56 +200,57 @@ fn a_tie_is_settled_as_two_pages(rt: HostRuntime) -> Result<(), Fail> {
         ],
         rt.alloc(),
         &rt,
-    )?;
+    );
     assert!(rt; first_word(&plan, &rt) == 0x1B_1B1D);
-    Ok(())
 }
 
 /// How many entries the host of the example platform needs where these many single pages, each second one from
 /// 0x80200000 on, are private to enclaves.
-fn needed_beside_scattered_pages(alloc: Global, pages: u32) -> Result<u32, Fail> {
+fn needed_beside_scattered_pages(rt: &impl Abort, alloc: Global, pages: u32) -> u32 {
     let mut map = PermissionMap::new(alloc);
-    map.set_range(0x80000, 0x8000, Perm::ReadWriteExecute)?;
-    map.set_range(0x80000, 0x200, Perm::NoAccess)?;
-    map.set_range(0x10000, 1, Perm::ReadWrite)?;
+    map.set_range(0x80000, 0x8000, Perm::ReadWriteExecute)
+        .expect(rt, "memory");
+    map.set_range(0x80000, 0x200, Perm::NoAccess)
+        .expect(rt, "memory");
+    map.set_range(0x10000, 1, Perm::ReadWrite)
+        .expect(rt, "memory");
     for i in 0..pages {
-        map.set_range(0x80200 + 2 * u64::from(i), 1, Perm::NoAccess)?;
+        map.set_range(0x80200 + 2 * u64::from(i), 1, Perm::NoAccess)
+            .expect(rt, "memory");
     }
-    let tree = build(alloc, &map)?;
-    let plan = plan(alloc, &tree)?;
-    Ok(plan.needed())
+    let tree = build(alloc, &map).expect(rt, "memory");
+    let plan = plan(alloc, &tree).expect(rt, "memory");
+    plan.needed()
 }
 
 #[test]
-fn thirteen_scattered_pages_fit_sixteen_entries(rt: HostRuntime) -> Result<(), Fail> {
-    assert!(rt; needed_beside_scattered_pages(rt.alloc(), 13)? == 16);
-    assert!(rt; needed_beside_scattered_pages(rt.alloc(), 14)? == 17);
-    Ok(())
+fn thirteen_scattered_pages_fit_sixteen_entries(rt: HostRuntime) {
+    assert!(rt; needed_beside_scattered_pages(&rt, rt.alloc(), 13) == 16);
+    assert!(rt; needed_beside_scattered_pages(&rt, rt.alloc(), 14) == 17);
 }
 
 /// How many entries the ranges need.
-fn needed(alloc: Global, ranges: &[(u64, u64, Perm)]) -> Result<u32, Fail> {
-    let tree = tree_of(alloc, ranges)?;
-    let plan = plan(alloc, &tree)?;
-    Ok(plan.needed())
+fn needed(rt: &impl Abort, alloc: Global, ranges: &[(u64, u64, Perm)]) -> u32 {
+    let tree = tree_of(rt, alloc, ranges);
+    let plan = plan(alloc, &tree).expect(rt, "memory");
+    plan.needed()
 }
 
 #[test]
-fn one_shared_page_more_needs_one_entry_more(rt: HostRuntime) -> Result<(), Fail> {
+fn one_shared_page_more_needs_one_entry_more(rt: HostRuntime) {
     let text = (0x804AB, 170, Perm::ReadExecute);
     let data = (0x80555, 342, Perm::ReadWrite);
     let ten = [text, data, (0x81000, 10, Perm::ReadWrite)];
-    assert!(rt; needed(rt.alloc(), &ten)? == 16);
+    assert!(rt; needed(&rt, rt.alloc(), &ten) == 16);
     let eleven = [text, data, (0x81000, 11, Perm::ReadWrite)];
-    assert!(rt; needed(rt.alloc(), &eleven)? == 17);
-    Ok(())
+    assert!(rt; needed(&rt, rt.alloc(), &eleven) == 17);
 }
 
 #[test]
-fn the_lower_half_costs_one_under_either_permission(rt: HostRuntime) -> Result<(), Fail> {
+fn the_lower_half_costs_one_under_either_permission(rt: HostRuntime) {
     let ranges = [(0, 1 << 43, Perm::ReadWriteExecute)];
-    let tree = tree_of(rt.alloc(), &ranges)?;
-    let plan = plan(rt.alloc(), &tree)?;
+    let tree = tree_of(&rt, rt.alloc(), &ranges);
+    let plan = plan(rt.alloc(), &tree).expect(&rt, "memory");
     assert!(rt; plan.branches() == 1);
     assert!(rt; plan.cost(0, Perm::NoAccess) == 1);
     assert!(rt; plan.cost(0, Perm::Read) == 2);
@@ -271,5 +258,4 @@ fn the_lower_half_costs_one_under_either_permission(rt: HostRuntime) -> Result<(
     assert!(rt; plan.cost(0, Perm::Execute) == 2);
     assert!(rt; plan.cost(0, Perm::ReadExecute) == 2);
     assert!(rt; plan.cost(0, Perm::ReadWriteExecute) == 1);
-    Ok(())
 }

@@ -6,7 +6,6 @@ use prefix_tree::{Block, Parts, Tree, build};
 use std::alloc::Global;
 use std::process::Abort;
 use std::rc::Rc;
-use std::test::Fail;
 
 const PAGES: u64 = 1 << 44;
 
@@ -22,85 +21,79 @@ fn same(one: &Block, other: &Block, height: u32) -> bool {
 }
 
 /// A page at the bottom, two runs that a page lies between, and the two pages at the top.
-fn example_map(alloc: Global) -> Result<PermissionMap, Fail> {
+fn example_map(rt: &impl Abort, alloc: Global) -> PermissionMap {
     let mut map = PermissionMap::new(alloc);
-    map.set_range(0, 1, Perm::Read)?;
-    map.set_range(16, 16, Perm::ReadWrite)?;
-    map.set_range(33, 8, Perm::ReadWrite)?;
-    map.set_range(PAGES - 2, 2, Perm::ReadWriteExecute)?;
-    Ok(map)
+    map.set_range(0, 1, Perm::Read).expect(rt, "memory");
+    map.set_range(16, 16, Perm::ReadWrite).expect(rt, "memory");
+    map.set_range(33, 8, Perm::ReadWrite).expect(rt, "memory");
+    map.set_range(PAGES - 2, 2, Perm::ReadWriteExecute)
+        .expect(rt, "memory");
+    map
 }
 
 /// Whether a version is as the tree that is built of the map.
-fn is_built_of(alloc: Global, version: &Tree, map: &PermissionMap) -> Result<bool, Fail> {
-    let tree = build(alloc, map)?;
-    Ok(version.branches() == tree.branches() && same(version.root(), tree.root(), 44))
+fn is_built_of(rt: &impl Abort, alloc: Global, version: &Tree, map: &PermissionMap) -> bool {
+    let tree = build(alloc, map).expect(rt, "memory");
+    version.branches() == tree.branches() && same(version.root(), tree.root(), 44)
 }
 
 /// The version with the range is the tree that is built of the map with the range, and both are refused alike.
-fn versions_agree(
-    alloc: Global,
-    first: u64,
-    count: u64,
-    perm: Perm,
-    rt: &impl Abort,
-) -> Result<(), Fail> {
-    let mut map = example_map(alloc)?;
-    let old = build(alloc, &map)?;
+fn versions_agree(alloc: Global, first: u64, count: u64, perm: Perm, rt: &impl Abort) {
+    let mut map = example_map(rt, alloc);
+    let old = build(alloc, &map).expect(rt, "memory");
     let wanted = map.set_range(first, count, perm);
     match old.with_range(first, count, perm) {
         Ok(version) => {
             assert!(rt; wanted.is_ok());
-            assert!(rt; is_built_of(alloc, &version, &map)?);
+            assert!(rt; is_built_of(rt, alloc, &version, &map));
         }
         Err(fault) => assert!(rt; wanted.err() == Some(fault)),
     }
-    Ok(())
 }
 
 #[test]
-fn empty_map_is_one_leaf(rt: HostRuntime) -> Result<(), Fail> {
-    let tree = build(rt.alloc(), &PermissionMap::new(rt.alloc()))?;
+fn empty_map_is_one_leaf(rt: HostRuntime) {
+    let tree = build(rt.alloc(), &PermissionMap::new(rt.alloc())).expect(&rt, "memory");
     assert!(rt; tree.branches() == 0);
     assert!(rt; matches!(tree.root().parts(), Parts::Leaf(Perm::NoAccess)));
-    Ok(())
 }
 
 #[test]
-fn whole_space_is_one_leaf(rt: HostRuntime) -> Result<(), Fail> {
+fn whole_space_is_one_leaf(rt: HostRuntime) {
     let mut map = PermissionMap::new(rt.alloc());
-    map.set_range(0, PAGES, Perm::ReadWriteExecute)?;
-    let tree = build(rt.alloc(), &map)?;
+    map.set_range(0, PAGES, Perm::ReadWriteExecute)
+        .expect(&rt, "memory");
+    let tree = build(rt.alloc(), &map).expect(&rt, "memory");
     assert!(rt; tree.branches() == 0);
     assert!(rt; matches!(tree.root().parts(), Parts::Leaf(Perm::ReadWriteExecute)));
-    Ok(())
 }
 
 #[test]
-fn one_page_splits_each_block_around_it(rt: HostRuntime) -> Result<(), Fail> {
+fn one_page_splits_each_block_around_it(rt: HostRuntime) {
     let mut map = PermissionMap::new(rt.alloc());
-    map.set_range(0x80000, 1, Perm::ReadWriteExecute)?;
-    assert!(rt; build(rt.alloc(), &map)?.branches() == 44);
-    Ok(())
+    map.set_range(0x80000, 1, Perm::ReadWriteExecute)
+        .expect(&rt, "memory");
+    assert!(rt; build(rt.alloc(), &map).expect(&rt, "memory").branches() == 44);
 }
 
 #[test]
-fn halves_of_the_space_split_it_once(rt: HostRuntime) -> Result<(), Fail> {
+fn halves_of_the_space_split_it_once(rt: HostRuntime) {
     let mut map = PermissionMap::new(rt.alloc());
-    map.set_range(0, PAGES / 2, Perm::Read)?;
-    map.set_range(PAGES / 2, PAGES / 2, Perm::Execute)?;
-    let tree = build(rt.alloc(), &map)?;
+    map.set_range(0, PAGES / 2, Perm::Read)
+        .expect(&rt, "memory");
+    map.set_range(PAGES / 2, PAGES / 2, Perm::Execute)
+        .expect(&rt, "memory");
+    let tree = build(rt.alloc(), &map).expect(&rt, "memory");
     assert!(rt; tree.branches() == 1);
     let Parts::Halves(lower, upper) = tree.root().parts() else {
-        return Err(Fail::from("not split"));
+        panic!(rt; "not split");
     };
     assert!(rt; matches!(lower.parts(), Parts::Leaf(Perm::Read)));
     assert!(rt; matches!(upper.parts(), Parts::Leaf(Perm::Execute)));
-    Ok(())
 }
 
 #[test]
-fn versions_are_as_built_afresh(rt: HostRuntime) -> Result<(), Fail> {
+fn versions_are_as_built_afresh(rt: HostRuntime) {
     let cases = [
         (5, 0, Perm::Read),
         (PAGES, 0, Perm::Read),
@@ -122,9 +115,8 @@ fn versions_are_as_built_afresh(rt: HostRuntime) -> Result<(), Fail> {
         (u64::MAX, u64::MAX, Perm::Read),
     ];
     for (first, count, perm) in cases {
-        versions_agree(rt.alloc(), first, count, perm, &rt)?;
+        versions_agree(rt.alloc(), first, count, perm, &rt);
     }
-    Ok(())
 }
 
 /// Whether two trees have the same halves of the upper half of the space, where both split it.
@@ -139,23 +131,23 @@ fn share_upper_halves(one: &Tree, other: &Tree) -> Option<bool> {
 }
 
 /// Whether the version with the range shares the upper half of the upper half with the tree, where both split it.
-fn shares(tree: &Tree, first: u64, count: u64) -> Result<Option<bool>, Fail> {
-    let version = tree.with_range(first, count, Perm::Execute)?;
-    Ok(share_upper_halves(tree, &version))
+fn shares(rt: &impl Abort, tree: &Tree, first: u64, count: u64) -> Option<bool> {
+    let version = tree
+        .with_range(first, count, Perm::Execute)
+        .expect(rt, "memory");
+    share_upper_halves(tree, &version)
 }
 
 /// The tree of the example map.
-fn example_tree(alloc: Global) -> Result<Tree, Fail> {
-    let tree = build(alloc, &example_map(alloc)?)?;
-    Ok(tree)
+fn example_tree(rt: &impl Abort, alloc: Global) -> Tree {
+    build(alloc, &example_map(rt, alloc)).expect(rt, "memory")
 }
 
 #[test]
-fn what_the_range_does_not_meet_is_shared(rt: HostRuntime) -> Result<(), Fail> {
-    let tree = example_tree(rt.alloc())?;
-    assert!(rt; shares(&tree, 3, 5)? == Some(true));
-    assert!(rt; shares(&tree, PAGES - 1, 1)? == Some(false));
-    Ok(())
+fn what_the_range_does_not_meet_is_shared(rt: HostRuntime) {
+    let tree = example_tree(&rt, rt.alloc());
+    assert!(rt; shares(&rt, &tree, 3, 5) == Some(true));
+    assert!(rt; shares(&rt, &tree, PAGES - 1, 1) == Some(false));
 }
 
 /// Why there is no version with the range, where there is none.
@@ -164,34 +156,36 @@ fn refusal(tree: &Tree, first: u64, count: u64, perm: Perm) -> Option<MapFault> 
 }
 
 #[test]
-fn most_ranges_build_and_one_more_is_refused(rt: HostRuntime) -> Result<(), Fail> {
+fn most_ranges_build_and_one_more_is_refused(rt: HostRuntime) {
     let mut map = PermissionMap::new(rt.alloc());
     for i in 0..4096u64 {
-        map.set_range(i * 0x1_0000_0000, 1, Perm::Read)?;
+        map.set_range(i * 0x1_0000_0000, 1, Perm::Read)
+            .expect(&rt, "memory");
     }
-    let tree = build(rt.alloc(), &map)?;
+    let tree = build(rt.alloc(), &map).expect(&rt, "memory");
     assert!(rt; tree.branches() == 4095 + 4096 * 32);
     assert!(rt; refusal(&tree, 2, 1, Perm::Read) == Some(MapFault::TooManyRanges));
     assert!(rt; map.set_range(2, 1, Perm::Read).err() == Some(MapFault::TooManyRanges));
     assert!(rt; refusal(&tree, 1, 1, Perm::Read) == None);
     assert!(rt; refusal(&tree, 0, 2, Perm::NoAccess) == None);
-    Ok(())
 }
 
 /// A version of the last tree, in which one page more can be read.
-fn next_version(versions: &[Tree], page: u64) -> Result<Tree, Fail> {
-    let last = versions.last().ok_or("no version")?;
-    let next = last.with_range(page, 1, Perm::Read)?;
-    Ok(next)
+fn next_version(rt: &impl Abort, versions: &[Tree], page: u64) -> Tree {
+    let last = versions.last().expect(rt, "a version");
+    last.with_range(page, 1, Perm::Read).expect(rt, "memory")
 }
 
 #[test]
-fn many_versions_are_kept_and_let_go(rt: HostRuntime) -> Result<(), Fail> {
+fn many_versions_are_kept_and_let_go(rt: HostRuntime) {
     let mut versions = Vec::new(rt.alloc());
-    versions.push(example_tree(rt.alloc())?)?;
+    versions
+        .push(example_tree(&rt, rt.alloc()))
+        .expect(&rt, "memory");
     for i in 0..1000u64 {
-        versions.push(next_version(versions.as_slice(), 64 + i)?)?;
+        versions
+            .push(next_version(&rt, versions.as_slice(), 64 + i))
+            .expect(&rt, "memory");
     }
     assert!(rt; versions.len() == 1001);
-    Ok(())
 }
