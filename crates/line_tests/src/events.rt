@@ -10,6 +10,13 @@ fn access(line: &[u8]) -> Option<(Mode, Kind, u8, u64, u64)> {
     }
 }
 
+fn hart_of_access(line: &[u8]) -> Option<u8> {
+    match parse_line(line, 4) {
+        Ok(Some((hart, Event::Access(..)))) => Some(hart),
+        _ => None,
+    }
+}
+
 fn register(line: &[u8]) -> Option<(u8, u64)> {
     match parse_line(line, 0) {
         Ok(Some((0, Event::Reg(n, value)))) => Some((n, value)),
@@ -49,6 +56,18 @@ fn three_forms_are_accesses(rt: HostRuntime) {
     assert!(rt; access(b"fetch u 2 0") == Some(fetch));
     let store = (Mode::User, Kind::Store, 1, 18446744073709551615, 7);
     assert!(rt; access(b"store u 1 0xffffffffffffffff 7") == Some(store));
+}
+
+#[test]
+fn an_access_is_on_the_hart_that_its_line_names(rt: HostRuntime) {
+    for (line, wanted) in [
+        (b"load s 8 0x80000ff8".as_slice(), 0),
+        (b"@0 load s 8 0x80000ff8", 0),
+        (b"@1 load s 8 0x80000ff8", 1),
+        (b"  @3\tload s 8 0x80000ff8", 3),
+    ] {
+        assert!(rt; hart_of_access(line) == Some(wanted), "hart {wanted}");
+    }
 }
 
 #[test]
