@@ -40,3 +40,18 @@ pub fn takes_place(alloc: Global, map: &str) -> Result<Error, AllocError>
 {
     explained(alloc, "plan", &Fault::TakesPlace(map))
 }
+
+/// The error of a certificate that cannot be written where it is asked for, which is said in that text.
+pub fn no_certificate(alloc: Global, text: &str) -> Result<Error, AllocError>
+    ensures { IfOk result (λ error. kind_of error ≡ ArgumentConflict) }
+{
+    let mut command = subcommand_named(alloc, "plan")?;
+    command.error(ErrorKind::ArgumentConflict, text)
+}
+
+/// The error of two inputs of that subcommand that are both standard input.
+pub fn reads_twice(alloc: Global, name: &str) -> Result<Error, AllocError>
+    ensures { IfOk result (λ error. kind_of error ≡ ArgumentConflict) }
+{
+    explained(alloc, name, &Fault::InputTwice)
+}

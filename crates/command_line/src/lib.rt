@@ -16,6 +16,6 @@ mod subcommands;
 mod texts;
 mod words;
 
-pub use fault::takes_place;
+pub use fault::{no_certificate, reads_twice, takes_place};
 pub use program_tasks::{Format, Hints, LintKind, Request, Task};
 pub use words::command_of;

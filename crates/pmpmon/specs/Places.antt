@@ -1,5 +1,5 @@
 -- What a task reads and writes, by name.
-use Rattle.std.specs.Prelude.{◌≡◌, List, [], ℕ, Option, Some, None, bytes_eq, if◌then◌else◌}
+use Rattle.std.specs.Prelude.{◌≡◌, List, [], ℕ, Option, Some, None, bytes_eq, if◌then◌else◌, ⊥}
 use Rattle.std.specs.Borrow.{Bor}
 use Rattle.program_tasks.specs.Tasks.{input_word}
 use Rattle.program_tasks.specs.declared.task.LintKind.TheVariants as kinds
@@ -25,9 +25,9 @@ IsAt (Some (File name)) input = IsOfFile name input
 IsAt {S = S} (Some StandardInput) input = (stream : S) × IsOfStream stream input
 IsAt None input = (name : Bor (List ℕ)) × (name.now ≡ []) × IsOfFile name input
 
--- what a task reads first; a platform is a file, whatever its name
+-- what a task reads first
 abbrev pub first_of : Task → Place
-first_of (tasks.Run platform trace measure) = File platform
+first_of (tasks.Run platform trace measure) = place_of platform
 first_of (tasks.Plan map cert limit at_most format name begin xlen) = place_of map
 first_of (tasks.Judge map trace limit registers) = place_of map
 first_of (tasks.Check map cert) = place_of map
@@ -36,14 +36,23 @@ first_of (tasks.Map registers) = place_of registers
 first_of (tasks.Lint file kind) = place_of file
 first_of (tasks.Show map limit at_most registers) = place_of map
 
--- what it reads after that; a certificate or a platform is a file, whatever its name
+-- what it reads after that
 abbrev pub second_of : Task → Option Place
 second_of (tasks.Run platform trace measure) = Some (place_of trace)
 second_of (tasks.Judge map trace limit registers) = Some (place_of trace)
-second_of (tasks.Check map cert) = Some (File cert)
+second_of (tasks.Check map cert) = Some (place_of cert)
 second_of (tasks.Audit map registers all) = Some (place_of registers)
-second_of (tasks.Lint file (kinds.Trace (Some platform))) = Some (File platform)
+second_of (tasks.Lint file (kinds.Trace (Some platform))) = Some (place_of platform)
 second_of task = None
+
+-- it would read standard input twice
+abbrev pub ReadsTwice : Task → Type 0
+ReadsTwice task = (first_of task ≡ StandardInput) × (second_of task ≡ Some StandardInput)
+
+-- a certificate would be written to standard output, under its word
+abbrev pub IsToStandardOutput : Option (Bor (List ℕ)) → Type 0
+IsToStandardOutput None = ⊥
+IsToStandardOutput (Some name) = name.now ≡ input_word
 
 -- a place that is read a second time: standard input is not there again
 abbrev pub again : Option Place → Option Place

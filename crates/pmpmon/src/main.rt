@@ -1,35 +1,40 @@
 //! The program: the words of its command line, done on real files.
 #![tactic(auto)]
 
-ghost use Rattle.std.specs.Prelude.{◌≡◌, ◌≢◌, ◌≤◌, ◌<◌, ◌⊎◌, IfSome, None, true, false};
+ghost use Rattle.std.specs.Prelude.{◌≡◌, ◌≢◌, ◌≤◌, ◌<◌, ◌⊎◌, IfOk, IfSome, None, true, false};
 ghost use Rattle.std.specs.Process.{exit_status};
 ghost use Rattle.clap.specs.Words.{kind_of};
 ghost use Rattle.clap.specs.declared.error.kind.ErrorKind.TheVariants as kind;
 ghost use Rattle.byte_streams.specs.Streams.{failures_of, inner_of};
-ghost use Rattle.pmpmon.specs.Places.{IsAt, cert_of};
+ghost use Rattle.program_tasks.specs.Tasks.{input_word};
+ghost use Rattle.pmpmon.specs.Places.{cert_of, IsAt, IsToStandardOutput, ReadsTwice};
 ghost use Rattle.program_troubles.specs.Troubles.{trouble_status};
 
+mod names;
 mod places;
+mod words;
 
-use crate::places::{Place, again, cert_of, first_of, second_of};
+use crate::names::{NO_FILE, ShownNames, with_names};
+use crate::places::{Place, again, cert_of, first_of, reads_twice, second_of};
+use crate::words::{say_which, shown_words, texts_of, words_in};
 use byte_streams::Counted;
 use clap::Error;
 use clap::error::ErrorKind;
-use command_line::{command_of, takes_place};
+use command_line::{command_of, no_certificate, takes_place};
 use monitor_cli::{perform_and_close, tell_hints};
-use program_files::{CertificateFile, InputToRead, RetryInterrupted, is_same_file};
+use program_files::{
+    CertificateFile, Explained, InputToRead, Reason, RetryInterrupted, is_same_file,
+    is_same_plain_file,
+};
 use program_tasks::{Request, Task};
-use program_troubles::Trouble;
+use program_troubles::{Trouble, print_reason};
 use std::alloc::AllocError;
+use std::io;
 use std::io::{BufWriter, IsTerminal, Stderr, Stdin};
 use std::process::ExitCode;
-use std::{env, io};
 
 /// What a task reads.
-type Input<'a> = Counted<InputToRead<'a, HostRuntime, Stdin>>;
-
-/// The name of a file that is not read or written.
-const NO_FILE: &str = "";
+type Input<'a> = Counted<Explained<InputToRead<'a, HostRuntime, Stdin>>>;
 
 /// Standard error, where a write that a signal interrupted is tried again.
 fn standard_error(rt: &HostRuntime) -> Counted<RetryInterrupted<Stderr>>
@@ -70,30 +75,60 @@ fn explained(rt: &HostRuntime, error: &Error) -> ExitCode
     }
 }
 
-/// The words of the command line, the program's own first.
-fn words_in(rt: &HostRuntime) -> io::Result<Vec<String>> {
-    let mut words = Vec::new(rt.alloc());
-    for word in env::args(rt)? {
-        words.push(word)?;
-    }
-    Ok(words)
+/// What counts the failures of an input, and keeps why the last one came.
+fn reading<'a>(input: InputToRead<'a, HostRuntime, Stdin>) -> Input<'a>
+    ensures failures { failures_of result ≡ 0 }
+    ensures input { (inner_of result).inner ≡ input }
+    ensures reason { (inner_of result).reason ≡ None }
+{
+    Counted::new(Explained::new(input))
 }
 
 /// What reads at that place, which is opened at the first read; where there is none, a name that no file has.
 fn input<'a>(rt: &'a HostRuntime, place: Option<Place<'a>>) -> Input<'a>
     ensures failures { failures_of result ≡ 0 }
-    ensures place { IsAt place.entry (inner_of result) }
+    ensures place { IsAt place.entry (inner_of result).inner }
+    ensures reason { (inner_of result).reason ≡ None }
 {
     match place {
-        Some(Place::StandardInput) => Counted::new(InputToRead::of_stream(rt.stdin())),
-        Some(Place::File(name)) => Counted::new(InputToRead::of_file(rt, name)),
-        None => Counted::new(InputToRead::of_file(rt, NO_FILE)),
+        Some(Place::StandardInput) => reading(InputToRead::of_stream(rt.stdin())),
+        Some(Place::File(name)) => reading(InputToRead::of_file(rt, name)),
+        None => reading(InputToRead::of_file(rt, NO_FILE)),
     }
 }
 
-/// Refuses a task whose certificate would take the place of its map, under another name of the same file.
+/// Reports a fault of the command line, or that there is no memory to say it.
+fn faulted(rt: &HostRuntime, error: Result<Error, AllocError>) -> ExitCode
+    requires fault { IfOk error (λ error. kind_of error ≡ kind.ArgumentConflict) }
+    ensures { exit_status result ≡ 2 ⊎ exit_status result ≡ 4 }
+{
+    match error {
+        Ok(error) => explained(rt, &error),
+        Err(AllocError) => stopped(rt, Trouble::Memory),
+    }
+}
+
+/// Why a certificate is not written under that name; the list, or what is read, would be lost.
+fn misplaced(rt: &HostRuntime, cert: &str) -> Option<&'static str>
+    ensures { cert.now ≡ input_word → result ≢ None }
+{
+    if cert == "-" {
+        return Some("the certificate cannot be written to standard output, '-'");
+    }
+    if is_same_plain_file(rt, cert, "/dev/stdout") {
+        return Some("the certificate would take the place of the file at standard output");
+    }
+    if is_same_plain_file(rt, cert, "/dev/stdin") {
+        return Some("the certificate would take the place of the file at standard input");
+    }
+    None
+}
+
+/// Refuses a task whose certificate would take the place of its map, under another name of the same file, or of the file at
+/// standard input or output.
 fn refused(rt: &HostRuntime, task: &Task<'_>) -> Option<ExitCode>
     ensures status { IfSome result (λ code. exit_status code ≡ 2 ⊎ exit_status code ≡ 4) }
+    ensures word { IsToStandardOutput (cert_of task.now) → result ≢ None }
     ensures others { cert_of task.now ≡ None → result ≡ None }
 {
     let Task::Plan {
@@ -104,55 +139,127 @@ fn refused(rt: &HostRuntime, task: &Task<'_>) -> Option<ExitCode>
     else {
         return None;
     };
-    if !is_same_file(rt, *map, *cert) {
-        return None;
+    if let Some(text) = misplaced(rt, *cert) {
+        return Some(faulted(rt, no_certificate(rt.alloc(), text)));
     }
-    match takes_place(rt.alloc(), *map) {
-        Ok(error) => Some(explained(rt, &error)),
-        Err(AllocError) => Some(stopped(rt, Trouble::Memory)),
+    if is_same_file(rt, *map, *cert) {
+        return Some(faulted(rt, takes_place(rt.alloc(), *map)));
     }
+    None
 }
 
 /// The status of a task that ended for bad input.
 const BAD_INPUT: u8 = 2;
 
+/// The status of a task that ended since a device failed.
+const DEVICE_FAILED: u8 = 3;
+
 /// Says what is wrong with the inputs of a task that ended for bad input, which are opened anew. Standard input can't be, so
 /// there is nothing to say of it.
-fn hinted(rt: &HostRuntime, task: &Task<'_>, err: &mut Counted<RetryInterrupted<Stderr>>) {
+fn hinted(
+    rt: &HostRuntime,
+    task: &Task<'_>,
+    shown: &Task<'_>,
+    err: &mut Counted<RetryInterrupted<Stderr>>,
+) {
     let mut first = input(rt, again(Some(first_of(task))));
     let mut second = input(rt, again(second_of(task)));
-    tell_hints(rt.alloc(), task, &mut first, &mut second, err);
+    tell_hints(rt.alloc(), shown, &mut first, &mut second, err);
 }
 
-/// Does what is asked for on the task's files. Each is opened or made at its first read or write.
-fn done(rt: &HostRuntime, request: &Request<'_>) -> ExitCode {
-    let task = &request.task;
-    if let Some(code) = refused(rt, task) {
-        return code;
+/// Says why the first of these failed that did.
+fn say_why(reasons: &[(&str, Option<Reason>)], err: &mut Counted<RetryInterrupted<Stderr>>) {
+    for (name, reason) in reasons {
+        if let Some(reason) = reason {
+            let _ = print_reason(*name, *reason, err);
+            return;
+        }
     }
+}
+
+/// Does what is asked for on the task's files, whose names messages show without control characters. Each is opened or made at
+/// its first read or write.
+fn done(rt: &HostRuntime, request: &Request<'_>, names: &ShownNames) -> ExitCode {
+    let task = &request.task;
     let mut first = input(rt, Some(first_of(task)));
     let mut second = input(rt, second_of(task));
     let cert = cert_of(task).unwrap_or(NO_FILE);
     let Ok(mut cert) = CertificateFile::new(rt, rt.alloc(), cert) else {
         return stopped(rt, Trouble::Memory);
     };
-    let Ok(out) = BufWriter::new(rt.alloc(), RetryInterrupted::new(rt.stdout())) else {
+    let out = Explained::new(RetryInterrupted::new(rt.stdout()));
+    let Ok(out) = BufWriter::new(rt.alloc(), out) else {
         return stopped(rt, Trouble::Memory);
     };
     let mut err = standard_error(rt);
-    let (status, _) = perform_and_close(
+    let shown = with_names(task, names);
+    let (status, out) = perform_and_close(
         rt.alloc(),
-        task,
+        &shown,
         &mut first,
         &mut second,
         &mut cert,
         Counted::new(out),
         &mut err,
     );
-    if status == BAD_INPUT && request.hints.are_told(rt.stderr().is_terminal()) {
-        hinted(rt, task, &mut err);
+    let reasons = [
+        (names.first(), first.into_inner().reason()),
+        (names.second(), second.into_inner().reason()),
+        (names.cert(), cert.reason()),
+        ("standard output", out.reason()),
+    ];
+    if request.hints.are_told(rt.stderr().is_terminal()) {
+        if status == BAD_INPUT {
+            hinted(rt, task, &shown, &mut err);
+        } else if status == DEVICE_FAILED {
+            say_why(&reasons, &mut err);
+        }
     }
     ExitCode::from(status)
+}
+
+/// Does what is asked for, unless it would read standard input twice or write the certificate over what it reads or prints.
+fn answered(rt: &HostRuntime, request: &Request<'_>) -> ExitCode
+    ensures { ReadsTwice request.now.task
+        → exit_status result ≡ 2 ⊎ exit_status result ≡ 4 }
+{
+    let task = &request.task;
+    if reads_twice(task) {
+        return faulted(
+            rt,
+            command_line::reads_twice(rt.alloc(), subcommand_of(task)),
+        );
+    }
+    if let Some(code) = refused(rt, task) {
+        return code;
+    }
+    match ShownNames::of(rt.alloc(), task) {
+        Ok(names) => done(rt, request, &names),
+        Err(AllocError) => stopped(rt, Trouble::Memory),
+    }
+}
+
+/// The subcommand whose usage is told of a task that would read standard input twice.
+fn subcommand_of(task: &Task<'_>) -> &'static str {
+    match task {
+        Task::Run { .. } => "run",
+        Task::Check { .. } => "check",
+        _ => "lint",
+    }
+}
+
+/// Says what is wrong with a command line, in words without control characters where there is memory for them.
+fn refuse(rt: &HostRuntime, words: &[&str], error: &Error) -> ExitCode {
+    let Ok(shown) = shown_words(rt.alloc(), words) else {
+        return explained(rt, error);
+    };
+    let Ok(texts) = texts_of(rt.alloc(), shown.as_slice()) else {
+        return explained(rt, error);
+    };
+    match command_of(rt.alloc(), texts.as_slice()) {
+        Err(other) if other.kind() == error.kind() => explained(rt, &other),
+        _ => explained(rt, error),
+    }
 }
 
 fn main(rt: HostRuntime) -> ExitCode {
@@ -161,8 +268,8 @@ fn main(rt: HostRuntime) -> ExitCode {
         Err(error) if error.kind() == io::ErrorKind::OutOfMemory => {
             return stopped(&rt, Trouble::Memory);
         }
-        Err(error) => {
-            let _ = eprintln!(rt; "error: the command line: {error}");
+        Err(_) => {
+            say_which(&rt);
             return ExitCode::from(2);
         }
     };
@@ -173,7 +280,7 @@ fn main(rt: HostRuntime) -> ExitCode {
         };
     }
     match command_of(rt.alloc(), texts.as_slice()) {
-        Ok(request) => done(&rt, &request),
-        Err(error) => explained(&rt, &error),
+        Ok(request) => answered(&rt, &request),
+        Err(error) => refuse(&rt, texts.as_slice(), &error),
     }
 }

@@ -1,7 +1,7 @@
 //! What a task reads and writes, by name.
 
-ghost use Rattle.std.specs.Prelude.{◌≡◌};
-ghost use Rattle.pmpmon.specs.Places.{again, cert_of, first_of, place_of, second_of};
+ghost use Rattle.std.specs.Prelude.{◌≡◌, ◌↔◌, true};
+ghost use Rattle.pmpmon.specs.Places.{again, cert_of, first_of, place_of, second_of, ReadsTwice};
 
 use program_tasks::{LintKind, Task};
 
@@ -27,12 +27,12 @@ fn place_of(name: &str) -> Place<'_>
     Place::File(name)
 }
 
-/// What a task reads first. A platform is a file, whatever its name.
+/// What a task reads first.
 pub fn first_of<'a>(task: &Task<'a>) -> Place<'a>
     ensures { result ≡ first_of task.now }
 {
     match *task {
-        Task::Run { platform, .. } => Place::File(platform),
+        Task::Run { platform, .. } => place_of(platform),
         Task::Plan { map, .. }
         | Task::Judge { map, .. }
         | Task::Check { map, .. }
@@ -43,23 +43,32 @@ pub fn first_of<'a>(task: &Task<'a>) -> Place<'a>
     }
 }
 
-/// What a task reads after that, where it does. A certificate or a platform is a file,
-/// whatever its name.
+/// What a task reads after that, where it does.
 pub fn second_of<'a>(task: &Task<'a>) -> Option<Place<'a>>
     ensures { result ≡ second_of task.now }
 {
     match *task {
         Task::Run { trace, .. } | Task::Judge { trace, .. } => Some(place_of(trace)),
-        Task::Check { cert, .. } => Some(Place::File(cert)),
+        Task::Check { cert, .. } => Some(place_of(cert)),
         Task::Audit { registers, .. } => Some(place_of(registers)),
         Task::Lint {
             kind: LintKind::Trace {
                 platform: Some(platform),
             },
             ..
-        } => Some(Place::File(platform)),
+        } => Some(place_of(platform)),
         Task::Plan { .. } | Task::Map { .. } | Task::Lint { .. } | Task::Show { .. } => None,
     }
+}
+
+/// Whether a task would read standard input twice.
+pub fn reads_twice(task: &Task<'_>) -> bool
+    ensures { (result ≡ true) ↔ ReadsTwice task.now }
+{
+    matches!(
+        (first_of(task), second_of(task)),
+        (Place::StandardInput, Some(Place::StandardInput))
+    )
 }
 
 /// A place that is read a second time: a file is opened anew, and standard input is not there again.

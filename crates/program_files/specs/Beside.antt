@@ -1,9 +1,14 @@
 -- The name of a new file beside the place that it will be moved to.
 use Rattle.std.specs.Prelude.{ℕ, ◌+◌, ◌<◌, List, ◌≡◌, ◌++◌, codes, encode_utf8}
+use Rattle.std.specs.Path.{path_with_file_name}
 
 -- the name of a place and `.part`
 abbrev pub part_name : List ℕ → List ℕ
 part_name place = place ++ codes ".part"
+
+-- a short name in the folder of a place
+abbrev pub short_part_name : List ℕ → List ℕ
+short_part_name place = path_with_file_name place (codes "pmpmon.part")
 
 -- a name with one digit after it
 abbrev pub IsNumbered : List ℕ → List ℕ → Type 0

@@ -11,10 +11,12 @@
 
 mod certificate_file;
 mod devices;
+mod reason;
 mod same_file;
 mod whole;
 
 pub use certificate_file::{CertificateFile, WholeSink};
 pub use devices::{FileToRead, InputToRead, RetryInterrupted};
-pub use same_file::is_same_file;
+pub use reason::{Explained, Reason};
+pub use same_file::{is_same_file, is_same_plain_file};
 pub use whole::{WholeFault, read_whole};

@@ -1,1 +1,3 @@
+pub mod ReasonHints
+pub mod Shown
 pub mod Troubles

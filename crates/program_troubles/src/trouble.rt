@@ -185,7 +185,7 @@ fn about<E: Sink>(file: &str, said: &str, err: &mut E) -> Result<(), DeviceFault
 }
 
 /// Writes texts one after another.
-fn write_parts<E: Sink>(err: &mut E, parts: &[&str]) -> Result<(), DeviceFault>
+pub(crate) fn write_parts<E: Sink>(err: &mut E, parts: &[&str]) -> Result<(), DeviceFault>
     ensures { Prints (joined (map (λ part. part.now) parts.now))
         (writing E.contents E.failures E.stalls err.old err.new) result }
 {

@@ -1,0 +1,141 @@
+//! The names of a task's files, as messages show them.
+
+use program_tasks::{Format, LintKind, Task};
+use program_troubles::shown;
+use std::alloc::{AllocError, Global};
+use std::str::from_utf8;
+
+/// The name of a file that is not read or written.
+pub const NO_FILE: &str = "";
+
+/// The names of what a task reads first and after that, and of the certificate that it writes; of what it does not use the name
+/// of no file.
+fn names_of<'a>(task: &Task<'a>) -> [&'a str; 3] {
+    match *task {
+        Task::Run {
+            platform,
+            trace,
+            ..
+        } => [platform, trace, NO_FILE],
+        Task::Judge { map, trace, .. } => [map, trace, NO_FILE],
+        Task::Plan { map, cert, .. } => [map, NO_FILE, cert.unwrap_or(NO_FILE)],
+        Task::Check { map, cert, .. } => [map, cert, NO_FILE],
+        Task::Audit { map, registers, .. } => [map, registers, NO_FILE],
+        Task::Show { map, .. } => [map, NO_FILE, NO_FILE],
+        Task::Map { registers, .. } => [registers, NO_FILE, NO_FILE],
+        Task::Lint {
+            file,
+            kind: LintKind::Trace {
+                platform: Some(platform),
+            },
+            ..
+        } => [file, platform, NO_FILE],
+        Task::Lint { file, .. } => [file, NO_FILE, NO_FILE],
+    }
+}
+
+/// Names without control characters.
+#[derive(Drop)]
+pub struct ShownNames {
+    first: Vec<u8>,
+    second: Vec<u8>,
+    cert: Vec<u8>,
+}
+
+impl ShownNames {
+    /// Those of a task.
+    pub fn of(alloc: Global, task: &Task<'_>) -> Result<ShownNames, AllocError> {
+        let [first, second, cert] = names_of(task);
+        Ok(ShownNames {
+            first: shown(alloc, first.as_bytes())?,
+            second: shown(alloc, second.as_bytes())?,
+            cert: shown(alloc, cert.as_bytes())?,
+        })
+    }
+
+    /// That of what is read first.
+    pub fn first(&self) -> &str {
+        text_of(self.first.as_slice())
+    }
+
+    /// That of what is read after that.
+    pub fn second(&self) -> &str {
+        text_of(self.second.as_slice())
+    }
+
+    /// That of the certificate that is written.
+    pub fn cert(&self) -> &str {
+        text_of(self.cert.as_slice())
+    }
+}
+
+/// The text of bytes, which are those of a text.
+fn text_of(bytes: &[u8]) -> &str {
+    from_utf8(bytes).unwrap_or("")
+}
+
+/// Gives what a task reads first another name.
+fn name_first<'a>(task: &mut Task<'a>, name: &'a str) {
+    match task {
+        Task::Run { platform, .. } => *platform = name,
+        Task::Judge { map, .. } => *map = name,
+        Task::Plan { map, .. } => *map = name,
+        Task::Check { map, .. } => *map = name,
+        Task::Audit { map, .. } => *map = name,
+        Task::Show { map, .. } => *map = name,
+        Task::Map { registers, .. } => *registers = name,
+        Task::Lint { file, .. } => *file = name,
+    }
+}
+
+/// The same of what it reads after that, where it does.
+fn name_second<'a>(task: &mut Task<'a>, name: &'a str) {
+    match task {
+        Task::Run { trace, .. } => *trace = name,
+        Task::Judge { trace, .. } => *trace = name,
+        Task::Check { cert, .. } => *cert = name,
+        Task::Audit { registers, .. } => *registers = name,
+        Task::Lint { kind, .. } => name_platform(kind, name),
+        Task::Plan { .. } | Task::Show { .. } | Task::Map { .. } => {}
+    }
+}
+
+/// The same of the platform of a trace that is linted, where it has one.
+fn name_platform<'a>(kind: &mut LintKind<'a>, name: &'a str) {
+    if let LintKind::Trace { platform: Some(_) } = kind {
+        *kind = LintKind::Trace {
+            platform: Some(name),
+        };
+    }
+}
+
+/// The same of the certificate that it writes, where it writes one.
+fn name_cert<'a>(task: &mut Task<'a>, name: &'a str) {
+    if let Task::Plan { cert, .. } = task {
+        if cert.is_some() {
+            *cert = Some(name);
+        }
+    }
+}
+
+/// Whether a task prints the name of its map as JSON, which escapes it.
+fn is_json(task: &Task<'_>) -> bool {
+    matches!(
+        task,
+        Task::Plan {
+            format: Format::Json,
+            ..
+        }
+    )
+}
+
+/// The task with these names in place of its own. In JSON a map has its own name.
+pub fn with_names<'a>(task: &Task<'a>, names: &'a ShownNames) -> Task<'a> {
+    let mut named = *task;
+    if !is_json(task) {
+        name_first(&mut named, names.first());
+    }
+    name_second(&mut named, names.second());
+    name_cert(&mut named, names.cert());
+    named
+}
