@@ -1,6 +1,6 @@
 -- The answer that the comment of a line says.
-use Rattle.std.specs.Prelude.{ℕ, ◌==◌, ◌||◌, ◌&&◌, nat_le, Bool, true, false, not, List, [], ◌∷◌, map, drop, Option, Some, None, codes, bytes_eq}
-use Rattle.std.specs.List.{before_first, position_or_len}
+use Rattle.std.specs.Prelude.{ℕ, ◌==◌, ◌||◌, ◌&&◌, nat_le, Bool, true, false, not, List, [], ◌∷◌, map, take, drop, Option, Some, None, codes, bytes_eq}
+use Rattle.std.specs.List.{position_or_len, prefix_len}
 use Rattle.text_lines.specs.Words.{split_words}
 
 -- a decimal digit
@@ -13,7 +13,7 @@ is_spoken b = is_digit b || (nat_le 97 b && nat_le b 122) || b == 45
 
 -- a word up to its first other byte
 abbrev pub spoken : List ℕ → List ℕ
-spoken word = before_first (λ b. not (is_spoken b)) word
+spoken word = take (prefix_len is_spoken word) word
 
 -- the words of a text, each of them so
 abbrev pub spoken_words : List ℕ → List (List ℕ)

@@ -1,7 +1,7 @@
 //! The answer that the comment of a line says.
 
-ghost use Rattle.std.specs.Prelude.{◌≡◌, ◌≤◌, length, bytes_eq, not};
-ghost use Rattle.std.specs.List.{position_or_len};
+ghost use Rattle.std.specs.Prelude.{◌≡◌, ◌≤◌, length, bytes_eq};
+ghost use Rattle.std.specs.List.{prefix_len};
 ghost use Rattle.text_lines.specs.Words.{split_words};
 ghost use Rattle.expected_answers.specs.Comments.{answer_agrees, begins, comment_of, is_digit, is_kind, is_numbered, is_spoken, says_answer, says_it, spoken, spoken_words, remark_of};
 
@@ -24,7 +24,7 @@ fn is_spoken(byte: u8) -> bool
 /// How many such bytes a word begins with.
 fn spoken_len(word: &[u8]) -> usize
     ensures within { result ≤ length word.now }
-    ensures len { result ≡ position_or_len (λ b. not (is_spoken b)) word.now }
+    ensures len { result ≡ prefix_len is_spoken word.now }
 {
     for (i, byte) in word.iter().enumerate() {
         if !is_spoken(*byte) {

@@ -63,6 +63,20 @@ impl<I: Interpreter> Interpreter for Comparing<I> {
     }
 }
 
+impl<I> Comparing<I> {
+    ghost use Rattle.std.specs.Prelude.{◌≡◌};
+
+    /// What came of them, where they ended so.
+    fn ended(self, end: Result<(), RunFault>) -> Compared<I>
+        ensures lines { result.lines ≡ self.lines }
+        ensures first { result.first ≡ self.first }
+        ensures end { result.end ≡ end }
+    {
+        let Comparing { lines, first, .. } = self;
+        Compared { lines, first, end }
+    }
+}
+
 /// What came of lines whose answers were compared.
 #[derive(Drop)]
 pub struct Compared<I> {
@@ -112,6 +126,5 @@ pub fn compare_lines<I: Interpreter, R: Source, W: Sink>(
         first: None,
     };
     let end = interpret_lines(&mut comparing, source, sink);
-    let Comparing { lines, first, .. } = comparing;
-    Compared { lines, first, end }
+    comparing.ended(end)
 }
