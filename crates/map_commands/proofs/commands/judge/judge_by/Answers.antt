@@ -2,7 +2,7 @@ use Rattle.std.proofs.Common.{Err, ap}
 use Rattle.trace_judge.specs.Answers.{answered_by, is_no_access}
 use Rattle.map_commands.specs.Commands.{to_its_end, until}
 use Rattle.map_commands.proofs.Ends.{stops}
-use Rattle.map_commands.proofs.Expected.{expecting, plainly}
+use Rattle.map_commands.proofs.JudgedTraces.{expecting, plainly}
 use Rattle.map_commands.proofs.commands.judge.judge_by.Goals as goal
 
 pub returns-then-expect : goal.returns-then-expect
