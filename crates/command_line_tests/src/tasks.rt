@@ -18,9 +18,21 @@ fn is_task(rt: &impl Abort, alloc: Global, words: &[&str], wanted: Task) {
 fn run_takes_a_platform_and_a_trace(rt: HostRuntime) {
     let rows: [(&[&str], bool, bool); 5] = [
         (&["pmpmon", "run", "p.toml", "t.txt"], false, false),
-        (&["pmpmon", "run", "p.toml", "t.txt", "--measure"], true, false),
-        (&["pmpmon", "run", "--measure", "p.toml", "t.txt"], true, false),
-        (&["pmpmon", "run", "p.toml", "t.txt", "--expect"], false, true),
+        (
+            &["pmpmon", "run", "p.toml", "t.txt", "--measure"],
+            true,
+            false,
+        ),
+        (
+            &["pmpmon", "run", "--measure", "p.toml", "t.txt"],
+            true,
+            false,
+        ),
+        (
+            &["pmpmon", "run", "p.toml", "t.txt", "--expect"],
+            false,
+            true,
+        ),
         (
             &["pmpmon", "run", "--expect", "p.toml", "t.txt", "--measure"],
             true,

@@ -58,20 +58,23 @@ more_agreeing :
     → Does (agreeing does) old lines answers now → does now (length answers) (without_return line) (Some said) new
     → Found does old (lines ++ line ∷ []) (answers ++ said ∷ []) new (if agrees then None else Some (difference_text n (without_return line) said))
 more_agreeing does old now new lines answers line said n true short e number found is = answer found line short new said (is, e)
-more_agreeing does old now new lines answers line said n false short e number found is = (answer (forgotten does found) line short new said is, record {
-  before = lines;
-  line = line;
-  after = [];
-  among = refl;
-  answers = answers;
-  now = now;
-  agreed = found;
-  answer = said;
-  next = new;
-  done = is;
-  differs = e;
-  told = ap (λ k. difference_text k (without_return line) said) number;
-})
+more_agreeing does old now new lines answers line said n false short e number found is = (
+  answer (forgotten does found) line short new said is,
+  record {
+    before = lines;
+    line = line;
+    after = [];
+    among = refl;
+    answers = answers;
+    now = now;
+    agreed = found;
+    answer = said;
+    next = new;
+    done = is;
+    differs = e;
+    told = ap (λ k. difference_text k (without_return line) said) number;
+  },
+)
 
 -- one line more with an answer
 more_answered :
@@ -167,12 +170,28 @@ pub mapped_compared :
     {S T : Type 0} (holds : S → Type 0) (f : S → T) (does : Meaning S) (other : Meaning T) → Follows holds f does other → (old new : S) (before after held holds_now : Option (List ℕ)) (first : Option (List ℕ)) → holds old
     → ComparesAll does old new before after held holds_now first → ComparesAll other (f old) (f new) before after held holds_now first
 mapped_compared holds f does other follows old new before after held holds_now None h d = record {
-  input = d.input; lines = d.lines; answers = d.answers; consumed = d.consumed; at_end = d.at_end; few = d.few; are_lines = d.are_lines;
+  input = d.input;
+  lines = d.lines;
+  answers = d.answers;
+  consumed = d.consumed;
+  at_end = d.at_end;
+  few = d.few;
+  are_lines = d.are_lines;
   done = (mapped holds f (agreeing does) (agreeing other) (λ s n line said t h is. let u = follows s n line said t h is.0 in (u.0, (u.1, is.1))) h d.done).1;
-  written = d.written }
+  written = d.written;
+}
 mapped_compared holds f does other follows old new before after held holds_now (Some text) h d =
-    let all = d.0 in
-    (record {
-      input = all.input; lines = all.lines; answers = all.answers; consumed = all.consumed; at_end = all.at_end; few = all.few; are_lines = all.are_lines;
-      done = (mapped holds f does other follows h all.done).1;
-      written = all.written }, mapped_first holds f does other follows old all.lines text h d.1)
+    let all = d.0 in (
+      record {
+        input = all.input;
+        lines = all.lines;
+        answers = all.answers;
+        consumed = all.consumed;
+        at_end = all.at_end;
+        few = all.few;
+        are_lines = all.are_lines;
+        done = (mapped holds f does other follows h all.done).1;
+        written = all.written;
+      },
+      mapped_first holds f does other follows old all.lines text h d.1,
+    )

@@ -18,13 +18,7 @@ struct Comparing<I> {
 }
 
 /// Notes the first difference, with one more line.
-fn note(
-    first: &mut Option<Difference>,
-    number: u64,
-    line: &[u8],
-    answered: bool,
-    answer: &Line,
-)
+fn note(first: &mut Option<Difference>, number: u64, line: &[u8], answered: bool, answer: &Line)
     ensures { option_map (λ d. d.items) first.new
         ≡ first_with (option_map (λ d. d.items) first.old) number line.now
         (text_of answered answer.now) }

@@ -1,7 +1,8 @@
 //! `judge --expect` and `run --expect` on files in memory.
 
 use super::runs::{denies, prints};
-use std::test::Fail;
+use std::alloc::Global;
+use std::process::Abort;
 
 const PLATFORM: &[u8] =
     b"[monitor]\nbase = 0x80000000\nsize = 0x200000\n[[ram]]\nbase = 0x80000000\nsize = 0x8000000\n";
@@ -13,7 +14,7 @@ const JUDGE: [&str; 5] = ["pmpmon", "judge", "map.txt", "t.txt", "--expect"];
 const RUN: [&str; 5] = ["pmpmon", "run", "p.toml", "t.txt", "--expect"];
 
 #[test]
-fn answers_that_the_comments_say(rt: HostRuntime) -> Result<(), Fail> {
+fn answers_that_the_comments_say(rt: HostRuntime) {
     let rows: [&[u8]; 9] = [
         b"load s 8 0x80000000 # ok\nload s 8 0 # fault 5\n",
         b"load s 8 0x80000000 # 1 ok\nload s 8 0 # 2 fault 5\n",
@@ -27,13 +28,18 @@ fn answers_that_the_comments_say(rt: HostRuntime) -> Result<(), Fail> {
     ];
     for trace in rows {
         let words = JUDGE.as_slice();
-        prints(&rt, rt.alloc(), words, MAP, trace, "1 ok\n2 fault 5\n")?;
+        prints(&rt, rt.alloc(), words, MAP, trace, "1 ok\n2 fault 5\n");
     }
-    Ok(())
+}
+
+/// Of a load that is allowed and one that is not this is told.
+fn tells(rt: &impl Abort, alloc: Global, trace: &[u8], told: &str) {
+    let report = format!(in alloc; "1 ok\n2 fault 5\n{told}").expect(rt, "no memory");
+    denies(rt, alloc, &JUDGE, MAP, trace, report.as_str());
 }
 
 #[test]
-fn the_first_answer_that_differs_is_told(rt: HostRuntime) -> Result<(), Fail> {
+fn the_first_answer_that_differs_is_told(rt: HostRuntime) {
     let rows: [(&[u8], &str); 8] = [
         (
             b"load s 8 0x80000000 # fault 5\nload s 8 0 # ok\n",
@@ -69,24 +75,18 @@ fn the_first_answer_that_differs_is_told(rt: HostRuntime) -> Result<(), Fail> {
         ),
     ];
     for (trace, told) in rows {
-        let mut report = String::new(rt.alloc());
-        report.push_str("1 ok\n2 fault 5\n")?;
-        report.push_str(told)?;
-        let words = JUDGE.as_slice();
-        denies(&rt, rt.alloc(), words, MAP, trace, report.as_str())?;
+        tells(&rt, rt.alloc(), trace, told);
     }
-    Ok(())
 }
 
 #[test]
-fn a_run_tells_what_differs(rt: HostRuntime) -> Result<(), Fail> {
+fn a_run_tells_what_differs(rt: HostRuntime) {
     let good: &[u8] =
         b"ecall 0x08454E43 0 0x80200000 1 0 0 0 0 # call 0 0x0000000000000001 0 4: created\nload s 8 0x80200000 # fault 5\nload s 8 0x80300000 # ok 0x0000000000000000\nirq # irq 0 4\n";
-    let report =
-        "1 call 0 0x0000000000000001 0 4\n2 fault 5\n3 ok 0x0000000000000000\n4 irq 0 4\n";
-    prints(&rt, rt.alloc(), &RUN, PLATFORM, good, report)?;
+    let report = "1 call 0 0x0000000000000001 0 4\n2 fault 5\n3 ok 0x0000000000000000\n4 irq 0 4\n";
+    prints(&rt, rt.alloc(), &RUN, PLATFORM, good, report);
     let wrong: &[u8] = b"irq # 1 irq 0 3\nload s 8 0x80300000 # ok\n";
     let told =
         "1 irq 0 3\n2 ok 0x0000000000000000\nline 2: answered '2 ok 0x0000000000000000', expected # ok\n";
-    denies(&rt, rt.alloc(), &RUN, PLATFORM, wrong, told)
+    denies(&rt, rt.alloc(), &RUN, PLATFORM, wrong, told);
 }

@@ -18,11 +18,7 @@ use program_troubles::Trouble;
 use std::alloc::Global;
 
 /// Prints the measurements of a machine's enclaves where they are asked for.
-fn measure_where<W: Sink>(
-    machine: &Machine,
-    measure: bool,
-    out: &mut W,
-) -> Result<(), DeviceFault>
+fn measure_where<W: Sink>(machine: &Machine, measure: bool, out: &mut W) -> Result<(), DeviceFault>
     ensures measured { IfOk result (λ _. IsMeasured measure machine.now (W.contents out.old)
         (W.contents out.new)) }
     ensures well { IfOk result (λ _. IsWell
