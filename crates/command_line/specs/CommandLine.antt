@@ -70,6 +70,10 @@ platform_rule = option_rule (codes "platform") []
 abbrev pub all_rule : Rule
 all_rule = record (new_rule (codes "all")) { long = Some (codes "all"); action = Some SetTrue }
 
+-- `--expect`, which takes no value
+abbrev pub expect_rule : Rule
+expect_rule = record (new_rule (codes "expect")) { long = Some (codes "expect"); action = Some SetTrue }
+
 -- `--hints`, which is auto where it is not given
 abbrev pub hints_rule : Rule
 hints_rule = option_rule (codes "hints") (codes "auto" ∷ [])
@@ -77,8 +81,10 @@ hints_rule = option_rule (codes "hints") (codes "auto" ∷ [])
 abbrev pub run_app : App
 run_app = with_rule
     (with_rule
+    (with_rule
     (with_rule (with_rule (new_app (codes "run")) (file_rule (codes "PLATFORM") true)) (file_rule (codes "TRACE") true))
     measure_rule)
+    expect_rule)
     hints_rule
 
 abbrev pub plan_app : App
@@ -101,8 +107,10 @@ plan_app = with_rule
 abbrev pub judge_app : App
 judge_app = with_rule
     (with_rule
+    (with_rule
     (with_rule (with_rule (with_rule (new_app (codes "judge")) (file_rule (codes "MAP") true)) (file_rule (codes "TRACE") true)) entries_rule)
     registers_rule)
+    expect_rule)
     hints_rule
 
 abbrev pub check_app : App

@@ -2,7 +2,7 @@
 
 ghost use Rattle.std.specs.Prelude.{◌≡◌, false};
 ghost use Rattle.clap.specs.Words.{rule_of};
-ghost use Rattle.command_line.specs.CommandLine.{all_rule, at_most_rule, entries_rule, file_rule, first_rule, format_rule, hints_rule, measure_rule, name_rule, platform_rule, registers_rule, trace_rule, xlen_rule};
+ghost use Rattle.command_line.specs.CommandLine.{all_rule, at_most_rule, entries_rule, expect_rule, file_rule, first_rule, format_rule, hints_rule, measure_rule, name_rule, platform_rule, registers_rule, trace_rule, xlen_rule};
 ghost use Rattle.command_line.specs.ClapModel.{rule_by};
 
 use clap::{Arg, ArgAction};
@@ -37,6 +37,8 @@ pub enum Argument<'a> {
     Platform,
     /// `--all`, whether each stretch that differs is asked for.
     All,
+    /// `--expect`, whether answers are compared with those that a trace says.
+    Expect,
     /// `--hints`, when standard error is told what is wrong with an input.
     Hints,
 }
@@ -61,6 +63,7 @@ impl<'a> Argument<'a> {
             Argument::Trace => trace_arg(alloc),
             Argument::Platform => platform_arg(alloc),
             Argument::All => all_arg(alloc),
+            Argument::Expect => expect_arg(alloc),
             Argument::Hints => hints_arg(alloc),
         }
     }
@@ -205,6 +208,17 @@ fn all_arg<'a>(alloc: Global) -> Arg<'a>
     Arg::new(alloc, "all")
         .long("all")
         .help("Print each stretch that differs, not the first alone")
+        .action(ArgAction::SetTrue)
+}
+
+/// The flag that asks for a comparison with the answers that a trace says.
+fn expect_arg<'a>(alloc: Global) -> Arg<'a>
+    ensures rule { rule_of result ≡ expect_rule }
+    ensures local { result.global ≡ false }
+{
+    Arg::new(alloc, "expect")
+        .long("expect")
+        .help("Compare each answer with the one that the comment of its line says")
         .action(ArgAction::SetTrue)
 }
 

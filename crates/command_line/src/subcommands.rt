@@ -66,6 +66,7 @@ fn run_command<'a>(alloc: Global) -> Result<Command<'a>, AllocError>
         Argument::File("PLATFORM", "The platform file"),
         Argument::File("TRACE", "The trace of events"),
         Argument::Measure,
+        Argument::Expect,
         Argument::Hints,
     ];
     command(alloc, Subcommand::Run.name(), about, RUN_HELP, &arguments)
@@ -102,6 +103,7 @@ fn judge_command<'a>(alloc: Global) -> Result<Command<'a>, AllocError>
         Argument::File("TRACE", "The trace of accesses"),
         Argument::Entries,
         Argument::Registers(AS_THEY_STAND),
+        Argument::Expect,
         Argument::Hints,
     ];
     command(

@@ -16,16 +16,35 @@ fn is_task(rt: &impl Abort, alloc: Global, words: &[&str], wanted: Task) {
 
 #[test]
 fn run_takes_a_platform_and_a_trace(rt: HostRuntime) {
-    let rows: [(&[&str], bool); 3] = [
-        (&["pmpmon", "run", "p.toml", "t.txt"], false),
-        (&["pmpmon", "run", "p.toml", "t.txt", "--measure"], true),
-        (&["pmpmon", "run", "--measure", "p.toml", "t.txt"], true),
+    let rows: [(&[&str], bool, bool); 5] = [
+        (&["pmpmon", "run", "p.toml", "t.txt"], false, false),
+        (
+            &["pmpmon", "run", "p.toml", "t.txt", "--measure"],
+            true,
+            false,
+        ),
+        (
+            &["pmpmon", "run", "--measure", "p.toml", "t.txt"],
+            true,
+            false,
+        ),
+        (
+            &["pmpmon", "run", "p.toml", "t.txt", "--expect"],
+            false,
+            true,
+        ),
+        (
+            &["pmpmon", "run", "--expect", "p.toml", "t.txt", "--measure"],
+            true,
+            true,
+        ),
     ];
-    for (words, measure) in rows {
+    for (words, measure, expect) in rows {
         let wanted = Task::Run {
             platform: "p.toml",
             trace: "t.txt",
             measure,
+            expect,
         };
         is_task(&rt, rt.alloc(), words, wanted);
     }
@@ -162,23 +181,35 @@ fn plan_has_a_number_at_most_and_a_format(rt: HostRuntime) {
 
 #[test]
 fn judge_takes_a_map_and_a_trace(rt: HostRuntime) {
-    let rows: [(&[&str], Limit); 3] = [
-        (&["pmpmon", "judge", "map.txt", "trace.txt"], Limit::Sixteen),
+    let rows: [(&[&str], Limit, bool); 4] = [
+        (
+            &["pmpmon", "judge", "map.txt", "trace.txt"],
+            Limit::Sixteen,
+            false,
+        ),
         (
             &["pmpmon", "judge", "map.txt", "trace.txt", "--entries=16"],
             Limit::Sixteen,
+            false,
         ),
         (
             &["pmpmon", "judge", "map.txt", "trace.txt", "--entries", "64"],
             Limit::SixtyFour,
+            false,
+        ),
+        (
+            &["pmpmon", "judge", "map.txt", "trace.txt", "--expect"],
+            Limit::Sixteen,
+            true,
         ),
     ];
-    for (words, limit) in rows {
+    for (words, limit, expect) in rows {
         let wanted = Task::Judge {
             map: "map.txt",
             trace: "trace.txt",
             limit,
             registers: false,
+            expect,
         };
         is_task(&rt, rt.alloc(), words, wanted);
     }

@@ -2,6 +2,7 @@
 
 mod certificates;
 mod devices;
+mod expected;
 mod failures;
 mod hints;
 mod inputs;

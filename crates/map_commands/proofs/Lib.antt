@@ -2,3 +2,4 @@ pub mod Ends
 pub mod Names
 mod PlanCertificates
 pub mod Refusals
+mod JudgedTraces

@@ -4,8 +4,8 @@ use Rattle.std.specs.Prelude.{◌≡◌, ℕ, ◌-◌, ◌^◌, ◌<◌, ◌≤�
 use Rattle.std.specs.List.{ends_with}
 use Rattle.std.specs.Borrow.{Bor}
 use Rattle.std.specs.Io.KnownBytes.{Appends, Consumes}
-use Rattle.byte_streams.specs.Streams.{one_failure_more}
-use Rattle.byte_streams.specs.Writings.{Breaks, IsUnwritten, IsWell, TakesAll, Writing, writing}
+use Rattle.byte_streams.specs.Streams.{one_failure_more, WriteFails}
+use Rattle.byte_streams.specs.Writings.{Breaks, IsUnwritten, IsWell, TakesAll, TakesPart, Writing, writing}
 use Rattle.pmp_encoding.specs.declared.bank.Bank.{Bank}
 use Rattle.pmp_encoding.specs.declared.limit.Limit.{Limit}
 use Rattle.pmp_encoding.specs.declared.region.Entry.{Entry}
@@ -50,6 +50,8 @@ use Rattle.program_tasks.specs.declared.task.Format.{Format}
 use Rattle.program_tasks.specs.declared.task.Format.TheVariants as formats
 use Rattle.program_troubles.specs.declared.trouble.Trouble.{Trouble}
 use Rattle.program_troubles.specs.declared.trouble.Trouble.TheVariants.{NotUnderstood, TooFar, TooLarge, TooManyRanges, NeedsEntries, CannotRead, CannotWrite, Output, Memory}
+use Rattle.expected_answers.specs.Comparisons.{ComparesAll}
+use Rattle.map_commands.specs.Expected.{IsTold}
 use Rattle.map_commands.specs.Parts.{IsMapFault, IsWhole, Stops}
 use Rattle.program_troubles.specs.Troubles.{map_trouble, run_trouble}
 use Rattle.map_commands.specs.Verdicts.{IsVerdict}
@@ -251,22 +253,6 @@ abbrev pub ShowsAs : {R W : Type 0} → Bool → Bor (List ℕ) → Limit → Op
 ShowsAs true file limit at_most first out done = ShowsRegisters file first out done
 ShowsAs false file limit at_most first out done = Shows file limit at_most first out done
 
--- `judge`: the map is read and its entries are loaded, and then the trace is judged line by line
-pub data Judges {R W : Type 0} (map trace : Bor (List ℕ)) (limit : Limit) (first second : Reading R) (out : Writing W) : Result ℕ Trouble → Type 0 where
-  judged :
-      (runs : List Run) (bank : Bank) → HasMap first runs → IsLoaded (view_of_runs runs) limit bank
-      → DoesAll (judged_by bank) tt tt second.before second.after out.before out.after → second.failed ≡ second.failures → IsWell out → Judges map trace limit first second out (Ok 0)
-  no_map : (trouble : Trouble) → HasNoMap map first trouble → IsUnread second → IsUnwritten out → Judges map trace limit first second out (Err trouble)
-  no_memory : (runs : List Run) → HasMap first runs → IsUnread second → IsUnwritten out → Judges map trace limit first second out (Err Memory)
-  no_bank :
-      (runs : List Run) (entries : List Entry) → HasMap first runs → IsFewest (view_of_runs runs) entries → limit_number limit < length entries → IsUnread second → IsUnwritten out
-      → Judges map trace limit first second out (Err (NeedsEntries (length entries)))
-  stopped :
-      (runs : List Run) (bank : Bank) (fault : RunFault) → HasMap first runs → IsLoaded (view_of_runs runs) limit bank
-      → Stops (judged_by bank) is_no_access (λ old line new. ⊥) tt tt second.before second.after out.before out.after fault
-      → CountsReads (Err fault) second.failures second.failed → CountsWrites (Err fault) out.failures out.failed out.stalls out.stalled
-      → Judges map trace limit first second out (Err (run_trouble trace fault))
-
 -- a trace is judged line by line, to its end or until it stops
 pub data JudgesTrace {R W : Type 0} (does : Meaning (Unit {0})) (trace : Bor (List ℕ)) (second : Reading R) (out : Writing W) : Result ℕ Trouble → Type 0 where
   to_its_end : DoesAll does tt tt second.before second.after out.before out.after → second.failed ≡ second.failures → IsWell out → JudgesTrace does trace second out (Ok 0)
@@ -275,24 +261,54 @@ pub data JudgesTrace {R W : Type 0} (does : Meaning (Unit {0})) (trace : Bor (Li
       → CountsReads (Err fault) second.failures second.failed → CountsWrites (Err fault) out.failures out.failed out.stalls out.stalled
       → JudgesTrace does trace second out (Err (run_trouble trace fault))
 
+-- a trace is judged so and its answers are compared with those that its comments say: where one differs, the first that does is told behind
+-- the answers, and the status is 1
+pub data JudgesExpecting {R W : Type 0} (does : Meaning (Unit {0})) (trace : Bor (List ℕ)) (second : Reading R) (out : Writing W) : Result ℕ Trouble → Type 0 where
+  compared :
+      (report first : Option (List ℕ)) (status : ℕ) → ComparesAll does tt tt second.before second.after out.before report first → IsTold first report out.after status
+      → second.failed ≡ second.failures → IsWell out → JudgesExpecting does trace second out (Ok status)
+  not_told :
+      (report : Option (List ℕ)) (text : List ℕ) → ComparesAll does tt tt second.before second.after out.before report (Some text) → TakesPart text report out.after
+      → second.failed ≡ second.failures → WriteFails out.failures out.failed out.stalls out.stalled → JudgesExpecting does trace second out (Err Output)
+  unfinished :
+      (fault : RunFault) → Stops does is_no_access (λ old line new. ⊥) tt tt second.before second.after out.before out.after fault
+      → CountsReads (Err fault) second.failures second.failed → CountsWrites (Err fault) out.failures out.failed out.stalls out.stalled
+      → JudgesExpecting does trace second out (Err (run_trouble trace fault))
+
+-- a trace is judged, with `--expect` or without
+abbrev pub JudgesTraceAs : {R W : Type 0} → Bool → Meaning (Unit {0}) → Bor (List ℕ) → Reading R → Writing W → Result ℕ Trouble → Type 0
+JudgesTraceAs true does trace second out done = JudgesExpecting does trace second out done
+JudgesTraceAs false does trace second out done = JudgesTrace does trace second out done
+
+-- `judge`: the map is read and its entries are loaded, and then the trace is judged by them
+pub data Judges {R W : Type 0} (expect : Bool) (map trace : Bor (List ℕ)) (limit : Limit) (first second : Reading R) (out : Writing W) : Result ℕ Trouble → Type 0 where
+  judged :
+      (runs : List Run) (bank : Bank) (result : Result ℕ Trouble) → HasMap first runs → IsLoaded (view_of_runs runs) limit bank
+      → JudgesTraceAs expect (judged_by bank) trace second out result → Judges expect map trace limit first second out result
+  no_map : (trouble : Trouble) → HasNoMap map first trouble → IsUnread second → IsUnwritten out → Judges expect map trace limit first second out (Err trouble)
+  no_memory : (runs : List Run) → HasMap first runs → IsUnread second → IsUnwritten out → Judges expect map trace limit first second out (Err Memory)
+  no_bank :
+      (runs : List Run) (entries : List Entry) → HasMap first runs → IsFewest (view_of_runs runs) entries → limit_number limit < length entries → IsUnread second → IsUnwritten out
+      → Judges expect map trace limit first second out (Err (NeedsEntries (length entries)))
+
 -- `judge --registers`: the listing of registers is read, and then the trace is judged by them line by line; where they judge nothing
 -- the trace is not read, and why is printed
-pub data JudgesByRegisters {R W : Type 0} (listing trace : Bor (List ℕ)) (first second : Reading R) (out : Writing W) : Result ℕ Trouble → Type 0 where
+pub data JudgesByRegisters {R W : Type 0} (expect : Bool) (listing trace : Bor (List ℕ)) (first second : Reading R) (out : Writing W) : Result ℕ Trouble → Type 0 where
   ruled :
       (bytes : List ℕ) (registers : Registers) (result : Result ℕ Trouble) → HasBytes (2 ^ 20) first bytes → HasRules bytes registers
-      → JudgesTrace (judged_by_registers registers) trace second out result → JudgesByRegisters listing trace first second out result
-  refused : (bytes text : List ℕ) → HasBytes (2 ^ 20) first bytes → IsRefused bytes text → IsUnread second → TakesAll text out → JudgesByRegisters listing trace first second out (Ok 1)
-  no_bytes : (trouble : Trouble) → HasNoBytes (2 ^ 20) listing first trouble → IsUnread second → IsUnwritten out → JudgesByRegisters listing trace first second out (Err trouble)
-  no_memory : (bytes : List ℕ) → HasBytes (2 ^ 20) first bytes → IsUnread second → IsUnwritten out → JudgesByRegisters listing trace first second out (Err Memory)
+      → JudgesTraceAs expect (judged_by_registers registers) trace second out result → JudgesByRegisters expect listing trace first second out result
+  refused : (bytes text : List ℕ) → HasBytes (2 ^ 20) first bytes → IsRefused bytes text → IsUnread second → TakesAll text out → JudgesByRegisters expect listing trace first second out (Ok 1)
+  no_bytes : (trouble : Trouble) → HasNoBytes (2 ^ 20) listing first trouble → IsUnread second → IsUnwritten out → JudgesByRegisters expect listing trace first second out (Err trouble)
+  no_memory : (bytes : List ℕ) → HasBytes (2 ^ 20) first bytes → IsUnread second → IsUnwritten out → JudgesByRegisters expect listing trace first second out (Err Memory)
   not_understood :
       (bytes : List ℕ) (n : ℕ) → HasBytes (2 ^ 20) first bytes → IsFirstUnknown bytes n → IsUnread second → IsUnwritten out
-      → JudgesByRegisters listing trace first second out (Err (NotUnderstood listing n))
-  no_output : (bytes text : List ℕ) → HasBytes (2 ^ 20) first bytes → IsRefused bytes text → IsUnread second → Breaks text out → JudgesByRegisters listing trace first second out (Err Output)
+      → JudgesByRegisters expect listing trace first second out (Err (NotUnderstood listing n))
+  no_output : (bytes text : List ℕ) → HasBytes (2 ^ 20) first bytes → IsRefused bytes text → IsUnread second → Breaks text out → JudgesByRegisters expect listing trace first second out (Err Output)
 
--- `judge`, with `--registers` or without
-abbrev pub JudgesAs : {R W : Type 0} → Bool → Bor (List ℕ) → Bor (List ℕ) → Limit → Reading R → Reading R → Writing W → Result ℕ Trouble → Type 0
-JudgesAs true file trace limit first second out done = JudgesByRegisters file trace first second out done
-JudgesAs false file trace limit first second out done = Judges file trace limit first second out done
+-- `judge`, with `--registers` or without, and with `--expect` or without
+abbrev pub JudgesAs : {R W : Type 0} → Bool → Bool → Bor (List ℕ) → Bor (List ℕ) → Limit → Reading R → Reading R → Writing W → Result ℕ Trouble → Type 0
+JudgesAs true expect file trace limit first second out done = JudgesByRegisters expect file trace first second out done
+JudgesAs false expect file trace limit first second out done = Judges expect file trace limit first second out done
 
 -- `check`: the map is read, then the certificate, and the line of the verdict is written
 pub data Checks {R W : Type 0} (map cert : Bor (List ℕ)) (first second : Reading R) (out : Writing W) : Result ℕ Trouble → Type 0 where

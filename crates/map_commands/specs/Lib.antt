@@ -1,3 +1,4 @@
 pub mod Commands
+pub mod Expected
 pub mod Parts
 pub mod Verdicts

@@ -14,6 +14,7 @@
 
 mod certified_plan;
 mod commands;
+mod expected;
 mod inputs;
 
 pub use certified_plan::{bank_of, plan_and_certify, planned};
@@ -21,4 +22,5 @@ pub use commands::{
     Asked, do_audit, do_check, do_judge_as, do_lint, do_lint_listing, do_map, do_plan, do_show_as,
     lint_as_platform, lint_listing, lint_map, verdict,
 };
+pub use expected::tell_first;
 pub use inputs::{MAP_BYTES, REGISTER_BYTES, bytes_in};

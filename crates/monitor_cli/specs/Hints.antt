@@ -62,9 +62,9 @@ HasTraceHints name first second hints = (platform : Layout) × HasPlatform first
 -- the hints of a task: those of its first input that is not what it should be. A certificate has none, nor has a file that `lint`
 -- itself speaks of; a trace is for the harts of its platform, and without one for four
 abbrev pub HasTaskHints : {R : Type 0} → Task → Reading R → Reading R → Option (List ℕ) → Type 0
-HasTaskHints (tasks.Run platform trace measure) first second hints = InOrder (HasHints Platform platform.now first) (HasTraceHints trace.now first second) second hints
+HasTaskHints (tasks.Run platform trace measure expect) first second hints = InOrder (HasHints Platform platform.now first) (HasTraceHints trace.now first second) second hints
 HasTaskHints (tasks.Plan map file limit at_most format name begin xlen) first second hints = HasHints Map map.now first hints × IsUnread second
-HasTaskHints (tasks.Judge map trace limit registers) first second hints = InOrder (HasHints (form_by registers) map.now first) (HasHints (Trace 4) trace.now second) second hints
+HasTaskHints (tasks.Judge map trace limit registers expect) first second hints = InOrder (HasHints (form_by registers) map.now first) (HasHints (Trace 4) trace.now second) second hints
 HasTaskHints (tasks.Check map file) first second hints = HasHints Map map.now first hints × IsUnread second
 HasTaskHints (tasks.Audit map registers all) first second hints = InOrder (HasHints Map map.now first) (HasHints Listing registers.now second) second hints
 HasTaskHints (tasks.Map registers) first second hints = HasHints Listing registers.now first hints × IsUnread second

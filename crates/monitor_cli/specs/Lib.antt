@@ -5,3 +5,4 @@ pub mod Programs
 pub mod Runs
 pub mod Tasks
 pub mod Traces
+pub mod ExpectedRuns

@@ -10,7 +10,7 @@ use Rattle.program_tasks.specs.declared.task.Task.TheVariants as tasks
 use Rattle.program_troubles.specs.declared.trouble.Trouble.{Trouble}
 use Rattle.program_troubles.specs.Troubles.{status_of, trouble_text}
 use Rattle.map_commands.specs.Commands.{Audits, Checks, IsUnread, JudgesAs, Lints, LintsListing, Maps, Placing, Plans, Reading, ShowsAs}
-use Rattle.monitor_cli.specs.Runs.{Runs}
+use Rattle.monitor_cli.specs.ExpectedRuns.{RunsAs}
 use Rattle.monitor_cli.specs.Traces.{LintsTrace}
 
 -- `lint`, by what the file should be
@@ -21,9 +21,9 @@ LintsAs (kinds.Trace platform) file first second out done = LintsTrace file plat
 
 -- what a task comes to: what its command does not use stays as it was
 abbrev pub Performs : {R C W : Type 0} → Task → Reading R → Reading R → Placing C → Writing W → Result ℕ Trouble → Type 0
-Performs (tasks.Run platform trace measure) first second cert out done = Runs platform trace measure first second out done × IsUnwritten cert.sink
+Performs (tasks.Run platform trace measure expect) first second cert out done = RunsAs expect platform trace measure first second out done × IsUnwritten cert.sink
 Performs (tasks.Plan map file limit at_most format name begin xlen) first second cert out done = Plans map file xlen limit at_most format (option_map (λ s. s.now) name) begin first cert out done × IsUnread second
-Performs (tasks.Judge file trace limit registers) first second cert out done = JudgesAs registers file trace limit first second out done × IsUnwritten cert.sink
+Performs (tasks.Judge file trace limit registers expect) first second cert out done = JudgesAs registers expect file trace limit first second out done × IsUnwritten cert.sink
 Performs (tasks.Check map file) first second cert out done = Checks map file first second out done × IsUnwritten cert.sink
 Performs (tasks.Audit map registers all) first second cert out done = Audits map registers all first second out done × IsUnwritten cert.sink
 Performs (tasks.Map registers) first second cert out done = Maps registers first out done × IsUnread second × IsUnwritten cert.sink

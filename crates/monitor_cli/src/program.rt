@@ -6,7 +6,7 @@ ghost use Rattle.map_commands.specs.Commands.{placing, reading};
 ghost use Rattle.monitor_cli.specs.Programs.{Ends, LintsAs, Performs, Tells};
 ghost use Rattle.program_troubles.specs.Troubles.{status_of};
 
-use crate::commands::{do_lint_trace, do_run};
+use crate::commands::{do_lint_trace, do_run_as};
 use byte_streams::{Sink, Source};
 use map_commands::{
     Asked, do_audit, do_check, do_judge_as, do_lint, do_lint_listing, do_map, do_plan, do_show_as,
@@ -70,7 +70,10 @@ fn run_task<'a, R: Source, C: WholeSink, W: Sink>(
             platform,
             trace,
             measure,
-        } => do_run(alloc, *platform, *trace, *measure, first, second, out),
+            expect,
+        } => do_run_as(
+            alloc, *expect, *platform, *trace, *measure, first, second, out,
+        ),
         Task::Plan {
             map,
             cert: file,
@@ -97,7 +100,10 @@ fn run_task<'a, R: Source, C: WholeSink, W: Sink>(
             trace,
             limit,
             registers,
-        } => do_judge_as(alloc, *registers, *map, *trace, *limit, first, second, out),
+            expect,
+        } => do_judge_as(
+            alloc, *registers, *expect, *map, *trace, *limit, first, second, out,
+        ),
         Task::Check { map, cert } => do_check(alloc, *map, *cert, first, second, out),
         Task::Audit {
             map,

@@ -27,9 +27,9 @@ IsAt None input = (name : Bor (List ℕ)) × (name.now ≡ []) × IsOfFile name 
 
 -- what a task reads first
 abbrev pub first_of : Task → Place
-first_of (tasks.Run platform trace measure) = place_of platform
+first_of (tasks.Run platform trace measure expect) = place_of platform
 first_of (tasks.Plan map cert limit at_most format name begin xlen) = place_of map
-first_of (tasks.Judge map trace limit registers) = place_of map
+first_of (tasks.Judge map trace limit registers expect) = place_of map
 first_of (tasks.Check map cert) = place_of map
 first_of (tasks.Audit map registers all) = place_of map
 first_of (tasks.Map registers) = place_of registers
@@ -38,8 +38,8 @@ first_of (tasks.Show map limit at_most registers) = place_of map
 
 -- what it reads after that
 abbrev pub second_of : Task → Option Place
-second_of (tasks.Run platform trace measure) = Some (place_of trace)
-second_of (tasks.Judge map trace limit registers) = Some (place_of trace)
+second_of (tasks.Run platform trace measure expect) = Some (place_of trace)
+second_of (tasks.Judge map trace limit registers expect) = Some (place_of trace)
 second_of (tasks.Check map cert) = Some (place_of cert)
 second_of (tasks.Audit map registers all) = Some (place_of registers)
 second_of (tasks.Lint file (kinds.Trace (Some platform))) = Some (place_of platform)

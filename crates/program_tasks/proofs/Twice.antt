@@ -42,9 +42,9 @@ differ a b xs ys d e = absurd (true≢false (sym (eq-eqb a b (ap (λ t. slice_in
 pub twice_audited : (value flag : Text → Option Text) (map registers : Text) → value (codes "MAP") ≡ Some map → value (codes "REGISTERS") ≡ Some registers
     → map ≡ input_word → registers ≡ input_word → NamesNone (codes "audit") value flag
 twice_audited value flag map registers m r mi ri (Audit named other all) e v sound = sound (same _ _ (sym v.0 ∙ m) ∙ mi, same _ _ (sym v.1 ∙ r) ∙ ri)
-twice_audited value flag map registers m r mi ri (Run p t s) e v sound = differ _ _ _ _ refl e
+twice_audited value flag map registers m r mi ri (Run p t s x) e v sound = differ _ _ _ _ refl e
 twice_audited value flag map registers m r mi ri (Plan p t s a f n i w) e v sound = differ _ _ _ _ refl e
-twice_audited value flag map registers m r mi ri (Judge p t s b) e v sound = differ _ _ _ _ refl e
+twice_audited value flag map registers m r mi ri (Judge p t s b x) e v sound = differ _ _ _ _ refl e
 twice_audited value flag map registers m r mi ri (Check p t) e v sound = differ _ _ _ _ refl e
 twice_audited value flag map registers m r mi ri (Show p t s b) e v sound = differ _ _ _ _ refl e
 twice_audited value flag map registers m r mi ri (Lint p k) e v sound = differ _ _ _ _ refl e
@@ -52,9 +52,9 @@ twice_audited value flag map registers m r mi ri (Map p) e v sound = differ _ _ 
 
 pub unlisted : (value flag : Text → Option Text) → value (codes "REGISTERS") ≡ None → NamesNone (codes "audit") value flag
 unlisted value flag none (Audit named other all) e v sound = given value (codes "REGISTERS") _ v.1 none
-unlisted value flag none (Run p t s) e v sound = differ _ _ _ _ refl e
+unlisted value flag none (Run p t s x) e v sound = differ _ _ _ _ refl e
 unlisted value flag none (Plan p t s a f n i w) e v sound = differ _ _ _ _ refl e
-unlisted value flag none (Judge p t s b) e v sound = differ _ _ _ _ refl e
+unlisted value flag none (Judge p t s b x) e v sound = differ _ _ _ _ refl e
 unlisted value flag none (Check p t) e v sound = differ _ _ _ _ refl e
 unlisted value flag none (Show p t s b) e v sound = differ _ _ _ _ refl e
 unlisted value flag none (Lint p k) e v sound = differ _ _ _ _ refl e

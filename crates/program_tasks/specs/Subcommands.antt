@@ -26,9 +26,9 @@ usage_words subcommand = codes "pmpmon " ++ subcommand_word subcommand
 
 -- the subcommand that a task is
 abbrev pub subcommand_of : Task → Subcommand
-subcommand_of (Run platform trace measure) = subcommands.Run
+subcommand_of (Run platform trace measure expect) = subcommands.Run
 subcommand_of (Plan map cert limit at_most format name first xlen) = subcommands.Plan
-subcommand_of (Judge map trace limit registers) = subcommands.Judge
+subcommand_of (Judge map trace limit registers expect) = subcommands.Judge
 subcommand_of (Check map cert) = subcommands.Check
 subcommand_of (Show map limit at_most registers) = subcommands.Show
 subcommand_of (Audit map registers all) = subcommands.Audit

@@ -73,10 +73,11 @@ is_identifier (first ∷ rest) = is_letter first && list_all is_letter_or_digit 
 
 -- the task has these values: of its arguments and of its flags, by their names
 abbrev pub HasValues : (Text → Option Text) → (Text → Option Text) → Task → Type 0
-HasValues value flag (Run platform trace measure) =
+HasValues value flag (Run platform trace measure expect) =
     (value (codes "PLATFORM") ≡ Some platform.now)
     × (value (codes "TRACE") ≡ Some trace.now)
     × IsFlag (flag (codes "measure")) measure
+    × IsFlag (flag (codes "expect")) expect
 HasValues value flag (Plan map cert limit at_most format name first xlen) =
     (value (codes "MAP") ≡ Some map.now)
     × (value (codes "CERT") ≡ option_map (λ s. s.now) cert)
@@ -86,11 +87,12 @@ HasValues value flag (Plan map cert limit at_most format name first xlen) =
     × (value (codes "name") ≡ option_map (λ s. s.now) name)
     × BeginsAt (value (codes "first")) first
     × (value (codes "xlen") ≡ Some (width_word xlen))
-HasValues value flag (Judge map trace limit registers) =
+HasValues value flag (Judge map trace limit registers expect) =
     (value (codes "MAP") ≡ Some map.now)
     × (value (codes "TRACE") ≡ Some trace.now)
     × (value (codes "entries") ≡ Some (limit_word limit))
     × IsFlag (flag (codes "registers")) registers
+    × IsFlag (flag (codes "expect")) expect
 HasValues value flag (Check map cert) =
     (value (codes "MAP") ≡ Some map.now)
     × (value (codes "CERT") ≡ Some cert.now)
@@ -117,7 +119,7 @@ IsSound (Plan map cert limit at_most format name first xlen) =
     (option_map (λ s. s.now) cert ≢ Some map.now)
     × IfSome name (λ s. is_identifier s.now ≡ true)
     × (first < limit_number limit)
-IsSound (Judge map trace limit registers) = ¬ ((map.now ≡ input_word) × (trace.now ≡ input_word))
+IsSound (Judge map trace limit registers expect) = ¬ ((map.now ≡ input_word) × (trace.now ≡ input_word))
 IsSound (Audit map registers all) = ¬ ((map.now ≡ input_word) × (registers.now ≡ input_word))
 IsSound task = Unit {0}
 

@@ -41,6 +41,8 @@ pub enum Task<'a> {
         trace: &'a str,
         /// Whether the measurement of each live enclave is printed after the report.
         measure: bool,
+        /// Whether the answers are compared with those that the comments of the trace say.
+        expect: bool,
     },
     /// Plan a map, and write the certificate where a file for it is named.
     Plan {
@@ -71,6 +73,8 @@ pub enum Task<'a> {
         limit: Limit,
         /// Whether the file is a listing of registers.
         registers: bool,
+        /// Whether the answers are compared with those that the comments of the trace say.
+        expect: bool,
     },
     /// Check a certificate against a map.
     Check {

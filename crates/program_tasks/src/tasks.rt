@@ -32,10 +32,12 @@ fn run_in<'a, V: Values<'a>>(given: &V) -> Result<Task<'a>, Fault<'a>>
     let platform = value_in(given, "PLATFORM")?;
     let trace = value_in(given, "TRACE")?;
     let measure = given.is_given("measure");
+    let expect = given.is_given("expect");
     Ok(Task::Run {
         platform,
         trace,
         measure,
+        expect,
     })
 }
 
@@ -108,11 +110,13 @@ fn judge_in<'a, V: Values<'a>>(given: &V) -> Result<Task<'a>, Fault<'a>>
     let limit = limit_in(given)?;
     once(map, trace)?;
     let registers = given.is_given("registers");
+    let expect = given.is_given("expect");
     Ok(Task::Judge {
         map,
         trace,
         limit,
         registers,
+        expect,
     })
 }
 

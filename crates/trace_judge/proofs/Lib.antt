@@ -1,2 +1,2 @@
-mod Judged
+pub mod Judged
 mod OneDigit

@@ -52,8 +52,9 @@ fn access_in(line: &[u8]) -> Result<Option<Access>, NotUnderstood>
 
 /// What answers the access of each line.
 #[derive(Drop)]
-struct LineJudge<'a, J> {
-    by: &'a J,
+pub struct LineJudge<'a, J> {
+    /// What accesses are judged by.
+    pub by: &'a J,
 }
 
 impl<J: AccessJudge> Interpreter for LineJudge<'_, J> {

@@ -16,4 +16,4 @@ mod judge;
 
 pub use access_judge::AccessJudge;
 pub use answers::{answer_line, push_answer};
-pub use judge::{judge_lines, judge_trace};
+pub use judge::{LineJudge, judge_lines, judge_trace};

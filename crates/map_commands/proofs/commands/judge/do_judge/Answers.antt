@@ -1,9 +1,7 @@
-use Rattle.std.proofs.Common.{Err, ap, inl, inr, refl}
+use Rattle.std.proofs.Common.{inl, inr, refl}
 use Rattle.std.proofs.lemmas.Result.{err_from_is_err_and}
-use Rattle.trace_judge.specs.Answers.{is_no_access, judged_by}
-use Rattle.map_commands.specs.Commands.{judged, no_bank}
+use Rattle.map_commands.specs.Commands.{no_bank}
 use Rattle.map_commands.specs.Commands as commands
-use Rattle.map_commands.proofs.Ends.{stops}
 use Rattle.map_commands.proofs.commands.judge.do_judge.Goals as goal
 
 pub returns-in_err-map : goal.returns-in_err-map
@@ -19,14 +17,5 @@ returns-in_err-bank g c =
       | inr w ↦ rw w.3 (no_bank _ w.0 c.in_ok-map.ensures.made w.1 w.2 refl refl)
     ])
 
-pub returns-in-Ok : goal.returns-in-Ok
-returns-in-Ok g c = judged _ c.in_ok-bank.bank c.in_ok-map.ensures.made c.in_ok-bank.ensures.loaded c.in-Ok.ensures.all c.in-Ok.ensures.reads c.in-Ok.ensures.writes
-
 pub returns : goal.returns
-returns g c =
-    let e = c.in-Err.ensures in
-    rw c.of_run.ensures
-    (commands.Judges.stopped _ c.in_ok-bank.bank c.in-Err.fault c.in_ok-map.ensures.made c.in_ok-bank.ensures.loaded
-    (stops (judged_by c.in_ok-bank.bank) is_no_access (λ old line new. ⊥) tt tt _ _ _ _ c.in-Err.fault
-    (λ n is. e.line n (ap (λ f. Err f) is)) (λ is. e.too_long (ap (λ f. Err f) is)) (λ is. e.read (ap (λ f. Err f) is)) (λ is. e.write (ap (λ f. Err f) is)) (λ is. absurd (e.no_memory (ap (λ f. Err f) is))))
-    e.reads e.writes)
+returns g c = commands.Judges.judged _ c.in_ok-bank.bank c.judge_by.result c.in_ok-map.ensures.made c.in_ok-bank.ensures.loaded c.judge_by.ensures
