@@ -179,6 +179,7 @@ fn judge_takes_a_map_and_a_trace(rt: HostRuntime) {
             trace: "trace.txt",
             limit,
             registers: false,
+            xlen: Xlen::Rv64,
         };
         is_task(&rt, rt.alloc(), words, wanted);
     }
@@ -200,10 +201,12 @@ fn check_audit_and_map_take_their_files(rt: HostRuntime) {
         map: "map.txt",
         registers: "-",
         all: false,
+        xlen: Xlen::Rv64,
     };
     is_task(&rt, rt.alloc(), &["pmpmon", "audit", "map.txt", "-"], audit);
     let map = Task::Map {
         registers: "board.txt",
+        xlen: Xlen::Rv64,
     };
     is_task(&rt, rt.alloc(), &["pmpmon", "map", "board.txt"], map);
 }
@@ -229,7 +232,8 @@ fn lint_takes_a_kind_of_file(rt: HostRuntime) {
         ),
     ];
     for (words, file, kind) in rows {
-        is_task(&rt, rt.alloc(), words, Task::Lint { file, kind });
+        let xlen = Xlen::Rv64;
+        is_task(&rt, rt.alloc(), words, Task::Lint { file, kind, xlen });
     }
 }
 
@@ -240,6 +244,7 @@ fn show_takes_a_map_or_registers(rt: HostRuntime) {
         limit: Limit::SixtyFour,
         at_most: Some(16),
         registers: false,
+        xlen: Xlen::Rv64,
     };
     let words = [
         "pmpmon",
@@ -259,6 +264,7 @@ fn show_takes_a_map_or_registers(rt: HostRuntime) {
             limit: Limit::Sixteen,
             at_most: None,
             registers: true,
+            xlen: Xlen::Rv64,
         };
         is_task(&rt, rt.alloc(), words, wanted);
     }

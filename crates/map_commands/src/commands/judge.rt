@@ -11,6 +11,7 @@ use byte_streams::{DeviceFault, Sink, Source, write_whole};
 use pmp_encoding::Limit;
 use program_troubles::Trouble;
 use register_judge::{Ruled, Rules, RulesFault, rules_in};
+use register_width::Xlen;
 use std::alloc::Global;
 use trace_judge::{judge_lines, judge_trace};
 
@@ -19,18 +20,20 @@ fn do_judge<'a, R: Source, W: Sink>(
     alloc: Global,
     map: &'a str,
     trace: &'a str,
+    xlen: Xlen,
     limit: Limit,
     first: &mut R,
     second: &mut R,
     out: &mut W,
 ) -> Result<u8, Trouble<'a>>
     ensures { let source = reading R.remaining R.failures in
-        Judges map.entry trace.entry limit (source first.old first.new)
+        Judges map.entry trace.entry xlen limit (source first.old first.new)
         (source second.old second.new) (writing W.contents W.failures W.stalls out.old out.new)
         result }
 {
-    let map = map_in(alloc, map, first)?;
-    let bank = bank_in(alloc, &map, limit)?;
+    let file = map;
+    let map = map_in(alloc, file, first)?;
+    let bank = bank_in(alloc, file, &map, xlen, limit)?;
     match judge_trace(&bank, second, out) {
         Ok(()) => Ok(0),
         Err(fault) => Err(Trouble::of_run(trace, fault)),
@@ -59,17 +62,18 @@ fn do_judge_registers<'a, R: Source, W: Sink>(
     alloc: Global,
     registers: &'a str,
     trace: &'a str,
+    xlen: Xlen,
     first: &mut R,
     second: &mut R,
     out: &mut W,
 ) -> Result<u8, Trouble<'a>>
     ensures { let source = reading R.remaining R.failures in
-        JudgesByRegisters registers.entry trace.entry (source first.old first.new)
+        JudgesByRegisters registers.entry trace.entry xlen (source first.old first.new)
         (source second.old second.new) (writing W.contents W.failures W.stalls out.old out.new)
         result }
 {
     let listing = bytes_in(alloc, registers, first, REGISTER_BYTES)?;
-    match rules_in(alloc, listing.as_slice()) {
+    match rules_in(alloc, xlen, listing.as_slice()) {
         Ok(Ruled::Rules(rules)) => judge_by(&rules, trace, second, out),
         Ok(Ruled::Refused(text)) => match write_whole(out, text.as_slice()) {
             Ok(()) => Ok(1),
@@ -89,18 +93,19 @@ pub fn do_judge_as<'a, R: Source, W: Sink>(
     registers: bool,
     file: &'a str,
     trace: &'a str,
+    xlen: Xlen,
     limit: Limit,
     first: &mut R,
     second: &mut R,
     out: &mut W,
 ) -> Result<u8, Trouble<'a>>
     ensures { let source = reading R.remaining R.failures in
-        JudgesAs registers file.entry trace.entry limit (source first.old first.new)
+        JudgesAs registers file.entry trace.entry xlen limit (source first.old first.new)
         (source second.old second.new) (writing W.contents W.failures W.stalls out.old out.new)
         result }
 {
     if registers {
-        return do_judge_registers(alloc, file, trace, first, second, out);
+        return do_judge_registers(alloc, file, trace, xlen, first, second, out);
     }
-    do_judge(alloc, file, trace, limit, first, second, out)
+    do_judge(alloc, file, trace, xlen, limit, first, second, out)
 }
