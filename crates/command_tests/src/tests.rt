@@ -11,3 +11,4 @@ mod maps;
 mod options;
 mod plans;
 mod runs;
+mod widths;

@@ -78,3 +78,13 @@ pub wide_wrongly :
     → ((map ≡ input_word) × (registers ≡ input_word) → ⊥) → IsFirst value flag (has (codes "xlen") ∷ names_width ∷ []) fault → IsFirst value flag (demands_of subcommands.Audit) fault
 wide_wrongly value flag map registers fault m r once broken =
     inr (given value (codes "MAP") map m, inr (given value (codes "REGISTERS") registers r, inr ((λ twice. once (same _ _ (sym m ∙ twice.0), same _ _ (sym r ∙ twice.1))), broken)))
+
+pub unwide_map : (value flag : Text → Option Text) → ((xlen : Xlen) → value (codes "xlen") ≡ Some (width_word xlen) → ⊥) → NamesNone (codes "map") value flag
+unwide_map value flag none (Map named xlen) e v sound = none xlen v.1
+unwide_map value flag none (Run p t s) e v sound = differ _ _ _ _ refl e
+unwide_map value flag none (Plan p t s a f n i w) e v sound = differ _ _ _ _ refl e
+unwide_map value flag none (Judge p t s b w) e v sound = differ _ _ _ _ refl e
+unwide_map value flag none (Check p t) e v sound = differ _ _ _ _ refl e
+unwide_map value flag none (Show p t s b w) e v sound = differ _ _ _ _ refl e
+unwide_map value flag none (Lint p k w) e v sound = differ _ _ _ _ refl e
+unwide_map value flag none (Audit p r a w) e v sound = differ _ _ _ _ refl e

@@ -28,7 +28,8 @@ pub struct Listing {
 /// What lines of registers leave.
 fn register_listing(xlen: Xlen, bytes: &[u8]) -> Result<Listing, u64>
     requires { length bytes.now < 2 ^ 64 - 1 }
-    ensures listing { IfOk result (λ listing. listed_by xlen (raw_sets xlen) bytes.now ≡ Some listing) }
+    ensures listing { IfOk result (λ listing.
+        listed_by xlen (raw_sets xlen) bytes.now ≡ Some listing) }
     ensures unknown { IfErr result (IsFirstUnknownBy xlen (raw_sets xlen) bytes.now) }
 {
     let mut listing = nothing_set(xlen);

@@ -30,7 +30,8 @@ fn log_sets(xlen: Xlen, raw: &[u8]) -> Result<Setting, NotUnderstood>
 /// What the lines of a boot log leave.
 pub(crate) fn log_listing(xlen: Xlen, bytes: &[u8]) -> Result<Listing, u64>
     requires { length bytes.now < 2 ^ 64 - 1 }
-    ensures listing { IfOk result (λ listing. listed_by xlen (log_sets xlen) bytes.now ≡ Some listing) }
+    ensures listing { IfOk result (λ listing.
+        listed_by xlen (log_sets xlen) bytes.now ≡ Some listing) }
     ensures unknown { IfErr result (IsFirstUnknownBy xlen (log_sets xlen) bytes.now) }
 {
     let mut listing = nothing_set(xlen);

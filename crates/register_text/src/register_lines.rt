@@ -245,7 +245,8 @@ fn pair_by_words(xlen: Xlen, place: u64, cfg: &[u8], address: &[u8]) -> Option<S
 
 /// What the name of a register and a word set.
 fn register_by_word(xlen: Xlen, name: &[u8], value: &[u8]) -> Option<Setting>
-    ensures value { result ≡ option_and_then (register_setting xlen name.now) (number_of value.now) }
+    ensures value { result ≡ option_and_then (register_setting xlen name.now)
+        (number_of value.now) }
     ensures inside { IfSome result (IsInside xlen) }
 {
     let value = number(value)?;

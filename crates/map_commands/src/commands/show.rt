@@ -25,7 +25,8 @@ fn do_show<'a, R: Source, W: Sink>(
     first: &mut R,
     out: &mut W,
 ) -> Result<u8, Trouble<'a>>
-    ensures { Shows map.entry xlen limit at_most (reading R.remaining R.failures first.old first.new)
+    ensures { Shows map.entry xlen limit at_most
+        (reading R.remaining R.failures first.old first.new)
         (writing W.contents W.failures W.stalls out.old out.new) result }
 {
     let file = map;
@@ -46,7 +47,8 @@ fn do_show_registers<'a, R: Source, W: Sink>(
     first: &mut R,
     out: &mut W,
 ) -> Result<u8, Trouble<'a>>
-    ensures { ShowsRegisters registers.entry xlen (reading R.remaining R.failures first.old first.new)
+    ensures { ShowsRegisters registers.entry xlen
+        (reading R.remaining R.failures first.old first.new)
         (writing W.contents W.failures W.stalls out.old out.new) result }
 {
     let listing = bytes_in(alloc, registers, first, REGISTER_BYTES)?;
