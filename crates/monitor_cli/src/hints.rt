@@ -206,7 +206,13 @@ fn task_hints<'a, R: Source>(
             ..
         } => {
             let trace = (Form::Trace { harts: HARTS }, trace);
-            hints_in_order(alloc, (Form::by(registers, xlen), map), trace, first, second)
+            hints_in_order(
+                alloc,
+                (Form::by(registers, xlen), map),
+                trace,
+                first,
+                second,
+            )
         }
         Task::Audit {
             map,

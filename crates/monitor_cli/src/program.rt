@@ -120,9 +120,7 @@ fn run_task<'a, R: Source, C: WholeSink, W: Sink>(
             at_most,
             registers,
             xlen,
-        } => do_show_as(
-            alloc, *registers, *map, *xlen, *limit, *at_most, first, out,
-        ),
+        } => do_show_as(alloc, *registers, *map, *xlen, *limit, *at_most, first, out),
     }
 }
 

@@ -300,7 +300,11 @@ fn is_between(xlen: Xlen, word: &[u8]) -> bool
 fn value_word<'a>(xlen: Xlen, second: &'a [u8], third: &'a [u8]) -> &'a [u8]
     ensures { result.now ≡ value_word xlen second.now third.now }
 {
-    if is_between(xlen, second) { third } else { second }
+    if is_between(xlen, second) {
+        third
+    } else {
+        second
+    }
 }
 
 /// What three words set: a pair, or a register.

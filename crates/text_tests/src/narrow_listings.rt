@@ -12,7 +12,9 @@ use std::process::Abort;
 
 /// That the listing sets these first bytes and addresses, and is none of RV64.
 fn expect_first(rt: &impl Abort, listing: &[u8], cfgs: &[u8], addresses: &[u64]) {
-    let registers = listing_of(Xlen::Rv32, listing).expect(rt, "understood").registers;
+    let registers = listing_of(Xlen::Rv32, listing)
+        .expect(rt, "understood")
+        .registers;
     assert!(rt; registers.xlen == Xlen::Rv32);
     assert!(rt; cfgs.len() <= 64 && &registers.cfgs[..cfgs.len()] == cfgs);
     assert!(rt; addresses.len() <= 64 && &registers.addresses[..addresses.len()] == addresses);
@@ -38,7 +40,12 @@ fn what_tools_print_of_rv32(rt: HostRuntime) {
 fn what_a_boot_log_of_rv32_says(rt: HostRuntime) {
     let log =
         b"Domain0 Region00 : 0x80000000-0x8001ffff M: (R,X) S/U: ()\nDomain0 Region01 : 0x00000000-0xffffffff M: (R,W,X) S/U: (R,W,X)\n";
-    expect_first(&rt, log.as_slice(), &[0x18, 0x1f, 0], &[0x2000_3fff, 0x7fff_ffff, 0]);
+    expect_first(
+        &rt,
+        log.as_slice(),
+        &[0x18, 0x1f, 0],
+        &[0x2000_3fff, 0x7fff_ffff, 0],
+    );
     let half = b"Domain0 Region00 : 0x80000000-0xffffffff (R)\n";
     expect_first(&rt, half.as_slice(), &[0x19, 0], &[0x2fff_ffff, 0]);
 }
@@ -63,7 +70,14 @@ fn lines_that_are_none_of_rv32(rt: HostRuntime) {
 }
 
 /// That the listing has this table, this map, and this answer of an audit against the map.
-fn expect_texts(rt: &impl Abort, alloc: Global, listing: &[u8], table: &[u8], map: &[u8], line: &[u8]) {
+fn expect_texts(
+    rt: &impl Abort,
+    alloc: Global,
+    listing: &[u8],
+    table: &[u8],
+    map: &[u8],
+    line: &[u8],
+) {
     let mut out = PieceSink::new(7, None);
     assert!(rt; print_registers(alloc, Xlen::Rv32, listing, &mut out) == Ok(true));
     assert_eq!(rt; out.written(), table);
@@ -92,7 +106,8 @@ fn the_whole_space_of_rv32_and_ranges(rt: HostRuntime) {
         b"pmpcfg1 0x0b00\npmpaddr4 0x8000400\npmpaddr5 0x8000c00\npmpcfg0 0x1b\npmpaddr0 0xc00001ff\n";
     let table =
         b"from               to                 size    perm by\n0x0000000020001000 0x0000000020002fff   8 KiB  rw-  5\n0x0000000300000000 0x0000000300000fff   4 KiB  rw-  0\nall else                                       ---  no entry\n2 entries are not OFF\n";
-    let map = b"0x0000000020001000 0x0000000000002000 rw\n0x0000000300000000 0x0000000000001000 rw\n";
+    let map =
+        b"0x0000000020001000 0x0000000000002000 rw\n0x0000000300000000 0x0000000000001000 rw\n";
     let line = b"means the map: 2 entries where 1 is enough\n";
     expect_texts(&rt, rt.alloc(), ranges, table, map, line);
 }
@@ -102,5 +117,8 @@ fn reserved_values_have_eight_digits(rt: HostRuntime) {
     let mut out = PieceSink::new(7, None);
     let listing = b"pmpcfg1 0x60\npmpaddr4 0x20000000\n";
     assert!(rt; print_registers(rt.alloc(), Xlen::Rv32, listing, &mut out) == Ok(false));
-    assert_eq!(rt; out.written(), b"pair 4 0x60 0x20000000: reserved bits\n".as_slice());
+    assert_eq!(rt;
+        out.written(),
+        b"pair 4 0x60 0x20000000: reserved bits\n".as_slice()
+    );
 }
