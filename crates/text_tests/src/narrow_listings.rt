@@ -80,14 +80,14 @@ fn expect_texts(
 ) {
     let mut out = PieceSink::new(7, None);
     assert!(rt; print_registers(alloc, Xlen::Rv32, listing, &mut out) == Ok(true));
-    assert_eq!(rt; out.written(), table);
+    assert!(rt; out.written() == table);
     let mut out = PieceSink::new(7, None);
     assert!(rt; print_map_of(alloc, Xlen::Rv32, listing, &mut out) == Ok(true));
-    assert_eq!(rt; out.written(), map);
+    assert!(rt; out.written() == map);
     let meant = map_of(alloc, map).expect(rt, "a map");
     let mut out = PieceSink::new(7, None);
     assert!(rt; audit(alloc, &meant, 1, Xlen::Rv32, listing, false, &mut out) == Ok(true));
-    assert_eq!(rt; out.written(), line);
+    assert!(rt; out.written() == line);
 }
 
 #[test]

@@ -1,7 +1,6 @@
 //! Commands on registers of RV32, and on maps for such a hart.
 
 use super::runs::{denies, prints, refuses};
-use std::test::Fail;
 
 const MAP: &[u8] = b"0x80000000 0x1000 rw\n0x300000000 0x1000 r\n";
 
@@ -21,7 +20,7 @@ const TRACE: &[u8] = b"load u 8 0x80000ff8\nstore s 4 0x300000000 1\nload s 1 0x
 const ANSWERS: &str = "1 ok\n2 fault 7\n3 fault 5\n";
 
 #[test]
-fn registers_of_rv32_are_read(rt: HostRuntime) -> Result<(), Fail> {
+fn registers_of_rv32_are_read(rt: HostRuntime) {
     let rows: [(&[&str], &[u8], &[u8], &str); 7] = [
         (
             &["pmpmon", "show", "--registers", "b", "--xlen", "32"],
@@ -62,13 +61,12 @@ fn registers_of_rv32_are_read(rt: HostRuntime) -> Result<(), Fail> {
         ),
     ];
     for (words, first, second, out) in rows {
-        prints(&rt, rt.alloc(), words, first, second, out)?;
+        prints(&rt, rt.alloc(), words, first, second, out);
     }
-    Ok(())
 }
 
 #[test]
-fn a_map_is_too_far_for_rv32(rt: HostRuntime) -> Result<(), Fail> {
+fn a_map_is_too_far_for_rv32(rt: HostRuntime) {
     let rows: [&[&str]; 3] = [
         &["pmpmon", "show", "m", "--xlen", "32"],
         &["pmpmon", "judge", "m", "t", "--xlen", "32"],
@@ -82,13 +80,12 @@ fn a_map_is_too_far_for_rv32(rt: HostRuntime) -> Result<(), Fail> {
             FAR,
             b"",
             "pmpmon: m: too far: 34 bits\n",
-        )?;
+        );
     }
-    Ok(())
 }
 
 #[test]
-fn lint_tells_a_listing_of_the_other_width(rt: HostRuntime) -> Result<(), Fail> {
+fn lint_tells_a_listing_of_the_other_width(rt: HostRuntime) {
     let rows: [(&[&str], &[u8], &str); 4] = [
         (
             &["pmpmon", "lint", "--registers", "b"],
@@ -112,7 +109,6 @@ fn lint_tells_a_listing_of_the_other_width(rt: HostRuntime) -> Result<(), Fail> 
         ),
     ];
     for (words, listing, said) in rows {
-        denies(&rt, rt.alloc(), words, listing, b"", said)?;
+        denies(&rt, rt.alloc(), words, listing, b"", said);
     }
-    Ok(())
 }
