@@ -1,12 +1,15 @@
 /* Tells the registers that were loaded, then does the accesses of accesses.h and tells each outcome, on the serial line:
    `pmpaddr0 0xVALUE`, then `N ok`, `N fault CAUSE`, `N skip` where there is nothing to access, or `N wrong` where an access
-   did what its outcome denies. */
+   did what its outcome denies. A number has as many bits as a register of the hart. */
 #include <stdint.h>
+
+typedef unsigned long word;
+typedef long sword;
 
 enum kind { LOAD, STORE, FETCH };
 
 struct access {
-    uint64_t address;
+    word address;
     uint8_t kind;
     uint8_t supervisor;
     uint8_t log2_size;
@@ -15,11 +18,11 @@ struct access {
 #include "accesses.h"
 
 struct outcome {
-    int64_t cause;
-    uint64_t value;
+    sword cause;
+    word value;
 };
 
-struct outcome attempt(int64_t kind, uint64_t address, uint64_t value, uint64_t mode_bits);
+struct outcome attempt(sword kind, word address, word value, word mode_bits);
 
 #define NONE (-1)
 #define MACHINE (3ul << 11)
@@ -40,7 +43,7 @@ static void put(const char *text)
     }
 }
 
-static void put_number(uint64_t n)
+static void put_number(word n)
 {
     char text[21];
     char *at = text + 20;
@@ -52,11 +55,11 @@ static void put_number(uint64_t n)
     put(at);
 }
 
-static void put_register(const char *name, uint64_t value)
+static void put_register(const char *name, word value)
 {
     put(name);
     put(" 0x");
-    for (int shift = 60; shift >= 0; shift -= 4) {
+    for (int shift = 8 * sizeof(word) - 4; shift >= 0; shift -= 4) {
         char digit[2] = {"0123456789abcdef"[value >> shift & 15], 0};
         put(digit);
     }
@@ -65,7 +68,7 @@ static void put_register(const char *name, uint64_t value)
 
 #define REGISTER(name)                                           \
     do {                                                         \
-        uint64_t value;                                          \
+        word value;                                          \
         __asm__ volatile("csrr %0, " #name : "=r"(value));       \
         put_register(#name, value);                              \
     } while (0)
@@ -91,23 +94,29 @@ void put_registers(void)
     REGISTER(pmpaddr14);
     REGISTER(pmpaddr15);
     REGISTER(pmpcfg0);
+#if __riscv_xlen == 32
+    REGISTER(pmpcfg1);
+#endif
     REGISTER(pmpcfg2);
+#if __riscv_xlen == 32
+    REGISTER(pmpcfg3);
+#endif
 }
 
-static int in_ram(uint64_t address)
+static int in_ram(word address)
 {
     return address >= RAM_BASE && address - RAM_BASE < RAM_SIZE;
 }
 
-static uint64_t mode_of(const struct access *a)
+static word mode_of(const struct access *a)
 {
-    return (uint64_t)a->supervisor << 11;
+    return (word)a->supervisor << 11;
 }
 
 /* The outcome: a cause, NONE where it is allowed, SKIP where there is nothing, WRONG where it did what it should not. */
 enum { SKIP = -2, WRONG = -3 };
 
-static int64_t load(const struct access *a, uint64_t there)
+static sword load(const struct access *a, word there)
 {
     struct outcome got = attempt(a->log2_size, a->address, 0, AS_IF | mode_of(a));
     if (got.cause == NONE && in_ram(a->address) && got.value != there)
@@ -115,14 +124,14 @@ static int64_t load(const struct access *a, uint64_t there)
     return got.cause;
 }
 
-static int64_t store(const struct access *a, uint64_t there)
+static sword store(const struct access *a, word there)
 {
-    uint64_t mask = a->log2_size == 3 ? ~0ul : (1ul << (8 << a->log2_size)) - 1;
-    uint64_t other = ~there & mask;
-    int64_t cause = attempt(4 + a->log2_size, a->address, other, AS_IF | mode_of(a)).cause;
+    word mask = 8u << a->log2_size == 8 * sizeof(word) ? ~0ul : (1ul << (8 << a->log2_size)) - 1;
+    word other = ~there & mask;
+    sword cause = attempt(4 + a->log2_size, a->address, other, AS_IF | mode_of(a)).cause;
     if (!in_ram(a->address))
         return cause;
-    uint64_t now = attempt(a->log2_size, a->address, 0, MACHINE).value;
+    word now = attempt(a->log2_size, a->address, 0, MACHINE).value;
     attempt(4 + a->log2_size, a->address, there, MACHINE);
     if (now != (cause == NONE ? other : there))
         return WRONG;
@@ -130,18 +139,18 @@ static int64_t store(const struct access *a, uint64_t there)
 }
 
 /* An instruction that traps at once is put there; that it was reached shows that it was fetched. */
-static int64_t fetch(const struct access *a, uint64_t there)
+static sword fetch(const struct access *a, word there)
 {
     if (!in_ram(a->address))
         return SKIP;
     attempt(4 + a->log2_size, a->address, a->log2_size == 2 ? CALL : SHORT_BREAK, MACHINE);
-    int64_t cause = attempt(8, a->address, 0, mode_of(a)).cause;
+    sword cause = attempt(8, a->address, 0, mode_of(a)).cause;
     attempt(4 + a->log2_size, a->address, there, MACHINE);
-    int64_t reached = a->log2_size != 2 ? 3 : a->supervisor ? 9 : 8;
+    sword reached = a->log2_size != 2 ? 3 : a->supervisor ? 9 : 8;
     return cause == reached ? NONE : cause;
 }
 
-static int64_t outcome_of(const struct access *a)
+static sword outcome_of(const struct access *a)
 {
     struct outcome there = attempt(a->log2_size, a->address, 0, MACHINE);
     if (there.cause != NONE)
@@ -159,8 +168,8 @@ static int64_t outcome_of(const struct access *a)
 void run(void)
 {
     put_registers();
-    for (uint64_t i = 0; i < sizeof accesses / sizeof *accesses; i++) {
-        int64_t outcome = outcome_of(&accesses[i]);
+    for (word i = 0; i < sizeof accesses / sizeof *accesses; i++) {
+        sword outcome = outcome_of(&accesses[i]);
         put_number(i + 1);
         if (outcome == NONE) {
             put(" ok\n");

@@ -5,6 +5,13 @@
     .equ    MPP, 3 << 11
     .equ    MPRV, 1 << 17
 
+/* On RV32 nothing of eight bytes is loaded or stored, and of four bytes no sign is extended. */
+#if __riscv_xlen == 32
+#define lwu lw
+#define ld  lw
+#define sd  sw
+#endif
+
     .section .jump, "ax"
     .globl  _start
 _start:

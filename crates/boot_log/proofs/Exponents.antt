@@ -4,6 +4,7 @@ use Rattle.std.proofs.lemmas.Bool.{eqb-true, eqb-false}
 use Rattle.std.proofs.lemmas.Bool.Decides.{nat_tests}
 use Rattle.std.proofs.lemmas.Grind.{common_steps}
 use Rattle.std.specs.Option.{option_and_then}
+use Rattle.register_width.specs.declared.xlen.Xlen.{Xlen}
 use Rattle.boot_log.specs.Blocks.{block_at, block_from, exponent_from, exponent_of, is_all}
 
 -- one exponent on
@@ -40,7 +41,7 @@ unfolding exponent_of
 exponent_of_none = refl
 
 -- no block ends before it begins
-pub none_before : (first last : ℕ) → is_all first last ≡ false → last < first → block_from first last ≡ None
-none_before first last some less =
+pub none_before : (xlen : Xlen) (first last : ℕ) → is_all xlen first last ≡ false → last < first → block_from xlen first last ≡ None
+none_before xlen first last some less =
     let size : last + 1 - first ≡ 0 = omega (arith, less) in
-    rw some (ap (λ n. option_and_then (block_at first) (exponent_of n)) size ∙ ap (option_and_then (block_at first)) exponent_of_none)
+    rw some (ap (λ n. option_and_then (block_at xlen first) (exponent_of n)) size ∙ ap (option_and_then (block_at xlen first)) exponent_of_none)

@@ -3,6 +3,7 @@ use Rattle.std.specs.Prelude.{ℕ, ◌+◌, ◌==◌, ◌&&◌, Bool, false, not
 use Rattle.std.specs.List.{list_all, position_or_len}
 use Rattle.std.specs.Option.{is_some, option_and_then, unwrap_or}
 use Rattle.pmp_encoding.specs.declared.perm.Perm.{Perm}
+use Rattle.register_width.specs.declared.xlen.Xlen.{Xlen}
 use Rattle.text_lines.specs.Words.{words_of}
 use Rattle.text_lines.specs.Numbers.{numeral_of, number_of}
 use Rattle.text_lines.specs.Lines.{raw_lines, without_return}
@@ -37,12 +38,12 @@ abbrev pub dash_at : List ℕ → ℕ
 dash_at word = position_or_len (λ b. b == 45) word
 
 -- the block from a first to a last address, where both are numbers
-abbrev pub block_by : Option ℕ → Option ℕ → Option (ℕ × ℕ)
-block_by first last = option_and_then (λ f. option_and_then (block_from f) last) first
+abbrev pub block_by : Xlen → Option ℕ → Option ℕ → Option (ℕ × ℕ)
+block_by xlen first last = option_and_then (λ f. option_and_then (block_from xlen f) last) first
 
 -- the block that `FIRST-LAST` names
-abbrev pub block_in : List ℕ → Option (ℕ × ℕ)
-block_in word = if nat_lt (dash_at word) (length word) then block_by (number_of (take (dash_at word) word)) (number_of (drop (dash_at word + 1) word)) else None
+abbrev pub block_in : Xlen → List ℕ → Option (ℕ × ℕ)
+block_in xlen word = if nat_lt (dash_at word) (length word) then block_by xlen (number_of (take (dash_at word) word)) (number_of (drop (dash_at word + 1) word)) else None
 
 -- the letters of supervisor and user mode: the one word up to OpenSBI 1.1, or the word behind `S/U:`
 abbrev pub letters_in : List (List ℕ) → Option (List ℕ)
@@ -59,18 +60,18 @@ abbrev pub entry_by : Option ℕ → Option (ℕ × ℕ) → Option Perm → Opt
 entry_by place block perm = option_and_then (λ n. option_and_then (λ b. option_and_then (λ p. entry_at n p b) perm) block) place
 
 -- what the words of such a line set: `Domain0 RegionNN : FIRST-LAST (LETTERS)`, or with `M: (LETTERS) S/U: (LETTERS)`
-abbrev pub entry_in : List (List ℕ) → Option RegionEntry
-entry_in (domain ∷ region ∷ colon ∷ block ∷ rest) =
-    if bytes_eq colon (codes ":") then entry_by (number_in region) (block_in block) (option_and_then perm_of (letters_in rest)) else None
-entry_in _ = None
+abbrev pub entry_in : Xlen → List (List ℕ) → Option RegionEntry
+entry_in xlen (domain ∷ region ∷ colon ∷ block ∷ rest) =
+    if bytes_eq colon (codes ":") then entry_by (number_in region) (block_in xlen block) (option_and_then perm_of (letters_in rest)) else None
+entry_in xlen _ = None
 
 -- what words say: the entry of a region, or nothing; words on a register are not understood
-abbrev pub said_by : List (List ℕ) → Option (Option RegionEntry)
-said_by words = if is_region words then option_map (λ e. Some e) (entry_in words) else if is_register words then None else Some None
+abbrev pub said_by : Xlen → List (List ℕ) → Option (Option RegionEntry)
+said_by xlen words = if is_region words then option_map (λ e. Some e) (entry_in xlen words) else if is_register words then None else Some None
 
--- what a line of a log says, where it is understood
-abbrev pub log_says : List ℕ → Option (Option RegionEntry)
-log_says raw = said_by (words_in raw)
+-- what a line of a log of a hart of that width says, where it is understood
+abbrev pub log_says : Xlen → List ℕ → Option (Option RegionEntry)
+log_says xlen raw = said_by xlen (words_in raw)
 
 -- a text is a boot log where some line of it is on a region
 abbrev pub is_boot_log : List ℕ → Bool

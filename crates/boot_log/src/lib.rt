@@ -3,7 +3,7 @@
 //! OpenSBI prints a line for each region of its first domain, smaller ones first, and writes an entry for each in that order. A
 //! region is an aligned block of 2^k bytes, or the whole space; its letters say what supervisor and user mode may do there.
 //! For the layer above: [`is_boot_log`] says whether some line of a text is on a region, and [`log_says`] which entry a line
-//! sets, that it says nothing, or that it is not understood. Nothing here takes memory.
+//! sets, that it says nothing, or that it is not understood, by the width of the hart's registers. Nothing here takes memory.
 //!
 //! ```text
 //! Domain0 Region01          : 0x0000000080000000-0x000000008007ffff ()

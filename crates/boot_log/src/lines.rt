@@ -12,6 +12,7 @@ use crate::entry::RegionEntry;
 use crate::letters::{behind, is_text, perm_of};
 use lint_texts::{len_before, split_line};
 use pmp_encoding::{Entry, Perm, Region};
+use register_width::Xlen;
 use text_lines::{NotUnderstood, Words, number, numeral, without_return};
 
 /// The words of a line, and none where a byte outside its comment may not stand there.
@@ -56,8 +57,8 @@ fn number_in(region: &[u8]) -> Option<u64>
 }
 
 /// The block from the first to the last address of a region.
-fn block_in(word: &[u8]) -> Option<Region>
-    ensures { option_map (λ r. (r.base, r.log2)) result ≡ block_in word.now }
+fn block_in(xlen: Xlen, word: &[u8]) -> Option<Region>
+    ensures { option_map (λ r. (r.base, r.log2)) result ≡ block_in xlen word.now }
 {
     let dash = len_before(b'-', word);
     if dash >= word.len() {
@@ -65,7 +66,7 @@ fn block_in(word: &[u8]) -> Option<Region>
     }
     let first = number(&word[..dash])?;
     let last = number(&word[dash + 1..])?;
-    block_from(first, last)
+    block_from(xlen, first, last)
 }
 
 /// The letters of supervisor and user mode.
@@ -117,8 +118,8 @@ fn entry_by(number: Option<u64>, region: Option<Region>, perm: Option<Perm>) -> 
 }
 
 /// What words on a region set.
-fn entry_in(mut words: Words<'_>) -> Option<RegionEntry>
-    ensures value { result ≡ entry_in (split_words words.entry.rest.now) }
+fn entry_in(xlen: Xlen, mut words: Words<'_>) -> Option<RegionEntry>
+    ensures value { result ≡ entry_in xlen (split_words words.entry.rest.now) }
     ensures inside { IfSome result (λ entry. entry.place < 64) }
 {
     let _ = words.next_word()?;
@@ -128,16 +129,16 @@ fn entry_in(mut words: Words<'_>) -> Option<RegionEntry>
     if !is_text(colon, b":") {
         return None;
     }
-    entry_by(number_in(region), block_in(block), perm_in(words))
+    entry_by(number_in(region), block_in(xlen, block), perm_in(words))
 }
 
 /// What words say.
-fn said_by(words: Words<'_>) -> Result<Option<RegionEntry>, NotUnderstood>
-    ensures value { result_ok result ≡ said_by (split_words words.entry.rest.now) }
+fn said_by(xlen: Xlen, words: Words<'_>) -> Result<Option<RegionEntry>, NotUnderstood>
+    ensures value { result_ok result ≡ said_by xlen (split_words words.entry.rest.now) }
     ensures inside { IfOk result (λ said. IfSome said (λ entry. entry.place < 64)) }
 {
     if is_region(words) {
-        return match entry_in(words) {
+        return match entry_in(xlen, words) {
             Some(entry) => Ok(Some(entry)),
             None => Err(NotUnderstood),
         };
@@ -149,12 +150,12 @@ fn said_by(words: Words<'_>) -> Result<Option<RegionEntry>, NotUnderstood>
     }
 }
 
-/// What a line of a boot log says: the entry of a region, or nothing.
-pub fn log_says(raw: &[u8]) -> Result<Option<RegionEntry>, NotUnderstood>
-    ensures value { result_ok result ≡ log_says raw.now }
+/// What a line of the boot log of a hart of that width says: the entry of a region, or nothing.
+pub fn log_says(xlen: Xlen, raw: &[u8]) -> Result<Option<RegionEntry>, NotUnderstood>
+    ensures value { result_ok result ≡ log_says xlen raw.now }
     ensures inside { IfOk result (λ said. IfSome said (λ entry. entry.place < 64)) }
 {
-    said_by(words_in(raw))
+    said_by(xlen, words_in(raw))
 }
 
 /// Whether a text is a boot log: whether some line of it is on a region.

@@ -108,9 +108,11 @@ abbrev pub judge_app : App
 judge_app = with_rule
     (with_rule
     (with_rule
+    (with_rule
     (with_rule (with_rule (with_rule (new_app (codes "judge")) (file_rule (codes "MAP") true)) (file_rule (codes "TRACE") true)) entries_rule)
     registers_rule)
     expect_rule)
+    xlen_rule)
     hints_rule
 
 abbrev pub check_app : App
@@ -121,25 +123,31 @@ check_app = with_rule
 abbrev pub show_app : App
 show_app = with_rule
     (with_rule
+    (with_rule
     (with_rule (with_rule (with_rule (new_app (codes "show")) (file_rule (codes "MAP") true)) entries_rule) at_most_rule)
     registers_rule)
+    xlen_rule)
     hints_rule
 
 abbrev pub audit_app : App
 audit_app = with_rule
     (with_rule
+    (with_rule
     (with_rule (with_rule (new_app (codes "audit")) (file_rule (codes "MAP") true)) (file_rule (codes "REGISTERS") true))
     all_rule)
+    xlen_rule)
     hints_rule
 
 abbrev pub map_app : App
-map_app = with_rule (with_rule (new_app (codes "map")) (file_rule (codes "REGISTERS") true)) hints_rule
+map_app = with_rule (with_rule (with_rule (new_app (codes "map")) (file_rule (codes "REGISTERS") true)) xlen_rule) hints_rule
 
 abbrev pub lint_app : App
 lint_app = with_rule
     (with_rule
+    (with_rule
     (with_rule (with_rule (with_rule (new_app (codes "lint")) (file_rule (codes "FILE") true)) registers_rule) trace_rule)
     platform_rule)
+    xlen_rule)
     hints_rule
 
 -- the program before its subcommands, which tells its version: one of them has to be named

@@ -27,7 +27,7 @@ pub enum Argument<'a> {
     Name,
     /// `--first`, the entry that a plan begins at.
     First,
-    /// `--xlen`, how many bits the registers of a plan have.
+    /// `--xlen`, how many bits the hart's registers have.
     Xlen,
     /// `--registers`, whether a file has registers in place of a map, and what is said of it.
     Registers(&'a str),
@@ -153,7 +153,7 @@ fn first_arg<'a>(alloc: Global) -> Arg<'a>
         .action(ArgAction::Set)
 }
 
-/// The option that says how many bits the registers of a plan have.
+/// The option that says how many bits the hart's registers have.
 fn xlen_arg<'a>(alloc: Global) -> Arg<'a>
     ensures rule { rule_of result ≡ xlen_rule }
     ensures local { result.global ≡ false }

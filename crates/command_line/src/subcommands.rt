@@ -104,6 +104,7 @@ fn judge_command<'a>(alloc: Global) -> Result<Command<'a>, AllocError>
         Argument::Entries,
         Argument::Registers(AS_THEY_STAND),
         Argument::Expect,
+        Argument::Xlen,
         Argument::Hints,
     ];
     command(
@@ -146,6 +147,7 @@ fn show_command<'a>(alloc: Global) -> Result<Command<'a>, AllocError>
         Argument::Entries,
         Argument::AtMost,
         Argument::Registers(AS_THEY_STAND),
+        Argument::Xlen,
         Argument::Hints,
     ];
     command(alloc, Subcommand::Show.name(), about, SHOW_HELP, &arguments)
@@ -159,6 +161,7 @@ fn audit_command<'a>(alloc: Global) -> Result<Command<'a>, AllocError>
         Argument::File("MAP", "The map file"),
         Argument::File("REGISTERS", "The listing of the registers"),
         Argument::All,
+        Argument::Xlen,
         Argument::Hints,
     ];
     command(
@@ -176,6 +179,7 @@ fn map_command<'a>(alloc: Global) -> Result<Command<'a>, AllocError>
     let about = "Print the map that registers mean, where they mean one by whole pages";
     let arguments = [
         Argument::File("REGISTERS", "The listing of the registers"),
+        Argument::Xlen,
         Argument::Hints,
     ];
     command(alloc, Subcommand::Map.name(), about, MAP_HELP, &arguments)
@@ -193,6 +197,7 @@ fn lint_command<'a>(alloc: Global) -> Result<Command<'a>, AllocError>
         Argument::Registers("Read FILE as a listing of registers"),
         Argument::Trace,
         Argument::Platform,
+        Argument::Xlen,
         Argument::Hints,
     ];
     command(alloc, Subcommand::Lint.name(), about, LINT_HELP, &arguments)

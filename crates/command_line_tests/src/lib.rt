@@ -12,3 +12,5 @@ mod helps;
 mod hints;
 #[cfg(test)]
 mod tasks;
+#[cfg(test)]
+mod widths;

@@ -210,6 +210,7 @@ fn judge_takes_a_map_and_a_trace(rt: HostRuntime) {
             limit,
             registers: false,
             expect,
+            xlen: Xlen::Rv64,
         };
         is_task(&rt, rt.alloc(), words, wanted);
     }
@@ -231,10 +232,12 @@ fn check_audit_and_map_take_their_files(rt: HostRuntime) {
         map: "map.txt",
         registers: "-",
         all: false,
+        xlen: Xlen::Rv64,
     };
     is_task(&rt, rt.alloc(), &["pmpmon", "audit", "map.txt", "-"], audit);
     let map = Task::Map {
         registers: "board.txt",
+        xlen: Xlen::Rv64,
     };
     is_task(&rt, rt.alloc(), &["pmpmon", "map", "board.txt"], map);
 }
@@ -260,7 +263,8 @@ fn lint_takes_a_kind_of_file(rt: HostRuntime) {
         ),
     ];
     for (words, file, kind) in rows {
-        is_task(&rt, rt.alloc(), words, Task::Lint { file, kind });
+        let xlen = Xlen::Rv64;
+        is_task(&rt, rt.alloc(), words, Task::Lint { file, kind, xlen });
     }
 }
 
@@ -271,6 +275,7 @@ fn show_takes_a_map_or_registers(rt: HostRuntime) {
         limit: Limit::SixtyFour,
         at_most: Some(16),
         registers: false,
+        xlen: Xlen::Rv64,
     };
     let words = [
         "pmpmon",
@@ -290,6 +295,7 @@ fn show_takes_a_map_or_registers(rt: HostRuntime) {
             limit: Limit::Sixteen,
             at_most: None,
             registers: true,
+            xlen: Xlen::Rv64,
         };
         is_task(&rt, rt.alloc(), words, wanted);
     }

@@ -12,3 +12,4 @@ mod maps;
 mod options;
 mod plans;
 mod runs;
+mod widths;

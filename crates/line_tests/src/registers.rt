@@ -3,6 +3,7 @@
 use byte_streams::fakes::{PieceSink, PieceSource};
 use pmp_match::{Access, Cause, Kind, Mode};
 use register_judge::{Registers, Reserved, ReservedAt, Ruled, Rules, RulesFault, rules_in};
+use register_width::Xlen;
 use std::alloc::Global;
 use std::test::Fail;
 use trace_judge::judge_lines;
@@ -16,6 +17,7 @@ const ALL: u64 = 0x1f_ffff_ffff_ffff;
 /// Registers with two entries, each of its configuration byte and its address register.
 fn two(first: (u8, u64), second: (u8, u64)) -> Registers {
     let mut registers = Registers {
+        xlen: Xlen::Rv64,
         cfgs: [0; 64],
         addresses: [0; 64],
     };
@@ -138,7 +140,7 @@ fn reserved_values_have_no_rules(rt: HostRuntime) {
 fn answers(alloc: Global, listing: &[u8], trace: &[u8]) -> Result<Vec<u8>, Fail> {
     let mut source = PieceSource::new(trace, 4096, None);
     let mut sink = PieceSink::new(4096, None);
-    let text = match rules_in(alloc, listing) {
+    let text = match rules_in(alloc, Xlen::Rv64, listing) {
         Ok(Ruled::Rules(rules)) => {
             if judge_lines(&rules, &mut source, &mut sink).is_err() {
                 return Ok(Vec::new(alloc));
@@ -170,7 +172,7 @@ fn a_listing_judges_a_trace_or_says_why_not(rt: HostRuntime) -> Result<(), Fail>
         let written = answers(rt.alloc(), listing, trace)?;
         assert!(rt; written.as_slice() == wanted);
     }
-    let fault = rules_in(rt.alloc(), b"pmpaddr0 1\nwhat\n").err();
+    let fault = rules_in(rt.alloc(), Xlen::Rv64, b"pmpaddr0 1\nwhat\n").err();
     assert!(rt; fault == Some(RulesFault::Line(2)));
     Ok(())
 }

@@ -2,6 +2,7 @@
 -- which it ends.
 use Rattle.std.specs.Prelude.{◌≡◌, ℕ, ◌-◌, ◌^◌, ◌<◌, ◌≤◌, min, Bool, true, false, List, codes, decimal, ◌==◌, ◌++◌, [], Option, Some, None, Result, Ok, Err, length}
 use Rattle.std.specs.List.{ends_with}
+use Rattle.std.specs.Option.{is_some}
 use Rattle.std.specs.Borrow.{Bor}
 use Rattle.std.specs.Io.KnownBytes.{Appends, Consumes}
 use Rattle.byte_streams.specs.Streams.{one_failure_more, WriteFails}
@@ -34,6 +35,7 @@ use Rattle.plan_certificate.specs.Written.{version_for}
 use Rattle.trace_judge.specs.Answers.{is_no_access, judged_by}
 use Rattle.printed_lines.specs.Plans.{IsPlanText}
 use Rattle.register_width.specs.declared.xlen.Xlen.{Xlen}
+use Rattle.register_width.specs.declared.xlen.Xlen.TheVariants.{Rv32, Rv64}
 use Rattle.register_width.specs.Widths.{AreReached}
 use Rattle.map_table.specs.Tables.{IsTable}
 use Rattle.register_formats.specs.AsmTexts.{IsAsmText}
@@ -109,10 +111,11 @@ pub data HasNoMap {R : Type 0} (file : Bor (List ℕ)) (source : Reading R) : Tr
   no_bytes : (trouble : Trouble) → HasNoBytes (2 ^ 20) file source trouble → HasNoMap file source trouble
   no_map : (bytes : List ℕ) → HasBytes (2 ^ 20) source bytes → (fault : MapFileFault) → IsMapFault bytes fault → HasNoMap file source (map_trouble file fault)
 
--- the bank has the fewest entries that mean a view
-pub record IsLoaded (view : View) (limit : Limit) (bank : Bank) : Type 0 where
+-- the bank has the fewest entries that mean a view, and the hart's address registers reach them
+pub record IsLoaded (view : View) (xlen : Xlen) (limit : Limit) (bank : Bank) : Type 0 where
   pub entries : List Entry
   pub fewest : IsFewest view entries
+  pub reached : AreReached xlen entries
   pub list : HasList bank entries
   pub registers : IsBankOf bank limit entries
 
@@ -190,6 +193,12 @@ pub record IsTooFar (view : View) (xlen : Xlen) (most : Option ℕ) (map : Bor (
   pub far : ¬ AreReached xlen entries
   pub told : trouble ≡ TooFar map
 
+-- why there is no bank: memory, more entries than the hart has, or one that is too far
+pub data IsUnloaded (view : View) (xlen : Xlen) (limit : Limit) (map : Bor (List ℕ)) : Trouble → Type 0 where
+  for_memory : IsUnloaded view xlen limit map Memory
+  for_entries : (entries : List Entry) → IsFewest view entries → limit_number limit < length entries → IsUnloaded view xlen limit map (NeedsEntries (length entries))
+  for_width : (trouble : Trouble) → IsTooFar view xlen None map trouble → IsUnloaded view xlen limit map trouble
+
 -- why there is no plan with its certificate: memory, too many entries, one that is too far, or the certificate
 pub data IsUnplanned {C : Type 0} (view : View) (xlen : Xlen) (limit : Limit) (most : Option ℕ) (map : Bor (List ℕ)) (file : Option (Bor (List ℕ))) (cert : Placing C) (trouble : Trouble) : Type 0 where
   starved : trouble ≡ Memory → IsUnwritten cert.sink → IsUnplanned view xlen limit most map file cert trouble
@@ -219,17 +228,18 @@ pub data Plans {R C W : Type 0} (map : Bor (List ℕ)) (file : Option (Bor (List
       → AreReached xlen entries → IsCertified (view_of_runs runs) limit entries file cert → IsPrinted format map.now name xlen limit first entries text → Breaks text out
       → Plans map file xlen limit at_most format name first source cert out (Err Output)
 
--- `show`: the map is read, and the table of its stretches is printed
-pub data Shows {R W : Type 0} (map : Bor (List ℕ)) (limit : Limit) (at_most : Option ℕ) (first : Reading R) (out : Writing W) : Result ℕ Trouble → Type 0 where
+-- `show`: the map is read, and the table of its stretches is printed, where the hart's address registers reach its entries
+pub data Shows {R W : Type 0} (map : Bor (List ℕ)) (xlen : Xlen) (limit : Limit) (at_most : Option ℕ) (first : Reading R) (out : Writing W) : Result ℕ Trouble → Type 0 where
   shown :
-      (runs : List Run) (entries : List Entry) (text : List ℕ) → HasMap first runs → IsPlanned (view_of_runs runs) at_most entries → IsTable (view_of_runs runs) entries limit text
-      → TakesAll text out → Shows map limit at_most first out (Ok 0)
-  no_map : (trouble : Trouble) → HasNoMap map first trouble → IsUnwritten out → Shows map limit at_most first out (Err trouble)
-  no_memory : (runs : List Run) → HasMap first runs → IsUnwritten out → Shows map limit at_most first out (Err Memory)
-  too_many : (runs : List Run) (trouble : Trouble) → HasMap first runs → NeedsMore (view_of_runs runs) at_most trouble → IsUnwritten out → Shows map limit at_most first out (Err trouble)
+      (runs : List Run) (entries : List Entry) (text : List ℕ) → HasMap first runs → IsPlanned (view_of_runs runs) at_most entries → AreReached xlen entries → IsTable (view_of_runs runs) entries limit text
+      → TakesAll text out → Shows map xlen limit at_most first out (Ok 0)
+  no_map : (trouble : Trouble) → HasNoMap map first trouble → IsUnwritten out → Shows map xlen limit at_most first out (Err trouble)
+  no_memory : (runs : List Run) → HasMap first runs → IsUnwritten out → Shows map xlen limit at_most first out (Err Memory)
+  too_many : (runs : List Run) (trouble : Trouble) → HasMap first runs → NeedsMore (view_of_runs runs) at_most trouble → IsUnwritten out → Shows map xlen limit at_most first out (Err trouble)
+  too_far : (runs : List Run) (trouble : Trouble) → HasMap first runs → IsTooFar (view_of_runs runs) xlen at_most map trouble → IsUnwritten out → Shows map xlen limit at_most first out (Err trouble)
   no_output :
-      (runs : List Run) (entries : List Entry) (text : List ℕ) → HasMap first runs → IsPlanned (view_of_runs runs) at_most entries → IsTable (view_of_runs runs) entries limit text
-      → Breaks text out → Shows map limit at_most first out (Err Output)
+      (runs : List Run) (entries : List Entry) (text : List ℕ) → HasMap first runs → IsPlanned (view_of_runs runs) at_most entries → AreReached xlen entries → IsTable (view_of_runs runs) entries limit text
+      → Breaks text out → Shows map xlen limit at_most first out (Err Output)
 
 -- the status of an answer: 0 for a yes, and 1 for a no
 abbrev pub answer_status : Bool → ℕ
@@ -237,21 +247,21 @@ answer_status true = 0
 answer_status false = 1
 
 -- `show --registers`: the listing of registers is read, and the table of what they give is printed, or why they mean nothing
-pub data ShowsRegisters {R W : Type 0} (registers : Bor (List ℕ)) (first : Reading R) (out : Writing W) : Result ℕ Trouble → Type 0 where
+pub data ShowsRegisters {R W : Type 0} (registers : Bor (List ℕ)) (xlen : Xlen) (first : Reading R) (out : Writing W) : Result ℕ Trouble → Type 0 where
   told :
-      (listing text : List ℕ) (meant : Bool) → HasBytes (2 ^ 20) first listing → IsRegisterTable listing text meant → TakesAll text out
-      → ShowsRegisters registers first out (Ok (answer_status meant))
-  no_bytes : (trouble : Trouble) → HasNoBytes (2 ^ 20) registers first trouble → IsUnwritten out → ShowsRegisters registers first out (Err trouble)
-  no_memory : (listing : List ℕ) → HasBytes (2 ^ 20) first listing → IsUnwritten out → ShowsRegisters registers first out (Err Memory)
+      (listing text : List ℕ) (meant : Bool) → HasBytes (2 ^ 20) first listing → IsRegisterTable xlen listing text meant → TakesAll text out
+      → ShowsRegisters registers xlen first out (Ok (answer_status meant))
+  no_bytes : (trouble : Trouble) → HasNoBytes (2 ^ 20) registers first trouble → IsUnwritten out → ShowsRegisters registers xlen first out (Err trouble)
+  no_memory : (listing : List ℕ) → HasBytes (2 ^ 20) first listing → IsUnwritten out → ShowsRegisters registers xlen first out (Err Memory)
   not_understood :
-      (listing : List ℕ) (n : ℕ) → HasBytes (2 ^ 20) first listing → IsFirstUnknown listing n → IsUnwritten out → ShowsRegisters registers first out (Err (NotUnderstood registers n))
+      (listing : List ℕ) (n : ℕ) → HasBytes (2 ^ 20) first listing → IsFirstUnknown xlen listing n → IsUnwritten out → ShowsRegisters registers xlen first out (Err (NotUnderstood registers n))
   no_output :
-      (listing text : List ℕ) (meant : Bool) → HasBytes (2 ^ 20) first listing → IsRegisterTable listing text meant → Breaks text out → ShowsRegisters registers first out (Err Output)
+      (listing text : List ℕ) (meant : Bool) → HasBytes (2 ^ 20) first listing → IsRegisterTable xlen listing text meant → Breaks text out → ShowsRegisters registers xlen first out (Err Output)
 
 -- `show`, with `--registers` or without
-abbrev pub ShowsAs : {R W : Type 0} → Bool → Bor (List ℕ) → Limit → Option ℕ → Reading R → Writing W → Result ℕ Trouble → Type 0
-ShowsAs true file limit at_most first out done = ShowsRegisters file first out done
-ShowsAs false file limit at_most first out done = Shows file limit at_most first out done
+abbrev pub ShowsAs : {R W : Type 0} → Bool → Bor (List ℕ) → Xlen → Limit → Option ℕ → Reading R → Writing W → Result ℕ Trouble → Type 0
+ShowsAs true file xlen limit at_most first out done = ShowsRegisters file xlen first out done
+ShowsAs false file xlen limit at_most first out done = Shows file xlen limit at_most first out done
 
 -- a trace is judged line by line, to its end or until it stops
 pub data JudgesTrace {R W : Type 0} (does : Meaning (Unit {0})) (trace : Bor (List ℕ)) (second : Reading R) (out : Writing W) : Result ℕ Trouble → Type 0 where
@@ -281,34 +291,37 @@ JudgesTraceAs true does trace second out done = JudgesExpecting does trace secon
 JudgesTraceAs false does trace second out done = JudgesTrace does trace second out done
 
 -- `judge`: the map is read and its entries are loaded, and then the trace is judged by them
-pub data Judges {R W : Type 0} (expect : Bool) (map trace : Bor (List ℕ)) (limit : Limit) (first second : Reading R) (out : Writing W) : Result ℕ Trouble → Type 0 where
+pub data Judges {R W : Type 0} (expect : Bool) (map trace : Bor (List ℕ)) (xlen : Xlen) (limit : Limit) (first second : Reading R) (out : Writing W) : Result ℕ Trouble → Type 0 where
   judged :
-      (runs : List Run) (bank : Bank) (result : Result ℕ Trouble) → HasMap first runs → IsLoaded (view_of_runs runs) limit bank
-      → JudgesTraceAs expect (judged_by bank) trace second out result → Judges expect map trace limit first second out result
-  no_map : (trouble : Trouble) → HasNoMap map first trouble → IsUnread second → IsUnwritten out → Judges expect map trace limit first second out (Err trouble)
-  no_memory : (runs : List Run) → HasMap first runs → IsUnread second → IsUnwritten out → Judges expect map trace limit first second out (Err Memory)
+      (runs : List Run) (bank : Bank) (result : Result ℕ Trouble) → HasMap first runs → IsLoaded (view_of_runs runs) xlen limit bank
+      → JudgesTraceAs expect (judged_by bank) trace second out result → Judges expect map trace xlen limit first second out result
+  no_map : (trouble : Trouble) → HasNoMap map first trouble → IsUnread second → IsUnwritten out → Judges expect map trace xlen limit first second out (Err trouble)
+  no_memory : (runs : List Run) → HasMap first runs → IsUnread second → IsUnwritten out → Judges expect map trace xlen limit first second out (Err Memory)
   no_bank :
       (runs : List Run) (entries : List Entry) → HasMap first runs → IsFewest (view_of_runs runs) entries → limit_number limit < length entries → IsUnread second → IsUnwritten out
-      → Judges expect map trace limit first second out (Err (NeedsEntries (length entries)))
+      → Judges expect map trace xlen limit first second out (Err (NeedsEntries (length entries)))
+  too_far :
+      (runs : List Run) (trouble : Trouble) → HasMap first runs → IsTooFar (view_of_runs runs) xlen None map trouble → IsUnread second → IsUnwritten out
+      → Judges expect map trace xlen limit first second out (Err trouble)
 
 -- `judge --registers`: the listing of registers is read, and then the trace is judged by them line by line; where they judge nothing
 -- the trace is not read, and why is printed
-pub data JudgesByRegisters {R W : Type 0} (expect : Bool) (listing trace : Bor (List ℕ)) (first second : Reading R) (out : Writing W) : Result ℕ Trouble → Type 0 where
+pub data JudgesByRegisters {R W : Type 0} (expect : Bool) (listing trace : Bor (List ℕ)) (xlen : Xlen) (first second : Reading R) (out : Writing W) : Result ℕ Trouble → Type 0 where
   ruled :
-      (bytes : List ℕ) (registers : Registers) (result : Result ℕ Trouble) → HasBytes (2 ^ 20) first bytes → HasRules bytes registers
-      → JudgesTraceAs expect (judged_by_registers registers) trace second out result → JudgesByRegisters expect listing trace first second out result
-  refused : (bytes text : List ℕ) → HasBytes (2 ^ 20) first bytes → IsRefused bytes text → IsUnread second → TakesAll text out → JudgesByRegisters expect listing trace first second out (Ok 1)
-  no_bytes : (trouble : Trouble) → HasNoBytes (2 ^ 20) listing first trouble → IsUnread second → IsUnwritten out → JudgesByRegisters expect listing trace first second out (Err trouble)
-  no_memory : (bytes : List ℕ) → HasBytes (2 ^ 20) first bytes → IsUnread second → IsUnwritten out → JudgesByRegisters expect listing trace first second out (Err Memory)
+      (bytes : List ℕ) (registers : Registers) (result : Result ℕ Trouble) → HasBytes (2 ^ 20) first bytes → HasRules xlen bytes registers
+      → JudgesTraceAs expect (judged_by_registers registers) trace second out result → JudgesByRegisters expect listing trace xlen first second out result
+  refused : (bytes text : List ℕ) → HasBytes (2 ^ 20) first bytes → IsRefused xlen bytes text → IsUnread second → TakesAll text out → JudgesByRegisters expect listing trace xlen first second out (Ok 1)
+  no_bytes : (trouble : Trouble) → HasNoBytes (2 ^ 20) listing first trouble → IsUnread second → IsUnwritten out → JudgesByRegisters expect listing trace xlen first second out (Err trouble)
+  no_memory : (bytes : List ℕ) → HasBytes (2 ^ 20) first bytes → IsUnread second → IsUnwritten out → JudgesByRegisters expect listing trace xlen first second out (Err Memory)
   not_understood :
-      (bytes : List ℕ) (n : ℕ) → HasBytes (2 ^ 20) first bytes → IsFirstUnknown bytes n → IsUnread second → IsUnwritten out
-      → JudgesByRegisters expect listing trace first second out (Err (NotUnderstood listing n))
-  no_output : (bytes text : List ℕ) → HasBytes (2 ^ 20) first bytes → IsRefused bytes text → IsUnread second → Breaks text out → JudgesByRegisters expect listing trace first second out (Err Output)
+      (bytes : List ℕ) (n : ℕ) → HasBytes (2 ^ 20) first bytes → IsFirstUnknown xlen bytes n → IsUnread second → IsUnwritten out
+      → JudgesByRegisters expect listing trace xlen first second out (Err (NotUnderstood listing n))
+  no_output : (bytes text : List ℕ) → HasBytes (2 ^ 20) first bytes → IsRefused xlen bytes text → IsUnread second → Breaks text out → JudgesByRegisters expect listing trace xlen first second out (Err Output)
 
 -- `judge`, with `--registers` or without, and with `--expect` or without
-abbrev pub JudgesAs : {R W : Type 0} → Bool → Bool → Bor (List ℕ) → Bor (List ℕ) → Limit → Reading R → Reading R → Writing W → Result ℕ Trouble → Type 0
-JudgesAs true expect file trace limit first second out done = JudgesByRegisters expect file trace first second out done
-JudgesAs false expect file trace limit first second out done = Judges expect file trace limit first second out done
+abbrev pub JudgesAs : {R W : Type 0} → Bool → Bool → Bor (List ℕ) → Bor (List ℕ) → Xlen → Limit → Reading R → Reading R → Writing W → Result ℕ Trouble → Type 0
+JudgesAs true expect file trace xlen limit first second out done = JudgesByRegisters expect file trace xlen first second out done
+JudgesAs false expect file trace xlen limit first second out done = Judges expect file trace xlen limit first second out done
 
 -- `check`: the map is read, then the certificate, and the line of the verdict is written
 pub data Checks {R W : Type 0} (map cert : Bor (List ℕ)) (first second : Reading R) (out : Writing W) : Result ℕ Trouble → Type 0 where
@@ -321,31 +334,36 @@ pub data Checks {R W : Type 0} (map cert : Bor (List ℕ)) (first second : Readi
       (runs : List Run) (bytes line : List ℕ) (status : ℕ) → HasMap first runs → HasBytes (2 ^ 26) second bytes → IsVerdict (view_of_runs runs) bytes line status
       → Breaks line out → Checks map cert first second out (Err Output)
 
--- what an audit is made of: the map of the first file, the listing in the second, and how many entries are enough
-pub record IsAudited {R : Type 0} (first second : Reading R) (view : View) (listing : List ℕ) (fewest : ℕ) : Type 0 where
+-- what an audit is made of: the map of the first file, the listing in the second, and how many entries are enough, which the
+-- hart's address registers reach
+pub record IsAudited {R : Type 0} (first second : Reading R) (view : View) (xlen : Xlen) (listing : List ℕ) (fewest : ℕ) : Type 0 where
   pub runs : List Run
   pub has_map : HasMap first runs
   pub is_view : view ≡ view_of_runs runs
   pub read : HasBytes (2 ^ 20) second listing
   pub entries : List Entry
   pub is_fewest : IsFewest view entries
+  pub reached : AreReached xlen entries
   pub count : length entries ≡ fewest
 
 -- `audit`: the map is read, then the listing of registers, and the line of the verdict is printed, or with `--all` a line
 -- for each stretch that differs
-pub data Audits {R W : Type 0} (map registers : Bor (List ℕ)) (all : Bool) (first second : Reading R) (out : Writing W) : Result ℕ Trouble → Type 0 where
+pub data Audits {R W : Type 0} (map registers : Bor (List ℕ)) (xlen : Xlen) (all : Bool) (first second : Reading R) (out : Writing W) : Result ℕ Trouble → Type 0 where
   audited :
-      (view : View) (listing text : List ℕ) (fewest : ℕ) (means : Bool) → IsAudited first second view listing fewest → IsAudit view fewest all listing text means
-      → TakesAll text out → Audits map registers all first second out (Ok (answer_status means))
-  no_map : (trouble : Trouble) → HasNoMap map first trouble → IsUnread second → IsUnwritten out → Audits map registers all first second out (Err trouble)
-  no_registers : (runs : List Run) (trouble : Trouble) → HasMap first runs → HasNoBytes (2 ^ 20) registers second trouble → IsUnwritten out → Audits map registers all first second out (Err trouble)
-  no_memory : (runs : List Run) (listing : List ℕ) → HasMap first runs → HasBytes (2 ^ 20) second listing → IsUnwritten out → Audits map registers all first second out (Err Memory)
+      (view : View) (listing text : List ℕ) (fewest : ℕ) (means : Bool) → IsAudited first second view xlen listing fewest → IsAudit view xlen fewest all listing text means
+      → TakesAll text out → Audits map registers xlen all first second out (Ok (answer_status means))
+  no_map : (trouble : Trouble) → HasNoMap map first trouble → IsUnread second → IsUnwritten out → Audits map registers xlen all first second out (Err trouble)
+  no_registers : (runs : List Run) (trouble : Trouble) → HasMap first runs → HasNoBytes (2 ^ 20) registers second trouble → IsUnwritten out → Audits map registers xlen all first second out (Err trouble)
+  too_far :
+      (runs : List Run) (listing : List ℕ) (trouble : Trouble) → HasMap first runs → HasBytes (2 ^ 20) second listing → IsTooFar (view_of_runs runs) xlen None map trouble → IsUnwritten out
+      → Audits map registers xlen all first second out (Err trouble)
+  no_memory : (runs : List Run) (listing : List ℕ) → HasMap first runs → HasBytes (2 ^ 20) second listing → IsUnwritten out → Audits map registers xlen all first second out (Err Memory)
   not_understood :
-      (view : View) (listing : List ℕ) (fewest n : ℕ) → IsAudited first second view listing fewest → IsFirstUnknown listing n → IsUnwritten out
-      → Audits map registers all first second out (Err (NotUnderstood registers n))
+      (view : View) (listing : List ℕ) (fewest n : ℕ) → IsAudited first second view xlen listing fewest → IsFirstUnknown xlen listing n → IsUnwritten out
+      → Audits map registers xlen all first second out (Err (NotUnderstood registers n))
   no_output :
-      (view : View) (listing text : List ℕ) (fewest : ℕ) (means : Bool) → IsAudited first second view listing fewest → IsAudit view fewest all listing text means → Breaks text out
-      → Audits map registers all first second out (Err Output)
+      (view : View) (listing text : List ℕ) (fewest : ℕ) (means : Bool) → IsAudited first second view xlen listing fewest → IsAudit view xlen fewest all listing text means → Breaks text out
+      → Audits map registers xlen all first second out (Err Output)
 
 -- a file whose name ends in `.toml` should be a platform, and any other one a map
 abbrev pub names_platform : List ℕ → Bool
@@ -355,14 +373,26 @@ names_platform name = ends_with (λ a b. a == b) name (codes ".toml")
 abbrev pub IsMapLint : List ℕ → List ℕ → Bool → List ℕ → Type 0
 IsMapLint name bytes is_map text = IsVerdictOfLines bytes is_map × IsLintText name bytes is_map text
 
+-- the other width
+abbrev pub other_width : Xlen → Xlen
+other_width Rv32 = Rv64
+other_width Rv64 = Rv32
+
+-- why a line of a listing is not understood: the registers are those of the other width, where by that one all lines are
+abbrev pub listing_reason : Xlen → Bool → List ℕ
+listing_reason Rv64 true = codes ":1: the line is not understood, but each is as one of RV32; add '--xlen 32'\n"
+listing_reason Rv32 true = codes ":1: the line is not understood, but each is as one of RV64; leave out '--xlen 32'\n"
+listing_reason Rv64 false = codes ":1: the line is not understood; write a register and its value, as 'pmpcfg0 0x1f'\n"
+listing_reason Rv32 false = codes ":1: the line is not understood; write a register and its value of 32 bits, as 'pmpcfg0 0x1f'\n"
+
 -- what is printed of a line of a listing that is not understood
-abbrev pub listing_fault : List ℕ → ℕ → List ℕ
-listing_fault name n = name ++ (codes ":" ++ decimal n ++ codes ":1: the line is not understood; write a register and its value, as 'pmpcfg0 0x1f'\n")
+abbrev pub listing_fault : Xlen → List ℕ → Bool → ℕ → List ℕ
+listing_fault xlen name others n = name ++ (codes ":" ++ decimal n ++ listing_reason xlen others)
 
 -- of a file that should be a listing of registers: nothing where it is one, otherwise its first line that is not understood
-abbrev pub IsListingLint : List ℕ → List ℕ → Bool → List ℕ → Type 0
-IsListingLint name bytes true text = ((leaves : Listing) × (listed bytes ≡ Some leaves)) × (text ≡ [])
-IsListingLint name bytes false text = (n : ℕ) × IsFirstUnknown bytes n × (text ≡ listing_fault name n)
+abbrev pub IsListingLint : Xlen → List ℕ → List ℕ → Bool → List ℕ → Type 0
+IsListingLint xlen name bytes true text = ((leaves : Listing) × (listed xlen bytes ≡ Some leaves)) × (text ≡ [])
+IsListingLint xlen name bytes false text = (n : ℕ) × IsFirstUnknown xlen bytes n × (text ≡ listing_fault xlen name (is_some (listed (other_width xlen) bytes)) n)
 
 -- of a file that should be a platform: nothing where it is one
 abbrev pub IsPlatformLint : List ℕ → List ℕ → Bool → List ℕ → Type 0
@@ -382,19 +412,19 @@ pub data Tells {W : Type 0} (IsText : Bool → List ℕ → Type 0) (out : Writi
 
 -- `map`: the listing of registers is read, and the map that they mean is printed, or why there is none. That it would have too
 -- many ranges is a rule of its own
-pub data Maps {R W : Type 0} (registers : Bor (List ℕ)) (first : Reading R) (out : Writing W) : Result ℕ Trouble → Type 0 where
+pub data Maps {R W : Type 0} (registers : Bor (List ℕ)) (xlen : Xlen) (first : Reading R) (out : Writing W) : Result ℕ Trouble → Type 0 where
   told :
-      (listing text : List ℕ) (is_map : Bool) → HasBytes (2 ^ 20) first listing → IsMapFile listing text is_map → TakesAll text out
-      → Maps registers first out (Ok (answer_status is_map))
-  no_bytes : (trouble : Trouble) → HasNoBytes (2 ^ 20) registers first trouble → IsUnwritten out → Maps registers first out (Err trouble)
-  no_memory : (listing : List ℕ) → HasBytes (2 ^ 20) first listing → IsUnwritten out → Maps registers first out (Err Memory)
+      (listing text : List ℕ) (is_map : Bool) → HasBytes (2 ^ 20) first listing → IsMapFile xlen listing text is_map → TakesAll text out
+      → Maps registers xlen first out (Ok (answer_status is_map))
+  no_bytes : (trouble : Trouble) → HasNoBytes (2 ^ 20) registers first trouble → IsUnwritten out → Maps registers xlen first out (Err trouble)
+  no_memory : (listing : List ℕ) → HasBytes (2 ^ 20) first listing → IsUnwritten out → Maps registers xlen first out (Err Memory)
   too_many :
-      (listing : List ℕ) (leaves : Listing) → HasBytes (2 ^ 20) first listing → listed listing ≡ Some leaves → AreTooFine leaves → IsUnwritten out
-      → Maps registers first out (Err (TooManyRanges registers))
+      (listing : List ℕ) (leaves : Listing) → HasBytes (2 ^ 20) first listing → listed xlen listing ≡ Some leaves → AreTooFine leaves → IsUnwritten out
+      → Maps registers xlen first out (Err (TooManyRanges registers))
   not_understood :
-      (listing : List ℕ) (n : ℕ) → HasBytes (2 ^ 20) first listing → IsFirstUnknown listing n → IsUnwritten out → Maps registers first out (Err (NotUnderstood registers n))
+      (listing : List ℕ) (n : ℕ) → HasBytes (2 ^ 20) first listing → IsFirstUnknown xlen listing n → IsUnwritten out → Maps registers xlen first out (Err (NotUnderstood registers n))
   no_output :
-      (listing text : List ℕ) (is_map : Bool) → HasBytes (2 ^ 20) first listing → IsMapFile listing text is_map → Breaks text out → Maps registers first out (Err Output)
+      (listing text : List ℕ) (is_map : Bool) → HasBytes (2 ^ 20) first listing → IsMapFile xlen listing text is_map → Breaks text out → Maps registers xlen first out (Err Output)
 
 -- `lint`: the file is read, and what is wrong with it is printed
 pub data Lints {R W : Type 0} (file : Bor (List ℕ)) (first : Reading R) (out : Writing W) : Result ℕ Trouble → Type 0 where
@@ -403,7 +433,7 @@ pub data Lints {R W : Type 0} (file : Bor (List ℕ)) (first : Reading R) (out :
   no_bytes : (trouble : Trouble) → HasNoBytes (2 ^ 20) file first trouble → IsUnwritten out → Lints file first out (Err trouble)
 
 -- `lint --registers`: the file is read, and its first line is printed that is not understood
-pub data LintsListing {R W : Type 0} (file : Bor (List ℕ)) (first : Reading R) (out : Writing W) : Result ℕ Trouble → Type 0 where
+pub data LintsListing {R W : Type 0} (file : Bor (List ℕ)) (xlen : Xlen) (first : Reading R) (out : Writing W) : Result ℕ Trouble → Type 0 where
   linted :
-      (bytes : List ℕ) (result : Result ℕ Trouble) → HasBytes (2 ^ 20) first bytes → Tells (IsListingLint file.now bytes) out result → LintsListing file first out result
-  no_bytes : (trouble : Trouble) → HasNoBytes (2 ^ 20) file first trouble → IsUnwritten out → LintsListing file first out (Err trouble)
+      (bytes : List ℕ) (result : Result ℕ Trouble) → HasBytes (2 ^ 20) first bytes → Tells (IsListingLint xlen file.now bytes) out result → LintsListing file xlen first out result
+  no_bytes : (trouble : Trouble) → HasNoBytes (2 ^ 20) file first trouble → IsUnwritten out → LintsListing file xlen first out (Err trouble)

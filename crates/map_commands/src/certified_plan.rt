@@ -13,7 +13,7 @@ ghost use Rattle.entry_planner.specs.Order.{AreInOrder};
 ghost use Rattle.plan_certificate.specs.Written.{certificate_for};
 ghost use Rattle.byte_streams.specs.Writings.{writing, TakesAll};
 ghost use Rattle.register_width.specs.Widths.{AreReached};
-ghost use Rattle.map_commands.specs.Commands.{placing, IsBeyond, IsCertified, IsLoaded, IsNotPlaced, IsPlanned, IsTooFar, IsUnplanned, IsWithin, NeedsMore};
+ghost use Rattle.map_commands.specs.Commands.{placing, IsBeyond, IsCertified, IsLoaded, IsNotPlaced, IsPlanned, IsTooFar, IsUnloaded, IsUnplanned, IsWithin, NeedsMore};
 
 use byte_streams::DeviceFault;
 use entry_planner::{Plan, plan_map};
@@ -36,13 +36,21 @@ pub fn planned(alloc: Global, map: &PermissionMap) -> Result<Plan, Memory>
     Ok(plan)
 }
 
-/// How many entries mean a map at the fewest.
-pub fn fewest_in(alloc: Global, map: &PermissionMap) -> Result<u64, Memory>
-    ensures { IfOk result (λ fewest.
+/// How many entries mean a map at the fewest, where the hart's address registers reach them.
+pub fn fewest_in<'a>(
+    alloc: Global,
+    file: &'a str,
+    map: &PermissionMap,
+    xlen: Xlen,
+) -> Result<u64, Trouble<'a>>
+    ensures fewest { IfOk result (λ fewest.
         (entries : List Entry) × IsFewest (view_of_runs map.now) entries
-        × (length entries ≡ fewest)) }
+        × AreReached xlen entries × (length entries ≡ fewest)) }
+    ensures refused { IfErr result (λ trouble. (trouble ≡ Trouble.Memory)
+        ⊎ IsTooFar (view_of_runs map.now) xlen None file.entry trouble) }
 {
     let plan = planned(alloc, map)?;
+    reached(&plan, xlen, file)?;
     Ok(plan.entries().len() as u64)
 }
 
@@ -102,7 +110,7 @@ fn reached<'a>(plan: &Plan, xlen: Xlen, file: &'a str) -> Result<(), Trouble<'a>
 }
 
 /// The fewest entries of a map, where they are within the bound and the hart's address registers reach them.
-fn planned_near<'a>(
+pub fn planned_near<'a>(
     alloc: Global,
     file: &'a str,
     map: &PermissionMap,
@@ -180,21 +188,24 @@ pub fn plan_and_certify<'a, C: WholeSink>(
     Ok(plan)
 }
 
-/// The bank of the fewest entries that mean a map.
-pub fn bank_in<'a>(alloc: Global, map: &PermissionMap, limit: Limit) -> Result<Bank, Trouble<'a>>
-    ensures loaded { IfOk result (IsLoaded (view_of_runs map.now) limit) }
-    ensures refused { IfErr result (λ trouble.
-        (trouble ≡ Trouble.Memory)
-        ⊎ ((entries : List Entry) × IsFewest (view_of_runs map.now) entries
-        × (limit_number limit < length entries)
-        × (trouble ≡ Trouble.NeedsEntries (length entries)))) }
+/// The bank of the fewest entries that mean a map, where the hart's address registers reach them.
+pub fn bank_in<'a>(
+    alloc: Global,
+    file: &'a str,
+    map: &PermissionMap,
+    xlen: Xlen,
+    limit: Limit,
+) -> Result<Bank, Trouble<'a>>
+    ensures loaded { IfOk result (IsLoaded (view_of_runs map.now) xlen limit) }
+    ensures refused { IfErr result (IsUnloaded (view_of_runs map.now) xlen limit file.entry) }
 {
     let plan = planned(alloc, map)?;
     let entries = plan.entries();
-    match bank_of(entries, limit) {
-        Some(bank) => Ok(bank),
-        None => Err(Trouble::NeedsEntries {
+    let Some(bank) = bank_of(entries, limit) else {
+        return Err(Trouble::NeedsEntries {
             needed: entries.len() as u64,
-        }),
-    }
+        });
+    };
+    reached(&plan, xlen, file)?;
+    Ok(bank)
 }

@@ -15,7 +15,7 @@ use Rattle.monitor_cli.specs.Runs.{HasPlatform}
 pub most_fits : (form : Form) → most_bytes form < 2 ^ 32
 most_fits Map = omega arith
 most_fits Platform = omega arith
-most_fits Listing = omega arith
+most_fits (Listing xlen) = omega arith
 most_fits (Trace harts) = omega arith
 
 not_both : (status : ℕ) → status ≡ 1 → status ≡ 0 → ⊥

@@ -4,6 +4,7 @@ use Rattle.std.specs.Borrow.{Bor}
 use Rattle.byte_streams.specs.Writings.{Breaks, IsUnwritten, TakesAll, Writing}
 use Rattle.text_lines.specs.Lines.{raw_lines}
 use Rattle.enclave_table.specs.Platform.{Layout}
+use Rattle.register_width.specs.declared.xlen.Xlen.{Xlen}
 use Rattle.program_tasks.specs.declared.task.LintKind.TheVariants as kinds
 use Rattle.program_tasks.specs.declared.task.Task.{Task}
 use Rattle.program_tasks.specs.declared.task.Task.TheVariants as tasks
@@ -26,14 +27,14 @@ hints_in text = hint_lines (raw_lines text)
 abbrev pub IsLintAs : Form → List ℕ → List ℕ → Bool → List ℕ → Type 0
 IsLintAs Map name bytes is text = IsMapLint name bytes is text
 IsLintAs Platform name bytes is text = IsPlatformLint name bytes is text
-IsLintAs Listing name bytes is text = IsListingLint name bytes is text
+IsLintAs (Listing xlen) name bytes is text = IsListingLint xlen name bytes is text
 IsLintAs (Trace harts) name bytes is text = IsTraceLint name harts bytes is text
 
 -- how many bytes a file of a form may have
 abbrev pub most_bytes : Form → ℕ
 most_bytes Map = 2 ^ 20
 most_bytes Platform = 2 ^ 20
-most_bytes Listing = 2 ^ 20
+most_bytes (Listing xlen) = 2 ^ 20
 most_bytes (Trace harts) = 2 ^ 30
 
 -- the hints for bytes, by their lint: none where they are what they should be, whatever else it says of them; otherwise its lines
@@ -50,10 +51,10 @@ pub data InOrder {R : Type 0} (First Second : Option (List ℕ) → Type 0) (sec
   of_first : (hints : List ℕ) → First (Some hints) → IsUnread second → InOrder First Second second (Some hints)
   of_second : (hints : Option (List ℕ)) → First None → Second hints → InOrder First Second second hints
 
--- a file that is a listing of registers, or a map
-abbrev pub form_by : Bool → Form
-form_by true = Listing
-form_by false = Map
+-- a file that is a listing of registers of that width, or a map
+abbrev pub form_by : Bool → Xlen → Form
+form_by true xlen = Listing xlen
+form_by false xlen = Map
 
 -- the trace of `run`, for the harts of its platform
 abbrev pub HasTraceHints : {R : Type 0} → List ℕ → Reading R → Reading R → Option (List ℕ) → Type 0
@@ -64,13 +65,13 @@ HasTraceHints name first second hints = (platform : Layout) × HasPlatform first
 abbrev pub HasTaskHints : {R : Type 0} → Task → Reading R → Reading R → Option (List ℕ) → Type 0
 HasTaskHints (tasks.Run platform trace measure expect) first second hints = InOrder (HasHints Platform platform.now first) (HasTraceHints trace.now first second) second hints
 HasTaskHints (tasks.Plan map file limit at_most format name begin xlen) first second hints = HasHints Map map.now first hints × IsUnread second
-HasTaskHints (tasks.Judge map trace limit registers expect) first second hints = InOrder (HasHints (form_by registers) map.now first) (HasHints (Trace 4) trace.now second) second hints
+HasTaskHints (tasks.Judge map trace limit registers expect xlen) first second hints = InOrder (HasHints (form_by registers xlen) map.now first) (HasHints (Trace 4) trace.now second) second hints
 HasTaskHints (tasks.Check map file) first second hints = HasHints Map map.now first hints × IsUnread second
-HasTaskHints (tasks.Audit map registers all) first second hints = InOrder (HasHints Map map.now first) (HasHints Listing registers.now second) second hints
-HasTaskHints (tasks.Map registers) first second hints = HasHints Listing registers.now first hints × IsUnread second
-HasTaskHints (tasks.Lint file (kinds.Trace (Some platform))) first second hints = HasHints Platform platform.now second hints × IsUnread first
-HasTaskHints (tasks.Lint file kind) first second hints = (hints ≡ None) × IsUnread first × IsUnread second
-HasTaskHints (tasks.Show map limit at_most registers) first second hints = HasHints (form_by registers) map.now first hints × IsUnread second
+HasTaskHints (tasks.Audit map registers all xlen) first second hints = InOrder (HasHints Map map.now first) (HasHints (Listing xlen) registers.now second) second hints
+HasTaskHints (tasks.Map registers xlen) first second hints = HasHints (Listing xlen) registers.now first hints × IsUnread second
+HasTaskHints (tasks.Lint file (kinds.Trace (Some platform)) xlen) first second hints = HasHints Platform platform.now second hints × IsUnread first
+HasTaskHints (tasks.Lint file kind xlen) first second hints = (hints ≡ None) × IsUnread first × IsUnread second
+HasTaskHints (tasks.Show map limit at_most registers xlen) first second hints = HasHints (form_by registers xlen) map.now first hints × IsUnread second
 
 -- standard error is told the hints of a task, whole or up to where the device fails; and nothing where it has none, or where an
 -- input could not be had or memory was refused

@@ -3,6 +3,7 @@ use Rattle.std.specs.Prelude.{◌≡◌, ℕ, List, Result, Ok, Err, option_map}
 use Rattle.std.specs.Borrow.{Bor}
 use Rattle.std.specs.Io.KnownBytes.{Appends}
 use Rattle.byte_streams.specs.Writings.{Breaks, IsUnwritten, Writing}
+use Rattle.register_width.specs.declared.xlen.Xlen.{Xlen}
 use Rattle.program_tasks.specs.declared.task.LintKind.{LintKind}
 use Rattle.program_tasks.specs.declared.task.LintKind.TheVariants as kinds
 use Rattle.program_tasks.specs.declared.task.Task.{Task}
@@ -13,22 +14,22 @@ use Rattle.map_commands.specs.Commands.{Audits, Checks, IsUnread, JudgesAs, Lint
 use Rattle.monitor_cli.specs.ExpectedRuns.{RunsAs}
 use Rattle.monitor_cli.specs.Traces.{LintsTrace}
 
--- `lint`, by what the file should be
-abbrev pub LintsAs : {R W : Type 0} → LintKind → Bor (List ℕ) → Reading R → Reading R → Writing W → Result ℕ Trouble → Type 0
-LintsAs kinds.ByName file first second out done = Lints file first out done × IsUnread second
-LintsAs kinds.Registers file first second out done = LintsListing file first out done × IsUnread second
-LintsAs (kinds.Trace platform) file first second out done = LintsTrace file platform first second out done
+-- `lint`, by what the file should be; the width is that of the registers of a listing
+abbrev pub LintsAs : {R W : Type 0} → LintKind → Xlen → Bor (List ℕ) → Reading R → Reading R → Writing W → Result ℕ Trouble → Type 0
+LintsAs kinds.ByName xlen file first second out done = Lints file first out done × IsUnread second
+LintsAs kinds.Registers xlen file first second out done = LintsListing file xlen first out done × IsUnread second
+LintsAs (kinds.Trace platform) xlen file first second out done = LintsTrace file platform first second out done
 
 -- what a task comes to: what its command does not use stays as it was
 abbrev pub Performs : {R C W : Type 0} → Task → Reading R → Reading R → Placing C → Writing W → Result ℕ Trouble → Type 0
 Performs (tasks.Run platform trace measure expect) first second cert out done = RunsAs expect platform trace measure first second out done × IsUnwritten cert.sink
 Performs (tasks.Plan map file limit at_most format name begin xlen) first second cert out done = Plans map file xlen limit at_most format (option_map (λ s. s.now) name) begin first cert out done × IsUnread second
-Performs (tasks.Judge file trace limit registers expect) first second cert out done = JudgesAs registers expect file trace limit first second out done × IsUnwritten cert.sink
+Performs (tasks.Judge file trace limit registers expect xlen) first second cert out done = JudgesAs registers expect file trace xlen limit first second out done × IsUnwritten cert.sink
 Performs (tasks.Check map file) first second cert out done = Checks map file first second out done × IsUnwritten cert.sink
-Performs (tasks.Audit map registers all) first second cert out done = Audits map registers all first second out done × IsUnwritten cert.sink
-Performs (tasks.Map registers) first second cert out done = Maps registers first out done × IsUnread second × IsUnwritten cert.sink
-Performs (tasks.Lint file kind) first second cert out done = LintsAs kind file first second out done × IsUnwritten cert.sink
-Performs (tasks.Show map limit at_most registers) first second cert out done = ShowsAs registers map limit at_most first out done × IsUnread second × IsUnwritten cert.sink
+Performs (tasks.Audit map registers all xlen) first second cert out done = Audits map registers xlen all first second out done × IsUnwritten cert.sink
+Performs (tasks.Map registers xlen) first second cert out done = Maps registers xlen first out done × IsUnread second × IsUnwritten cert.sink
+Performs (tasks.Lint file kind xlen) first second cert out done = LintsAs kind xlen file first second out done × IsUnwritten cert.sink
+Performs (tasks.Show map limit at_most registers xlen) first second cert out done = ShowsAs registers map xlen limit at_most first out done × IsUnread second × IsUnwritten cert.sink
 
 -- what standard error is told: nothing where there is no trouble, otherwise its line, which breaks off only where the device does
 pub data Tells {E : Type 0} (err : Writing E) : Result ℕ Trouble → Type 0 where

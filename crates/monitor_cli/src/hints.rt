@@ -12,6 +12,7 @@ use lint_texts::split_line;
 use map_commands::{MAP_BYTES, REGISTER_BYTES, bytes_in, lint_as_platform, lint_listing, lint_map};
 use program_tasks::{LintKind, Task};
 use program_troubles::Trouble;
+use register_width::Xlen;
 use std::alloc::{AllocError, Global};
 
 /// How many harts a trace may speak of that has no platform.
@@ -25,7 +26,10 @@ enum Form {
     /// A platform.
     Platform,
     /// A listing of registers.
-    Listing,
+    Listing {
+        /// How many bits the registers have.
+        xlen: Xlen,
+    },
     /// A trace on so many harts.
     Trace {
         /// How many.
@@ -34,11 +38,15 @@ enum Form {
 }
 
 impl Form {
-    /// A listing of registers, or a map.
-    fn by(is_listing: bool) -> Form
-        ensures { result ≡ form_by is_listing }
+    /// A listing of registers of that width, or a map.
+    fn by(is_listing: bool, xlen: Xlen) -> Form
+        ensures { result ≡ form_by is_listing xlen }
     {
-        if is_listing { Form::Listing } else { Form::Map }
+        if is_listing {
+            Form::Listing { xlen }
+        } else {
+            Form::Map
+        }
     }
 
     /// How many bytes such a file may have.
@@ -48,7 +56,7 @@ impl Form {
         match self {
             Form::Map => MAP_BYTES,
             Form::Platform => PLATFORM_BYTES,
-            Form::Listing => REGISTER_BYTES,
+            Form::Listing { .. } => REGISTER_BYTES,
             Form::Trace { .. } => TRACE_BYTES,
         }
     }
@@ -69,7 +77,7 @@ fn lint_as<W: Sink>(
     match form {
         Form::Map => lint_map(alloc, name, bytes, out),
         Form::Platform => lint_as_platform(alloc, name, bytes, out),
-        Form::Listing => lint_listing(name, bytes, out),
+        Form::Listing { xlen } => lint_listing(xlen, name, bytes, out),
         Form::Trace { harts } => lint_as_trace(alloc, name, bytes, harts, out),
     }
 }
@@ -194,17 +202,34 @@ fn task_hints<'a, R: Source>(
             map,
             trace,
             registers,
+            xlen,
             ..
         } => {
             let trace = (Form::Trace { harts: HARTS }, trace);
-            hints_in_order(alloc, (Form::by(registers), map), trace, first, second)
+            hints_in_order(
+                alloc,
+                (Form::by(registers, xlen), map),
+                trace,
+                first,
+                second,
+            )
         }
-        Task::Audit { map, registers, .. } => {
-            let listing = (Form::Listing, registers);
+        Task::Audit {
+            map,
+            registers,
+            xlen,
+            ..
+        } => {
+            let listing = (Form::Listing { xlen }, registers);
             hints_in_order(alloc, (Form::Map, map), listing, first, second)
         }
-        Task::Map { registers } => hints_of(alloc, Form::Listing, registers, first),
-        Task::Show { map, registers, .. } => hints_of(alloc, Form::by(registers), map, first),
+        Task::Map { registers, xlen } => hints_of(alloc, Form::Listing { xlen }, registers, first),
+        Task::Show {
+            map,
+            registers,
+            xlen,
+            ..
+        } => hints_of(alloc, Form::by(registers, xlen), map, first),
         Task::Lint {
             kind: LintKind::Trace {
                 platform: Some(platform),

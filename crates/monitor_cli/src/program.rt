@@ -14,6 +14,7 @@ use map_commands::{
 use program_files::WholeSink;
 use program_tasks::{LintKind, Task};
 use program_troubles::Trouble;
+use register_width::Xlen;
 use std::alloc::Global;
 
 /// Reports the trouble of a task on standard error, and answers its status.
@@ -34,19 +35,20 @@ fn report<E: Sink>(done: Result<u8, Trouble<'_>>, err: &mut E) -> u8
 fn lint_as<'a, R: Source, W: Sink>(
     alloc: Global,
     kind: LintKind<'a>,
+    xlen: Xlen,
     file: &'a str,
     first: &mut R,
     second: &mut R,
     out: &mut W,
 ) -> Result<u8, Trouble<'a>>
     ensures { let source = reading R.remaining R.failures in
-        LintsAs kind.entry file.entry (source first.old first.new)
+        LintsAs kind.entry xlen file.entry (source first.old first.new)
         (source second.old second.new) (writing W.contents W.failures W.stalls out.old out.new)
         result }
 {
     match kind {
         LintKind::ByName => do_lint(alloc, file, first, out),
-        LintKind::Registers => do_lint_listing(alloc, file, first, out),
+        LintKind::Registers => do_lint_listing(alloc, file, xlen, first, out),
         LintKind::Trace { platform } => do_lint_trace(alloc, file, platform, first, second, out),
     }
 }
@@ -101,23 +103,28 @@ fn run_task<'a, R: Source, C: WholeSink, W: Sink>(
             limit,
             registers,
             expect,
+            xlen,
         } => do_judge_as(
-            alloc, *registers, *expect, *map, *trace, *limit, first, second, out,
+            alloc, *registers, *expect, *map, *trace, *xlen, *limit, first, second, out,
         ),
         Task::Check { map, cert } => do_check(alloc, *map, *cert, first, second, out),
         Task::Audit {
             map,
             registers,
             all,
-        } => do_audit(alloc, *map, *registers, *all, first, second, out),
-        Task::Map { registers } => do_map(alloc, *registers, first, out),
-        Task::Lint { file, kind } => lint_as(alloc, *kind, *file, first, second, out),
+            xlen,
+        } => do_audit(alloc, *map, *registers, *xlen, *all, first, second, out),
+        Task::Map { registers, xlen } => do_map(alloc, *registers, *xlen, first, out),
+        Task::Lint { file, kind, xlen } => {
+            lint_as(alloc, *kind, *xlen, *file, first, second, out)
+        }
         Task::Show {
             map,
             limit,
             at_most,
             registers,
-        } => do_show_as(alloc, *registers, *map, *limit, *at_most, first, out),
+            xlen,
+        } => do_show_as(alloc, *registers, *map, *xlen, *limit, *at_most, first, out),
     }
 }
 

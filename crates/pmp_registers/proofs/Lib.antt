@@ -1,3 +1,4 @@
+pub mod Spaces
 pub mod Decided
 pub mod Matched
 pub mod Instance

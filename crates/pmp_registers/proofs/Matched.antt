@@ -1,7 +1,8 @@
 -- What an entry matches: one extent, of whole words, and none where it has a reserved value.
 use Rattle.std.proofs.Common.{◌≡◌, ◌≢◌, ℕ, ◌+◌, ◌*◌, ◌/◌, ◌%◌, ◌^◌, ◌<◌, ◌≤◌, ◌⊎◌, inl, inr, ⊎_elim, zero, suc, take, List, [], ◌∷◌, ◌++◌, All, length, Bool, true, false, nat_lt, cond, refl, sym, ap, ap₂, subst, ◌∙◌, arith, pow_pos, lit<}
 use Rattle.std.specs.List.{AllByRecursion}
-use Rattle.std.specs.Prelude.{slice_set}
+use Rattle.std.specs.Prelude.{min, slice_set}
+use Rattle.std.proofs.Math.Nat.{min-le_left, min-le_right}
 use Rattle.std.proofs.lemmas.Bool.{cases_lt, lt-ltb, le-ltb}
 use Rattle.std.proofs.lemmas.List.{length-take-le, take_more_set}
 use Rattle.std.proofs.lemmas.List.Elements.{All-from_recursion}
@@ -22,9 +23,12 @@ use Rattle.pmp_registers.specs.declared.registers.Registers.{Registers}
 use Rattle.pmp_registers.specs.declared.reserved.Reserved.{Reserved}
 use Rattle.pmp_registers.specs.declared.reserved.Reserved.TheVariants.{Permission, Bits}
 use Rattle.pmp_registers.specs.Decision.{IsWords}
-use Rattle.pmp_registers.specs.Matching.{AreExtents, AreExtentsFrom, IsExtentAt, off, tor, block, bottom_of, kept, nowhere, tor_extent, unlocked}
+use Rattle.register_width.specs.declared.xlen.Xlen.{Xlen}
+use Rattle.register_width.specs.Widths.{space_end}
+use Rattle.pmp_registers.specs.Matching.{AreExtents, AreExtentsFrom, IsExtentAt, off, tor, block, bottom_of, kept, nowhere, tor_extent, unlocked, within}
 use Rattle.pmp_registers.specs.Registers.{address_at, cfg_at}
 use Rattle.pmp_registers.specs.Reserved.{IsDefined, IsReserved}
+use Rattle.pmp_registers.proofs.Spaces.{end_above, end_words, kept_inside, kept_small, pair_low}
 
 -- ---- one extent
 
@@ -38,11 +42,11 @@ one_extent registers place _ _ (off o) (tor perm h) = absurd (omega (arith, o.bi
 one_extent registers place _ _ (off o) (block e m) = absurd (not_off _ _ e m o)
 one_extent registers place _ _ (tor perm h) (off o) = absurd (omega (arith, o.bits, bits_below o.perm, h))
 one_extent registers place _ _ (tor perm h) (tor other k) =
-    ap (λ p. tor_extent (bottom_of registers place) (kept (address_at registers place)) p) (perm_from_same_bits perm other (omega (arith, h, k)))
+    ap (λ p. tor_extent (bottom_of registers place) (kept registers.xlen (address_at registers place)) p) (perm_from_same_bits perm other (omega (arith, h, k)))
 one_extent registers place _ _ (tor perm h) (block e m) = absurd (omega (arith, h, bits_below perm, entry_mode _ _ e m))
 one_extent registers place _ _ (block e m) (off o) = absurd (not_off _ _ e m o)
 one_extent registers place _ _ (block e m) (tor perm h) = absurd (omega (arith, h, bits_below perm, entry_mode _ _ e m))
-one_extent registers place _ _ (block e m) (block f n) = ap extent_of (one_entry _ _ e f m n)
+one_extent registers place _ _ (block e m) (block f n) = ap (λ g. within registers.xlen (extent_of g)) (one_entry _ _ e f m n)
 
 one_from : (registers : Registers) (place : ℕ) (xs ys : List Extent) → length xs ≡ length ys → AreExtentsFrom registers place xs → AreExtentsFrom registers place ys → xs ≡ ys
 one_from registers place [] [] same a b = refl
@@ -99,6 +103,18 @@ entry_words e =
       some = inl (omega (arith, pow_pos e.region.log2));
     }
 
+-- the addresses of its block that the hart has
+within_words : (xlen : Xlen) (cfg address : ℕ) (e : Entry) → MeansEntry cfg address e → 4 * address < space_end xlen → IsWords (within xlen (extent_of e))
+within_words xlen cfg address e m inside =
+    let words = entry_words e in
+    let end = e.region.base + 2 ^ e.region.log2 in
+    record {
+      base = words.base;
+      end = end_words xlen end words.end;
+      inside = omega (arith, min-le_left end (space_end xlen), words.inside);
+      some = inl (end_above xlen e.region.base end (omega (arith, pow_pos e.region.log2)) (omega (arith, inside, pair_low cfg address e m)));
+    }
+
 tor_words : (bottom top : ℕ) (perm : Perm) → top < 2 ^ 54 → IsWords (tor_extent bottom top perm)
 tor_words bottom top perm small =
     ⊎_elim
@@ -110,8 +126,8 @@ tor_words bottom top perm small =
 
 pub extent_words : (registers : Registers) (place : ℕ) (x : Extent) → IsExtentAt registers place x → IsWords x
 extent_words registers place _ (off o) = nowhere_words
-extent_words registers place _ (tor perm h) = tor_words (bottom_of registers place) (kept (address_at registers place)) perm (omega arith)
-extent_words registers place _ (block e m) = entry_words e
+extent_words registers place _ (tor perm h) = tor_words (bottom_of registers place) (kept registers.xlen (address_at registers place)) perm (kept_small registers.xlen (address_at registers place))
+extent_words registers place _ (block e m) = within_words registers.xlen _ _ e m (kept_inside registers.xlen (address_at registers place))
 
 words_from : (registers : Registers) (place : ℕ) (xs : List Extent) → AreExtentsFrom registers place xs → AllByRecursion IsWords xs
 words_from registers place [] are = tt
@@ -122,6 +138,29 @@ each_words registers xs are = words_from registers 0 xs are.each
 
 pub all_words : (registers : Registers) (xs : List Extent) → AreExtents registers xs → All IsWords xs
 all_words registers xs are = All-from_recursion IsWords xs (each_words registers xs are)
+
+-- ---- in the space
+
+tor_inside : (xlen : Xlen) (bottom top : ℕ) (perm : Perm) → 4 * top < space_end xlen → (tor_extent bottom top perm).end ≤ space_end xlen
+tor_inside xlen bottom top perm inside =
+    ⊎_elim (λ less. subst (λ t. (cond t (tor_some bottom top perm) nowhere).end ≤ space_end xlen) (sym (lt-ltb bottom top less)) (omega (arith, inside)))
+    (λ over. subst (λ t. (cond t (tor_some bottom top perm) nowhere).end ≤ space_end xlen) (sym (le-ltb bottom top over)) (omega arith))
+    (cases_lt bottom top)
+  where
+    tor_some : ℕ → ℕ → Perm → Extent
+    tor_some bottom top perm = record { base = 4 * bottom; end = 4 * top; perm = perm }
+
+extent_inside : (registers : Registers) (place : ℕ) (x : Extent) → IsExtentAt registers place x → x.end ≤ space_end registers.xlen
+extent_inside registers place _ (off o) = omega arith
+extent_inside registers place _ (tor perm h) = tor_inside registers.xlen (bottom_of registers place) (kept registers.xlen (address_at registers place)) perm (kept_inside registers.xlen (address_at registers place))
+extent_inside registers place _ (block e m) = min-le_right (e.region.base + 2 ^ e.region.log2) (space_end registers.xlen)
+
+inside_from : (registers : Registers) (place : ℕ) (xs : List Extent) → AreExtentsFrom registers place xs → AllByRecursion (λ x. x.end ≤ space_end registers.xlen) xs
+inside_from registers place [] are = tt
+inside_from registers place (x ∷ xs) are = (extent_inside registers place x are.0, inside_from registers (place + 1) xs are.1)
+
+pub all_inside : (registers : Registers) (xs : List Extent) → AreExtents registers xs → All (λ x. x.end ≤ space_end registers.xlen) xs
+all_inside registers xs are = All-from_recursion (λ x. x.end ≤ space_end registers.xlen) xs (inside_from registers 0 xs are.each)
 
 -- ---- one more entry
 

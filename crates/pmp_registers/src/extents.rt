@@ -2,7 +2,7 @@
 
 ghost use Rattle.std.specs.Prelude.{◌≡◌, ◌/◌, ◌^◌, ◌<◌, IfErr, IfNone, IfOk, IfSome};
 ghost use Rattle.pmp_encoding.specs.Extents.{extent_of};
-ghost use Rattle.pmp_registers.specs.Matching.{AreExtents, IsExtentAt, bottom_of, kept, unlocked};
+ghost use Rattle.pmp_registers.specs.Matching.{AreExtents, IsExtentAt, bottom_of, kept, unlocked, within};
 ghost use Rattle.pmp_registers.specs.Registers.{address_at, cfg_at};
 ghost use Rattle.pmp_registers.specs.Reserved.{IsDefined, IsFirstReserved, IsNamedReserved};
 ghost use Rattle.pmp_registers.specs.Tor.{nowhere, tor_extent};
@@ -10,6 +10,7 @@ ghost use Rattle.pmp_registers.specs.Tor.{nowhere, tor_extent};
 use crate::registers::Registers;
 use crate::reserved::{Reserved, ReservedAt};
 use pmp_encoding::{Entry, Extent, Perm, decode};
+use register_width::Xlen;
 
 /// The extent that has no address.
 fn no_extent() -> Extent
@@ -34,11 +35,25 @@ pub fn extent_of(entry: &Entry) -> Extent
 }
 
 /// What a hart keeps of an address register.
-fn kept(address: u64) -> u64
-    ensures value { result ≡ kept address }
+fn kept(xlen: Xlen, address: u64) -> u64
+    ensures value { result ≡ kept xlen address }
     ensures small { result < 2 ^ 54 }
 {
-    address % (1 << 54)
+    match xlen {
+        Xlen::Rv32 => address % (1 << 32),
+        Xlen::Rv64 => address % (1 << 54),
+    }
+}
+
+/// The addresses of an extent that a hart has.
+fn within(xlen: Xlen, extent: &Extent) -> Extent
+    ensures { result ≡ within xlen extent.now }
+{
+    Extent {
+        base: extent.base,
+        end: extent.end.min(xlen.space_end()),
+        perm: extent.perm,
+    }
 }
 
 /// The bottom of a TOR entry.
@@ -50,7 +65,7 @@ fn bottom_of(registers: &Registers, place: usize) -> u64
     if place == 0 {
         return 0;
     }
-    kept(registers.addresses[place - 1])
+    kept(registers.xlen, registers.addresses[place - 1])
 }
 
 /// What a TOR entry matches.
@@ -88,7 +103,7 @@ fn reserved_of(cfg: u8) -> Option<Reserved>
 fn ranged(registers: &Registers, place: usize, cfg: u8, top: u64) -> Extent
     requires place { place < 64 }
     requires cfg { cfg ≡ unlocked (cfg_at registers.now place) }
-    requires top { top ≡ kept (address_at registers.now place) }
+    requires top { top ≡ kept registers.now.xlen (address_at registers.now place) }
     requires tor { cfg / 8 ≡ 1 }
     requires defined { IsDefined (cfg_at registers.now place) }
     ensures { IsExtentAt registers.now place result }
@@ -107,12 +122,12 @@ fn extent_at(registers: &Registers, place: usize) -> Extent
     ensures { IsExtentAt registers.now place result }
 {
     let cfg = registers.cfgs[place] % 128;
-    let top = kept(registers.addresses[place]);
+    let top = kept(registers.xlen, registers.addresses[place]);
     if cfg / 8 == 1 {
         return ranged(registers, place, cfg, top);
     }
     match decode(cfg, top) {
-        Ok(Some(entry)) => extent_of(&entry),
+        Ok(Some(entry)) => within(registers.xlen, &extent_of(&entry)),
         Ok(None) => no_extent(),
         Err(_) => unreachable!(),
     }

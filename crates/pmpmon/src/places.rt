@@ -39,7 +39,7 @@ pub fn first_of<'a>(task: &Task<'a>) -> Place<'a>
         | Task::Audit { map, .. }
         | Task::Show { map, .. } => place_of(map),
         Task::Lint { file, .. } => place_of(file),
-        Task::Map { registers } => place_of(registers),
+        Task::Map { registers, .. } => place_of(registers),
     }
 }
 

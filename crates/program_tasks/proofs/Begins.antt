@@ -16,12 +16,12 @@ use Rattle.program_tasks.proofs.Twice.{differ, given}
 pub begins_nowhere : (value flag : Text → Option Text) → Lacks value flag begins_inside → NamesNone (codes "plan") value flag
 begins_nowhere value flag lacks (Plan map cert limit at_most format name first xlen) e v sound = lacks first limit v.6 v.2 sound.2
 begins_nowhere value flag lacks (Run p t s x) e v sound = differ _ _ _ _ refl e
-begins_nowhere value flag lacks (Judge p t s b x) e v sound = differ _ _ _ _ refl e
+begins_nowhere value flag lacks (Judge p t s b x w) e v sound = differ _ _ _ _ refl e
 begins_nowhere value flag lacks (Check p t) e v sound = differ _ _ _ _ refl e
-begins_nowhere value flag lacks (Show p t s b) e v sound = differ _ _ _ _ refl e
-begins_nowhere value flag lacks (Audit p r a) e v sound = differ _ _ _ _ refl e
-begins_nowhere value flag lacks (Lint p k) e v sound = differ _ _ _ _ refl e
-begins_nowhere value flag lacks (Map p) e v sound = differ _ _ _ _ refl e
+begins_nowhere value flag lacks (Show p t s b w) e v sound = differ _ _ _ _ refl e
+begins_nowhere value flag lacks (Audit p r a w) e v sound = differ _ _ _ _ refl e
+begins_nowhere value flag lacks (Lint p k w) e v sound = differ _ _ _ _ refl e
+begins_nowhere value flag lacks (Map p w) e v sound = differ _ _ _ _ refl e
 
 another_file : (mine other map : Option Text) → mine ≡ other → other ≢ map → mine ≢ map
 another_file mine other map e differs same = differs (sym e ∙ same)

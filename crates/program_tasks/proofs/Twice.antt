@@ -1,15 +1,16 @@
 -- Registers that are not given, and standard input that is named twice.
-use Rattle.std.proofs.Common.{ℕ, ◌∷◌, ◌≡◌, ◌∙◌, false, Option, Some, None, Result, Ok, Err, IfErr, IsErrAnd, codes, ap, subst, sym, refl, inl, inr, true≢false}
+use Rattle.std.proofs.Common.{ℕ, [], ◌∷◌, ◌≡◌, ◌∙◌, false, Option, Some, None, Result, Ok, Err, IfErr, IsErrAnd, codes, ap, subst, sym, refl, inl, inr, true≢false}
 use Rattle.std.proofs.Math.Dec.{eqb}
 use Rattle.std.proofs.lemmas.Bool.{eq-eqb}
 use Rattle.std.specs.List.{slice_index_or}
+use Rattle.register_width.specs.declared.xlen.Xlen.{Xlen}
 use Rattle.program_tasks.specs.declared.task.Task.TheVariants.{Run, Plan, Judge, Check, Show, Audit, Map, Lint}
 use Rattle.program_tasks.specs.declared.fault.Fault.{Fault}
 use Rattle.program_tasks.specs.declared.fault.Fault.TheVariants.{InputTwice}
-use Rattle.program_tasks.specs.Faults.{Breaks, IsFirst, demands_of, has}
+use Rattle.program_tasks.specs.Faults.{Breaks, IsFirst, demands_of, has, names_width}
 use Rattle.program_tasks.specs.declared.subcommand.Subcommand.TheVariants as subcommands
 use Rattle.program_tasks.specs.Subcommands.{Text}
-use Rattle.program_tasks.specs.Tasks.{NamesNone, input_word}
+use Rattle.program_tasks.specs.Tasks.{NamesNone, input_word, width_word}
 
 same : (x y : Text) → Some x ≡ Some y → x ≡ y
 same x y e = cc
@@ -41,21 +42,49 @@ differ a b xs ys d e = absurd (true≢false (sym (eq-eqb a b (ap (λ t. slice_in
 
 pub twice_audited : (value flag : Text → Option Text) (map registers : Text) → value (codes "MAP") ≡ Some map → value (codes "REGISTERS") ≡ Some registers
     → map ≡ input_word → registers ≡ input_word → NamesNone (codes "audit") value flag
-twice_audited value flag map registers m r mi ri (Audit named other all) e v sound = sound (same _ _ (sym v.0 ∙ m) ∙ mi, same _ _ (sym v.1 ∙ r) ∙ ri)
+twice_audited value flag map registers m r mi ri (Audit named other all xlen) e v sound = sound (same _ _ (sym v.0 ∙ m) ∙ mi, same _ _ (sym v.1 ∙ r) ∙ ri)
 twice_audited value flag map registers m r mi ri (Run p t s x) e v sound = differ _ _ _ _ refl e
 twice_audited value flag map registers m r mi ri (Plan p t s a f n i w) e v sound = differ _ _ _ _ refl e
-twice_audited value flag map registers m r mi ri (Judge p t s b x) e v sound = differ _ _ _ _ refl e
+twice_audited value flag map registers m r mi ri (Judge p t s b x w) e v sound = differ _ _ _ _ refl e
 twice_audited value flag map registers m r mi ri (Check p t) e v sound = differ _ _ _ _ refl e
-twice_audited value flag map registers m r mi ri (Show p t s b) e v sound = differ _ _ _ _ refl e
-twice_audited value flag map registers m r mi ri (Lint p k) e v sound = differ _ _ _ _ refl e
-twice_audited value flag map registers m r mi ri (Map p) e v sound = differ _ _ _ _ refl e
+twice_audited value flag map registers m r mi ri (Show p t s b w) e v sound = differ _ _ _ _ refl e
+twice_audited value flag map registers m r mi ri (Lint p k w) e v sound = differ _ _ _ _ refl e
+twice_audited value flag map registers m r mi ri (Map p w) e v sound = differ _ _ _ _ refl e
 
 pub unlisted : (value flag : Text → Option Text) → value (codes "REGISTERS") ≡ None → NamesNone (codes "audit") value flag
-unlisted value flag none (Audit named other all) e v sound = given value (codes "REGISTERS") _ v.1 none
+unlisted value flag none (Audit named other all xlen) e v sound = given value (codes "REGISTERS") _ v.1 none
 unlisted value flag none (Run p t s x) e v sound = differ _ _ _ _ refl e
 unlisted value flag none (Plan p t s a f n i w) e v sound = differ _ _ _ _ refl e
-unlisted value flag none (Judge p t s b x) e v sound = differ _ _ _ _ refl e
+unlisted value flag none (Judge p t s b x w) e v sound = differ _ _ _ _ refl e
 unlisted value flag none (Check p t) e v sound = differ _ _ _ _ refl e
-unlisted value flag none (Show p t s b) e v sound = differ _ _ _ _ refl e
-unlisted value flag none (Lint p k) e v sound = differ _ _ _ _ refl e
-unlisted value flag none (Map p) e v sound = differ _ _ _ _ refl e
+unlisted value flag none (Show p t s b w) e v sound = differ _ _ _ _ refl e
+unlisted value flag none (Lint p k w) e v sound = differ _ _ _ _ refl e
+unlisted value flag none (Map p w) e v sound = differ _ _ _ _ refl e
+
+-- a width that is none
+pub unwide : (value flag : Text → Option Text) → ((xlen : Xlen) → value (codes "xlen") ≡ Some (width_word xlen) → ⊥) → NamesNone (codes "audit") value flag
+unwide value flag none (Audit named other all xlen) e v sound = none xlen v.3
+unwide value flag none (Run p t s x) e v sound = differ _ _ _ _ refl e
+unwide value flag none (Plan p t s a f n i w) e v sound = differ _ _ _ _ refl e
+unwide value flag none (Judge p t s b x w) e v sound = differ _ _ _ _ refl e
+unwide value flag none (Check p t) e v sound = differ _ _ _ _ refl e
+unwide value flag none (Show p t s b w) e v sound = differ _ _ _ _ refl e
+unwide value flag none (Lint p k w) e v sound = differ _ _ _ _ refl e
+unwide value flag none (Map p w) e v sound = differ _ _ _ _ refl e
+
+-- standard input is named once, and no width is
+pub wide_wrongly :
+    (value flag : Text → Option Text) (map registers : Text) (fault : Fault) → value (codes "MAP") ≡ Some map → value (codes "REGISTERS") ≡ Some registers
+    → ((map ≡ input_word) × (registers ≡ input_word) → ⊥) → IsFirst value flag (has (codes "xlen") ∷ names_width ∷ []) fault → IsFirst value flag (demands_of subcommands.Audit) fault
+wide_wrongly value flag map registers fault m r once broken =
+    inr (given value (codes "MAP") map m, inr (given value (codes "REGISTERS") registers r, inr ((λ twice. once (same _ _ (sym m ∙ twice.0), same _ _ (sym r ∙ twice.1))), broken)))
+
+pub unwide_map : (value flag : Text → Option Text) → ((xlen : Xlen) → value (codes "xlen") ≡ Some (width_word xlen) → ⊥) → NamesNone (codes "map") value flag
+unwide_map value flag none (Map named xlen) e v sound = none xlen v.1
+unwide_map value flag none (Run p t s x) e v sound = differ _ _ _ _ refl e
+unwide_map value flag none (Plan p t s a f n i w) e v sound = differ _ _ _ _ refl e
+unwide_map value flag none (Judge p t s b x w) e v sound = differ _ _ _ _ refl e
+unwide_map value flag none (Check p t) e v sound = differ _ _ _ _ refl e
+unwide_map value flag none (Show p t s b w) e v sound = differ _ _ _ _ refl e
+unwide_map value flag none (Lint p k w) e v sound = differ _ _ _ _ refl e
+unwide_map value flag none (Audit p r a w) e v sound = differ _ _ _ _ refl e

@@ -28,12 +28,12 @@ usage_words subcommand = codes "pmpmon " ++ subcommand_word subcommand
 abbrev pub subcommand_of : Task → Subcommand
 subcommand_of (Run platform trace measure expect) = subcommands.Run
 subcommand_of (Plan map cert limit at_most format name first xlen) = subcommands.Plan
-subcommand_of (Judge map trace limit registers expect) = subcommands.Judge
+subcommand_of (Judge map trace limit registers expect xlen) = subcommands.Judge
 subcommand_of (Check map cert) = subcommands.Check
-subcommand_of (Show map limit at_most registers) = subcommands.Show
-subcommand_of (Audit map registers all) = subcommands.Audit
-subcommand_of (Map registers) = subcommands.Map
-subcommand_of (Lint file kind) = subcommands.Lint
+subcommand_of (Show map limit at_most registers xlen) = subcommands.Show
+subcommand_of (Audit map registers all xlen) = subcommands.Audit
+subcommand_of (Map registers xlen) = subcommands.Map
+subcommand_of (Lint file kind xlen) = subcommands.Lint
 
 -- its word
 abbrev pub word_of : Task → Text

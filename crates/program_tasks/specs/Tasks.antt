@@ -87,26 +87,34 @@ HasValues value flag (Plan map cert limit at_most format name first xlen) =
     × (value (codes "name") ≡ option_map (λ s. s.now) name)
     × BeginsAt (value (codes "first")) first
     × (value (codes "xlen") ≡ Some (width_word xlen))
-HasValues value flag (Judge map trace limit registers expect) =
+HasValues value flag (Judge map trace limit registers expect xlen) =
     (value (codes "MAP") ≡ Some map.now)
     × (value (codes "TRACE") ≡ Some trace.now)
     × (value (codes "entries") ≡ Some (limit_word limit))
     × IsFlag (flag (codes "registers")) registers
     × IsFlag (flag (codes "expect")) expect
+    × (value (codes "xlen") ≡ Some (width_word xlen))
 HasValues value flag (Check map cert) =
     (value (codes "MAP") ≡ Some map.now)
     × (value (codes "CERT") ≡ Some cert.now)
-HasValues value flag (Show map limit at_most registers) =
+HasValues value flag (Show map limit at_most registers xlen) =
     (value (codes "MAP") ≡ Some map.now)
     × (value (codes "entries") ≡ Some (limit_word limit))
     × Counts (value (codes "at-most")) at_most
     × IsFlag (flag (codes "registers")) registers
-HasValues value flag (Audit map registers all) =
+    × (value (codes "xlen") ≡ Some (width_word xlen))
+HasValues value flag (Audit map registers all xlen) =
     (value (codes "MAP") ≡ Some map.now)
     × (value (codes "REGISTERS") ≡ Some registers.now)
     × IsFlag (flag (codes "all")) all
-HasValues value flag (Map registers) = value (codes "REGISTERS") ≡ Some registers.now
-HasValues value flag (Lint file kind) = (value (codes "FILE") ≡ Some file.now) × HasKind value flag kind
+    × (value (codes "xlen") ≡ Some (width_word xlen))
+HasValues value flag (Map registers xlen) =
+    (value (codes "REGISTERS") ≡ Some registers.now)
+    × (value (codes "xlen") ≡ Some (width_word xlen))
+HasValues value flag (Lint file kind xlen) =
+    (value (codes "FILE") ≡ Some file.now)
+    × HasKind value flag kind
+    × (value (codes "xlen") ≡ Some (width_word xlen))
 
 -- a word that standard input stands for
 abbrev pub input_word : Text
@@ -119,8 +127,8 @@ IsSound (Plan map cert limit at_most format name first xlen) =
     (option_map (λ s. s.now) cert ≢ Some map.now)
     × IfSome name (λ s. is_identifier s.now ≡ true)
     × (first < limit_number limit)
-IsSound (Judge map trace limit registers expect) = ¬ ((map.now ≡ input_word) × (trace.now ≡ input_word))
-IsSound (Audit map registers all) = ¬ ((map.now ≡ input_word) × (registers.now ≡ input_word))
+IsSound (Judge map trace limit registers expect xlen) = ¬ ((map.now ≡ input_word) × (trace.now ≡ input_word))
+IsSound (Audit map registers all xlen) = ¬ ((map.now ≡ input_word) × (registers.now ≡ input_word))
 IsSound task = Unit {0}
 
 -- no sound task is that subcommand with these values

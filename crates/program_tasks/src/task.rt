@@ -75,6 +75,8 @@ pub enum Task<'a> {
         registers: bool,
         /// Whether the answers are compared with those that the comments of the trace say.
         expect: bool,
+        /// How many bits the hart's registers have.
+        xlen: Xlen,
     },
     /// Check a certificate against a map.
     Check {
@@ -91,11 +93,15 @@ pub enum Task<'a> {
         registers: &'a str,
         /// Whether each stretch that differs is asked for, or the first alone.
         all: bool,
+        /// How many bits the hart's registers have.
+        xlen: Xlen,
     },
     /// Print the map that registers mean.
     Map {
         /// The listing of the registers.
         registers: &'a str,
+        /// How many bits the hart's registers have.
+        xlen: Xlen,
     },
     /// Say what is wrong with a file, line by line.
     Lint {
@@ -103,6 +109,8 @@ pub enum Task<'a> {
         file: &'a str,
         /// What it should be.
         kind: LintKind<'a>,
+        /// How many bits the registers of a listing have.
+        xlen: Xlen,
     },
     /// Print a map, or what registers mean, as a table of its stretches, each with the entry that decides it.
     Show {
@@ -114,5 +122,7 @@ pub enum Task<'a> {
         at_most: Option<u64>,
         /// Whether the file is a listing of registers.
         registers: bool,
+        /// How many bits the hart's registers have.
+        xlen: Xlen,
     },
 }

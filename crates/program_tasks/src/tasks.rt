@@ -109,6 +109,7 @@ fn judge_in<'a, V: Values<'a>>(given: &V) -> Result<Task<'a>, Fault<'a>>
     let trace = value_in(given, "TRACE")?;
     let limit = limit_in(given)?;
     once(map, trace)?;
+    let xlen = width_in(given)?;
     let registers = given.is_given("registers");
     let expect = given.is_given("expect");
     Ok(Task::Judge {
@@ -117,6 +118,7 @@ fn judge_in<'a, V: Values<'a>>(given: &V) -> Result<Task<'a>, Fault<'a>>
         limit,
         registers,
         expect,
+        xlen,
     })
 }
 
@@ -140,12 +142,14 @@ fn show_in<'a, V: Values<'a>>(given: &V) -> Result<Task<'a>, Fault<'a>>
     let map = value_in(given, "MAP")?;
     let limit = limit_in(given)?;
     let at_most = at_most_in(given)?;
+    let xlen = width_in(given)?;
     let registers = given.is_given("registers");
     Ok(Task::Show {
         map,
         limit,
         at_most,
         registers,
+        xlen,
     })
 }
 
@@ -158,11 +162,13 @@ fn audit_in<'a, V: Values<'a>>(given: &V) -> Result<Task<'a>, Fault<'a>>
     let map = value_in(given, "MAP")?;
     let registers = value_in(given, "REGISTERS")?;
     once(map, registers)?;
+    let xlen = width_in(given)?;
     let all = given.is_given("all");
     Ok(Task::Audit {
         map,
         registers,
         all,
+        xlen,
     })
 }
 
@@ -173,7 +179,8 @@ fn map_in<'a, V: Values<'a>>(given: &V) -> Result<Task<'a>, Fault<'a>>
         (V.flag given.now)) }
 {
     let registers = value_in(given, "REGISTERS")?;
-    Ok(Task::Map { registers })
+    let xlen = width_in(given)?;
+    Ok(Task::Map { registers, xlen })
 }
 
 /// What a file that is linted should be.
@@ -210,7 +217,8 @@ fn lint_in<'a, V: Values<'a>>(given: &V) -> Result<Task<'a>, Fault<'a>>
 {
     let file = value_in(given, "FILE")?;
     let kind = kind_in(given)?;
-    Ok(Task::Lint { file, kind })
+    let xlen = width_in(given)?;
+    Ok(Task::Lint { file, kind, xlen })
 }
 
 /// The task of a subcommand with its values.

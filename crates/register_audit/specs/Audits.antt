@@ -2,6 +2,7 @@
 use Rattle.std.specs.Prelude.{◌≡◌, ◌≢◌, ℕ, List, ◌++◌, ◌&&◌, Bool, true, false, Some}
 use Rattle.page_views.specs.Views.{View}
 use Rattle.pmp_registers.specs.declared.registers.Registers.{Registers}
+use Rattle.register_width.specs.declared.xlen.Xlen.{Xlen}
 use Rattle.register_text.specs.declared.listing.Listing.{Listing}
 use Rattle.register_text.specs.Listings.{listed}
 use Rattle.register_audit.specs.declared.verdict.Verdict.{Verdict}
@@ -22,10 +23,10 @@ pub data IsAnswer (view : View) (fewest : ℕ) (all : Bool) (listing : Listing) 
       → IsAnswer view fewest all listing text (is_meant verdict)
   unmodelled : listing.mseccfg ≢ 0 → IsAnswer view fewest all listing (smepmp_text listing.mseccfg) false
 
--- the text is what is said of the listing, and after it a comment on lines that are passed over
-pub record IsAudit (view : View) (fewest : ℕ) (all : Bool) (listing text : List ℕ) (means : Bool) : Type 0 where
+-- the text is what is said of the listing of registers of that width, and after it a comment on lines that are passed over
+pub record IsAudit (view : View) (xlen : Xlen) (fewest : ℕ) (all : Bool) (listing text : List ℕ) (means : Bool) : Type 0 where
   pub leaves : Listing
-  pub listed_as : listed listing ≡ Some leaves
+  pub listed_as : listed xlen listing ≡ Some leaves
   pub said : List ℕ
   pub answer : IsAnswer view fewest all leaves said means
   pub lines : text ≡ said ++ passed_text leaves.passed

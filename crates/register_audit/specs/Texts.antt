@@ -2,6 +2,7 @@
 use Rattle.std.specs.Prelude.{ℕ, ◌+◌, ◌-◌, ◌==◌, if◌then◌else◌, List, [], ◌++◌, codes, decimal, Option, Some, None}
 use Rattle.text_lines.specs.Written.{hex}
 use Rattle.printed_lines.specs.Fields.{letters_of}
+use Rattle.register_width.specs.Widths.{register_digits}
 use Rattle.pmp_registers.specs.declared.registers.Registers.{Registers}
 use Rattle.pmp_registers.specs.declared.reserved.Reserved.{Reserved}
 use Rattle.pmp_registers.specs.declared.reserved.ReservedAt.{ReservedAt}
@@ -36,10 +37,10 @@ abbrev pub stretch_text : Stretch → List ℕ
 stretch_text stretch =
     differs_text stretch.first (stretch.end - 1) ++ codes "map " ++ letters_of stretch.wanted ++ codes ", " ++ sayer stretch.entry ++ codes " " ++ letters_of stretch.given ++ codes "\n"
 
--- `pair N 0xCC 0xAAAAAAAAAAAAAAAA: NAME`, an entry that has a reserved value
+-- `pair N 0xCC 0xAAAAAAAAAAAAAAAA: NAME`, an entry that has a reserved value, its address with as many digits as the registers have
 abbrev pub reserved_text : Registers → ReservedAt → List ℕ
 reserved_text registers f =
-    codes "pair " ++ decimal f.place ++ codes " 0x" ++ hex 2 (cfg_at registers f.place) ++ codes " 0x" ++ hex 16 (address_at registers f.place) ++ codes ": " ++ reserved_name f.value ++ codes "\n"
+    codes "pair " ++ decimal f.place ++ codes " 0x" ++ hex 2 (cfg_at registers f.place) ++ codes " 0x" ++ hex (register_digits registers.xlen) (address_at registers f.place) ++ codes ": " ++ reserved_name f.value ++ codes "\n"
 
 -- the line of a verdict on registers, where `fewest` entries are enough for the map
 abbrev pub verdict_text : ℕ → Registers → Verdict → List ℕ

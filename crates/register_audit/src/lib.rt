@@ -8,7 +8,7 @@
 //! texts of their own.
 //!
 //! ```rust
-//! let means = audit(alloc, &map, 3, listing, false, &mut out)?;
+//! let means = audit(alloc, &map, 3, Xlen::Rv64, listing, false, &mut out)?;
 //! // means the map: 5 entries where 3 are enough
 //! ```
 #![tactic(auto)]

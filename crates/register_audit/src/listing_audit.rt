@@ -18,6 +18,7 @@ use byte_streams::{Sink, write_whole};
 use permission_map::{Memory, PermissionMap};
 use pmp_registers::Registers;
 use register_text::{Listing, listing_of};
+use register_width::Xlen;
 use std::alloc::Global;
 use text_lines::Line;
 
@@ -113,7 +114,7 @@ fn push_passed(text: &mut Vec<u8>, passed: Option<u64>) -> Result<(), Memory>
     text.extend_from_slice(passed_line(passed).as_slice())
 }
 
-/// Reads a listing of registers and writes, in one line, whether they mean the map, and where they do not first, or with `all`
+/// Reads a listing of registers of that width and writes, in one line, whether they mean the map, and where they do not first, or with `all`
 /// in a line for each stretch that differs; and after it a comment where lines of other registers are passed over. `fewest` is
 /// how many entries are enough for the map. Where a line is not understood or memory is refused, nothing is written; where the device failed, or took none of some bytes, a
 /// beginning of the text was written, not all of it.
@@ -121,28 +122,29 @@ pub fn audit<W: Sink>(
     alloc: Global,
     map: &PermissionMap,
     fewest: u64,
+    xlen: Xlen,
     listing: &[u8],
     all: bool,
     out: &mut W,
 ) -> Result<bool, AuditFault>
     requires short { length listing.now < 2 ^ 64 - 1 }
     ensures written { IfOk result (λ means.
-        (text : List ℕ) × IsAudit (view_of_runs map.now) fewest all listing.now text means
+        (text : List ℕ) × IsAudit (view_of_runs map.now) xlen fewest all listing.now text means
         × TakesAll text (writing W.contents W.failures W.stalls out.old out.new)) }
     ensures means { result ≡ Ok true
-        → (leaves : Listing) × (listed listing.now ≡ Some leaves) × (leaves.mseccfg ≡ 0)
+        → (leaves : Listing) × (listed xlen listing.now ≡ Some leaves) × (leaves.mseccfg ≡ 0)
         × RegistersMean leaves.registers (view_of_runs map.now) }
     ensures differs { result ≡ Ok false
-        → (leaves : Listing) × (listed listing.now ≡ Some leaves)
+        → (leaves : Listing) × (listed xlen listing.now ≡ Some leaves)
         × (leaves.mseccfg ≢ 0 ⊎ ¬ RegistersMean leaves.registers (view_of_runs map.now)) }
     ensures line { (n : ℕ) → result ≡ Err (AuditFault.Line n)
-        → IsFirstUnknown listing.now n × (out.new ≡ out.old) }
+        → IsFirstUnknown xlen listing.now n × (out.new ≡ out.old) }
     ensures untouched { result ≡ Err AuditFault.Memory → out.new ≡ out.old }
     ensures broken { result ≡ Err AuditFault.Device → (text : List ℕ) × (means : Bool)
-        × IsAudit (view_of_runs map.now) fewest all listing.now text means
+        × IsAudit (view_of_runs map.now) xlen fewest all listing.now text means
         × Breaks text (writing W.contents W.failures W.stalls out.old out.new) }
 {
-    let listing = match listing_of(listing) {
+    let listing = match listing_of(xlen, listing) {
         Ok(listing) => listing,
         Err(number) => return Err(AuditFault::Line(number)),
     };

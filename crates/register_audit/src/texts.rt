@@ -120,7 +120,11 @@ pub fn reserved_line(registers: &Registers, found: &ReservedAt) -> Line
     push_text(&mut line, b" 0x");
     push_hex(&mut line, u64::from(registers.cfgs[found.place]), 2);
     push_text(&mut line, b" 0x");
-    push_hex(&mut line, registers.addresses[found.place], 16);
+    push_hex(
+        &mut line,
+        registers.addresses[found.place],
+        registers.xlen.digits(),
+    );
     push_text(&mut line, b": ");
     push_text(&mut line, reserved_name(found.value).as_bytes());
     line.push(b'\n');

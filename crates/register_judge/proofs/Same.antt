@@ -18,6 +18,7 @@ use Rattle.pmp_registers.specs.Matching.{AreExtents, AreExtentsFrom}
 use Rattle.pmp_registers.specs.Registers.{pairs_of}
 use Rattle.pmp_registers.proofs.Decided.{Meets-from_test, contains_from_ends, ends_from_contains, not_machine, permits_from_test, test_from_Meets, test_from_permits}
 use Rattle.pmp_registers.proofs.Matched.{each_words, extent_words}
+use Rattle.register_width.specs.Widths.{AreReached}
 use Rattle.register_judge.specs.Decision.{IsLocked, LetsThrough, RegistersAllow}
 use Rattle.register_judge.specs.Judgement.{RegistersJudge}
 use Rattle.register_judge.specs.Judgement as registers_spec
@@ -79,9 +80,9 @@ permits registers xs are a user =
 
 -- ---- a list
 
-allows_as : (registers : Registers) (entries : List Entry) → MeansList (pairs_of registers) entries → (a : Access) → RegistersAllow registers a ↔ Allows entries a
-allows_as registers entries list a =
-    let alike = says_as registers 0 64 entries list in
+allows_as : (registers : Registers) (entries : List Entry) → MeansList (pairs_of registers) entries → AreReached registers.xlen entries → (a : Access) → RegistersAllow registers a ↔ Allows entries a
+allows_as registers entries list near a =
+    let alike = says_as registers 0 64 entries list near in
     let free : IsUnbound registers a = λ place inside machine. none_locked registers 0 64 entries list place (omega arith) (omega (arith, inside)) in
     through (says registers a free alike.extents (record { count = alike.number; each = alike.each }))
     ((λ h. Allows-from_test entries a (sym (alike.same a) ∙ h)), (λ h. alike.same a ∙ test_from_Allows entries a h))
@@ -98,7 +99,7 @@ by_registers registers entries a same _ (lists.Judges.outside on out) = register
 by_registers registers entries a same _ (lists.Judges.denied on inside no') = registers_spec.RegistersJudge.denied on inside (λ h. no' (same.0 h))
 by_registers registers entries a same _ (lists.Judges.allowed on inside may) = registers_spec.RegistersJudge.allowed on inside (same.1 may)
 
-pub judged_as : (registers : Registers) (entries : List Entry) → MeansList (pairs_of registers) entries → (a : Access) (answer : Result (Unit {0}) Cause) → RegistersJudge registers a answer ↔ lists.Judges entries a answer
-judged_as registers entries list a answer =
-    let same = allows_as registers entries list a in
+pub judged_as : (registers : Registers) (entries : List Entry) → MeansList (pairs_of registers) entries → AreReached registers.xlen entries → (a : Access) (answer : Result (Unit {0}) Cause) → RegistersJudge registers a answer ↔ lists.Judges entries a answer
+judged_as registers entries list near a answer =
+    let same = allows_as registers entries list near a in
     (by_list registers entries a same answer, by_registers registers entries a same answer)

@@ -5,16 +5,17 @@ use Rattle.pmp_registers.specs.declared.registers.Registers.{Registers}
 use Rattle.pmp_registers.specs.declared.reserved.ReservedAt.{ReservedAt}
 use Rattle.pmp_registers.specs.Matching.{AreExtents}
 use Rattle.pmp_registers.specs.Reserved.{IsFirstReserved}
+use Rattle.register_width.specs.declared.xlen.Xlen.{Xlen}
 use Rattle.register_text.specs.declared.listing.Listing.{Listing}
 use Rattle.register_text.specs.Listings.{listed}
 use Rattle.register_audit.specs.Texts.{passed_text, reserved_text, smepmp_text}
 use Rattle.register_judge.specs.declared.listing_rules.Ruled.{Ruled}
 use Rattle.register_judge.specs.declared.listing_rules.Ruled.TheVariants as ruled
 
--- a listing leaves these registers, without a reserved value and with an mseccfg of zero
-pub record HasRules (listing : List ℕ) (registers : Registers) : Type 0 where
+-- a listing of registers of that width leaves these, without a reserved value and with an mseccfg of zero
+pub record HasRules (xlen : Xlen) (listing : List ℕ) (registers : Registers) : Type 0 where
   pub leaves : Listing
-  pub listed_as : listed listing ≡ Some leaves
+  pub listed_as : listed xlen listing ≡ Some leaves
   pub modelled : leaves.mseccfg ≡ 0
   pub registers_are : registers ≡ leaves.registers
   pub extents : List Extent
@@ -27,14 +28,14 @@ pub data IsRefusal (leaves : Listing) : List ℕ → Type 0 where
   unmodelled : leaves.mseccfg ≢ 0 → IsRefusal leaves (smepmp_text leaves.mseccfg)
 
 -- the text is that line, and after it a comment on lines that are passed over
-pub record IsRefused (listing text : List ℕ) : Type 0 where
+pub record IsRefused (xlen : Xlen) (listing text : List ℕ) : Type 0 where
   pub leaves : Listing
-  pub listed_as : listed listing ≡ Some leaves
+  pub listed_as : listed xlen listing ≡ Some leaves
   pub line : List ℕ
   pub is_line : IsRefusal leaves line
   pub lines : text ≡ line ++ passed_text leaves.passed
 
 -- what a listing has
-abbrev pub IsRuled : List ℕ → Ruled → Type 0
-IsRuled listing (ruled.Rules registers) = HasRules listing registers
-IsRuled listing (ruled.Refused text) = IsRefused listing text.items
+abbrev pub IsRuled : Xlen → List ℕ → Ruled → Type 0
+IsRuled xlen listing (ruled.Rules registers) = HasRules xlen listing registers
+IsRuled xlen listing (ruled.Refused text) = IsRefused xlen listing text.items

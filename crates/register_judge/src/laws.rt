@@ -4,6 +4,7 @@ ghost use Rattle.std.specs.Prelude.{◌≡◌, ◌≢◌, ◌↔◌, List, Resul
 ghost use Rattle.pmp_encoding.specs.declared.extent.Extent.{Extent};
 ghost use Rattle.pmp_encoding.specs.declared.region.Entry.{Entry};
 ghost use Rattle.pmp_encoding.specs.Lists.{MeansList};
+ghost use Rattle.register_width.specs.Widths.{AreReached};
 ghost use Rattle.pmp_match.specs.declared.access.Access.{Access};
 ghost use Rattle.pmp_match.specs.declared.access.Mode.TheVariants.{Machine};
 ghost use Rattle.pmp_match.specs.declared.cause.Cause.{Cause};
@@ -15,11 +16,11 @@ ghost use Rattle.pmp_registers.specs.Registers.{pairs_of};
 ghost use Rattle.register_judge.specs.Decision.{RegistersAllow};
 ghost use Rattle.register_judge.specs.Judgement.{RegistersJudge};
 
-/// Registers that hold a list of NA4 and NAPOT entries judge each access, of any mode, as the list does. Such a list has no locked
+/// Registers that hold a list of NA4 and NAPOT entries judge each access, of any mode, as the list does, where the hart's address registers reach it. Such a list has no locked
 /// entry.
 pub fn list_law()
     ensures { (registers : Registers) (entries : List Entry)
-        → MeansList (pairs_of registers) entries
+        → MeansList (pairs_of registers) entries → AreReached registers.xlen entries
         → (a : Access) (answer : Result (Unit {0}) Cause)
         → RegistersJudge registers a answer ↔ Judges entries a answer }
 {}

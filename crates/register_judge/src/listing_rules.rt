@@ -3,12 +3,14 @@
 ghost use Rattle.std.specs.Prelude.{◌≡◌, ℕ, ◌-◌, ◌^◌, ◌<◌, ◌++◌, Err, IfOk, List, Some, length};
 ghost use Rattle.register_audit.specs.Texts.{passed_text};
 ghost use Rattle.register_text.specs.Listings.{IsFirstUnknown, listed};
+ghost use Rattle.register_width.specs.declared.xlen.Xlen.{Xlen};
 ghost use Rattle.register_judge.specs.declared.listing_rules.RulesFault as RulesFault;
 ghost use Rattle.register_judge.specs.Listings.{IsRuled};
 
 use crate::rules::Rules;
 use register_audit::{passed_line, reserved_line, smepmp_line};
 use register_text::{Listing, listing_of};
+use register_width::Xlen;
 use std::alloc::{AllocError, Global};
 use text_lines::Line;
 
@@ -43,8 +45,8 @@ fn text_of(alloc: Global, line: &Line, passed: Option<u64>) -> Result<Vec<u8>, A
 
 /// The rules of what a listing leaves. The only error is out of memory.
 fn ruled_by(alloc: Global, listing: &Listing) -> Result<Ruled, AllocError>
-    ensures { (bytes : List ℕ) → listed bytes ≡ Some listing.now
-        → IfOk result (IsRuled bytes) }
+    ensures { (xlen : Xlen) (bytes : List ℕ) → listed xlen bytes ≡ Some listing.now
+        → IfOk result (IsRuled xlen bytes) }
 {
     if listing.mseccfg != 0 {
         let text = text_of(alloc, &smepmp_line(listing.mseccfg), listing.passed)?;
@@ -60,15 +62,15 @@ fn ruled_by(alloc: Global, listing: &Listing) -> Result<Ruled, AllocError>
     }
 }
 
-/// The rules of the registers that a listing leaves, or the text that says why they judge nothing: an entry with a reserved
+/// The rules of the registers of that width that a listing leaves, or the text that says why they judge nothing: an entry with a reserved
 /// value, or Smepmp.
-pub fn rules_in(alloc: Global, listing: &[u8]) -> Result<Ruled, RulesFault>
+pub fn rules_in(alloc: Global, xlen: Xlen, listing: &[u8]) -> Result<Ruled, RulesFault>
     requires { length listing.now < 2 ^ 64 - 1 }
-    ensures ruled { IfOk result (IsRuled listing.now) }
+    ensures ruled { IfOk result (IsRuled xlen listing.now) }
     ensures line { (n : ℕ) → result ≡ Err (RulesFault.Line n)
-        → IsFirstUnknown listing.now n }
+        → IsFirstUnknown xlen listing.now n }
 {
-    let leaves = match listing_of(listing) {
+    let leaves = match listing_of(xlen, listing) {
         Ok(leaves) => leaves,
         Err(number) => return Err(RulesFault::Line(number)),
     };

@@ -9,6 +9,7 @@ use Rattle.pmp_registers.specs.Decision.{ExtentsMean}
 use Rattle.pmp_registers.specs.Matching.{AreExtents}
 use Rattle.pmp_registers.specs.Reserved.{IsFirstReserved}
 use Rattle.stretches.specs.declared.stretch.Stretch.{Stretch}
+use Rattle.register_width.specs.declared.xlen.Xlen.{Xlen}
 use Rattle.register_text.specs.declared.listing.Listing.{Listing}
 use Rattle.register_text.specs.Listings.{listed}
 use Rattle.register_audit.specs.Findings.{CutsAlone, IsFirstDifference}
@@ -36,10 +37,10 @@ pub data IsMapOf (listing : Listing) : List ℕ → Bool → Type 0 where
 abbrev pub AreTooFine : Listing → Type 0
 AreTooFine listing = (extents : List Extent) × AreExtents listing.registers extents × IsTooFine extents
 
--- the text is what is said of what the listing leaves, and after it a comment on lines that are passed over
-pub record IsMapFile (listing text : List ℕ) (is_map : Bool) : Type 0 where
+-- the text is what is said of what the listing of registers of that width leaves, and after it a comment on lines that are passed over
+pub record IsMapFile (xlen : Xlen) (listing text : List ℕ) (is_map : Bool) : Type 0 where
   pub leaves : Listing
-  pub listed_as : listed listing ≡ Some leaves
+  pub listed_as : listed xlen listing ≡ Some leaves
   pub said : List ℕ
   pub is_said : IsMapOf leaves said is_map
   pub lines : text ≡ said ++ passed_text leaves.passed

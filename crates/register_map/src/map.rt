@@ -23,6 +23,7 @@ use permission_map::Memory;
 use pmp_registers::{Extent, extents_of};
 use register_audit::{Finding, compared, passed_line, reserved_line, smepmp_line};
 use register_text::{Listing, listing_of};
+use register_width::Xlen;
 use std::alloc::Global;
 use text_lines::Line;
 
@@ -110,34 +111,39 @@ fn commented(alloc: Global, listing: &Listing) -> Result<Said, Refusal>
     Ok(all)
 }
 
-/// Reads a listing of registers, and writes the map that they mean, as the lines of a map file; or one line that says why no map
+/// Reads a listing of registers of that width, and writes the map that they mean, as the lines of a map file; or one line that says why no map
 /// of whole pages is what supervisor and user mode may do under them. After it stands a comment where lines of other registers
 /// are passed over. The answer is whether there is a map. Where a line is not understood, there are too many ranges or memory is
 /// refused, nothing is written; where the device failed, or took none of some bytes, a beginning of the text was written.
-pub fn print_map_of<W: Sink>(alloc: Global, listing: &[u8], out: &mut W) -> Result<bool, MapOfFault>
+pub fn print_map_of<W: Sink>(
+    alloc: Global,
+    xlen: Xlen,
+    listing: &[u8],
+    out: &mut W,
+) -> Result<bool, MapOfFault>
     requires { length listing.now < 2 ^ 64 - 1 }
     ensures written { IfOk result (λ is_map. (text : List ℕ)
-        × IsMapFile listing.now text is_map
+        × IsMapFile xlen listing.now text is_map
         × TakesAll text (writing W.contents W.failures W.stalls out.old out.new)) }
     ensures means { result ≡ Ok true → (leaves : Listing)
-        × (listed listing.now ≡ Some leaves) × (leaves.mseccfg ≡ 0) × (runs : List Run)
+        × (listed xlen listing.now ≡ Some leaves) × (leaves.mseccfg ≡ 0) × (runs : List Run)
         × AreRuns runs × RegistersMean leaves.registers (view_of_runs runs)
         × TakesAll (map_text runs ++ passed_text leaves.passed)
         (writing W.contents W.failures W.stalls out.old out.new) }
     ensures none { result ≡ Ok false → (leaves : Listing)
-        × (listed listing.now ≡ Some leaves)
+        × (listed xlen listing.now ≡ Some leaves)
         × (leaves.mseccfg ≢ 0 ⊎ ((view : View) → ¬ RegistersMean leaves.registers view)) }
     ensures line { (n : ℕ) → result ≡ Err (MapOfFault.Line n)
-        → IsFirstUnknown listing.now n × (out.new ≡ out.old) }
+        → IsFirstUnknown xlen listing.now n × (out.new ≡ out.old) }
     ensures many { result ≡ Err MapOfFault.TooManyRanges
-        → (leaves : Listing) × (listed listing.now ≡ Some leaves) × AreTooFine leaves
+        → (leaves : Listing) × (listed xlen listing.now ≡ Some leaves) × AreTooFine leaves
         × (out.new ≡ out.old) }
     ensures untouched { result ≡ Err MapOfFault.Memory → out.new ≡ out.old }
     ensures broken { result ≡ Err MapOfFault.Device → (text : List ℕ) × (is_map : Bool)
-        × IsMapFile listing.now text is_map
+        × IsMapFile xlen listing.now text is_map
         × Breaks text (writing W.contents W.failures W.stalls out.old out.new) }
 {
-    let listing = match listing_of(listing) {
+    let listing = match listing_of(xlen, listing) {
         Ok(listing) => listing,
         Err(number) => return Err(MapOfFault::Line(number)),
     };

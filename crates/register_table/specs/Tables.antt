@@ -4,6 +4,7 @@ use Rattle.pmp_encoding.specs.declared.extent.Extent.{Extent}
 use Rattle.pmp_registers.specs.declared.reserved.ReservedAt.{ReservedAt}
 use Rattle.pmp_registers.specs.Matching.{AreExtents}
 use Rattle.pmp_registers.specs.Reserved.{IsFirstReserved}
+use Rattle.register_width.specs.declared.xlen.Xlen.{Xlen}
 use Rattle.register_text.specs.declared.listing.Listing.{Listing}
 use Rattle.register_text.specs.Listings.{listed}
 use Rattle.register_audit.specs.Registers.{count_on}
@@ -19,10 +20,10 @@ pub data IsShown (listing : Listing) : List ℕ → Bool → Type 0 where
   reserved : listing.mseccfg ≡ 0 → (found : ReservedAt) → IsFirstReserved listing.registers found → IsShown listing (reserved_text listing.registers found) false
   unmodelled : listing.mseccfg ≢ 0 → IsShown listing (smepmp_text listing.mseccfg) false
 
--- the text is what is said of what the listing leaves, and after it a comment on lines that are passed over
-pub record IsRegisterTable (listing text : List ℕ) (meant : Bool) : Type 0 where
+-- the text is what is said of what the listing of registers of that width leaves, and after it a comment on lines that are passed over
+pub record IsRegisterTable (xlen : Xlen) (listing text : List ℕ) (meant : Bool) : Type 0 where
   pub leaves : Listing
-  pub listed_as : listed listing ≡ Some leaves
+  pub listed_as : listed xlen listing ≡ Some leaves
   pub said : List ℕ
   pub is_said : IsShown leaves said meant
   pub lines : text ≡ said ++ passed_text leaves.passed

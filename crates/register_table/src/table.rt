@@ -13,6 +13,7 @@ use permission_map::Memory;
 use pmp_registers::extents_of;
 use register_audit::{count_on, passed_line, reserved_line, smepmp_line};
 use register_text::{Listing, listing_of};
+use register_width::Xlen;
 use std::alloc::Global;
 use text_lines::Line;
 
@@ -74,27 +75,28 @@ fn commented(alloc: Global, listing: &Listing) -> Result<Shown, Memory>
     Ok(all)
 }
 
-/// Reads a listing of registers, and writes the table of what they give to supervisor and user mode, or the line that says why
+/// Reads a listing of registers of that width, and writes the table of what they give to supervisor and user mode, or the line that says why
 /// they mean nothing; and after it a comment where lines of other registers are passed over. The answer is whether they mean
 /// something. Where a line is not understood or memory is refused, nothing is written; where the device failed, or took none of
 /// some bytes, a beginning of the text was written, not all of it.
 pub fn print_registers<W: Sink>(
     alloc: Global,
+    xlen: Xlen,
     listing: &[u8],
     out: &mut W,
 ) -> Result<bool, ListingFault>
     requires { length listing.now < 2 ^ 64 - 1 }
     ensures written { IfOk result (λ meant. (text : List ℕ)
-        × IsRegisterTable listing.now text meant
+        × IsRegisterTable xlen listing.now text meant
         × TakesAll text (writing W.contents W.failures W.stalls out.old out.new)) }
     ensures line { (n : ℕ) → result ≡ Err (ListingFault.Line n)
-        → IsFirstUnknown listing.now n × (out.new ≡ out.old) }
+        → IsFirstUnknown xlen listing.now n × (out.new ≡ out.old) }
     ensures untouched { result ≡ Err ListingFault.Memory → out.new ≡ out.old }
     ensures broken { result ≡ Err ListingFault.Device → (text : List ℕ) × (meant : Bool)
-        × IsRegisterTable listing.now text meant
+        × IsRegisterTable xlen listing.now text meant
         × Breaks text (writing W.contents W.failures W.stalls out.old out.new) }
 {
-    let listing = match listing_of(listing) {
+    let listing = match listing_of(xlen, listing) {
         Ok(listing) => listing,
         Err(number) => return Err(ListingFault::Line(number)),
     };

@@ -1,8 +1,11 @@
 -- What a line of a listing sets.
-use Rattle.std.specs.Prelude.{ℕ, ◌+◌, ◌*◌, ◌%◌, ◌-◌, ◌<◌, ◌≤◌, ⊤, Bool, false, not, ◌&&◌, ◌||◌, ◌==◌, nat_lt, nat_le, if◌then◌else◌, List, [], ◌∷◌, length, take, drop, Option, Some, None, codes, bytes_eq, option_map}
+use Rattle.std.specs.Prelude.{ℕ, ◌+◌, ◌*◌, ◌%◌, ◌/◌, ◌-◌, ◌<◌, ◌≤◌, ⊤, Bool, false, not, ◌&&◌, ◌||◌, ◌==◌, nat_lt, nat_le, if◌then◌else◌, List, [], ◌∷◌, length, take, drop, Option, Some, None, codes, bytes_eq, option_map}
 use Rattle.std.specs.List.{list_all, position_or_len}
 use Rattle.std.specs.Option.{option_and_then}
 use Rattle.std.specs.Str.{str_eq_ignore_ascii_case}
+use Rattle.register_width.specs.declared.xlen.Xlen.{Xlen}
+use Rattle.register_width.specs.declared.xlen.Xlen.TheVariants.{Rv32, Rv64}
+use Rattle.register_width.specs.Widths.{fits, word_entries, xlen_bits}
 use Rattle.text_lines.specs.Words.{words_of}
 use Rattle.text_lines.specs.Numbers.{numeral_of, number_of}
 use Rattle.text_lines.specs.Lines.{without_return}
@@ -12,13 +15,13 @@ use Rattle.register_text.specs.declared.setting.Setting.{Setting}
 use Rattle.register_text.specs.declared.setting.Setting.TheVariants as settings
 
 -- the places of a setting are those of 64 entries
-abbrev pub IsInside : Setting → Type 0
-IsInside settings.Nothing = ⊤
-IsInside settings.Other = ⊤
-IsInside (settings.Security value) = ⊤
-IsInside (settings.Pair place cfg address) = place < 64
-IsInside (settings.Address place value) = place < 64
-IsInside (settings.Word place value) = place + 8 ≤ 64
+abbrev pub IsInside : Xlen → Setting → Type 0
+IsInside xlen settings.Nothing = ⊤
+IsInside xlen settings.Other = ⊤
+IsInside xlen (settings.Security value) = ⊤
+IsInside xlen (settings.Pair place cfg address) = place < 64
+IsInside xlen (settings.Address place value) = place < 64
+IsInside xlen (settings.Word place value) = place + word_entries xlen ≤ 64
 
 -- a word begins with a name, in upper or lower case, and what stands after it
 abbrev pub begins_with : List ℕ → List ℕ → Bool
@@ -42,12 +45,12 @@ address_at value place = if nat_lt place 64 then Some (settings.Address place va
 abbrev pub address_setting : List ℕ → ℕ → Option Setting
 address_setting digits value = option_and_then (address_at value) (index_of digits)
 
--- `pmpcfgK`, K even and from 0 to 14: the bytes of the entries from 4 * K on
-abbrev pub word_at : ℕ → ℕ → Option Setting
-word_at value k = if nat_lt k 16 && k % 2 == 0 then Some (settings.Word (4 * k) value) else None
+-- `pmpcfgK`, K from 0 to 15 and on RV64 even, since there is a number for each 32 bits: the bytes of the entries from 4 * K on
+abbrev pub word_at : Xlen → ℕ → ℕ → Option Setting
+word_at xlen value k = if nat_lt k 16 && k % (xlen_bits xlen / 32) == 0 then Some (settings.Word (4 * k) value) else None
 
-abbrev pub word_setting : List ℕ → ℕ → Option Setting
-word_setting digits value = option_and_then (word_at value) (index_of digits)
+abbrev pub word_setting : Xlen → List ℕ → ℕ → Option Setting
+word_setting xlen digits value = option_and_then (word_at xlen value) (index_of digits)
 
 abbrev pub is_letter : ℕ → Bool
 is_letter b = nat_le 65 b && nat_le b 90 || nat_le 97 b && nat_le b 122
@@ -72,52 +75,58 @@ other_setting name value =
     if str_eq_ignore_ascii_case name (codes "mseccfg") then Some (settings.Security value) else if is_other name value then Some settings.Other else None
 
 -- a name of a register and its value
-abbrev pub by_behind : List ℕ → ℕ → Option (List ℕ) → Option (List ℕ) → Option Setting
-by_behind name value (Some digits) cfg = address_setting digits value
-by_behind name value None (Some digits) = word_setting digits value
-by_behind name value None None = other_setting name value
+abbrev pub by_behind : Xlen → List ℕ → ℕ → Option (List ℕ) → Option (List ℕ) → Option Setting
+by_behind xlen name value (Some digits) cfg = address_setting digits value
+by_behind xlen name value None (Some digits) = word_setting xlen digits value
+by_behind xlen name value None None = other_setting name value
 
 -- a name without the colon that may follow it
 abbrev pub without_colon : List ℕ → List ℕ
 without_colon name = if bytes_eq (drop (length name - 1) name) (codes ":") then take (length name - 1) name else name
 
-abbrev pub plain_setting : List ℕ → ℕ → Option Setting
-plain_setting name value = by_behind name value (behind name (codes "pmpaddr")) (behind name (codes "pmpcfg"))
+-- a register holds the value
+abbrev pub plain_setting : Xlen → List ℕ → ℕ → Option Setting
+plain_setting xlen name value = if fits xlen value then by_behind xlen name value (behind name (codes "pmpaddr")) (behind name (codes "pmpcfg")) else None
 
-abbrev pub register_setting : List ℕ → ℕ → Option Setting
-register_setting name value = plain_setting (without_colon name) value
+abbrev pub register_setting : Xlen → List ℕ → ℕ → Option Setting
+register_setting xlen name value = plain_setting xlen (without_colon name) value
 
 -- `NAME=VALUE`
 abbrev pub equals_at : List ℕ → ℕ
 equals_at word = position_or_len (λ b. b == 61) word
 
-abbrev pub set_by_one : List ℕ → Option Setting
-set_by_one word =
-    if nat_lt (equals_at word) (length word) then option_and_then (plain_setting (take (equals_at word) word)) (number_of (drop (equals_at word + 1) word)) else None
+abbrev pub set_by_one : Xlen → List ℕ → Option Setting
+set_by_one xlen word =
+    if nat_lt (equals_at word) (length word) then option_and_then (plain_setting xlen (take (equals_at word) word)) (number_of (drop (equals_at word + 1) word)) else None
 
 -- a register, or a count of entries, which sets nothing
-abbrev pub named_setting : List ℕ → ℕ → Option Setting
-named_setting name value = if bytes_eq name (codes "entries") then Some settings.Nothing else register_setting name value
+abbrev pub named_setting : Xlen → List ℕ → ℕ → Option Setting
+named_setting xlen name value = if bytes_eq name (codes "entries") then Some settings.Nothing else register_setting xlen name value
 
 -- the number of an entry, below 64, its configuration byte and its address
-abbrev pub pair_setting : ℕ → ℕ → ℕ → Option Setting
-pair_setting place cfg address = if nat_lt place 64 && nat_lt cfg 256 then Some (settings.Pair place cfg address) else None
+abbrev pub pair_setting : Xlen → ℕ → ℕ → ℕ → Option Setting
+pair_setting xlen place cfg address = if nat_lt place 64 && (nat_lt cfg 256 && fits xlen address) then Some (settings.Pair place cfg address) else None
 
-abbrev pub pair_by_words : ℕ → List ℕ → List ℕ → Option Setting
-pair_by_words place cfg address = option_and_then (λ c. option_and_then (pair_setting place c) (number_of address)) (number_of cfg)
+abbrev pub pair_by_words : Xlen → ℕ → List ℕ → List ℕ → Option Setting
+pair_by_words xlen place cfg address = option_and_then (λ c. option_and_then (pair_setting xlen place c) (number_of address)) (number_of cfg)
 
--- between a name and its value: a sign, or the width of the register in bits
-abbrev pub is_between : List ℕ → Bool
-is_between word = bytes_eq word (codes ":") || bytes_eq word (codes "=") || bytes_eq word (codes "(/64):")
+-- the width of a register in bits, as OpenOCD writes it
+abbrev pub width_sign : Xlen → List ℕ
+width_sign Rv32 = codes "(/32):"
+width_sign Rv64 = codes "(/64):"
+
+-- between a name and its value: a sign, or the width of the register
+abbrev pub is_between : Xlen → List ℕ → Bool
+is_between xlen word = bytes_eq word (codes ":") || bytes_eq word (codes "=") || bytes_eq word (width_sign xlen)
 
 -- the value's word: the second, and what stands after it is not looked at
-abbrev pub value_word : List ℕ → List ℕ → List ℕ
-value_word second third = if is_between second then third else second
+abbrev pub value_word : Xlen → List ℕ → List ℕ → List ℕ
+value_word xlen second third = if is_between xlen second then third else second
 
 -- the pair of an entry, where a number stands first; otherwise a register and its value
-abbrev pub set_by_three : Option ℕ → List ℕ → List ℕ → List ℕ → Option Setting
-set_by_three (Some place) first second third = pair_by_words place second third
-set_by_three None first second third = option_and_then (register_setting first) (number_of (value_word second third))
+abbrev pub set_by_three : Xlen → Option ℕ → List ℕ → List ℕ → List ℕ → Option Setting
+set_by_three xlen (Some place) first second third = pair_by_words xlen place second third
+set_by_three xlen None first second third = option_and_then (register_setting xlen first) (number_of (value_word xlen second third))
 
 -- a word that begins with pmp can be the name of a register of the protection
 abbrev pub is_no_name : List ℕ → Bool
@@ -128,20 +137,20 @@ abbrev pub set_by_many : List ℕ → List ℕ → List (List ℕ) → Option Se
 set_by_many first second rest = if list_all is_no_name rest then option_and_then (other_setting (without_colon first)) (number_of second) else None
 
 -- what words set
-abbrev pub set_by_words : List (List ℕ) → Option Setting
-set_by_words [] = Some settings.Nothing
-set_by_words (word ∷ []) = set_by_one word
-set_by_words (name ∷ value ∷ []) = option_and_then (named_setting name) (number_of value)
-set_by_words (first ∷ second ∷ third ∷ []) = set_by_three (number_of first) first second third
-set_by_words (first ∷ second ∷ third ∷ rest) = set_by_many first second (third ∷ rest)
+abbrev pub set_by_words : Xlen → List (List ℕ) → Option Setting
+set_by_words xlen [] = Some settings.Nothing
+set_by_words xlen (word ∷ []) = set_by_one xlen word
+set_by_words xlen (name ∷ value ∷ []) = option_and_then (named_setting xlen name) (number_of value)
+set_by_words xlen (first ∷ second ∷ third ∷ []) = set_by_three xlen (number_of first) first second third
+set_by_words xlen (first ∷ second ∷ third ∷ rest) = set_by_many first second (third ∷ rest)
 
--- what a line sets, where it is understood
-abbrev pub line_sets : List ℕ → Option Setting
-line_sets line = option_and_then set_by_words (words_of line)
+-- what a line sets, where it is understood, by the width of the hart's registers
+abbrev pub line_sets : Xlen → List ℕ → Option Setting
+line_sets xlen line = option_and_then (set_by_words xlen) (words_of line)
 
 -- what a line of at most 1023 bytes sets, its CR counted
-abbrev pub raw_sets : List ℕ → Option Setting
-raw_sets raw = if nat_le (length raw) 1023 then line_sets (without_return raw) else None
+abbrev pub raw_sets : Xlen → List ℕ → Option Setting
+raw_sets xlen raw = if nat_le (length raw) 1023 then line_sets xlen (without_return raw) else None
 
 -- what a line of a boot log sets: the pair of a region, or nothing
 abbrev pub region_setting : Option RegionEntry → Setting
@@ -149,5 +158,5 @@ region_setting None = settings.Nothing
 region_setting (Some entry) = settings.Pair entry.place entry.cfg entry.address
 
 -- what it sets, where it is understood
-abbrev pub log_sets : List ℕ → Option Setting
-log_sets raw = option_map region_setting (log_says raw)
+abbrev pub log_sets : Xlen → List ℕ → Option Setting
+log_sets xlen raw = option_map region_setting (log_says xlen raw)

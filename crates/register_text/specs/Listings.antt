@@ -1,6 +1,8 @@
 -- What a listing leaves.
 use Rattle.std.specs.Prelude.{◌≡◌, if◌then◌else◌, ℕ, zero, suc, ◌+◌, ◌/◌, ◌%◌, List, [], ◌∷◌, ◌++◌, length, replicate, slice_set, Option, Some, None}
 use Rattle.std.specs.Option.{option_and_then}
+use Rattle.register_width.specs.declared.xlen.Xlen.{Xlen}
+use Rattle.register_width.specs.Widths.{word_entries}
 use Rattle.pmp_registers.specs.declared.registers.Registers.{Registers}
 use Rattle.register_text.specs.declared.listing.Listing.{Listing}
 use Rattle.register_text.specs.declared.setting.Setting.{Setting}
@@ -9,20 +11,20 @@ use Rattle.text_lines.specs.Lines.{raw_lines}
 use Rattle.boot_log.specs.Lines.{is_boot_log}
 use Rattle.register_text.specs.Lines.{log_sets, raw_sets}
 
--- registers that are all zero, and no line that is passed over
-abbrev pub nothing_set : Listing
-nothing_set = record { registers = record { cfgs = replicate 64 0; addresses = replicate 64 0 }; mseccfg = 0; passed = None }
+-- registers of that width that are all zero, and no line that is passed over
+abbrev pub nothing_set : Xlen → Listing
+nothing_set xlen = record { registers = record { xlen = xlen; cfgs = replicate 64 0; addresses = replicate 64 0 }; mseccfg = 0; passed = None }
 
 -- the bytes of a number put in place, so many of them, the lowest first
 abbrev pub set_bytes : ℕ → ℕ → ℕ → List ℕ → List ℕ
 set_bytes place zero value bytes = bytes
 set_bytes place (suc count) value bytes = set_bytes (place + 1) count (value / 256) (slice_set bytes place (value % 256))
 
--- the registers of the protection after a setting
+-- the registers of the protection after a setting: a configuration word has a byte of as many entries as its width says
 abbrev pub registers_by : Registers → Setting → Registers
-registers_by registers (settings.Pair place cfg address) = record { cfgs = slice_set registers.cfgs place cfg; addresses = slice_set registers.addresses place address }
-registers_by registers (settings.Address place value) = record { cfgs = registers.cfgs; addresses = slice_set registers.addresses place value }
-registers_by registers (settings.Word place value) = record { cfgs = set_bytes place 8 value registers.cfgs; addresses = registers.addresses }
+registers_by registers (settings.Pair place cfg address) = record { xlen = registers.xlen; cfgs = slice_set registers.cfgs place cfg; addresses = slice_set registers.addresses place address }
+registers_by registers (settings.Address place value) = record { xlen = registers.xlen; cfgs = registers.cfgs; addresses = slice_set registers.addresses place value }
+registers_by registers (settings.Word place value) = record { xlen = registers.xlen; cfgs = set_bytes place (word_entries registers.xlen) value registers.cfgs; addresses = registers.addresses }
 registers_by registers setting = registers
 
 -- the first line that is passed over, where line n is one
@@ -42,28 +44,28 @@ set_by_lines sets listing n [] = Some listing
 set_by_lines sets listing n (raw ∷ raws) = option_and_then (λ setting. set_by_lines sets (set_by listing n setting) (n + 1) raws) (sets raw)
 
 -- what the lines of a text leave, where all are understood
-abbrev pub listed_by : (List ℕ → Option Setting) → List ℕ → Option Listing
-listed_by sets bytes = set_by_lines sets nothing_set 1 (raw_lines bytes)
+abbrev pub listed_by : Xlen → (List ℕ → Option Setting) → List ℕ → Option Listing
+listed_by xlen sets bytes = set_by_lines sets (nothing_set xlen) 1 (raw_lines bytes)
 
 -- line n of a text is not understood, and those before it are
-pub record IsFirstUnknownBy (sets : List ℕ → Option Setting) (bytes : List ℕ) (n : ℕ) : Type 0 where
+pub record IsFirstUnknownBy (xlen : Xlen) (sets : List ℕ → Option Setting) (bytes : List ℕ) (n : ℕ) : Type 0 where
   pub before : List (List ℕ)
   pub raw : List ℕ
   pub rest : List (List ℕ)
   pub are_lines : raw_lines bytes ≡ before ++ raw ∷ rest
   pub number : length before + 1 ≡ n
   pub listing : Listing
-  pub understood : set_by_lines sets nothing_set 1 before ≡ Some listing
+  pub understood : set_by_lines sets (nothing_set xlen) 1 before ≡ Some listing
   pub unknown : sets raw ≡ None
 
 -- what a line sets: by the regions of a boot log, or as a line of registers
-abbrev pub sets_in : List ℕ → List ℕ → Option Setting
-sets_in bytes = if is_boot_log bytes then log_sets else raw_sets
+abbrev pub sets_in : Xlen → List ℕ → List ℕ → Option Setting
+sets_in xlen bytes = if is_boot_log bytes then log_sets xlen else raw_sets xlen
 
--- what the lines of a listing leave, where all are understood
-abbrev pub listed : List ℕ → Option Listing
-listed bytes = listed_by (sets_in bytes) bytes
+-- what the lines of a listing of registers of that width leave, where all are understood
+abbrev pub listed : Xlen → List ℕ → Option Listing
+listed xlen bytes = listed_by xlen (sets_in xlen bytes) bytes
 
--- line n of a listing is not understood, and those before it are
-abbrev pub IsFirstUnknown : List ℕ → ℕ → Type 0
-IsFirstUnknown bytes n = IsFirstUnknownBy (sets_in bytes) bytes n
+-- line n of such a listing is not understood, and those before it are
+abbrev pub IsFirstUnknown : Xlen → List ℕ → ℕ → Type 0
+IsFirstUnknown xlen bytes n = IsFirstUnknownBy xlen (sets_in xlen bytes) bytes n

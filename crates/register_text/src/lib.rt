@@ -3,11 +3,11 @@
 //! A listing is what `plan` prints, or lines `pmpaddrN VALUE` and `pmpcfgK VALUE` in any order, as gdb, OpenOCD or a boot log
 //! has them. A later line overrides an earlier one, and what no line sets is zero. Lines of other registers set nothing, and the
 //! first of them is named. OpenSBI's boot log is a listing too: its lines on regions set entries, and all others nothing. For
-//! the layer above: [`listing_of`] answers the registers, `mseccfg` and that line, or the number of
+//! the layer above: [`listing_of`] answers the registers of a hart of that width, `mseccfg` and that line, or the number of
 //! the first line that is not understood.
 //!
 //! ```rust
-//! let listing = listing_of(b"pmpaddr0 0x200001ff\npmpcfg0 0x1f\n")?;
+//! let listing = listing_of(Xlen::Rv64, b"pmpaddr0 0x200001ff\npmpcfg0 0x1f\n")?;
 //! assert_eq!(listing.registers.cfgs[0], 0x1f);
 //! ```
 #![tactic(auto)]
@@ -17,7 +17,7 @@ mod log;
 mod register_lines;
 mod setting;
 
-pub use listing::{Listing, listing_of};
+pub use listing::{Listing, is_listing, listing_of};
 pub use pmp_registers::Registers;
 pub use register_lines::line_sets;
 pub use setting::Setting;

@@ -1,6 +1,7 @@
 //! A listing of registers, line by line.
 
 ghost use Rattle.std.specs.Prelude.{◌≡◌, ◌-◌, ◌^◌, ◌<◌, IfErr, IfOk, Some, length};
+ghost use Rattle.std.specs.Option.{is_some};
 ghost use Rattle.register_text.specs.Lines.{raw_sets};
 ghost use Rattle.register_text.specs.Listings.{IsFirstUnknown, IsFirstUnknownBy, listed, listed_by};
 
@@ -10,6 +11,7 @@ use crate::setting::nothing_set;
 use boot_log::is_boot_log;
 use map_text::next_line;
 use pmp_registers::Registers;
+use register_width::Xlen;
 use text_lines::LineReader;
 
 /// What the lines of a listing leave.
@@ -24,17 +26,18 @@ pub struct Listing {
 }
 
 /// What lines of registers leave.
-fn register_listing(bytes: &[u8]) -> Result<Listing, u64>
+fn register_listing(xlen: Xlen, bytes: &[u8]) -> Result<Listing, u64>
     requires { length bytes.now < 2 ^ 64 - 1 }
-    ensures listing { IfOk result (λ listing. listed_by raw_sets bytes.now ≡ Some listing) }
-    ensures unknown { IfErr result (IsFirstUnknownBy raw_sets bytes.now) }
+    ensures listing { IfOk result (λ listing.
+        listed_by xlen (raw_sets xlen) bytes.now ≡ Some listing) }
+    ensures unknown { IfErr result (IsFirstUnknownBy xlen (raw_sets xlen) bytes.now) }
 {
-    let mut listing = nothing_set();
+    let mut listing = nothing_set(xlen);
     let mut lines = LineReader::with_limit(u64::MAX);
     let mut rest = bytes;
     while next_line(&mut lines, &mut rest)? {
         let number = lines.number();
-        let Ok(setting) = line_sets(lines.line()) else {
+        let Ok(setting) = line_sets(xlen, lines.line()) else {
             return Err(number);
         };
         listing = setting.of(&listing, number);
@@ -42,16 +45,27 @@ fn register_listing(bytes: &[u8]) -> Result<Listing, u64>
     Ok(listing)
 }
 
-/// What the lines of a listing leave, or the number of the first line that is not understood. Of a boot log only the lines on
+/// What the lines of a listing of registers of that width leave, or the number of the first line that is not understood. Of a boot log only the lines on
 /// regions are looked at.
-pub fn listing_of(bytes: &[u8]) -> Result<Listing, u64>
+pub fn listing_of(xlen: Xlen, bytes: &[u8]) -> Result<Listing, u64>
     requires { length bytes.now < 2 ^ 64 - 1 }
-    ensures listing { IfOk result (λ listing. listed bytes.now ≡ Some listing) }
-    ensures unknown { IfErr result (IsFirstUnknown bytes.now) }
+    ensures listing { IfOk result (λ listing. listed xlen bytes.now ≡ Some listing) }
+    ensures unknown { IfErr result (IsFirstUnknown xlen bytes.now) }
 {
     if is_boot_log(bytes) {
-        log_listing(bytes)
+        log_listing(xlen, bytes)
     } else {
-        register_listing(bytes)
+        register_listing(xlen, bytes)
+    }
+}
+
+/// Whether each line of a listing of registers of that width is understood.
+pub fn is_listing(xlen: Xlen, bytes: &[u8]) -> bool
+    requires { length bytes.now < 2 ^ 64 - 1 }
+    ensures { result ≡ is_some (listed xlen bytes.now) }
+{
+    match listing_of(xlen, bytes) {
+        Ok(_) => true,
+        Err(_) => false,
     }
 }

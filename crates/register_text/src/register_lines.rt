@@ -1,15 +1,18 @@
 //! What one line of a listing sets.
 
-ghost use Rattle.std.specs.Prelude.{◌≡◌, ◌≤◌, [], ◌∷◌, length, IfOk, IfSome, bytes_eq, option_map};
+ghost use Rattle.std.specs.Prelude.{◌≡◌, ◌+◌, ◌*◌, ◌/◌, ◌%◌, ◌≤◌, ◌==◌, ◌&&◌, true, nat_lt, [], ◌∷◌, length, IfOk, IfSome, bytes_eq, option_map};
 ghost use Rattle.std.specs.Result.{result_ok};
+ghost use Rattle.register_width.specs.declared.xlen.Xlen.{Xlen};
+ghost use Rattle.register_width.specs.Widths.{word_entries, xlen_bits};
 ghost use Rattle.text_lines.specs.Words.{split_words};
 ghost use Rattle.text_lines.specs.Numbers.{number_of};
 ghost use Rattle.std.specs.List.{list_all};
 ghost use Rattle.std.specs.Option.{option_and_then};
 ghost use Rattle.std.specs.Str.{str_eq_ignore_ascii_case};
-ghost use Rattle.register_text.specs.Lines.{IsInside, address_setting, begins_with, begins_with_letter, behind, equals_at, has_leading_zero, index_of, is_between, is_foreign, is_letter, is_no_name, is_other, line_sets, named_setting, other_setting, pair_by_words, pair_setting, plain_setting, register_setting, set_by_many, set_by_words, value_word, without_colon, word_setting};
+ghost use Rattle.register_text.specs.Lines.{IsInside, address_setting, begins_with, begins_with_letter, behind, equals_at, has_leading_zero, index_of, is_between, is_foreign, is_letter, is_no_name, is_other, line_sets, named_setting, other_setting, pair_by_words, pair_setting, plain_setting, register_setting, set_by_many, set_by_words, value_word, width_sign, without_colon, word_setting};
 
 use crate::setting::Setting;
+use register_width::Xlen;
 use text_lines::{NotUnderstood, Words, number, numeral};
 
 fn is_text(word: &[u8], text: &[u8]) -> bool
@@ -60,7 +63,7 @@ fn index_of(digits: &[u8]) -> Option<u64>
 
 fn address_setting(digits: &[u8], value: u64) -> Option<Setting>
     ensures value { result ≡ address_setting digits.now value }
-    ensures inside { IfSome result IsInside }
+    ensures inside { (xlen : Xlen) → IfSome result (IsInside xlen) }
 {
     let place = index_of(digits)?;
     if place >= 64 {
@@ -72,12 +75,30 @@ fn address_setting(digits: &[u8], value: u64) -> Option<Setting>
     })
 }
 
-fn word_setting(digits: &[u8], value: u64) -> Option<Setting>
-    ensures value { result ≡ word_setting digits.now value }
-    ensures inside { IfSome result IsInside }
+/// How many numbers of configuration registers there are for each that a hart has.
+fn word_numbers(xlen: Xlen) -> u64
+    ensures { result ≡ xlen_bits xlen / 32 }
+{
+    match xlen {
+        Xlen::Rv32 => 1,
+        Xlen::Rv64 => 2,
+    }
+}
+
+/// Whether a hart has the configuration register of a number.
+fn is_word(xlen: Xlen, k: u64) -> bool
+    ensures value { result ≡ (nat_lt k 16 && k % (xlen_bits xlen / 32) == 0) }
+    ensures inside { result ≡ true → 4 * k + word_entries xlen ≤ 64 }
+{
+    k < 16 && k % word_numbers(xlen) == 0
+}
+
+fn word_setting(xlen: Xlen, digits: &[u8], value: u64) -> Option<Setting>
+    ensures value { result ≡ word_setting xlen digits.now value }
+    ensures inside { IfSome result (IsInside xlen) }
 {
     let k = index_of(digits)?;
-    if k >= 16 || k % 2 != 0 {
+    if !is_word(xlen, k) {
         return None;
     }
     Some(Setting::Word {
@@ -128,7 +149,7 @@ fn is_other(name: &[u8], value: u64) -> bool
 /// What another register sets.
 fn other_setting(name: &[u8], value: u64) -> Option<Setting>
     ensures value { result ≡ other_setting name.now value }
-    ensures inside { IfSome result IsInside }
+    ensures inside { (xlen : Xlen) → IfSome result (IsInside xlen) }
 {
     if is_text_in_any_case(name, b"mseccfg") {
         return Some(Setting::Security { value });
@@ -152,45 +173,48 @@ fn without_colon(name: &[u8]) -> &[u8]
     }
 }
 
-/// What the name of a register and a value set.
-fn plain_setting(name: &[u8], value: u64) -> Option<Setting>
-    ensures value { result ≡ plain_setting name.now value }
-    ensures inside { IfSome result IsInside }
+/// What the name of a register and a value set, which the register has to hold.
+fn plain_setting(xlen: Xlen, name: &[u8], value: u64) -> Option<Setting>
+    ensures value { result ≡ plain_setting xlen name.now value }
+    ensures inside { IfSome result (IsInside xlen) }
 {
+    if !xlen.fits(value) {
+        return None;
+    }
     if let Some(digits) = behind(name, b"pmpaddr") {
         return address_setting(digits, value);
     }
     if let Some(digits) = behind(name, b"pmpcfg") {
-        return word_setting(digits, value);
+        return word_setting(xlen, digits, value);
     }
     other_setting(name, value)
 }
 
 /// What the name of a register, a colon after it or not, and a value set.
-fn register_setting(name: &[u8], value: u64) -> Option<Setting>
-    ensures value { result ≡ register_setting name.now value }
-    ensures inside { IfSome result IsInside }
+fn register_setting(xlen: Xlen, name: &[u8], value: u64) -> Option<Setting>
+    ensures value { result ≡ register_setting xlen name.now value }
+    ensures inside { IfSome result (IsInside xlen) }
 {
-    plain_setting(without_colon(name), value)
+    plain_setting(xlen, without_colon(name), value)
 }
 
 /// What a name and a value set.
-fn named_setting(name: &[u8], value: u64) -> Option<Setting>
-    ensures value { result ≡ named_setting name.now value }
-    ensures inside { IfSome result IsInside }
+fn named_setting(xlen: Xlen, name: &[u8], value: u64) -> Option<Setting>
+    ensures value { result ≡ named_setting xlen name.now value }
+    ensures inside { IfSome result (IsInside xlen) }
 {
     if is_text(name, b"entries") {
         return Some(Setting::Nothing);
     }
-    register_setting(name, value)
+    register_setting(xlen, name, value)
 }
 
 /// What the number of an entry and its pair set.
-fn pair_setting(place: u64, cfg: u64, address: u64) -> Option<Setting>
-    ensures value { result ≡ pair_setting place cfg address }
-    ensures inside { IfSome result IsInside }
+fn pair_setting(xlen: Xlen, place: u64, cfg: u64, address: u64) -> Option<Setting>
+    ensures value { result ≡ pair_setting xlen place cfg address }
+    ensures inside { IfSome result (IsInside xlen) }
 {
-    if place >= 64 || cfg >= 256 {
+    if place >= 64 || cfg >= 256 || !xlen.fits(address) {
         return None;
     }
     Some(Setting::Pair {
@@ -201,31 +225,32 @@ fn pair_setting(place: u64, cfg: u64, address: u64) -> Option<Setting>
 }
 
 /// What two words set.
-fn set_by_two(name: &[u8], value: &[u8]) -> Option<Setting>
-    ensures value { result ≡ set_by_words (name.now ∷ value.now ∷ []) }
-    ensures inside { IfSome result IsInside }
+fn set_by_two(xlen: Xlen, name: &[u8], value: &[u8]) -> Option<Setting>
+    ensures value { result ≡ set_by_words xlen (name.now ∷ value.now ∷ []) }
+    ensures inside { IfSome result (IsInside xlen) }
 {
     let value = number(value)?;
-    named_setting(name, value)
+    named_setting(xlen, name, value)
 }
 
 /// What the number of an entry and two words set.
-fn pair_by_words(place: u64, cfg: &[u8], address: &[u8]) -> Option<Setting>
-    ensures value { result ≡ pair_by_words place cfg.now address.now }
-    ensures inside { IfSome result IsInside }
+fn pair_by_words(xlen: Xlen, place: u64, cfg: &[u8], address: &[u8]) -> Option<Setting>
+    ensures value { result ≡ pair_by_words xlen place cfg.now address.now }
+    ensures inside { IfSome result (IsInside xlen) }
 {
     let cfg = number(cfg)?;
     let address = number(address)?;
-    pair_setting(place, cfg, address)
+    pair_setting(xlen, place, cfg, address)
 }
 
 /// What the name of a register and a word set.
-fn register_by_word(name: &[u8], value: &[u8]) -> Option<Setting>
-    ensures value { result ≡ option_and_then (register_setting name.now) (number_of value.now) }
-    ensures inside { IfSome result IsInside }
+fn register_by_word(xlen: Xlen, name: &[u8], value: &[u8]) -> Option<Setting>
+    ensures value { result ≡ option_and_then (register_setting xlen name.now)
+        (number_of value.now) }
+    ensures inside { IfSome result (IsInside xlen) }
 {
     let value = number(value)?;
-    register_setting(name, value)
+    register_setting(xlen, name, value)
 }
 
 /// Where a word has an equals sign, or how long it is.
@@ -242,40 +267,54 @@ fn equals_at(word: &[u8]) -> usize
 }
 
 /// What one word sets: a register and its value with an equals sign between them.
-fn set_by_one(word: &[u8]) -> Option<Setting>
-    ensures value { result ≡ set_by_words (word.now ∷ []) }
-    ensures inside { IfSome result IsInside }
+fn set_by_one(xlen: Xlen, word: &[u8]) -> Option<Setting>
+    ensures value { result ≡ set_by_words xlen (word.now ∷ []) }
+    ensures inside { IfSome result (IsInside xlen) }
 {
     let place = equals_at(word);
     if place >= word.len() {
         return None;
     }
     let value = number(&word[place + 1..])?;
-    plain_setting(&word[..place], value)
+    plain_setting(xlen, &word[..place], value)
 }
 
-/// Whether a word stands between a name and its value: a sign, or the width of the register in bits.
-fn is_between(word: &[u8]) -> bool
-    ensures { result ≡ is_between word.now }
+/// Whether a word is the width of the hart's registers in bits, as OpenOCD writes it.
+fn is_width_sign(xlen: Xlen, word: &[u8]) -> bool
+    ensures { result ≡ bytes_eq word.now (width_sign xlen) }
 {
-    is_text(word, b":") || is_text(word, b"=") || is_text(word, b"(/64):")
+    match xlen {
+        Xlen::Rv32 => is_text(word, b"(/32):"),
+        Xlen::Rv64 => is_text(word, b"(/64):"),
+    }
+}
+
+/// Whether a word stands between a name and its value: a sign, or the width of the register.
+fn is_between(xlen: Xlen, word: &[u8]) -> bool
+    ensures { result ≡ is_between xlen word.now }
+{
+    is_text(word, b":") || is_text(word, b"=") || is_width_sign(xlen, word)
 }
 
 /// The word of the value: the second, and gdb's third has the same in decimal.
-fn value_word<'a>(second: &'a [u8], third: &'a [u8]) -> &'a [u8]
-    ensures { result.now ≡ value_word second.now third.now }
+fn value_word<'a>(xlen: Xlen, second: &'a [u8], third: &'a [u8]) -> &'a [u8]
+    ensures { result.now ≡ value_word xlen second.now third.now }
 {
-    if is_between(second) { third } else { second }
+    if is_between(xlen, second) {
+        third
+    } else {
+        second
+    }
 }
 
 /// What three words set: a pair, or a register.
-fn set_by_three(first: &[u8], second: &[u8], third: &[u8]) -> Option<Setting>
-    ensures value { result ≡ set_by_words (first.now ∷ second.now ∷ third.now ∷ []) }
-    ensures inside { IfSome result IsInside }
+fn set_by_three(xlen: Xlen, first: &[u8], second: &[u8], third: &[u8]) -> Option<Setting>
+    ensures value { result ≡ set_by_words xlen (first.now ∷ second.now ∷ third.now ∷ []) }
+    ensures inside { IfSome result (IsInside xlen) }
 {
     match number(first) {
-        Some(place) => pair_by_words(place, second, third),
-        None => register_by_word(first, value_word(second, third)),
+        Some(place) => pair_by_words(xlen, place, second, third),
+        None => register_by_word(xlen, first, value_word(xlen, second, third)),
     }
 }
 
@@ -303,7 +342,7 @@ fn are_no_names(words: Words<'_>) -> bool
 fn other_by_word(name: &[u8], value: &[u8]) -> Option<Setting>
     ensures value { result ≡ option_and_then (other_setting (without_colon name.now))
         (number_of value.now) }
-    ensures inside { IfSome result IsInside }
+    ensures inside { (xlen : Xlen) → IfSome result (IsInside xlen) }
 {
     let value = number(value)?;
     other_setting(without_colon(name), value)
@@ -313,7 +352,7 @@ fn other_by_word(name: &[u8], value: &[u8]) -> Option<Setting>
 fn set_by_many(first: &[u8], second: &[u8], third: &[u8], rest: Words<'_>) -> Option<Setting>
     ensures value { result ≡ set_by_many first.now second.now
         (third.now ∷ split_words rest.entry.rest.now) }
-    ensures inside { IfSome result IsInside }
+    ensures inside { (xlen : Xlen) → IfSome result (IsInside xlen) }
 {
     if is_no_name(third) && are_no_names(rest) {
         other_by_word(first, second)
@@ -323,33 +362,33 @@ fn set_by_many(first: &[u8], second: &[u8], third: &[u8], rest: Words<'_>) -> Op
 }
 
 /// What words set.
-fn set_by_words(mut words: Words<'_>) -> Option<Setting>
-    ensures value { result ≡ set_by_words (split_words words.entry.rest.now) }
-    ensures inside { IfSome result IsInside }
+fn set_by_words(xlen: Xlen, mut words: Words<'_>) -> Option<Setting>
+    ensures value { result ≡ set_by_words xlen (split_words words.entry.rest.now) }
+    ensures inside { IfSome result (IsInside xlen) }
 {
     let Some(first) = words.next_word() else {
         return Some(Setting::Nothing);
     };
     let Some(second) = words.next_word() else {
-        return set_by_one(first);
+        return set_by_one(xlen, first);
     };
     let Some(third) = words.next_word() else {
-        return set_by_two(first, second);
+        return set_by_two(xlen, first, second);
     };
     let rest = words;
     match words.next_word() {
         Some(_) => set_by_many(first, second, third, rest),
-        None => set_by_three(first, second, third),
+        None => set_by_three(xlen, first, second, third),
     }
 }
 
-/// What a line sets, where it is understood.
-pub fn line_sets(line: &[u8]) -> Result<Setting, NotUnderstood>
-    ensures value { result_ok result ≡ line_sets line.now }
-    ensures inside { IfOk result IsInside }
+/// What a line sets, where it is understood, by the width of the hart's registers.
+pub fn line_sets(xlen: Xlen, line: &[u8]) -> Result<Setting, NotUnderstood>
+    ensures value { result_ok result ≡ line_sets xlen line.now }
+    ensures inside { IfOk result (IsInside xlen) }
 {
     let words = Words::of(line)?;
-    match set_by_words(words) {
+    match set_by_words(xlen, words) {
         Some(setting) => Ok(setting),
         None => Err(NotUnderstood),
     }

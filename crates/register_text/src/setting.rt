@@ -1,11 +1,13 @@
 //! What a line of a listing sets, and what the listing says after it.
 
 ghost use Rattle.std.specs.Prelude.{◌≡◌, ◌≤◌, ◌+◌};
+ghost use Rattle.register_width.specs.Widths.{word_entries};
 ghost use Rattle.register_text.specs.Lines.{IsInside};
 ghost use Rattle.register_text.specs.Listings.{first_of, nothing_set, registers_by, set_by, set_bytes};
 
 use crate::listing::Listing;
 use pmp_registers::Registers;
+use register_width::Xlen;
 
 /// What a line sets. Places are below 64.
 #[derive(Clone, Copy, Debug, PartialEq, Eq)]
@@ -35,7 +37,7 @@ pub enum Setting {
         /// What it holds.
         value: u64,
     },
-    /// A configuration word: the bytes of eight entries.
+    /// A configuration word: the bytes of four entries on RV32, and of eight on RV64.
     Word {
         /// The number of the first entry.
         place: usize,
@@ -45,11 +47,12 @@ pub enum Setting {
 }
 
 /// What no line has set.
-pub(crate) fn nothing_set() -> Listing
-    ensures { result ≡ nothing_set }
+pub(crate) fn nothing_set(xlen: Xlen) -> Listing
+    ensures { result ≡ nothing_set xlen }
 {
     Listing {
         registers: Registers {
+            xlen,
             cfgs: [0; 64],
             addresses: [0; 64],
         },
@@ -68,14 +71,14 @@ fn first_of(passed: Option<u64>, n: u64) -> Option<u64>
     }
 }
 
-/// The bytes with the eight of a word put in place, the lowest first.
-fn with_word(cfgs: [u8; 64], place: usize, value: u64) -> [u8; 64]
-    requires { place + 8 ≤ 64 }
-    ensures { result ≡ set_bytes place 8 value cfgs }
+/// The bytes with so many of a word put in place, the lowest first.
+fn with_word(cfgs: [u8; 64], place: usize, count: usize, value: u64) -> [u8; 64]
+    requires { place + count ≤ 64 }
+    ensures { result ≡ set_bytes place count value cfgs }
 {
     let mut bytes = cfgs;
     let mut rest = value;
-    for i in place..place + 8 {
+    for i in place..place + count {
         bytes[i] = (rest % 256) as u8;
         rest /= 256;
     }
@@ -85,7 +88,7 @@ fn with_word(cfgs: [u8; 64], place: usize, value: u64) -> [u8; 64]
 impl Setting {
     /// The registers after the setting, where it sets one of the protection.
     fn registers(self, registers: &Registers) -> Registers
-        requires { IsInside self }
+        requires { IsInside registers.now.xlen self }
         ensures { result ≡ registers_by registers.now self }
     {
         let mut registers = *registers;
@@ -101,7 +104,8 @@ impl Setting {
             }
             Setting::Address { place, value } => registers.addresses[place] = value,
             Setting::Word { place, value } => {
-                registers.cfgs = with_word(registers.cfgs, place, value);
+                let count = usize::from(registers.xlen.word_entries());
+                registers.cfgs = with_word(registers.cfgs, place, count, value);
             }
         }
         registers
@@ -109,7 +113,7 @@ impl Setting {
 
     /// What the listing says after the setting of line n.
     pub(crate) fn of(self, listing: &Listing, n: u64) -> Listing
-        requires { IsInside self }
+        requires { IsInside listing.now.registers.xlen self }
         ensures { result ≡ set_by listing.now n self }
     {
         match self {

@@ -1,5 +1,5 @@
 -- How many bits the registers of a hart have, and what follows.
-use Rattle.std.specs.Prelude.{◌≡◌, ℕ, ◌+◌, ◌-◌, ◌*◌, ◌/◌, ◌^◌, nat_le, Bool, true, List}
+use Rattle.std.specs.Prelude.{◌≡◌, ℕ, ◌+◌, ◌-◌, ◌*◌, ◌/◌, ◌^◌, nat_le, nat_lt, Bool, true, List}
 use Rattle.std.specs.List.{list_all}
 use Rattle.pmp_encoding.specs.declared.limit.Limit.{Limit}
 use Rattle.pmp_encoding.specs.declared.region.Entry.{Entry}
@@ -11,6 +11,20 @@ use Rattle.register_width.specs.declared.xlen.Xlen.TheVariants.{Rv32, Rv64}
 abbrev pub xlen_bits : Xlen → ℕ
 xlen_bits Rv32 = 32
 xlen_bits Rv64 = 64
+
+-- a register can hold the number
+abbrev pub fits : Xlen → ℕ → Bool
+fits xlen value = nat_lt value (2 ^ xlen_bits xlen)
+
+-- how many bits of an address register a hart keeps: all 32 on RV32, and bits 53:0 on RV64, where bits 63:54 are zero,
+-- whatever was written
+abbrev pub address_bits : Xlen → ℕ
+address_bits Rv32 = 32
+address_bits Rv64 = 54
+
+-- where the space of physical addresses ends: each number of an address register stands for four bytes
+abbrev pub space_end : Xlen → ℕ
+space_end xlen = 4 * 2 ^ address_bits xlen
 
 -- how many hexadecimal digits it has: one for four bits
 abbrev pub register_digits : Xlen → ℕ

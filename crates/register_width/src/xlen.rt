@@ -3,7 +3,7 @@
 ghost use Rattle.std.specs.Prelude.{◌≡◌, ◌+◌, ◌-◌, ◌/◌, ◌<◌, ◌≤◌, ◌↔◌, true};
 ghost use Rattle.std.specs.List.{list_all};
 ghost use Rattle.pmp_encoding.specs.Limits.{limit_number};
-ghost use Rattle.register_width.specs.Widths.{is_near, register_digits, whole_word, word_count, word_entries, word_number, AreReached};
+ghost use Rattle.register_width.specs.Widths.{fits, is_near, register_digits, space_end, whole_word, word_count, word_entries, word_number, AreReached};
 
 use pmp_encoding::{Entry, Limit};
 
@@ -40,6 +40,26 @@ impl Xlen {
         match self {
             Xlen::Rv32 => 8,
             Xlen::Rv64 => 16,
+        }
+    }
+
+    /// Whether a register can hold the number.
+    pub fn fits(self, value: u64) -> bool
+        ensures { result ≡ fits self value }
+    {
+        match self {
+            Xlen::Rv32 => value < 1 << 32,
+            Xlen::Rv64 => true,
+        }
+    }
+
+    /// Where the space of physical addresses ends.
+    pub fn space_end(self) -> u64
+        ensures { result ≡ space_end self }
+    {
+        match self {
+            Xlen::Rv32 => 1 << 34,
+            Xlen::Rv64 => 1 << 56,
         }
     }
 

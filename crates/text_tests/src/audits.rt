@@ -4,6 +4,7 @@ use byte_streams::fakes::PieceSink;
 use permission_map::PermissionMap;
 use pmp_encoding::Perm;
 use register_audit::{AuditFault, audit};
+use register_width::Xlen;
 use std::alloc::Global;
 use std::process::Abort;
 use std::test::Fail;
@@ -28,7 +29,15 @@ fn expect_audit(
     line: &str,
 ) {
     let mut out = PieceSink::new(7, None);
-    let answer = audit(alloc, map, fewest, listing.as_bytes(), false, &mut out);
+    let answer = audit(
+        alloc,
+        map,
+        fewest,
+        Xlen::Rv64,
+        listing.as_bytes(),
+        false,
+        &mut out,
+    );
     assert!(rt; answer == Ok(means));
     assert!(rt; out.written() == line.as_bytes());
 }
@@ -43,7 +52,15 @@ fn expect_each(
     text: &str,
 ) {
     let mut out = PieceSink::new(7, None);
-    let answer = audit(alloc, map, 3, listing.as_bytes(), true, &mut out);
+    let answer = audit(
+        alloc,
+        map,
+        3,
+        Xlen::Rv64,
+        listing.as_bytes(),
+        true,
+        &mut out,
+    );
     assert!(rt; answer == Ok(means));
     assert!(rt; out.written() == text.as_bytes());
 }
@@ -244,11 +261,19 @@ fn entries_below_a_page_by_what_they_mean(rt: HostRuntime) -> Result<(), Fail> {
 fn a_line_and_a_device_that_fail(rt: HostRuntime) {
     let map = PermissionMap::new(rt.alloc());
     let mut out = PieceSink::new(7, None);
-    let unknown = audit(rt.alloc(), &map, 0, b"pmpaddr0 1\nwhat\n", false, &mut out);
+    let unknown = audit(
+        rt.alloc(),
+        &map,
+        0,
+        Xlen::Rv64,
+        b"pmpaddr0 1\nwhat\n",
+        false,
+        &mut out,
+    );
     assert!(rt; unknown == Err(AuditFault::Line(2)));
     assert!(rt; out.written().len() == 0);
     let mut failing = PieceSink::new(7, Some(2));
-    let stopped = audit(rt.alloc(), &map, 0, b"", false, &mut failing);
+    let stopped = audit(rt.alloc(), &map, 0, Xlen::Rv64, b"", false, &mut failing);
     assert!(rt; stopped == Err(AuditFault::Device));
     assert!(rt; failing.written() == b"means t".as_slice());
 }

@@ -27,6 +27,8 @@ mod maps;
 #[cfg(test)]
 mod narrow_formats;
 #[cfg(test)]
+mod narrow_listings;
+#[cfg(test)]
 mod platform_lints;
 #[cfg(test)]
 mod platforms;

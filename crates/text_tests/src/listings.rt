@@ -1,13 +1,14 @@
 //! Listings as `plan` prints them, as a debugger has them, and lines that are not understood.
 
 use register_text::listing_of;
+use register_width::Xlen;
 use std::test::Fail;
 
 #[test]
 fn what_plan_prints_is_read_back(rt: HostRuntime) -> Result<(), Fail> {
     let listing =
         b"entries 2\n0 0x18 0x0000000020083dff\n1 0x1d 0x0000000020082fff\npmpcfg0 0x0000000000001d18\npmpcfg2 0x0000000000000000\n";
-    let listing = listing_of(listing.as_slice()).expect(&rt, "understood");
+    let listing = listing_of(Xlen::Rv64, listing.as_slice()).expect(&rt, "understood");
     let registers = listing.registers;
     assert!(rt; &registers.cfgs[..3] == [0x18, 0x1d, 0].as_slice());
     assert!(rt; &registers.addresses[..3] == [0x2008_3dff, 0x2008_2fff, 0].as_slice());
@@ -18,7 +19,7 @@ fn what_plan_prints_is_read_back(rt: HostRuntime) -> Result<(), Fail> {
 fn registers_in_any_order_and_set_twice(rt: HostRuntime) -> Result<(), Fail> {
     let listing =
         b"# from the boot log\r\npmpcfg14 0x1122334455667788 # the last eight\n\npmpaddr63 7\npmpaddr0 1\npmpaddr0 2\n\tpmpcfg0 255\n2 24 0x10";
-    let listing = listing_of(listing.as_slice()).expect(&rt, "understood");
+    let listing = listing_of(Xlen::Rv64, listing.as_slice()).expect(&rt, "understood");
     let registers = listing.registers;
     assert!(rt; &registers.cfgs[..4] == [255, 0, 24, 0].as_slice());
     assert!(rt;
@@ -33,7 +34,7 @@ fn registers_in_any_order_and_set_twice(rt: HostRuntime) -> Result<(), Fail> {
 fn what_gdb_prints(rt: HostRuntime) -> Result<(), Fail> {
     let listing =
         b"mstatus        0x1800\t6144\npmpcfg0        0x1f\t31\npmpcfg2        0x8000000000000000\t-9223372036854775808\npmpaddr0       0x801fff\t8396799\nmseccfg        0x0\t0\n";
-    let listing = listing_of(listing.as_slice()).expect(&rt, "understood");
+    let listing = listing_of(Xlen::Rv64, listing.as_slice()).expect(&rt, "understood");
     let registers = listing.registers;
     assert!(rt; &registers.cfgs[..3] == [0x1f, 0, 0].as_slice());
     assert!(rt; registers.cfgs[15] == 0x80);
@@ -45,7 +46,7 @@ fn what_gdb_prints(rt: HostRuntime) -> Result<(), Fail> {
 fn what_openocd_prints(rt: HostRuntime) -> Result<(), Fail> {
     let listing =
         b"mstatus (/64): 0x0000000a00000000\npmpcfg0 (/64): 0x0000000000000f1f\npmpaddr0 (/64): 0x0000000000801fff\npmpaddr1: 0x20\npmpaddr2 : 33\npmpaddr3=0x22\npmpaddr4 = 35\n";
-    let listing = listing_of(listing.as_slice()).expect(&rt, "understood");
+    let listing = listing_of(Xlen::Rv64, listing.as_slice()).expect(&rt, "understood");
     let registers = listing.registers;
     assert!(rt; &registers.cfgs[..3] == [0x1f, 0x0f, 0].as_slice());
     assert!(rt; &registers.addresses[..6] == [0x80_1fff, 32, 33, 34, 35, 0].as_slice());
@@ -56,7 +57,7 @@ fn what_openocd_prints(rt: HostRuntime) -> Result<(), Fail> {
 fn other_registers_are_passed_over(rt: HostRuntime) -> Result<(), Fail> {
     let listing =
         b"# gdb\npmpcfg0 0x1f 31\npc 0x80000000 0x80000000 <_start>\nmstatus 0xa00000000 SD:0 VM:00 MXR:0\npriv 0x3 prv:3 [Machine]\nmseccfg 0x0 0\n";
-    let listing = listing_of(listing.as_slice()).expect(&rt, "understood");
+    let listing = listing_of(Xlen::Rv64, listing.as_slice()).expect(&rt, "understood");
     assert!(rt; listing.registers.cfgs[0] == 0x1f);
     assert!(rt; listing.passed == Some(3));
     assert!(rt; listing.mseccfg == 0);
@@ -66,7 +67,7 @@ fn other_registers_are_passed_over(rt: HostRuntime) -> Result<(), Fail> {
 #[test]
 fn smepmp_is_kept(rt: HostRuntime) -> Result<(), Fail> {
     let listing = b"MSECCFG (/64): 0x0000000000000004\nmseccfg=0x7\npmpaddr0 1\n";
-    let listing = listing_of(listing.as_slice()).expect(&rt, "understood");
+    let listing = listing_of(Xlen::Rv64, listing.as_slice()).expect(&rt, "understood");
     assert!(rt; listing.mseccfg == 7);
     assert!(rt; listing.passed.is_none());
     Ok(())
@@ -75,7 +76,7 @@ fn smepmp_is_kept(rt: HostRuntime) -> Result<(), Fail> {
 #[test]
 fn names_in_upper_case(rt: HostRuntime) -> Result<(), Fail> {
     let listing = b"PMPADDR0 1\nPmpAddr1: 2\nPMPCFG0=0x1f18\n";
-    let listing = listing_of(listing.as_slice()).expect(&rt, "understood");
+    let listing = listing_of(Xlen::Rv64, listing.as_slice()).expect(&rt, "understood");
     let registers = listing.registers;
     assert!(rt; &registers.cfgs[..3] == [0x18, 0x1f, 0].as_slice());
     assert!(rt; &registers.addresses[..3] == [1, 2, 0].as_slice());
@@ -98,7 +99,7 @@ fn the_first_line_that_is_not_understood(rt: HostRuntime) {
         (b"pmpaddr0 0x10000000000000000\n", 1),
         (b"pmpaddr0 1\npmpaddr1 \x80\n", 2),
     ] {
-        assert!(rt; listing_of(listing) == Err(line));
+        assert!(rt; listing_of(Xlen::Rv64, listing) == Err(line));
     }
 }
 
@@ -121,6 +122,6 @@ fn lines_of_tools_that_are_not_understood(rt: HostRuntime) {
         (b"mstatus what\n", 1),
         (b"pmaddr0 0x1\n", 1),
     ] {
-        assert!(rt; listing_of(listing) == Err(line));
+        assert!(rt; listing_of(Xlen::Rv64, listing) == Err(line));
     }
 }

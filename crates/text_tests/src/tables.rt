@@ -4,6 +4,7 @@ use byte_streams::fakes::PieceSink;
 use map_text::map_of;
 use register_map::print_map_of;
 use register_table::{ListingFault, print_registers};
+use register_width::Xlen;
 use std::alloc::Global;
 use std::process::Abort;
 use std::test::Fail;
@@ -11,7 +12,7 @@ use std::test::Fail;
 /// That the listing has this table, and means something or nothing.
 fn expect_table(rt: &impl Abort, alloc: Global, listing: &str, meant: bool, wanted: &str) {
     let mut out = PieceSink::new(7, None);
-    let answer = print_registers(alloc, listing.as_bytes(), &mut out);
+    let answer = print_registers(alloc, Xlen::Rv64, listing.as_bytes(), &mut out);
     assert!(rt; answer == Ok(meant));
     assert!(rt; out.written() == wanted.as_bytes());
 }
@@ -46,7 +47,7 @@ fn registers_that_mean_nothing(rt: HostRuntime) -> Result<(), Fail> {
     let reserved = "pair 1 0x1a 0x0000000000000005: W without R\n";
     expect_table(&rt, rt.alloc(), "1 0x1a 5\n2 0x60 0\n", false, reserved);
     let mut out = PieceSink::new(7, None);
-    let answer = print_registers(rt.alloc(), b"\npmpcfg1 0\n", &mut out);
+    let answer = print_registers(rt.alloc(), Xlen::Rv64, b"\npmpcfg1 0\n", &mut out);
     assert!(rt; answer == Err(ListingFault::Line(2)));
     Ok(())
 }
@@ -54,7 +55,7 @@ fn registers_that_mean_nothing(rt: HostRuntime) -> Result<(), Fail> {
 /// That the listing has this text, which is a map or not.
 fn expect_map(rt: &impl Abort, alloc: Global, listing: &str, is_map: bool, wanted: &str) {
     let mut out = PieceSink::new(7, None);
-    let answer = print_map_of(alloc, listing.as_bytes(), &mut out);
+    let answer = print_map_of(alloc, Xlen::Rv64, listing.as_bytes(), &mut out);
     assert!(rt; answer == Ok(is_map));
     assert!(rt; out.written() == wanted.as_bytes());
 }

@@ -10,6 +10,7 @@ use crate::inputs::{REGISTER_BYTES, bytes_in, map_in};
 use byte_streams::{Sink, Source};
 use program_troubles::Trouble;
 use register_audit::{AuditFault, audit};
+use register_width::Xlen;
 use std::alloc::Global;
 
 /// Audits registers against a map, and answers the status 0 where they mean it and 1 where they don't. With `all` there is a
@@ -18,20 +19,22 @@ pub fn do_audit<'a, R: Source, W: Sink>(
     alloc: Global,
     map: &'a str,
     registers: &'a str,
+    xlen: Xlen,
     all: bool,
     first: &mut R,
     second: &mut R,
     out: &mut W,
 ) -> Result<u8, Trouble<'a>>
     ensures { let source = reading R.remaining R.failures in
-        Audits map.entry registers.entry all (source first.old first.new)
+        Audits map.entry registers.entry xlen all (source first.old first.new)
         (source second.old second.new) (writing W.contents W.failures W.stalls out.old out.new)
         result }
 {
-    let map = map_in(alloc, map, first)?;
+    let file = map;
+    let map = map_in(alloc, file, first)?;
     let listing = bytes_in(alloc, registers, second, REGISTER_BYTES)?;
-    let fewest = fewest_in(alloc, &map)?;
-    match audit(alloc, &map, fewest, listing.as_slice(), all, out) {
+    let fewest = fewest_in(alloc, file, &map, xlen)?;
+    match audit(alloc, &map, fewest, xlen, listing.as_slice(), all, out) {
         Ok(means) => Ok(answer_status(means)),
         Err(AuditFault::Line(line)) => Err(Trouble::NotUnderstood {
             file: registers,

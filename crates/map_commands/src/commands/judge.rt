@@ -14,6 +14,7 @@ use pmp_encoding::Limit;
 use pmp_match::Segments;
 use program_troubles::Trouble;
 use register_judge::{Ruled, RulesFault, rules_in};
+use register_width::Xlen;
 use std::alloc::Global;
 use trace_judge::{AccessJudge, judge_lines};
 
@@ -66,18 +67,20 @@ fn do_judge<'a, R: Source, W: Sink>(
     expect: bool,
     map: &'a str,
     trace: &'a str,
+    xlen: Xlen,
     limit: Limit,
     first: &mut R,
     second: &mut R,
     out: &mut W,
 ) -> Result<u8, Trouble<'a>>
     ensures { let source = reading R.remaining R.failures in
-        Judges expect map.entry trace.entry limit (source first.old first.new)
+        Judges expect map.entry trace.entry xlen limit (source first.old first.new)
         (source second.old second.new) (writing W.contents W.failures W.stalls out.old out.new)
         result }
 {
-    let map = map_in(alloc, map, first)?;
-    let bank = bank_in(alloc, &map, limit)?;
+    let file = map;
+    let map = map_in(alloc, file, first)?;
+    let bank = bank_in(alloc, file, &map, xlen, limit)?;
     let segments = Segments::of(&bank);
     judge_by(&segments, expect, trace, second, out)
 }
@@ -88,17 +91,18 @@ fn do_judge_registers<'a, R: Source, W: Sink>(
     expect: bool,
     registers: &'a str,
     trace: &'a str,
+    xlen: Xlen,
     first: &mut R,
     second: &mut R,
     out: &mut W,
 ) -> Result<u8, Trouble<'a>>
     ensures { let source = reading R.remaining R.failures in
-        JudgesByRegisters expect registers.entry trace.entry (source first.old first.new)
+        JudgesByRegisters expect registers.entry trace.entry xlen (source first.old first.new)
         (source second.old second.new) (writing W.contents W.failures W.stalls out.old out.new)
         result }
 {
     let listing = bytes_in(alloc, registers, first, REGISTER_BYTES)?;
-    match rules_in(alloc, listing.as_slice()) {
+    match rules_in(alloc, xlen, listing.as_slice()) {
         Ok(Ruled::Rules(rules)) => judge_by(&rules, expect, trace, second, out),
         Ok(Ruled::Refused(text)) => match write_whole(out, text.as_slice()) {
             Ok(()) => Ok(1),
@@ -120,18 +124,19 @@ pub fn do_judge_as<'a, R: Source, W: Sink>(
     expect: bool,
     file: &'a str,
     trace: &'a str,
+    xlen: Xlen,
     limit: Limit,
     first: &mut R,
     second: &mut R,
     out: &mut W,
 ) -> Result<u8, Trouble<'a>>
     ensures { let source = reading R.remaining R.failures in
-        JudgesAs registers expect file.entry trace.entry limit (source first.old first.new)
+        JudgesAs registers expect file.entry trace.entry xlen limit (source first.old first.new)
         (source second.old second.new) (writing W.contents W.failures W.stalls out.old out.new)
         result }
 {
     if registers {
-        return do_judge_registers(alloc, expect, file, trace, first, second, out);
+        return do_judge_registers(alloc, expect, file, trace, xlen, first, second, out);
     }
-    do_judge(alloc, expect, file, trace, limit, first, second, out)
+    do_judge(alloc, expect, file, trace, xlen, limit, first, second, out)
 }

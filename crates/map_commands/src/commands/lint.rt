@@ -2,7 +2,7 @@
 
 ghost use Rattle.std.specs.Prelude.{◌≡◌, ◌-◌, ◌^◌, ◌<◌, ◌++◌, codes, decimal, length};
 ghost use Rattle.byte_streams.specs.Writings.{writing, Prints};
-ghost use Rattle.map_commands.specs.Commands.{listing_fault, reading, names_platform, IsListingLint, IsMapLint, IsPlatformLint, Lints, LintsListing, Tells};
+ghost use Rattle.map_commands.specs.Commands.{listing_fault, listing_reason, other_width, reading, names_platform, IsListingLint, IsMapLint, IsPlatformLint, Lints, LintsListing, Tells};
 
 use crate::commands::answer_status;
 use crate::inputs::{MAP_BYTES, REGISTER_BYTES, bytes_in};
@@ -11,7 +11,8 @@ use byte_streams::{DeviceFault, Sink, Source, write_whole};
 use map_lint::lint;
 use platform_lint::lint_platform;
 use program_troubles::Trouble;
-use register_text::listing_of;
+use register_text::{is_listing, listing_of};
+use register_width::Xlen;
 use std::alloc::Global;
 use text_lines::{Line, push_decimal, push_text};
 
@@ -76,43 +77,82 @@ pub fn do_lint<'a, R: Source, W: Sink>(
     }
 }
 
+fn other_width(xlen: Xlen) -> Xlen
+    ensures { result ≡ other_width xlen }
+{
+    match xlen {
+        Xlen::Rv32 => Xlen::Rv64,
+        Xlen::Rv64 => Xlen::Rv32,
+    }
+}
+
+/// Why a line of a listing is not understood, where by the other width all lines are, or not.
+fn listing_reason(xlen: Xlen, others: bool) -> &'static str
+    ensures value { result.now ≡ listing_reason xlen others }
+    ensures short { length result.now ≤ 100 }
+{
+    match (xlen, others) {
+        (Xlen::Rv64, true) => {
+            ":1: the line is not understood, but each is as one of RV32; add '--xlen 32'\n"
+        }
+        (Xlen::Rv32, true) => {
+            ":1: the line is not understood, but each is as one of RV64; leave out '--xlen 32'\n"
+        }
+        (Xlen::Rv64, false) => {
+            ":1: the line is not understood; write a register and its value, as 'pmpcfg0 0x1f'\n"
+        }
+        (Xlen::Rv32, false) => {
+            ":1: the line is not understood; write a register and its value of 32 bits, as 'pmpcfg0 0x1f'\n"
+        }
+    }
+}
+
 /// What stands after the file's name where a line of a listing is not understood.
-fn fault_of_line(n: u64) -> Line
-    ensures { result.items ≡ codes ":" ++ (decimal n
-        ++ codes ":1: the line is not understood; write a register and its value, as 'pmpcfg0 0x1f'\n") }
+fn fault_of_line(xlen: Xlen, others: bool, n: u64) -> Line
+    ensures { result.items ≡ codes ":" ++ (decimal n ++ listing_reason xlen others) }
 {
     let mut line = ArrayVec::new();
     push_text(&mut line, b":");
     push_decimal(&mut line, n);
-    push_text(
-        &mut line,
-        b":1: the line is not understood; write a register and its value, as 'pmpcfg0 0x1f'\n",
-    );
+    push_text(&mut line, listing_reason(xlen, others).as_bytes());
     line
 }
 
 /// Writes that a line of a listing is not understood.
-fn print_listing_fault<W: Sink>(name: &str, n: u64, out: &mut W) -> Result<(), DeviceFault>
-    ensures { Prints (listing_fault name.now n)
+fn print_listing_fault<W: Sink>(
+    xlen: Xlen,
+    name: &str,
+    others: bool,
+    n: u64,
+    out: &mut W,
+) -> Result<(), DeviceFault>
+    ensures { Prints (listing_fault xlen name.now others n)
         (writing W.contents W.failures W.stalls out.old out.new) result }
 {
     write_whole(out, name.as_bytes())?;
-    write_whole(out, fault_of_line(n).as_slice())?;
+    write_whole(out, fault_of_line(xlen, others, n).as_slice())?;
     Ok(())
 }
 
-/// Prints what is wrong with the bytes of a listing of registers. The status is 0 where each line is understood, and otherwise 1.
-pub fn lint_listing<W: Sink>(name: &str, bytes: &[u8], out: &mut W) -> Result<u8, Trouble<'static>>
+/// Prints what is wrong with the bytes of a listing of registers of that width. The status is 0 where each line is understood, and
+/// otherwise 1.
+pub fn lint_listing<W: Sink>(
+    xlen: Xlen,
+    name: &str,
+    bytes: &[u8],
+    out: &mut W,
+) -> Result<u8, Trouble<'static>>
     requires { length bytes.now < 2 ^ 64 - 1 }
-    ensures { Tells (IsListingLint name.now bytes.now)
+    ensures { Tells (IsListingLint xlen name.now bytes.now)
         (writing W.contents W.failures W.stalls out.old out.new) result }
 {
-    match listing_of(bytes) {
-        Ok(_) => Ok(answer_status(true)),
-        Err(line) => match print_listing_fault(name, line, out) {
-            Ok(()) => Ok(answer_status(false)),
-            Err(DeviceFault) => Err(Trouble::Output),
-        },
+    let Err(line) = listing_of(xlen, bytes) else {
+        return Ok(answer_status(true));
+    };
+    let others = is_listing(other_width(xlen), bytes);
+    match print_listing_fault(xlen, name, others, line, out) {
+        Ok(()) => Ok(answer_status(false)),
+        Err(DeviceFault) => Err(Trouble::Output),
     }
 }
 
@@ -120,12 +160,13 @@ pub fn lint_listing<W: Sink>(name: &str, bytes: &[u8], out: &mut W) -> Result<u8
 pub fn do_lint_listing<'a, R: Source, W: Sink>(
     alloc: Global,
     file: &'a str,
+    xlen: Xlen,
     first: &mut R,
     out: &mut W,
 ) -> Result<u8, Trouble<'a>>
-    ensures { LintsListing file.entry (reading R.remaining R.failures first.old first.new)
+    ensures { LintsListing file.entry xlen (reading R.remaining R.failures first.old first.new)
         (writing W.contents W.failures W.stalls out.old out.new) result }
 {
     let bytes = bytes_in(alloc, file, first, REGISTER_BYTES)?;
-    lint_listing(file, bytes.as_slice(), out)
+    lint_listing(xlen, file, bytes.as_slice(), out)
 }

@@ -9,20 +9,22 @@ use crate::inputs::{REGISTER_BYTES, bytes_in};
 use byte_streams::{Sink, Source};
 use program_troubles::Trouble;
 use register_map::{MapOfFault, print_map_of};
+use register_width::Xlen;
 use std::alloc::Global;
 
 /// Prints the map that registers mean, and answers the status 0, or 1 where there is none.
 pub fn do_map<'a, R: Source, W: Sink>(
     alloc: Global,
     registers: &'a str,
+    xlen: Xlen,
     first: &mut R,
     out: &mut W,
 ) -> Result<u8, Trouble<'a>>
-    ensures { Maps registers.entry (reading R.remaining R.failures first.old first.new)
+    ensures { Maps registers.entry xlen (reading R.remaining R.failures first.old first.new)
         (writing W.contents W.failures W.stalls out.old out.new) result }
 {
     let listing = bytes_in(alloc, registers, first, REGISTER_BYTES)?;
-    match print_map_of(alloc, listing.as_slice(), out) {
+    match print_map_of(alloc, xlen, listing.as_slice(), out) {
         Ok(is_map) => Ok(answer_status(is_map)),
         Err(MapOfFault::Line(line)) => Err(Trouble::NotUnderstood {
             file: registers,

@@ -1,5 +1,5 @@
 -- The clauses are the lemmas.
-use Rattle.pmp_registers.proofs.Matched.{all_defined, all_words, one_list}
+use Rattle.pmp_registers.proofs.Matched.{all_defined, all_inside, all_words, one_list}
 use Rattle.pmp_registers.proofs.laws.extents_law.Goals as goal
 
 pub returns-clause-one : goal.returns-clause-one
@@ -10,3 +10,6 @@ returns-clause-defined c = all_defined
 
 pub returns-clause-words : goal.returns-clause-words
 returns-clause-words c = all_words
+
+pub returns-clause-inside : goal.returns-clause-inside
+returns-clause-inside c = all_inside

@@ -5,7 +5,7 @@ use Rattle.register_judge.specs.Listings.{reserved, unmodelled}
 use Rattle.register_judge.proofs.listing_rules.ruled_by.Goals as goal
 
 pub returns-then-listing-ne0 : goal.returns-then-listing-ne0
-returns-then-listing-ne0 c = λ bytes is.
+returns-then-listing-ne0 c = λ xlen bytes is.
     let leaves = c.args.listing.now in
     record {
       leaves = leaves;
@@ -16,7 +16,7 @@ returns-then-listing-ne0 c = λ bytes is.
     }
 
 pub returns-in_ok-text-in-Err : goal.returns-in_ok-text-in-Err
-returns-in_ok-text-in-Err c = λ bytes is.
+returns-in_ok-text-in-Err c = λ xlen bytes is.
     let leaves = c.args.listing.now in
     record {
       leaves = leaves;

@@ -5,5 +5,5 @@ use Rattle.register_text.proofs.setting.with_word.Goals as goal
 pub loop-i-preserved : goal.loop-i-preserved
 loop-i-preserved c =
     let i = c.loop-i.i in
-    let one : c.args.place + 8 - i ≡ suc (c.args.place + 8 - (i + 1)) = omega (arith, c.loop-i-test.true) in
+    let one : c.args.place + c.args.count - i ≡ suc (c.args.place + c.args.count - (i + 1)) = omega (arith, c.loop-i-test.true) in
     sym (ap (λ n. set_bytes i n c.loop-i.rest c.loop-i.bytes) one) ∙ c.loop-i.invariant

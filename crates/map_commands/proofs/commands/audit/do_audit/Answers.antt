@@ -1,5 +1,7 @@
-use Rattle.std.proofs.Common.{◌≡◌, ◌^◌, ℕ, List, Err, ap, length, refl}
+use Rattle.std.proofs.Common.{◌≡◌, ◌^◌, ℕ, List, Err, ap, inl, inr, length, refl}
 use Rattle.std.proofs.lemmas.Result.{err_from_is_err_and}
+use Rattle.register_width.specs.declared.xlen.Xlen.{Xlen}
+use Rattle.register_width.specs.Widths.{AreReached}
 use Rattle.pmp_encoding.specs.declared.region.Entry.{Entry}
 use Rattle.permission_map.specs.declared.runs.Run.{Run}
 use Rattle.permission_map.specs.Runs.{view_of_runs}
@@ -10,8 +12,8 @@ use Rattle.map_commands.proofs.commands.audit.do_audit.Goals as goal
 
 -- an audit is made of the map, the listing and the fewest entries
 is_audited :
-    {R : Type 0} {first second : Reading R} {runs : List Run} {listing : List ℕ} {fewest : ℕ} → HasMap first runs → HasBytes (2 ^ 20) second listing
-    → (entries : List Entry) × IsFewest (view_of_runs runs) entries × (length entries ≡ fewest) → IsAudited first second (view_of_runs runs) listing fewest
+    {R : Type 0} {first second : Reading R} {runs : List Run} {xlen : Xlen} {listing : List ℕ} {fewest : ℕ} → HasMap first runs → HasBytes (2 ^ 20) second listing
+    → (entries : List Entry) × IsFewest (view_of_runs runs) entries × AreReached xlen entries × (length entries ≡ fewest) → IsAudited first second (view_of_runs runs) xlen listing fewest
 is_audited has_map read planned = record {
   runs = _;
   has_map = has_map;
@@ -19,7 +21,8 @@ is_audited has_map read planned = record {
   read = read;
   entries = planned.0;
   is_fewest = planned.1;
-  count = planned.2;
+  reached = planned.2;
+  count = planned.3;
 }
 
 pub returns-in_err-map : goal.returns-in_err-map
@@ -35,18 +38,21 @@ returns-in_err-listing g c =
 pub returns-in_err-fewest : goal.returns-in_err-fewest
 returns-in_err-fewest g c =
     let p = err_from_is_err_and c.from_residual-in_err-fewest.result c.from_residual-in_err-fewest.ensures.1 in
-    rw (p.1, p.2) (commands.Audits.no_memory _ _ c.in_ok-map.ensures.made c.in_ok-listing.ensures.whole refl)
+    rw (p.1, p.2) (elim c.in_err-fewest.ensures.refused [
+      | inl e ↦ rw e (commands.Audits.no_memory _ _ c.in_ok-map.ensures.made c.in_ok-listing.ensures.whole refl)
+      | inr far ↦ commands.Audits.too_far _ _ _ c.in_ok-map.ensures.made c.in_ok-listing.ensures.whole far refl
+    ])
 
 pub returns-in-Ok : goal.returns-in-Ok
 returns-in-Ok g c =
     let w = rw c.as_slice.ensures.value at c.in-Ok.ensures.written in
-    let made = is_audited c.in_ok-map.ensures.made c.in_ok-listing.ensures.whole c.in_ok-fewest.ensures in
+    let made = is_audited c.in_ok-map.ensures.made c.in_ok-listing.ensures.whole c.in_ok-fewest.ensures.fewest in
     rw c.answer_status.ensures (audited _ _ w.0 _ c.in-Ok.means made w.1 w.2)
 
 pub returns-in-Err-Line : goal.returns-in-Err-Line
 returns-in-Err-Line g c =
     let unknown = rw c.as_slice.ensures.value at c.in-Err-Line.ensures.line c.in-Err-Line.line (ap (λ f. Err f) c.in-Err-Line.field-0-is) in
-    let made = is_audited c.in_ok-map.ensures.made c.in_ok-listing.ensures.whole c.in_ok-fewest.ensures in
+    let made = is_audited c.in_ok-map.ensures.made c.in_ok-listing.ensures.whole c.in_ok-fewest.ensures.fewest in
     not_understood _ _ _ c.in-Err-Line.line made unknown.0 unknown.1
 
 pub returns-in-Err-Memory : goal.returns-in-Err-Memory
@@ -56,5 +62,5 @@ pub returns : goal.returns
 returns g c =
     let device = ap (λ f. Err f) c.in-Err-Device.field-0-is in
     let w = rw c.as_slice.ensures.value at c.in-Err-Device.ensures.broken device in
-    let made = is_audited c.in_ok-map.ensures.made c.in_ok-listing.ensures.whole c.in_ok-fewest.ensures in
+    let made = is_audited c.in_ok-map.ensures.made c.in_ok-listing.ensures.whole c.in_ok-fewest.ensures.fewest in
     commands.Audits.no_output _ _ w.0 _ w.1 made w.2 w.3

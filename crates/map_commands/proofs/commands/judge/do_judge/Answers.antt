@@ -1,6 +1,6 @@
 use Rattle.std.proofs.Common.{inl, inr, refl}
 use Rattle.std.proofs.lemmas.Result.{err_from_is_err_and}
-use Rattle.map_commands.specs.Commands.{no_bank}
+use Rattle.map_commands.specs.Commands.{for_entries, for_memory, for_width, no_bank}
 use Rattle.map_commands.specs.Commands as commands
 use Rattle.map_commands.proofs.commands.judge.do_judge.Goals as goal
 
@@ -13,8 +13,9 @@ pub returns-in_err-bank : goal.returns-in_err-bank
 returns-in_err-bank g c =
     let p = err_from_is_err_and c.from_residual-in_err-bank.result c.from_residual-in_err-bank.ensures.1 in
     rw (p.1, p.2) (elim c.in_err-bank.ensures.refused [
-      | inl e ↦ rw e (commands.Judges.no_memory _ c.in_ok-map.ensures.made refl refl)
-      | inr w ↦ rw w.3 (no_bank _ w.0 c.in_ok-map.ensures.made w.1 w.2 refl refl)
+      | for_memory ↦ commands.Judges.no_memory _ c.in_ok-map.ensures.made refl refl
+      | for_entries entries fewest more ↦ no_bank _ entries c.in_ok-map.ensures.made fewest more refl refl
+      | for_width trouble far ↦ commands.Judges.too_far _ trouble c.in_ok-map.ensures.made far refl refl
     ])
 
 pub returns : goal.returns

@@ -14,7 +14,10 @@ returns-in_err-plan g c =
     let p = err_from_is_err_and c.from_residual-in_err-plan.result c.from_residual-in_err-plan.ensures.1 in
     rw (p.1, p.2) (elim c.in_err-plan.ensures.refused [
       | inl e ↦ rw e (commands.Shows.no_memory _ c.in_ok-map.ensures.made refl)
-      | inr more ↦ commands.Shows.too_many _ _ c.in_ok-map.ensures.made more refl
+      | inr w ↦ elim w [
+        | inl more ↦ commands.Shows.too_many _ _ c.in_ok-map.ensures.made more refl
+        | inr far ↦ commands.Shows.too_far _ _ c.in_ok-map.ensures.made far refl
+      ]
     ])
 
 pub print_map-requires : goal.print_map-requires
@@ -23,7 +26,7 @@ print_map-requires g c = record { fewest = rw (sym c.entries.ensures) at c.in_ok
 pub returns-in-Ok : goal.returns-in-Ok
 returns-in-Ok g c =
     let w = rw c.entries.ensures at c.in-Ok.ensures.written in
-    shown _ _ w.0 c.in_ok-map.ensures.made c.in_ok-plan.ensures.planned w.1 w.2
+    shown _ _ w.0 c.in_ok-map.ensures.made c.in_ok-plan.ensures.planned c.in_ok-plan.ensures.reached w.1 w.2
 
 pub returns-in-Err-Memory : goal.returns-in-Err-Memory
 returns-in-Err-Memory g c = commands.Shows.no_memory _ c.in_ok-map.ensures.made (c.in-Err-Memory.ensures.untouched (ap (λ f. Err f) c.in-Err-Memory.field-0-is))
@@ -32,4 +35,4 @@ pub returns : goal.returns
 returns g c =
     let device = ap (λ f. Err f) c.in-Err-Device.field-0-is in
     let w = rw c.entries.ensures at c.in-Err-Device.ensures.broken device in
-    commands.Shows.no_output _ _ w.0 c.in_ok-map.ensures.made c.in_ok-plan.ensures.planned w.1 w.2
+    commands.Shows.no_output _ _ w.0 c.in_ok-map.ensures.made c.in_ok-plan.ensures.planned c.in_ok-plan.ensures.reached w.1 w.2
