@@ -1,5 +1,5 @@
 -- What a task reads and writes, by name.
-use Rattle.std.specs.Prelude.{◌≡◌, List, [], ℕ, Option, Some, None, bytes_eq, if◌then◌else◌, ⊥}
+use Rattle.std.specs.Prelude.{◌≡◌, List, [], ℕ, Option, Some, None, bytes_eq, if◌then◌else◌}
 use Rattle.std.specs.Borrow.{Bor}
 use Rattle.program_tasks.specs.Tasks.{input_word}
 use Rattle.program_tasks.specs.declared.task.LintKind.TheVariants as kinds

@@ -78,7 +78,7 @@ fn explained(rt: &HostRuntime, error: &Error) -> ExitCode
 /// What counts the failures of an input, and keeps why the last one came.
 fn reading<'a>(input: InputToRead<'a, HostRuntime, Stdin>) -> Input<'a>
     ensures failures { failures_of result ≡ 0 }
-    ensures input { (inner_of result).inner ≡ input }
+    ensures input { (inner_of result).inner ≡ input.entry }
     ensures reason { (inner_of result).reason ≡ None }
 {
     Counted::new(Explained::new(input))
