@@ -1,6 +1,6 @@
 //! `lint`: what is wrong with a map file, a platform file or a listing of registers.
 
-ghost use Rattle.std.specs.Prelude.{◌≡◌, ◌-◌, ◌^◌, ◌<◌, ◌++◌, codes, decimal, length};
+ghost use Rattle.std.specs.Prelude.{◌≡◌, ◌-◌, ◌^◌, ◌<◌, ◌≤◌, ◌++◌, codes, decimal, length};
 ghost use Rattle.byte_streams.specs.Writings.{writing, Prints};
 ghost use Rattle.map_commands.specs.Commands.{listing_fault, listing_reason, other_width, reading, names_platform, IsListingLint, IsMapLint, IsPlatformLint, Lints, LintsListing, Tells};
 
