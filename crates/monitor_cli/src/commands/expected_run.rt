@@ -31,7 +31,10 @@ fn measure_where<W: Sink>(machine: &Machine, measure: bool, out: &mut W) -> Resu
     if !measure {
         return Ok(());
     }
-    print_measures(machine.table(), out)
+    match print_measures(machine.table(), out) {
+        Ok(()) => Ok(()),
+        Err(DeviceFault) => Err(DeviceFault),
+    }
 }
 
 /// Runs a trace on a machine, compares its answers, and prints the measurements where they are asked for.
