@@ -194,10 +194,10 @@ pub record IsTooFar (view : View) (xlen : Xlen) (most : Option ℕ) (map : Bor (
   pub told : trouble ≡ TooFar map
 
 -- why there is no bank: memory, more entries than the hart has, or one that is too far
-pub data IsUnloaded (view : View) (xlen : Xlen) (limit : Limit) (map : Bor (List ℕ)) : Trouble → Type 0 where
-  for_memory : IsUnloaded view xlen limit map Memory
-  for_entries : (entries : List Entry) → IsFewest view entries → limit_number limit < length entries → IsUnloaded view xlen limit map (NeedsEntries (length entries))
-  for_width : (trouble : Trouble) → IsTooFar view xlen None map trouble → IsUnloaded view xlen limit map trouble
+pub data IsUnloaded (view : View) (xlen : Xlen) (limit : Limit) (map : Bor (List ℕ)) (trouble : Trouble) : Type 0 where
+  for_memory : trouble ≡ Memory → IsUnloaded view xlen limit map trouble
+  for_entries : (entries : List Entry) → IsFewest view entries → limit_number limit < length entries → trouble ≡ NeedsEntries (length entries) → IsUnloaded view xlen limit map trouble
+  for_width : IsTooFar view xlen None map trouble → IsUnloaded view xlen limit map trouble
 
 -- why there is no plan with its certificate: memory, too many entries, one that is too far, or the certificate
 pub data IsUnplanned {C : Type 0} (view : View) (xlen : Xlen) (limit : Limit) (most : Option ℕ) (map : Bor (List ℕ)) (file : Option (Bor (List ℕ))) (cert : Placing C) (trouble : Trouble) : Type 0 where

@@ -201,11 +201,13 @@ pub fn bank_in<'a>(
 {
     let plan = planned(alloc, map)?;
     let entries = plan.entries();
-    let Some(bank) = bank_of(entries, limit) else {
-        return Err(Trouble::NeedsEntries {
+    match bank_of(entries, limit) {
+        Some(bank) => {
+            reached(&plan, xlen, file)?;
+            Ok(bank)
+        }
+        None => Err(Trouble::NeedsEntries {
             needed: entries.len() as u64,
-        });
-    };
-    reached(&plan, xlen, file)?;
-    Ok(bank)
+        }),
+    }
 }

@@ -146,13 +146,15 @@ pub fn lint_listing<W: Sink>(
     ensures { Tells (IsListingLint xlen name.now bytes.now)
         (writing W.contents W.failures W.stalls out.old out.new) result }
 {
-    let Err(line) = listing_of(xlen, bytes) else {
-        return Ok(answer_status(true));
-    };
-    let others = is_listing(other_width(xlen), bytes);
-    match print_listing_fault(xlen, name, others, line, out) {
-        Ok(()) => Ok(answer_status(false)),
-        Err(DeviceFault) => Err(Trouble::Output),
+    match listing_of(xlen, bytes) {
+        Ok(_) => Ok(answer_status(true)),
+        Err(line) => {
+            let others = is_listing(other_width(xlen), bytes);
+            match print_listing_fault(xlen, name, others, line, out) {
+                Ok(()) => Ok(answer_status(false)),
+                Err(DeviceFault) => Err(Trouble::Output),
+            }
+        }
     }
 }
 

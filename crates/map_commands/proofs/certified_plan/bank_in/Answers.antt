@@ -2,33 +2,38 @@ use Rattle.std.proofs.Common.{refl, sym}
 use Rattle.std.proofs.lemmas.Result.{err_from_is_err_and}
 use Rattle.permission_map.specs.Runs.{view_of_runs}
 use Rattle.pmp_match.specs.Meaning.{IsFewest}
-use Rattle.map_commands.specs.Commands.{for_entries, for_width}
+use Rattle.map_commands.specs.Commands.{for_entries, for_memory, for_width}
 use Rattle.map_commands.proofs.certified_plan.bank_in.Goals as goal
 
-pub returns-in_err-reached-clause-refused : goal.returns-in_err-reached-clause-refused
-returns-in_err-reached-clause-refused c =
-    let p = err_from_is_err_and c.from_residual-in_err-reached.result c.from_residual-in_err-reached.ensures.1 in
-    let b = c.in_err-reached.ensures.beyond in
+pub returns-in_err-plan-clause-refused : goal.returns-in_err-plan-clause-refused
+returns-in_err-plan-clause-refused c =
+    let p = err_from_is_err_and c.from_residual.result c.from_residual.ensures.1 in
+    rw p.1 (for_memory p.2)
+
+pub returns-in_err-reached-in-Some-clause-refused : goal.returns-in_err-reached-in-Some-clause-refused
+returns-in_err-reached-in-Some-clause-refused c =
+    let p = err_from_is_err_and c.from_residual-in_err-reached-in-Some.result c.from_residual-in_err-reached-in-Some.ensures.1 in
+    let b = c.in_err-reached-in-Some.ensures.beyond in
     let made = c.in_ok-plan.ensures in
-    rw (p.1, p.2) (for_width _ (record {
+    rw (p.1, p.2) (for_width (record {
       entries = c.in_ok-plan.plan.entries;
       planned = record { fewest = made.fewest; chosen = made.choice; order = made.order; within = tt };
       far = b.0;
       told = b.1;
     }))
 
-pub returns-clause-loaded : goal.returns-clause-loaded
-returns-clause-loaded c =
+pub returns-in-Some-clause-loaded : goal.returns-in-Some-clause-loaded
+returns-in-Some-clause-loaded c =
     let fewest : IsFewest (view_of_runs c.args.map.now) c.in_ok-plan.plan.entries = c.in_ok-plan.ensures.fewest in
     record {
       entries = c.entries-entries.result.now;
       fewest = rw (sym c.entries-entries.ensures) at fewest;
-      reached = rw (sym c.entries-entries.ensures) at c.in_ok-reached.ensures.reached;
+      reached = rw (sym c.entries-entries.ensures) at c.in_ok-reached-in-Some.ensures.reached;
       list = c.in-Some.ensures.list;
       registers = c.in-Some.ensures.registers;
     }
 
-pub returns-in-None-clause-refused : goal.returns-in-None-clause-refused
-returns-in-None-clause-refused c =
+pub returns-clause-refused : goal.returns-clause-refused
+returns-clause-refused c =
     let fewest : IsFewest (view_of_runs c.args.map.now) c.in_ok-plan.plan.entries = c.in_ok-plan.ensures.fewest in
-    for_entries c.entries-entries.result.now (rw (sym c.entries-entries.ensures) at fewest) (c.in-None.ensures.none.0 refl)
+    for_entries c.entries-entries.result.now (rw (sym c.entries-entries.ensures) at fewest) (c.in-None.ensures.none.0 refl) refl

@@ -13,9 +13,9 @@ pub returns-in_err-bank : goal.returns-in_err-bank
 returns-in_err-bank g c =
     let p = err_from_is_err_and c.from_residual-in_err-bank.result c.from_residual-in_err-bank.ensures.1 in
     rw (p.1, p.2) (elim c.in_err-bank.ensures.refused [
-      | for_memory ↦ commands.Judges.no_memory _ c.in_ok-map.ensures.made refl refl
-      | for_entries entries fewest more ↦ no_bank _ entries c.in_ok-map.ensures.made fewest more refl refl
-      | for_width trouble far ↦ commands.Judges.too_far _ trouble c.in_ok-map.ensures.made far refl refl
+      | for_memory e ↦ rw e (commands.Judges.no_memory _ c.in_ok-map.ensures.made refl refl)
+      | for_entries entries fewest more told ↦ rw told (no_bank _ entries c.in_ok-map.ensures.made fewest more refl refl)
+      | for_width far ↦ commands.Judges.too_far _ _ c.in_ok-map.ensures.made far refl refl
     ])
 
 pub returns : goal.returns
