@@ -74,6 +74,10 @@ all_rule = record (new_rule (codes "all")) { long = Some (codes "all"); action =
 abbrev pub expect_rule : Rule
 expect_rule = record (new_rule (codes "expect")) { long = Some (codes "expect"); action = Some SetTrue }
 
+-- `--costs`, which takes no value
+abbrev pub costs_rule : Rule
+costs_rule = record (new_rule (codes "costs")) { long = Some (codes "costs"); action = Some SetTrue }
+
 -- `--hints`, which is auto where it is not given
 abbrev pub hints_rule : Rule
 hints_rule = option_rule (codes "hints") (codes "auto" ∷ [])
@@ -124,9 +128,13 @@ abbrev pub show_app : App
 show_app = with_rule
     (with_rule
     (with_rule
+    (with_rule
+    (with_rule
     (with_rule (with_rule (with_rule (new_app (codes "show")) (file_rule (codes "MAP") true)) entries_rule) at_most_rule)
     registers_rule)
     xlen_rule)
+    format_rule)
+    costs_rule)
     hints_rule
 
 abbrev pub audit_app : App

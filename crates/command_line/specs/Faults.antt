@@ -9,6 +9,7 @@ abbrev pub fault_kind : Fault → ErrorKind
 fault_kind faults.Missing = MissingRequiredArgument
 fault_kind (faults.Entries word) = InvalidValue
 fault_kind (faults.Format word) = InvalidValue
+fault_kind (faults.TableFormat word) = InvalidValue
 fault_kind (faults.Xlen word) = InvalidValue
 fault_kind (faults.Hints word) = InvalidValue
 fault_kind (faults.AtMost word) = ValueValidation

@@ -2,7 +2,7 @@
 
 ghost use Rattle.std.specs.Prelude.{◌≡◌, false};
 ghost use Rattle.clap.specs.Words.{rule_of};
-ghost use Rattle.command_line.specs.CommandLine.{all_rule, at_most_rule, entries_rule, expect_rule, file_rule, first_rule, format_rule, hints_rule, measure_rule, name_rule, platform_rule, registers_rule, trace_rule, xlen_rule};
+ghost use Rattle.command_line.specs.CommandLine.{all_rule, at_most_rule, costs_rule, entries_rule, expect_rule, file_rule, first_rule, format_rule, hints_rule, measure_rule, name_rule, platform_rule, registers_rule, trace_rule, xlen_rule};
 ghost use Rattle.command_line.specs.ClapModel.{rule_by};
 
 use clap::{Arg, ArgAction};
@@ -41,6 +41,10 @@ pub enum Argument<'a> {
     Expect,
     /// `--hints`, when standard error is told what is wrong with an input.
     Hints,
+    /// `--format` of a table.
+    TableFormat,
+    /// `--costs`, whether the cost of each line of a map is asked for.
+    Costs,
 }
 
 impl<'a> Argument<'a> {
@@ -65,6 +69,8 @@ impl<'a> Argument<'a> {
             Argument::All => all_arg(alloc),
             Argument::Expect => expect_arg(alloc),
             Argument::Hints => hints_arg(alloc),
+            Argument::TableFormat => table_format_arg(alloc),
+            Argument::Costs => costs_arg(alloc),
         }
     }
 }
@@ -233,4 +239,28 @@ fn hints_arg<'a>(alloc: Global) -> Arg<'a>
         .help("Say what is wrong with an input, by line and column; auto: on a terminal")
         .action(ArgAction::Set)
         .default_value("auto")
+}
+
+/// The option that says how a table is printed.
+fn table_format_arg<'a>(alloc: Global) -> Arg<'a>
+    ensures rule { rule_of result ≡ format_rule }
+    ensures local { result.global ≡ false }
+{
+    Arg::new(alloc, "format")
+        .long("format")
+        .value_name("text|svg|json")
+        .help("How the table of a map is printed")
+        .action(ArgAction::Set)
+        .default_value("text")
+}
+
+/// The flag that asks for the cost of each line of a map.
+fn costs_arg<'a>(alloc: Global) -> Arg<'a>
+    ensures rule { rule_of result ≡ costs_rule }
+    ensures local { result.global ≡ false }
+{
+    Arg::new(alloc, "costs")
+        .long("costs")
+        .help("Print after the text how many entries the map needs without each of its lines")
+        .action(ArgAction::SetTrue)
 }

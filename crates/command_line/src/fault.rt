@@ -17,9 +17,11 @@ fn kind_of(fault: &Fault<'_>) -> ErrorKind
 {
     match fault {
         Fault::Missing | Fault::PlatformAlone => ErrorKind::MissingRequiredArgument,
-        Fault::Entries(_) | Fault::Format(_) | Fault::Xlen(_) | Fault::Hints(_) => {
-            ErrorKind::InvalidValue
-        }
+        Fault::Entries(_)
+        | Fault::Format(_)
+        | Fault::TableFormat(_)
+        | Fault::Xlen(_)
+        | Fault::Hints(_) => ErrorKind::InvalidValue,
         Fault::AtMost(_) | Fault::Name(_) | Fault::First(_) => ErrorKind::ValueValidation,
         Fault::InputTwice | Fault::TwoKinds | Fault::TakesPlace(_) => ErrorKind::ArgumentConflict,
     }

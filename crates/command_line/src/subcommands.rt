@@ -148,6 +148,8 @@ fn show_command<'a>(alloc: Global) -> Result<Command<'a>, AllocError>
         Argument::AtMost,
         Argument::Registers(AS_THEY_STAND),
         Argument::Xlen,
+        Argument::TableFormat,
+        Argument::Costs,
         Argument::Hints,
     ];
     command(alloc, Subcommand::Show.name(), about, SHOW_HELP, &arguments)

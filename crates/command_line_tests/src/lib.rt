@@ -11,6 +11,8 @@ mod helps;
 #[cfg(test)]
 mod hints;
 #[cfg(test)]
+mod tables;
+#[cfg(test)]
 mod tasks;
 #[cfg(test)]
 mod widths;

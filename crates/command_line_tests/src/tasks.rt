@@ -1,6 +1,6 @@
 //! Words, and the tasks that they are.
 
-use command_line::{Format, LintKind, Task, command_of};
+use command_line::{Format, LintKind, TableFormat, Task, command_of};
 use pmp_encoding::Limit;
 use register_width::Xlen;
 use std::alloc::Global;
@@ -276,6 +276,8 @@ fn show_takes_a_map_or_registers(rt: HostRuntime) {
         at_most: Some(16),
         registers: false,
         xlen: Xlen::Rv64,
+        format: TableFormat::Text,
+        costs: false,
     };
     let words = [
         "pmpmon",
@@ -296,6 +298,8 @@ fn show_takes_a_map_or_registers(rt: HostRuntime) {
             at_most: None,
             registers: true,
             xlen: Xlen::Rv64,
+            format: TableFormat::Text,
+            costs: false,
         };
         is_task(&rt, rt.alloc(), words, wanted);
     }

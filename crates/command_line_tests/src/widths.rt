@@ -1,6 +1,6 @@
 //! Words with a width of registers, and the tasks that they are.
 
-use command_line::{LintKind, Task, command_of};
+use command_line::{LintKind, TableFormat, Task, command_of};
 use pmp_encoding::Limit;
 use register_width::Xlen;
 use std::alloc::Global;
@@ -36,6 +36,8 @@ fn each_command_on_registers_takes_a_width(rt: HostRuntime) {
                 at_most: None,
                 registers: false,
                 xlen,
+                format: TableFormat::Text,
+                costs: false,
             },
         ),
         (

@@ -1,17 +1,19 @@
 -- Why a file could not be had, by the fault of what is read.
-use Rattle.std.proofs.Common.{ℕ, ◌≡◌, ◌≢◌, ◌<◌, List, length, refl}
+use Rattle.std.proofs.Common.{ℕ, ◌≡◌, ◌≢◌, ◌<◌, ◌^◌, List, Result, Ok, Err, IfOk, IfErr, length, refl}
 use Rattle.std.specs.Borrow.{Bor}
 use Rattle.std.specs.Io.KnownBytes.{Consumes}
 use Rattle.byte_streams.specs.Streams.{one_failure_more}
 use Rattle.map_text.specs.declared.map_file.MapFileFault.{MapFileFault}
 use Rattle.map_text.specs.declared.map_file.MapFileFault.TheVariants as maps
-use Rattle.map_text.specs.MapFile.{FaultAt, IsUnknown, MakesFirst, MakesTooMany}
+use Rattle.map_text.specs.MapFile.{FaultAt, IsUnknown, Makes, MakesFirst, MakesTooMany}
+use Rattle.permission_map.specs.declared.runs.Run.{Run}
+use Rattle.program_troubles.specs.declared.trouble.Trouble.{Trouble}
 use Rattle.program_files.specs.declared.whole.WholeFault.{WholeFault}
 use Rattle.program_files.specs.declared.whole.WholeFault.TheVariants as whole
-use Rattle.map_commands.specs.Commands.{Reading, HasNoBytes, too_large, cannot_read}
+use Rattle.map_commands.specs.Commands.{HasBytes, HasMap, HasNoBytes, HasNoMap, Reading, too_large, cannot_read}
 use Rattle.map_commands.specs.Commands as commands
 use Rattle.map_commands.specs.Parts.{IsMapFault}
-use Rattle.program_troubles.specs.Troubles.{whole_trouble}
+use Rattle.program_troubles.specs.Troubles.{map_trouble, whole_trouble}
 
 pub no_bytes :
     {R : Type 0} (most : ℕ) (file : Bor (List ℕ)) (source : Reading R) (fault : WholeFault)
@@ -32,3 +34,24 @@ pub map_fault :
 map_fault bytes (maps.Line n) unknown many more = unknown n refl
 map_fault bytes maps.TooManyRanges unknown many more = many refl
 map_fault bytes maps.Memory unknown many more = more refl
+
+-- the map of a file's bytes is that of the file
+pub has_map : {R E : Type 0} (source : Reading R) (bytes : List ℕ) (result : Result (List Run) E) → HasBytes (2 ^ 20) source bytes → IfOk result (Makes bytes) → IfOk result (HasMap source)
+has_map source bytes (Ok map) read makes = record { bytes = bytes; read = read; makes = makes }
+has_map source bytes (Err e) read makes = tt
+
+-- and where they make none, the file has none
+pub no_map_of :
+    {R : Type 0} (file : Bor (List ℕ)) (source : Reading R) (bytes : List ℕ) (trouble : Trouble) → HasBytes (2 ^ 20) source bytes
+    → (fault : MapFileFault) × IsMapFault bytes fault × (trouble ≡ map_trouble file fault) → HasNoMap file source trouble
+no_map_of file source bytes trouble read refused = rw refused.2 (commands.HasNoMap.no_map bytes read refused.0 refused.1)
+
+pub has_no_map :
+    {R X : Type 0} (file : Bor (List ℕ)) (source : Reading R) (bytes : List ℕ) (result : Result X Trouble) → HasBytes (2 ^ 20) source bytes
+    → IfErr result (λ trouble. (fault : MapFileFault) × IsMapFault bytes fault × (trouble ≡ map_trouble file fault)) → IfErr result (HasNoMap file source)
+has_no_map file source bytes (Ok x) read refused = tt
+has_no_map file source bytes (Err trouble) read refused = no_map_of file source bytes trouble read refused
+
+-- bytes that were read and make a map are the map of the file
+pub map_read : {R : Type 0} (source : Reading R) (bytes : List ℕ) (map : List Run) → HasBytes (2 ^ 20) source bytes → Makes bytes map → HasMap source map
+map_read source bytes map read makes = record { bytes = bytes; read = read; makes = makes }

@@ -38,6 +38,8 @@ use Rattle.register_width.specs.declared.xlen.Xlen.{Xlen}
 use Rattle.register_width.specs.declared.xlen.Xlen.TheVariants.{Rv32, Rv64}
 use Rattle.register_width.specs.Widths.{AreReached}
 use Rattle.map_table.specs.Tables.{IsTable}
+use Rattle.table_formats.specs.Tables.{IsJsonTable, IsPicture}
+use Rattle.line_costs.specs.Costs.{IsCostText}
 use Rattle.register_formats.specs.AsmTexts.{IsAsmText}
 use Rattle.register_formats.specs.CTexts.{IsCText}
 use Rattle.register_formats.specs.JsonTexts.{IsJsonText}
@@ -50,6 +52,8 @@ use Rattle.register_text.specs.declared.listing.Listing.{Listing}
 use Rattle.register_text.specs.Listings.{IsFirstUnknown, listed}
 use Rattle.program_tasks.specs.declared.task.Format.{Format}
 use Rattle.program_tasks.specs.declared.task.Format.TheVariants as formats
+use Rattle.program_tasks.specs.declared.task.TableFormat.{TableFormat}
+use Rattle.program_tasks.specs.declared.task.TableFormat.TheVariants as tables
 use Rattle.program_troubles.specs.declared.trouble.Trouble.{Trouble}
 use Rattle.program_troubles.specs.declared.trouble.Trouble.TheVariants.{NotUnderstood, TooFar, TooLarge, TooManyRanges, NeedsEntries, CannotRead, CannotWrite, Output, Memory}
 use Rattle.expected_answers.specs.Comparisons.{ComparesAll}
@@ -110,6 +114,14 @@ pub record HasMap {R : Type 0} (source : Reading R) (map : List Run) : Type 0 wh
 pub data HasNoMap {R : Type 0} (file : Bor (List ℕ)) (source : Reading R) : Trouble → Type 0 where
   no_bytes : (trouble : Trouble) → HasNoBytes (2 ^ 20) file source trouble → HasNoMap file source trouble
   no_map : (bytes : List ℕ) → HasBytes (2 ^ 20) source bytes → (fault : MapFileFault) → IsMapFault bytes fault → HasNoMap file source (map_trouble file fault)
+
+-- the map of a file's bytes needs so many entries
+pub record AreNeeded (bytes : List ℕ) (n : ℕ) : Type 0 where
+  pub map : List Run
+  pub makes : Makes bytes map
+  pub entries : List Entry
+  pub fewest : IsFewest (view_of_runs map) entries
+  pub count : length entries ≡ n
 
 -- the bank has the fewest entries that mean a view, and the hart's address registers reach them
 pub record IsLoaded (view : View) (xlen : Xlen) (limit : Limit) (bank : Bank) : Type 0 where
@@ -228,18 +240,29 @@ pub data Plans {R C W : Type 0} (map : Bor (List ℕ)) (file : Option (Bor (List
       → AreReached xlen entries → IsCertified (view_of_runs runs) limit entries file cert → IsPrinted format map.now name xlen limit first entries text → Breaks text out
       → Plans map file xlen limit at_most format name first source cert out (Err Output)
 
+-- the table of a map as text, and after it what each line of its file costs, where that is asked for
+abbrev pub IsText : Bool → List ℕ → View → List Entry → Limit → List ℕ → Type 0
+IsText false bytes view entries limit text = IsTable view entries limit text
+IsText true bytes view entries limit text = (table : List ℕ) × (said : List ℕ) × IsTable view entries limit table × IsCostText bytes said × (text ≡ table ++ said)
+
+-- the table of a map in a format
+abbrev pub IsShown : TableFormat → Bool → List ℕ → View → List Entry → Limit → List ℕ → Type 0
+IsShown tables.Text costs bytes view entries limit text = IsText costs bytes view entries limit text
+IsShown tables.Svg costs bytes view entries limit text = IsPicture view entries limit text
+IsShown tables.Json costs bytes view entries limit text = IsJsonTable view entries limit text
+
 -- `show`: the map is read, and the table of its stretches is printed, where the hart's address registers reach its entries
-pub data Shows {R W : Type 0} (map : Bor (List ℕ)) (xlen : Xlen) (limit : Limit) (at_most : Option ℕ) (first : Reading R) (out : Writing W) : Result ℕ Trouble → Type 0 where
+pub data Shows {R W : Type 0} (map : Bor (List ℕ)) (xlen : Xlen) (limit : Limit) (at_most : Option ℕ) (format : TableFormat) (costs : Bool) (first : Reading R) (out : Writing W) : Result ℕ Trouble → Type 0 where
   shown :
-      (runs : List Run) (entries : List Entry) (text : List ℕ) → HasMap first runs → IsPlanned (view_of_runs runs) at_most entries → AreReached xlen entries → IsTable (view_of_runs runs) entries limit text
-      → TakesAll text out → Shows map xlen limit at_most first out (Ok 0)
-  no_map : (trouble : Trouble) → HasNoMap map first trouble → IsUnwritten out → Shows map xlen limit at_most first out (Err trouble)
-  no_memory : (runs : List Run) → HasMap first runs → IsUnwritten out → Shows map xlen limit at_most first out (Err Memory)
-  too_many : (runs : List Run) (trouble : Trouble) → HasMap first runs → NeedsMore (view_of_runs runs) at_most trouble → IsUnwritten out → Shows map xlen limit at_most first out (Err trouble)
-  too_far : (runs : List Run) (trouble : Trouble) → HasMap first runs → IsTooFar (view_of_runs runs) xlen at_most map trouble → IsUnwritten out → Shows map xlen limit at_most first out (Err trouble)
+      (bytes : List ℕ) (runs : List Run) (entries : List Entry) (text : List ℕ) → HasBytes (2 ^ 20) first bytes → Makes bytes runs → IsPlanned (view_of_runs runs) at_most entries → AreReached xlen entries
+      → IsShown format costs bytes (view_of_runs runs) entries limit text → TakesAll text out → Shows map xlen limit at_most format costs first out (Ok 0)
+  no_map : (trouble : Trouble) → HasNoMap map first trouble → IsUnwritten out → Shows map xlen limit at_most format costs first out (Err trouble)
+  no_memory : (runs : List Run) → HasMap first runs → IsUnwritten out → Shows map xlen limit at_most format costs first out (Err Memory)
+  too_many : (runs : List Run) (trouble : Trouble) → HasMap first runs → NeedsMore (view_of_runs runs) at_most trouble → IsUnwritten out → Shows map xlen limit at_most format costs first out (Err trouble)
+  too_far : (runs : List Run) (trouble : Trouble) → HasMap first runs → IsTooFar (view_of_runs runs) xlen at_most map trouble → IsUnwritten out → Shows map xlen limit at_most format costs first out (Err trouble)
   no_output :
-      (runs : List Run) (entries : List Entry) (text : List ℕ) → HasMap first runs → IsPlanned (view_of_runs runs) at_most entries → AreReached xlen entries → IsTable (view_of_runs runs) entries limit text
-      → Breaks text out → Shows map xlen limit at_most first out (Err Output)
+      (bytes : List ℕ) (runs : List Run) (entries : List Entry) (text : List ℕ) → HasBytes (2 ^ 20) first bytes → Makes bytes runs → IsPlanned (view_of_runs runs) at_most entries → AreReached xlen entries
+      → IsShown format costs bytes (view_of_runs runs) entries limit text → Breaks text out → Shows map xlen limit at_most format costs first out (Err Output)
 
 -- the status of an answer: 0 for a yes, and 1 for a no
 abbrev pub answer_status : Bool → ℕ
@@ -259,9 +282,9 @@ pub data ShowsRegisters {R W : Type 0} (registers : Bor (List ℕ)) (xlen : Xlen
       (listing text : List ℕ) (meant : Bool) → HasBytes (2 ^ 20) first listing → IsRegisterTable xlen listing text meant → Breaks text out → ShowsRegisters registers xlen first out (Err Output)
 
 -- `show`, with `--registers` or without
-abbrev pub ShowsAs : {R W : Type 0} → Bool → Bor (List ℕ) → Xlen → Limit → Option ℕ → Reading R → Writing W → Result ℕ Trouble → Type 0
-ShowsAs true file xlen limit at_most first out done = ShowsRegisters file xlen first out done
-ShowsAs false file xlen limit at_most first out done = Shows file xlen limit at_most first out done
+abbrev pub ShowsAs : {R W : Type 0} → Bool → Bor (List ℕ) → Xlen → Limit → Option ℕ → TableFormat → Bool → Reading R → Writing W → Result ℕ Trouble → Type 0
+ShowsAs true file xlen limit at_most format costs first out done = ShowsRegisters file xlen first out done
+ShowsAs false file xlen limit at_most format costs first out done = Shows file xlen limit at_most format costs first out done
 
 -- a trace is judged line by line, to its end or until it stops
 pub data JudgesTrace {R W : Type 0} (does : Meaning (Unit {0})) (trace : Bor (List ℕ)) (second : Reading R) (out : Writing W) : Result ℕ Trouble → Type 0 where

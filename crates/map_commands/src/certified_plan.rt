@@ -13,8 +13,9 @@ ghost use Rattle.entry_planner.specs.Order.{AreInOrder};
 ghost use Rattle.plan_certificate.specs.Written.{certificate_for};
 ghost use Rattle.byte_streams.specs.Writings.{writing, TakesAll};
 ghost use Rattle.register_width.specs.Widths.{AreReached};
-ghost use Rattle.map_commands.specs.Commands.{placing, IsBeyond, IsCertified, IsLoaded, IsNotPlaced, IsPlanned, IsTooFar, IsUnloaded, IsUnplanned, IsWithin, NeedsMore};
+ghost use Rattle.map_commands.specs.Commands.{placing, AreNeeded, IsBeyond, IsCertified, IsLoaded, IsNotPlaced, IsPlanned, IsTooFar, IsUnloaded, IsUnplanned, IsWithin, NeedsMore};
 
+use crate::inputs::map_by;
 use byte_streams::DeviceFault;
 use entry_planner::{Plan, plan_map};
 use permission_map::{Memory, PermissionMap};
@@ -52,6 +53,16 @@ pub fn fewest_in<'a>(
     let plan = planned(alloc, map)?;
     reached(&plan, xlen, file)?;
     Ok(plan.entries().len() as u64)
+}
+
+/// How many entries the map of the bytes of a map file needs.
+pub fn needed_by<'a>(alloc: Global, file: &'a str, bytes: &[u8]) -> Result<u64, Trouble<'a>>
+    requires { length bytes.now < 2 ^ 64 - 1 }
+    ensures { IfOk result (AreNeeded bytes.now) }
+{
+    let map = map_by(alloc, file, bytes)?;
+    let needed = fewest_in(alloc, &map)?;
+    Ok(needed)
 }
 
 /// The bank of a list of entries; none exactly where there are more than the limit.

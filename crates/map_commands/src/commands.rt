@@ -17,8 +17,8 @@ pub use check::do_check;
 pub use judge::do_judge_as;
 pub use lint::{do_lint, do_lint_listing, lint_as_platform, lint_listing, lint_map};
 pub use map::do_map;
-pub use plan::{Asked, do_plan};
-pub use show::do_show_as;
+pub use plan::{Asked, do_plan, most_entries};
+pub use show::{Table, do_show_as};
 pub use verdicts::verdict;
 
 /// The status of an answer: 0 for a yes, and 1 for a no.

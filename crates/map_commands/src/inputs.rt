@@ -1,7 +1,11 @@
 //! The files that a task reads whole: bytes and maps.
 
-ghost use Rattle.std.specs.Prelude.{◌-◌, ◌^◌, ◌<◌, IfErr, IfOk};
+ghost use Rattle.std.specs.Prelude.{◌≡◌, ◌-◌, ◌^◌, ◌<◌, IfErr, IfOk, length};
 ghost use Rattle.map_commands.specs.Commands.{reading, HasBytes, HasMap, HasNoBytes, HasNoMap};
+ghost use Rattle.map_commands.specs.Parts.{IsMapFault};
+ghost use Rattle.map_text.specs.MapFile.{Makes};
+ghost use Rattle.map_text.specs.declared.map_file.MapFileFault.{MapFileFault};
+ghost use Rattle.program_troubles.specs.Troubles.{map_trouble};
 
 use byte_streams::Source;
 use map_text::map_of;
@@ -36,6 +40,19 @@ pub fn bytes_in<'a, R: Source>(
     }
 }
 
+/// The map that the bytes of a map file make.
+pub fn map_by<'a>(alloc: Global, file: &'a str, bytes: &[u8]) -> Result<PermissionMap, Trouble<'a>>
+    requires { length bytes.now < 2 ^ 64 - 1 }
+    ensures made { IfOk result (Makes bytes.now) }
+    ensures refused { IfErr result (λ trouble. (fault : MapFileFault)
+        × IsMapFault bytes.now fault × (trouble ≡ map_trouble file.entry fault)) }
+{
+    match map_of(alloc, bytes) {
+        Ok(map) => Ok(map),
+        Err(fault) => Err(Trouble::of_map(file, fault)),
+    }
+}
+
 /// The map of a map file.
 pub fn map_in<'a, R: Source>(
     alloc: Global,
@@ -47,8 +64,5 @@ pub fn map_in<'a, R: Source>(
         (reading R.remaining R.failures source.old source.new)) }
 {
     let bytes = bytes_in(alloc, file, source, MAP_BYTES)?;
-    match map_of(alloc, bytes.as_slice()) {
-        Ok(map) => Ok(map),
-        Err(fault) => Err(Trouble::of_map(file, fault)),
-    }
+    map_by(alloc, file, bytes.as_slice())
 }

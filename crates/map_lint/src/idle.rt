@@ -16,9 +16,11 @@ const MOST: usize = 512;
 
 /// What a line sets.
 #[derive(Clone, Copy, PartialEq, Eq, Debug)]
-pub(crate) struct Numbered {
-    pub(crate) line: u64,
-    pub(crate) setting: Run,
+pub struct Numbered {
+    /// Its number, from 1.
+    pub line: u64,
+    /// The permission on its pages.
+    pub setting: Run,
 }
 
 /// Follows settings one after another. The answer is the line after which there are too many ranges, where there is one.
@@ -41,7 +43,7 @@ fn follow(map: &mut MapBuilder, settings: &[Numbered]) -> Result<Option<u64>, Me
 }
 
 /// The map of settings and of those after them, where there are never too many ranges.
-fn map_of_both(
+pub fn map_of_both(
     alloc: Global,
     kept: &[Numbered],
     rest: &[Numbered],

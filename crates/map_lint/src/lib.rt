@@ -1,7 +1,8 @@
 //! What is wrong with a map file, line by line, and what would fix it.
 //!
 //! For the layer above: [`lint`] writes a line for each line at fault, and a warning for each that changes nothing of what
-//! stands after the whole file; its answer is whether the file is a map.
+//! stands after the whole file; its answer is whether the file is a map. [`map_of_both`] answers the map of the settings of
+//! lines, each a [`Numbered`].
 //!
 //! ```text
 //! icicle.map:9:12: SIZE 0x400 is not a multiple of 4096; the whole page is 0x1000
@@ -14,4 +15,5 @@ mod perms;
 mod reasons;
 mod report;
 
+pub use idle::{Numbered, map_of_both};
 pub use report::{LintFault, lint};

@@ -1,7 +1,8 @@
 //! The table of a map as people look at it: its stretches, and which entry decides each.
 //!
 //! For the layer above: [`print_map`] writes the table of a map and its fewest entries, and [`extent_table`] answers that of what
-//! extents give by themselves.
+//! extents give by themselves. [`number_line`] and [`count_line`] are pieces of it
+//! that other forms of it share, and [`table_of`] is the text itself.
 //!
 //! ```text
 //! from               to                 size    perm by
@@ -20,4 +21,5 @@ mod table;
 #[cfg(test)]
 mod tests;
 
-pub use table::{TableFault, extent_table, print_map};
+pub use rows::{count_line, number_line};
+pub use table::{TableFault, extent_table, print_map, table_of};

@@ -64,7 +64,7 @@ fn push_before(line: &mut Line, behind: &[usize])
 }
 
 /// Which entry decides, and which it comes before.
-fn number_line(extents: &ExtentTree, i: usize, stretch: &Stretch) -> Line
+pub fn number_line(extents: &ExtentTree, i: usize, stretch: &Stretch) -> Line
     requires { i < length extents.now }
     ensures { result.items ≡ number_text i
         (overridden_from (i + 1) (drop (i + 1) extents.now) stretch.now) }
@@ -154,7 +154,7 @@ fn fitting(count: usize, limit: Limit) -> &'static str
 }
 
 /// How many entries there are, and whether a hart has as many.
-pub(crate) fn count_line(count: usize, limit: Limit) -> Line
+pub fn count_line(count: usize, limit: Limit) -> Line
     ensures { result.items ≡ count_text count limit }
 {
     let mut line = ArrayVec::new();

@@ -40,7 +40,7 @@ impl From<AllocError> for TableFault {
 const HEAD: &[u8] = b"from               to                 size    perm by\n";
 
 /// The table of a map and a list of entries, for a hart of that limit. The only error is out of memory.
-pub(crate) fn table_of(
+pub fn table_of(
     alloc: Global,
     map: &PermissionMap,
     entries: &[Entry],

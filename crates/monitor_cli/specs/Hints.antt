@@ -8,9 +8,11 @@ use Rattle.register_width.specs.declared.xlen.Xlen.{Xlen}
 use Rattle.program_tasks.specs.declared.task.LintKind.TheVariants as kinds
 use Rattle.program_tasks.specs.declared.task.Task.{Task}
 use Rattle.program_tasks.specs.declared.task.Task.TheVariants as tasks
-use Rattle.map_commands.specs.Commands.{HasBytes, IsListingLint, IsMapLint, IsPlatformLint, IsUnread, Reading}
+use Rattle.map_commands.specs.Commands.{AreNeeded, HasBytes, IsListingLint, IsMapLint, IsPlatformLint, IsUnread, Reading}
 use Rattle.monitor_cli.specs.declared.hints.Form.{Form}
 use Rattle.monitor_cli.specs.declared.hints.Form.TheVariants.{Map, Platform, Listing, Trace}
+use Rattle.monitor_cli.specs.declared.needs.Bounds.{Bounds}
+use Rattle.monitor_cli.specs.Needs.{bank_bounds, need_hint, plan_bounds, table_bounds}
 use Rattle.monitor_cli.specs.Runs.{HasPlatform}
 use Rattle.monitor_cli.specs.Traces.{IsTraceLint}
 
@@ -51,27 +53,37 @@ pub data InOrder {R : Type 0} (First Second : Option (List ℕ) → Type 0) (sec
   of_first : (hints : List ℕ) → First (Some hints) → IsUnread second → InOrder First Second second (Some hints)
   of_second : (hints : Option (List ℕ)) → First None → Second hints → InOrder First Second second hints
 
--- a file that is a listing of registers of that width, or a map
-abbrev pub form_by : Bool → Xlen → Form
-form_by true xlen = Listing xlen
-form_by false xlen = Map
+-- the hints of a map's bytes: what is wrong with them; or that their map needs more entries than it may
+pub data AreMapHints (name bytes : List ℕ) (bounds : Bounds) : Option (List ℕ) → Type 0 where
+  of_lines : (hints : List ℕ) → AreHints (IsMapLint name bytes) (Some hints) → AreMapHints name bytes bounds (Some hints)
+  of_entries : (n : ℕ) (hints : Option (List ℕ)) → AreNeeded bytes n → hints ≡ need_hint bounds.most bounds.words name n → AreMapHints name bytes bounds hints
+
+-- a map was read, and these are its hints
+abbrev pub HasMapHints : {R : Type 0} → List ℕ → Bounds → Reading R → Option (List ℕ) → Type 0
+HasMapHints name bounds source hints = (bytes : List ℕ) × HasBytes (2 ^ 20) source bytes × AreMapHints name bytes bounds hints
+
+-- a file that is a listing of registers of that width, or a map, was read, and these are its hints
+abbrev pub HasFileHints : {R : Type 0} → Bool → Xlen → List ℕ → Bounds → Reading R → Option (List ℕ) → Type 0
+HasFileHints true xlen name bounds source hints = HasHints (Listing xlen) name source hints
+HasFileHints false xlen name bounds source hints = HasMapHints name bounds source hints
 
 -- the trace of `run`, for the harts of its platform
 abbrev pub HasTraceHints : {R : Type 0} → List ℕ → Reading R → Reading R → Option (List ℕ) → Type 0
 HasTraceHints name first second hints = (platform : Layout) × HasPlatform first platform × HasHints (Trace platform.harts) name second hints
 
--- the hints of a task: those of its first input that is not what it should be. A certificate has none, nor has a file that `lint`
+-- the hints of a task: those of its first input that is not what it should be, or that is a map which needs more entries than it
+-- may. A certificate has none, nor has a file that `lint`
 -- itself speaks of; a trace is for the harts of its platform, and without one for four
 abbrev pub HasTaskHints : {R : Type 0} → Task → Reading R → Reading R → Option (List ℕ) → Type 0
 HasTaskHints (tasks.Run platform trace measure expect) first second hints = InOrder (HasHints Platform platform.now first) (HasTraceHints trace.now first second) second hints
-HasTaskHints (tasks.Plan map file limit at_most format name begin xlen) first second hints = HasHints Map map.now first hints × IsUnread second
-HasTaskHints (tasks.Judge map trace limit registers expect xlen) first second hints = InOrder (HasHints (form_by registers xlen) map.now first) (HasHints (Trace 4) trace.now second) second hints
+HasTaskHints (tasks.Plan map file limit at_most format name begin xlen) first second hints = HasMapHints map.now (plan_bounds limit begin at_most format) first hints × IsUnread second
+HasTaskHints (tasks.Judge map trace limit registers expect xlen) first second hints = InOrder (HasFileHints registers xlen map.now (bank_bounds limit) first) (HasHints (Trace 4) trace.now second) second hints
 HasTaskHints (tasks.Check map file) first second hints = HasHints Map map.now first hints × IsUnread second
 HasTaskHints (tasks.Audit map registers all xlen) first second hints = InOrder (HasHints Map map.now first) (HasHints (Listing xlen) registers.now second) second hints
 HasTaskHints (tasks.Map registers xlen) first second hints = HasHints (Listing xlen) registers.now first hints × IsUnread second
 HasTaskHints (tasks.Lint file (kinds.Trace (Some platform)) xlen) first second hints = HasHints Platform platform.now second hints × IsUnread first
 HasTaskHints (tasks.Lint file kind xlen) first second hints = (hints ≡ None) × IsUnread first × IsUnread second
-HasTaskHints (tasks.Show map limit at_most registers xlen) first second hints = HasHints (form_by registers xlen) map.now first hints × IsUnread second
+HasTaskHints (tasks.Show map limit at_most registers xlen format costs) first second hints = HasFileHints registers xlen map.now (table_bounds at_most) first hints × IsUnread second
 
 -- standard error is told the hints of a task, whole or up to where the device fails; and nothing where it has none, or where an
 -- input could not be had or memory was refused

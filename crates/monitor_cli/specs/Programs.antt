@@ -29,7 +29,7 @@ Performs (tasks.Check map file) first second cert out done = Checks map file fir
 Performs (tasks.Audit map registers all xlen) first second cert out done = Audits map registers xlen all first second out done × IsUnwritten cert.sink
 Performs (tasks.Map registers xlen) first second cert out done = Maps registers xlen first out done × IsUnread second × IsUnwritten cert.sink
 Performs (tasks.Lint file kind xlen) first second cert out done = LintsAs kind xlen file first second out done × IsUnwritten cert.sink
-Performs (tasks.Show map limit at_most registers xlen) first second cert out done = ShowsAs registers map xlen limit at_most first out done × IsUnread second × IsUnwritten cert.sink
+Performs (tasks.Show map limit at_most registers xlen format costs) first second cert out done = ShowsAs registers map xlen limit at_most format costs first out done × IsUnread second × IsUnwritten cert.sink
 
 -- what standard error is told: nothing where there is no trouble, otherwise its line, which breaks off only where the device does
 pub data Tells {E : Type 0} (err : Writing E) : Result ℕ Trouble → Type 0 where

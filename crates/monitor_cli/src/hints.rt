@@ -3,13 +3,16 @@
 ghost use Rattle.std.specs.Prelude.{◌≡◌, ◌≤◌, ◌-◌, ◌^◌, ◌<◌, IfOk, option_map, length};
 ghost use Rattle.byte_streams.specs.Writings.{writing};
 ghost use Rattle.map_commands.specs.Commands.{reading, Tells};
-ghost use Rattle.monitor_cli.specs.Hints.{form_by, hints_in, most_bytes, AreHints, HasHints, HasTaskHints, HasTraceHints, InOrder, IsLintAs, TellsHints};
+ghost use Rattle.monitor_cli.specs.Hints.{hints_in, most_bytes, AreHints, HasFileHints, HasHints, HasMapHints, HasTaskHints, HasTraceHints, InOrder, IsLintAs, TellsHints};
 
 use crate::commands::{TRACE_BYTES, lint_as_trace};
 use crate::machine_run::{PLATFORM_BYTES, platform_in};
+use crate::needs::{Bounds, bank_bounds, need_hint, plan_bounds, table_bounds};
 use byte_streams::{Counted, Sink, Source, write_whole};
 use lint_texts::split_line;
-use map_commands::{MAP_BYTES, REGISTER_BYTES, bytes_in, lint_as_platform, lint_listing, lint_map};
+use map_commands::{
+    MAP_BYTES, REGISTER_BYTES, bytes_in, lint_as_platform, lint_listing, lint_map, needed_by,
+};
 use program_tasks::{LintKind, Task};
 use program_troubles::Trouble;
 use register_width::Xlen;
@@ -38,17 +41,6 @@ enum Form {
 }
 
 impl Form {
-    /// A listing of registers of that width, or a map.
-    fn by(is_listing: bool, xlen: Xlen) -> Form
-        ensures { result ≡ form_by is_listing xlen }
-    {
-        if is_listing {
-            Form::Listing { xlen }
-        } else {
-            Form::Map
-        }
-    }
-
     /// How many bytes such a file may have.
     fn most_bytes(self) -> usize
         ensures { result ≡ most_bytes self }
@@ -178,6 +170,69 @@ fn hints_in_order<'a, R: Source>(
     hints_of(alloc, other.0, other.1, second)
 }
 
+/// The hints of a map: what is wrong with it, or that it needs more entries than it may.
+fn hints_of_map<'a, R: Source>(
+    alloc: Global,
+    name: &'a str,
+    bounds: Bounds,
+    source: &mut R,
+) -> Result<Option<Vec<u8>>, Trouble<'a>>
+    ensures { IfOk result (λ hints. HasMapHints name.entry.now bounds
+        (reading R.remaining R.failures source.old source.new)
+        (option_map (λ text. text.items) hints)) }
+{
+    let bytes = bytes_in(alloc, name, source, MAP_BYTES)?;
+    let text = bytes.as_slice();
+    if let Some(hints) = hints_for(alloc, Form::Map, name, text)? {
+        return Ok(Some(hints));
+    }
+    let needed = needed_by(alloc, name, text)?;
+    let hint = need_hint(alloc, name, bounds, needed)?;
+    Ok(hint)
+}
+
+/// The hints of a file that is a listing of registers of that width, or a map.
+fn hints_of_file<'a, R: Source>(
+    alloc: Global,
+    is_listing: bool,
+    xlen: Xlen,
+    name: &'a str,
+    bounds: Bounds,
+    source: &mut R,
+) -> Result<Option<Vec<u8>>, Trouble<'a>>
+    ensures { IfOk result (λ hints. HasFileHints is_listing xlen name.entry.now bounds
+        (reading R.remaining R.failures source.old source.new)
+        (option_map (λ text. text.items) hints)) }
+{
+    if is_listing {
+        return hints_of(alloc, Form::Listing { xlen }, name, source);
+    }
+    hints_of_map(alloc, name, bounds, source)
+}
+
+/// The hints of `judge`: those of the file that it judges by, or of its trace.
+fn hints_of_judge<'a, R: Source>(
+    alloc: Global,
+    is_listing: bool,
+    xlen: Xlen,
+    file: &'a str,
+    bounds: Bounds,
+    trace: &'a str,
+    first: &mut R,
+    second: &mut R,
+) -> Result<Option<Vec<u8>>, Trouble<'a>>
+    ensures { let source = reading R.remaining R.failures in
+        IfOk result (λ hints. InOrder
+        (HasFileHints is_listing xlen file.entry.now bounds (source first.old first.new))
+        (HasHints (Form.Trace 4) trace.entry.now (source second.old second.new))
+        (source second.old second.new) (option_map (λ text. text.items) hints)) }
+{
+    if let Some(hints) = hints_of_file(alloc, is_listing, xlen, file, bounds, first)? {
+        return Ok(Some(hints));
+    }
+    hints_of(alloc, Form::Trace { harts: HARTS }, trace, second)
+}
+
 /// The hints of a task.
 fn task_hints<'a, R: Source>(
     alloc: Global,
@@ -195,24 +250,28 @@ fn task_hints<'a, R: Source>(
             trace,
             ..
         } => hints_of_run(alloc, platform, trace, first, second),
-        Task::Plan { map, .. } | Task::Check { map, .. } => {
-            hints_of(alloc, Form::Map, map, first)
+        Task::Plan {
+            map,
+            limit,
+            at_most,
+            format,
+            first: begin,
+            ..
+        } => {
+            let bounds = plan_bounds(limit, begin, at_most, format);
+            hints_of_map(alloc, map, bounds, first)
         }
+        Task::Check { map, .. } => hints_of(alloc, Form::Map, map, first),
         Task::Judge {
             map,
             trace,
+            limit,
             registers,
             xlen,
             ..
         } => {
-            let trace = (Form::Trace { harts: HARTS }, trace);
-            hints_in_order(
-                alloc,
-                (Form::by(registers, xlen), map),
-                trace,
-                first,
-                second,
-            )
+            let bounds = bank_bounds(limit);
+            hints_of_judge(alloc, registers, xlen, map, bounds, trace, first, second)
         }
         Task::Audit {
             map,
@@ -226,10 +285,11 @@ fn task_hints<'a, R: Source>(
         Task::Map { registers, xlen } => hints_of(alloc, Form::Listing { xlen }, registers, first),
         Task::Show {
             map,
+            at_most,
             registers,
             xlen,
             ..
-        } => hints_of(alloc, Form::by(registers, xlen), map, first),
+        } => hints_of_file(alloc, registers, xlen, map, table_bounds(at_most), first),
         Task::Lint {
             kind: LintKind::Trace {
                 platform: Some(platform),
@@ -241,7 +301,8 @@ fn task_hints<'a, R: Source>(
 }
 
 /// Says what is wrong with the inputs of a task that ended for bad input, which are read anew from `first` and `second`: of the
-/// first that is not what it should be each line of its lint, behind `hint: `. Nothing is said where each is what it should be,
+/// first that is not what it should be each line of its lint, behind `hint: `; of a map that needs more entries than it may, how
+/// many. Of a plan that was printed without configuration words it says so too. Nothing is said where each is what it should be,
 /// where one could not be had, or where memory is refused.
 pub fn tell_hints<R: Source, E: Sink>(
     alloc: Global,

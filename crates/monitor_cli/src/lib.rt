@@ -15,6 +15,7 @@ mod commands;
 mod held_output;
 mod hints;
 mod machine_run;
+mod needs;
 mod program;
 
 pub use held_output::{closed, perform_and_close};

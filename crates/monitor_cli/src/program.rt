@@ -9,7 +9,8 @@ ghost use Rattle.program_troubles.specs.Troubles.{status_of};
 use crate::commands::{do_lint_trace, do_run_as};
 use byte_streams::{Sink, Source};
 use map_commands::{
-    Asked, do_audit, do_check, do_judge_as, do_lint, do_lint_listing, do_map, do_plan, do_show_as,
+    Asked, Table, do_audit, do_check, do_judge_as, do_lint, do_lint_listing, do_map, do_plan,
+    do_show_as,
 };
 use program_files::WholeSink;
 use program_tasks::{LintKind, Task};
@@ -124,7 +125,18 @@ fn run_task<'a, R: Source, C: WholeSink, W: Sink>(
             at_most,
             registers,
             xlen,
-        } => do_show_as(alloc, *registers, *map, *xlen, *limit, *at_most, first, out),
+            format,
+            costs,
+        } => {
+            let asked = Table {
+                xlen: *xlen,
+                limit: *limit,
+                at_most: *at_most,
+                format: *format,
+                costs: *costs,
+            };
+            do_show_as(alloc, *registers, *map, asked, first, out)
+        }
     }
 }
 

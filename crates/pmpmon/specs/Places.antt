@@ -34,7 +34,7 @@ first_of (tasks.Check map cert) = place_of map
 first_of (tasks.Audit map registers all xlen) = place_of map
 first_of (tasks.Map registers xlen) = place_of registers
 first_of (tasks.Lint file kind xlen) = place_of file
-first_of (tasks.Show map limit at_most registers xlen) = place_of map
+first_of (tasks.Show map limit at_most registers xlen format costs) = place_of map
 
 -- what it reads after that
 abbrev pub second_of : Task → Option Place

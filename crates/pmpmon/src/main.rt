@@ -7,6 +7,7 @@ ghost use Rattle.clap.specs.Words.{kind_of};
 ghost use Rattle.clap.specs.declared.error.kind.ErrorKind.TheVariants as kind;
 ghost use Rattle.byte_streams.specs.Streams.{failures_of, inner_of};
 ghost use Rattle.program_tasks.specs.Tasks.{input_word};
+ghost use Rattle.pmpmon.specs.Hinted.{may_be_hinted};
 ghost use Rattle.pmpmon.specs.Places.{cert_of, IsAt, IsToStandardOutput, ReadsTwice};
 ghost use Rattle.program_troubles.specs.Troubles.{trouble_status};
 
@@ -29,9 +30,9 @@ use program_files::{
 use program_tasks::{Request, Task};
 use program_troubles::{Trouble, print_reason};
 use std::alloc::AllocError;
-use std::io;
 use std::io::{BufWriter, IsTerminal, Stderr, Stdin};
 use std::process::ExitCode;
+use std::{fs, io};
 
 /// What a task reads.
 type Input<'a> = Counted<Explained<InputToRead<'a, HostRuntime, Stdin>>>;
@@ -154,7 +155,31 @@ const BAD_INPUT: u8 = 2;
 /// The status of a task that ended since a device failed.
 const DEVICE_FAILED: u8 = 3;
 
-/// Says what is wrong with the inputs of a task that ended for bad input, which are opened anew. Standard input can't be, so
+/// Whether there may be something to say of the inputs of a task that ended with that status: it ended for bad input, or it is a
+/// plan, which may have been printed without configuration words.
+fn may_be_hinted(task: &Task<'_>, status: u8) -> bool
+    ensures { result ≡ may_be_hinted task.now status }
+{
+    match task {
+        Task::Plan { .. } => status == BAD_INPUT || status == 0,
+        _ => status == BAD_INPUT,
+    }
+}
+
+/// What reads a second time at that place, where a plain file stands there. A pipe is not there again, and might never come.
+fn input_again<'a>(rt: &'a HostRuntime, place: Option<Place<'a>>) -> Input<'a>
+    ensures { failures_of result ≡ 0 }
+{
+    let Some(Place::File(name)) = again(place) else {
+        return input(rt, None);
+    };
+    match fs::metadata(rt, name) {
+        Ok(stands) if stands.is_file() => input(rt, Some(Place::File(name))),
+        _ => input(rt, None),
+    }
+}
+
+/// Says what is wrong with the inputs of a task, which are opened anew. Standard input can't be, so
 /// there is nothing to say of it.
 fn hinted(
     rt: &HostRuntime,
@@ -162,8 +187,8 @@ fn hinted(
     shown: &Task<'_>,
     err: &mut Counted<RetryInterrupted<Stderr>>,
 ) {
-    let mut first = input(rt, again(Some(first_of(task))));
-    let mut second = input(rt, again(second_of(task)));
+    let mut first = input_again(rt, Some(first_of(task)));
+    let mut second = input_again(rt, second_of(task));
     tell_hints(rt.alloc(), shown, &mut first, &mut second, err);
 }
 
@@ -209,7 +234,7 @@ fn done(rt: &HostRuntime, request: &Request<'_>, names: &ShownNames) -> ExitCode
         ("standard output", out.reason()),
     ];
     if request.hints.are_told(rt.stderr().is_terminal()) {
-        if status == BAD_INPUT {
+        if may_be_hinted(task, status) {
             hinted(rt, task, &shown, &mut err);
         } else if status == DEVICE_FAILED {
             say_why(&reasons, &mut err);

@@ -18,7 +18,7 @@ begins_nowhere value flag lacks (Plan map cert limit at_most format name first x
 begins_nowhere value flag lacks (Run p t s x) e v sound = differ _ _ _ _ refl e
 begins_nowhere value flag lacks (Judge p t s b x w) e v sound = differ _ _ _ _ refl e
 begins_nowhere value flag lacks (Check p t) e v sound = differ _ _ _ _ refl e
-begins_nowhere value flag lacks (Show p t s b w) e v sound = differ _ _ _ _ refl e
+begins_nowhere value flag lacks (Show p t s b w f k) e v sound = differ _ _ _ _ refl e
 begins_nowhere value flag lacks (Audit p r a w) e v sound = differ _ _ _ _ refl e
 begins_nowhere value flag lacks (Lint p k w) e v sound = differ _ _ _ _ refl e
 begins_nowhere value flag lacks (Map p w) e v sound = differ _ _ _ _ refl e

@@ -47,7 +47,7 @@ twice_audited value flag map registers m r mi ri (Run p t s x) e v sound = diffe
 twice_audited value flag map registers m r mi ri (Plan p t s a f n i w) e v sound = differ _ _ _ _ refl e
 twice_audited value flag map registers m r mi ri (Judge p t s b x w) e v sound = differ _ _ _ _ refl e
 twice_audited value flag map registers m r mi ri (Check p t) e v sound = differ _ _ _ _ refl e
-twice_audited value flag map registers m r mi ri (Show p t s b w) e v sound = differ _ _ _ _ refl e
+twice_audited value flag map registers m r mi ri (Show p t s b w f k) e v sound = differ _ _ _ _ refl e
 twice_audited value flag map registers m r mi ri (Lint p k w) e v sound = differ _ _ _ _ refl e
 twice_audited value flag map registers m r mi ri (Map p w) e v sound = differ _ _ _ _ refl e
 
@@ -57,7 +57,7 @@ unlisted value flag none (Run p t s x) e v sound = differ _ _ _ _ refl e
 unlisted value flag none (Plan p t s a f n i w) e v sound = differ _ _ _ _ refl e
 unlisted value flag none (Judge p t s b x w) e v sound = differ _ _ _ _ refl e
 unlisted value flag none (Check p t) e v sound = differ _ _ _ _ refl e
-unlisted value flag none (Show p t s b w) e v sound = differ _ _ _ _ refl e
+unlisted value flag none (Show p t s b w f k) e v sound = differ _ _ _ _ refl e
 unlisted value flag none (Lint p k w) e v sound = differ _ _ _ _ refl e
 unlisted value flag none (Map p w) e v sound = differ _ _ _ _ refl e
 
@@ -68,7 +68,7 @@ unwide value flag none (Run p t s x) e v sound = differ _ _ _ _ refl e
 unwide value flag none (Plan p t s a f n i w) e v sound = differ _ _ _ _ refl e
 unwide value flag none (Judge p t s b x w) e v sound = differ _ _ _ _ refl e
 unwide value flag none (Check p t) e v sound = differ _ _ _ _ refl e
-unwide value flag none (Show p t s b w) e v sound = differ _ _ _ _ refl e
+unwide value flag none (Show p t s b w f k) e v sound = differ _ _ _ _ refl e
 unwide value flag none (Lint p k w) e v sound = differ _ _ _ _ refl e
 unwide value flag none (Map p w) e v sound = differ _ _ _ _ refl e
 
@@ -85,6 +85,6 @@ unwide_map value flag none (Run p t s x) e v sound = differ _ _ _ _ refl e
 unwide_map value flag none (Plan p t s a f n i w) e v sound = differ _ _ _ _ refl e
 unwide_map value flag none (Judge p t s b x w) e v sound = differ _ _ _ _ refl e
 unwide_map value flag none (Check p t) e v sound = differ _ _ _ _ refl e
-unwide_map value flag none (Show p t s b w) e v sound = differ _ _ _ _ refl e
+unwide_map value flag none (Show p t s b w f k) e v sound = differ _ _ _ _ refl e
 unwide_map value flag none (Lint p k w) e v sound = differ _ _ _ _ refl e
 unwide_map value flag none (Audit p r a w) e v sound = differ _ _ _ _ refl e

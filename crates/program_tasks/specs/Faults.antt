@@ -6,12 +6,13 @@ use Rattle.register_width.specs.declared.xlen.Xlen.{Xlen}
 use Rattle.program_tasks.specs.declared.fault.Fault.{Fault}
 use Rattle.program_tasks.specs.declared.fault.Fault.TheVariants as faults
 use Rattle.program_tasks.specs.declared.task.Format.{Format}
+use Rattle.program_tasks.specs.declared.task.TableFormat.{TableFormat}
 use Rattle.program_tasks.specs.declared.hints.Hints.{Hints}
 use Rattle.program_tasks.specs.declared.subcommand.Subcommand.{Subcommand}
 use Rattle.program_tasks.specs.declared.subcommand.Subcommand.TheVariants as subcommands
 use Rattle.program_tasks.specs.Hints.{hints_word}
 use Rattle.program_tasks.specs.Subcommands.{Text, subcommand_word}
-use Rattle.program_tasks.specs.Tasks.{BeginsAt, Counts, IsGiven, NamesNone, format_word, input_word, is_identifier, limit_word, width_word}
+use Rattle.program_tasks.specs.Tasks.{BeginsAt, Counts, IsGiven, NamesNone, format_word, table_format_word, input_word, is_identifier, limit_word, width_word}
 
 -- what is said of a value that an option does not take
 abbrev pub value_text : List ℕ → List ℕ → List ℕ
@@ -22,6 +23,7 @@ abbrev pub fault_text : Fault → List ℕ
 fault_text faults.Missing = codes "a required argument is missing"
 fault_text (faults.Entries word) = value_text word.now (codes "' for '--entries <16|64>'\n  [possible values: 16, 64]")
 fault_text (faults.Format word) = value_text word.now (codes "' for '--format <text|c|asm|json>'\n  [possible values: text, c, asm, json]")
+fault_text (faults.TableFormat word) = value_text word.now (codes "' for '--format <text|svg|json>'\n  [possible values: text, svg, json]")
 fault_text (faults.AtMost word) = value_text word.now (codes "' for '--at-most <N>': no number below 2^64")
 fault_text (faults.Name word) = value_text word.now (codes "' for '--name <NAME>': no C identifier of at most 32 bytes")
 fault_text (faults.First word) = value_text word.now (codes "' for '--first <K>': no number below that of --entries")
@@ -37,6 +39,7 @@ pub data Demand : Type 0 where
   has : Text → Demand
   names_limit : Demand
   names_format : Demand
+  names_table_format : Demand
   names_width : Demand
   counts : Demand
   identifies : Demand
@@ -48,12 +51,13 @@ pub data Demand : Type 0 where
   of_trace : Demand
 
 -- the values lack it: the argument of that name has no value; the word of `--entries` names no limit, that of `--format` no
--- format, that of `--xlen` no width, that of `--at-most` no number, that of `--name` is no identifier, that of `--first` names no entry below the limit, that of `--hints` not whether hints are told; the map and that other file are both standard input; the certificate is the map; the file is
+-- format of a plan or of a table, that of `--xlen` no width, that of `--at-most` no number, that of `--name` is no identifier, that of `--first` names no entry below the limit, that of `--hints` not whether hints are told; the map and that other file are both standard input; the certificate is the map; the file is
 -- said to be a listing and a trace; or a platform is named where it is said to be no trace
 abbrev pub Lacks : (Text → Option Text) → (Text → Option Text) → Demand → Type 0
 Lacks value flag (has name) = value name ≡ None
 Lacks value flag names_limit = (limit : Limit) → value (codes "entries") ≢ Some (limit_word limit)
 Lacks value flag names_format = (format : Format) → value (codes "format") ≢ Some (format_word format)
+Lacks value flag names_table_format = (format : TableFormat) → value (codes "format") ≢ Some (table_format_word format)
 Lacks value flag names_width = (xlen : Xlen) → value (codes "xlen") ≢ Some (width_word xlen)
 Lacks value flag counts = (count : Option ℕ) → ¬ Counts (value (codes "at-most")) count
 Lacks value flag identifies = (word : Text) × (value (codes "name") ≡ Some word) × (is_identifier word ≢ true)
@@ -69,6 +73,7 @@ abbrev pub Tells : (Text → Option Text) → Demand → Fault → Type 0
 Tells value (has name) fault = fault ≡ faults.Missing
 Tells value names_limit (faults.Entries word) = value (codes "entries") ≡ Some word.now
 Tells value names_format (faults.Format word) = value (codes "format") ≡ Some word.now
+Tells value names_table_format (faults.TableFormat word) = value (codes "format") ≡ Some word.now
 Tells value names_width (faults.Xlen word) = value (codes "xlen") ≡ Some word.now
 Tells value counts (faults.AtMost word) = value (codes "at-most") ≡ Some word.now
 Tells value identifies (faults.Name word) = value (codes "name") ≡ Some word.now
@@ -96,7 +101,7 @@ demands_of subcommands.Plan =
     has (codes "MAP") ∷ keeps_map ∷ has (codes "entries") ∷ names_limit ∷ counts ∷ has (codes "format") ∷ names_format ∷ has (codes "xlen") ∷ names_width ∷ identifies ∷ begins_inside ∷ []
 demands_of subcommands.Judge = has (codes "MAP") ∷ has (codes "TRACE") ∷ has (codes "entries") ∷ names_limit ∷ reads_once (codes "TRACE") ∷ has (codes "xlen") ∷ names_width ∷ []
 demands_of subcommands.Check = has (codes "MAP") ∷ has (codes "CERT") ∷ []
-demands_of subcommands.Show = has (codes "MAP") ∷ has (codes "entries") ∷ names_limit ∷ counts ∷ has (codes "xlen") ∷ names_width ∷ []
+demands_of subcommands.Show = has (codes "MAP") ∷ has (codes "entries") ∷ names_limit ∷ counts ∷ has (codes "xlen") ∷ names_width ∷ has (codes "format") ∷ names_table_format ∷ []
 demands_of subcommands.Audit = has (codes "MAP") ∷ has (codes "REGISTERS") ∷ reads_once (codes "REGISTERS") ∷ has (codes "xlen") ∷ names_width ∷ []
 demands_of subcommands.Map = has (codes "REGISTERS") ∷ has (codes "xlen") ∷ names_width ∷ []
 demands_of subcommands.Lint = has (codes "FILE") ∷ one_kind ∷ of_trace ∷ has (codes "xlen") ∷ names_width ∷ []

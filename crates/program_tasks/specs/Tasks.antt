@@ -9,6 +9,8 @@ use Rattle.register_width.specs.declared.xlen.Xlen.TheVariants.{Rv32, Rv64}
 use Rattle.text_lines.specs.Numbers.{number_of}
 use Rattle.program_tasks.specs.declared.task.Format.{Format}
 use Rattle.program_tasks.specs.declared.task.Format.TheVariants as formats
+use Rattle.program_tasks.specs.declared.task.TableFormat.{TableFormat}
+use Rattle.program_tasks.specs.declared.task.TableFormat.TheVariants as tables
 use Rattle.program_tasks.specs.declared.task.LintKind.{LintKind}
 use Rattle.program_tasks.specs.declared.task.LintKind.TheVariants as kinds
 use Rattle.program_tasks.specs.declared.subcommand.Subcommand.{Subcommand}
@@ -27,6 +29,12 @@ format_word formats.Text = codes "text"
 format_word formats.C = codes "c"
 format_word formats.Asm = codes "asm"
 format_word formats.Json = codes "json"
+
+-- the word that names a format of a table
+abbrev pub table_format_word : TableFormat → Text
+table_format_word tables.Text = codes "text"
+table_format_word tables.Svg = codes "svg"
+table_format_word tables.Json = codes "json"
 
 -- the word that names a width of registers
 abbrev pub width_word : Xlen → Text
@@ -97,12 +105,14 @@ HasValues value flag (Judge map trace limit registers expect xlen) =
 HasValues value flag (Check map cert) =
     (value (codes "MAP") ≡ Some map.now)
     × (value (codes "CERT") ≡ Some cert.now)
-HasValues value flag (Show map limit at_most registers xlen) =
+HasValues value flag (Show map limit at_most registers xlen format costs) =
     (value (codes "MAP") ≡ Some map.now)
     × (value (codes "entries") ≡ Some (limit_word limit))
     × Counts (value (codes "at-most")) at_most
     × IsFlag (flag (codes "registers")) registers
     × (value (codes "xlen") ≡ Some (width_word xlen))
+    × (value (codes "format") ≡ Some (table_format_word format))
+    × IsFlag (flag (codes "costs")) costs
 HasValues value flag (Audit map registers all xlen) =
     (value (codes "MAP") ≡ Some map.now)
     × (value (codes "REGISTERS") ≡ Some registers.now)

@@ -7,13 +7,14 @@ ghost use Rattle.pmp_encoding.specs.Limits.{limit_number};
 ghost use Rattle.register_width.specs.declared.xlen.Xlen.{Xlen};
 ghost use Rattle.text_lines.specs.Numbers.{number_of};
 ghost use Rattle.program_tasks.specs.declared.task.Format.{Format};
+ghost use Rattle.program_tasks.specs.declared.task.TableFormat.{TableFormat};
 ghost use Rattle.program_tasks.specs.Faults.{Breaks, IsFirst};
-ghost use Rattle.program_tasks.specs.Faults.Demand.{begins_inside, counts, has, identifies, names_limit, names_format, names_width};
-ghost use Rattle.program_tasks.specs.Tasks.{limit_word, format_word, width_word, is_identifier, is_letter, is_letter_or_digit, BeginsAt, Counts};
+ghost use Rattle.program_tasks.specs.Faults.Demand.{begins_inside, counts, has, identifies, names_limit, names_format, names_table_format, names_width};
+ghost use Rattle.program_tasks.specs.Tasks.{limit_word, format_word, table_format_word, width_word, is_identifier, is_letter, is_letter_or_digit, BeginsAt, Counts};
 
 use crate::fault::Fault;
 use crate::given::Values;
-use crate::task::Format;
+use crate::task::{Format, TableFormat};
 use pmp_encoding::Limit;
 use register_width::Xlen;
 use text_lines::number;
@@ -48,6 +49,24 @@ fn format_of(word: &str) -> Option<Format>
     }
     if word == "json" {
         return Some(Format::Json);
+    }
+    None
+}
+
+/// The format of a table that a word names.
+fn table_format_of(word: &str) -> Option<TableFormat>
+    ensures some { IfSome result (λ format. word.now ≡ table_format_word format) }
+    ensures none { result ≡ None → (format : TableFormat)
+        → word.now ≢ table_format_word format }
+{
+    if word == "text" {
+        return Some(TableFormat::Text);
+    }
+    if word == "svg" {
+        return Some(TableFormat::Svg);
+    }
+    if word == "json" {
+        return Some(TableFormat::Json);
     }
     None
 }
@@ -106,6 +125,23 @@ pub(crate) fn format_in<'a, V: Values<'a>>(given: &V) -> Result<Format, Fault<'a
     match format_of(word) {
         Some(format) => Ok(format),
         None => Err(Fault::Format(word)),
+    }
+}
+
+/// The value of `--format` of a table.
+pub(crate) fn table_format_in<'a, V: Values<'a>>(given: &V) -> Result<TableFormat, Fault<'a>>
+    ensures value { IfOk result (λ format.
+        V.value given.now (codes "format") ≡ Some (table_format_word format)) }
+    ensures other { IfErr result (λ _.
+        (format : TableFormat)
+        → V.value given.now (codes "format") ≢ Some (table_format_word format)) }
+    ensures fault { IfErr result (IsFirst (V.value given.now) (V.flag given.now)
+        (has (codes "format") ∷ names_table_format ∷ [])) }
+{
+    let word = value_in(given, "format")?;
+    match table_format_of(word) {
+        Some(format) => Ok(format),
+        None => Err(Fault::TableFormat(word)),
     }
 }
 

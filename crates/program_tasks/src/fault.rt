@@ -14,6 +14,8 @@ pub enum Fault<'a> {
     Entries(&'a str),
     /// `--format` has one.
     Format(&'a str),
+    /// `--format` of a table has one.
+    TableFormat(&'a str),
     /// `--at-most` has one.
     AtMost(&'a str),
     /// `--name` has one.
@@ -49,6 +51,11 @@ impl Fault<'_> {
             Fault::Format(word) => {
                 format!(in alloc;
                     "invalid value '{word}' for '--format <text|c|asm|json>'\n  [possible values: text, c, asm, json]"
+                )
+            }
+            Fault::TableFormat(word) => {
+                format!(in alloc;
+                    "invalid value '{word}' for '--format <text|svg|json>'\n  [possible values: text, svg, json]"
                 )
             }
             Fault::AtMost(word) => {

@@ -16,6 +16,17 @@ pub enum Format {
     Json,
 }
 
+/// How a table is printed.
+#[derive(Clone, Copy, Debug, PartialEq, Eq)]
+pub enum TableFormat {
+    /// A row for each stretch.
+    Text,
+    /// A picture.
+    Svg,
+    /// One JSON object.
+    Json,
+}
+
 /// What a file that is linted should be.
 #[derive(Clone, Copy, Debug, PartialEq, Eq)]
 pub enum LintKind<'a> {
@@ -124,5 +135,9 @@ pub enum Task<'a> {
         registers: bool,
         /// How many bits the hart's registers have.
         xlen: Xlen,
+        /// How the table of a map is printed.
+        format: TableFormat,
+        /// Whether the text of a map's table is followed by how many entries the map needs without each of its lines.
+        costs: bool,
     },
 }

@@ -7,7 +7,9 @@ ghost use Rattle.program_tasks.specs.Faults.Demand.{of_trace, one_kind};
 ghost use Rattle.program_tasks.specs.Subcommands.{word_of};
 ghost use Rattle.program_tasks.specs.Tasks.{input_word, HasKind, HasValues, IsSound, IsTaskOf, NamesNone};
 
-use crate::arguments::{at_most_in, first_in, format_in, limit_in, name_in, value_in, width_in};
+use crate::arguments::{
+    at_most_in, first_in, format_in, limit_in, name_in, table_format_in, value_in, width_in,
+};
 use crate::fault::Fault;
 use crate::given::Values;
 use crate::subcommand::Subcommand;
@@ -143,13 +145,17 @@ fn show_in<'a, V: Values<'a>>(given: &V) -> Result<Task<'a>, Fault<'a>>
     let limit = limit_in(given)?;
     let at_most = at_most_in(given)?;
     let xlen = width_in(given)?;
+    let format = table_format_in(given)?;
     let registers = given.is_given("registers");
+    let costs = given.is_given("costs");
     Ok(Task::Show {
         map,
         limit,
         at_most,
         registers,
         xlen,
+        format,
+        costs,
     })
 }
 

@@ -29,6 +29,8 @@ mod narrow_formats;
 #[cfg(test)]
 mod narrow_listings;
 #[cfg(test)]
+mod pictures;
+#[cfg(test)]
 mod platform_lints;
 #[cfg(test)]
 mod platforms;

@@ -37,7 +37,7 @@ pub struct Asked<'a> {
 }
 
 /// How many entries a plan may have, where there is a bound: C and assembly are printed of a whole bank alone.
-fn most(limit: Limit, first: u8, at_most: Option<u64>, format: Format) -> Option<u64>
+pub fn most_entries(limit: Limit, first: u8, at_most: Option<u64>, format: Format) -> Option<u64>
     ensures { result ≡ most_entries limit first at_most format }
 {
     match format {
@@ -106,7 +106,7 @@ pub fn do_plan<'a, R: Source, C: WholeSink, W: Sink>(
     } = asked;
     let file = map;
     let map = map_in(alloc, file, source)?;
-    let most = most(limit, first, at_most, format);
+    let most = most_entries(limit, first, at_most, format);
     let plan = plan_and_certify(alloc, file, &map, xlen, limit, most, cert, certificate)?;
     match print_as(format, file, name, xlen, plan.entries(), first, limit, out) {
         Ok(()) => Ok(0),

@@ -12,7 +12,7 @@ returns-in_err-map g c =
 pub returns-in_err-plan : goal.returns-in_err-plan
 returns-in_err-plan g c =
     let p = err_from_is_err_and c.from_residual-in_err-plan.result c.from_residual-in_err-plan.ensures.1 in
-    let refused = rw c.most-most.ensures at c.in_err-plan.ensures.refused in
+    let refused = rw c.most_entries-most.ensures at c.in_err-plan.ensures.refused in
     rw (p.1, p.2) (elim refused [
       | starved e quiet ↦ rw e (commands.Plans.no_memory _ c.in_ok-map.ensures.made quiet refl)
       | beyond more quiet ↦ commands.Plans.too_many _ _ c.in_ok-map.ensures.made more quiet refl
@@ -23,16 +23,16 @@ returns-in_err-plan g c =
 pub print_as-requires : goal.print_as-requires
 print_as-requires g c = record {
   reached = rw (sym c.entries.ensures) at c.in_ok-plan.ensures.reached;
-  fits = (_, rw (sym c.entries.ensures) at (rw c.most-most.ensures at c.in_ok-plan.ensures.planned).within);
+  fits = (_, rw (sym c.entries.ensures) at (rw c.most_entries-most.ensures at c.in_ok-plan.ensures.planned).within);
   small = rw c.entries.ensures c.in_ok-plan.ensures.small;
 }
 
 pub returns-in-Ok : goal.returns-in-Ok
 returns-in-Ok g c =
     let w = rw c.entries.ensures at c.in-Ok.ensures in
-    planned _ _ w.0 c.in_ok-map.ensures.made (rw c.most-most.ensures at c.in_ok-plan.ensures.planned) c.in_ok-plan.ensures.reached c.in_ok-plan.ensures.certified w.1 w.2
+    planned _ _ w.0 c.in_ok-map.ensures.made (rw c.most_entries-most.ensures at c.in_ok-plan.ensures.planned) c.in_ok-plan.ensures.reached c.in_ok-plan.ensures.certified w.1 w.2
 
 pub returns : goal.returns
 returns g c =
     let w = rw c.entries.ensures at c.in-Err.ensures in
-    commands.Plans.no_output _ _ w.0 c.in_ok-map.ensures.made (rw c.most-most.ensures at c.in_ok-plan.ensures.planned) c.in_ok-plan.ensures.reached c.in_ok-plan.ensures.certified w.1 w.2
+    commands.Plans.no_output _ _ w.0 c.in_ok-map.ensures.made (rw c.most_entries-most.ensures at c.in_ok-plan.ensures.planned) c.in_ok-plan.ensures.reached c.in_ok-plan.ensures.certified w.1 w.2

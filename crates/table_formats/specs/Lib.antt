@@ -1,0 +1,3 @@
+pub mod JsonTables
+pub mod Pictures
+pub mod Tables
