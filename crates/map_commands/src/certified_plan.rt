@@ -61,8 +61,8 @@ pub fn needed_by<'a>(alloc: Global, file: &'a str, bytes: &[u8]) -> Result<u64, 
     ensures { IfOk result (AreNeeded bytes.now) }
 {
     let map = map_by(alloc, file, bytes)?;
-    let needed = fewest_in(alloc, &map)?;
-    Ok(needed)
+    let plan = planned(alloc, &map)?;
+    Ok(plan.entries().len() as u64)
 }
 
 /// The bank of a list of entries; none exactly where there are more than the limit.

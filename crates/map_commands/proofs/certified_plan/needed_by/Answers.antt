@@ -1,10 +1,11 @@
+use Rattle.std.proofs.Common.{ap, length, sym}
 use Rattle.map_commands.proofs.certified_plan.needed_by.Goals as goal
 
 pub returns : goal.returns
 returns c = record {
   map = c.in_ok-map.map;
   makes = c.in_ok-map.ensures.made;
-  entries = c.in_ok-needed.ensures.0;
-  fewest = c.in_ok-needed.ensures.1;
-  count = c.in_ok-needed.ensures.2;
+  entries = c.in_ok-plan.plan.entries;
+  fewest = c.in_ok-plan.ensures.fewest;
+  count = ap length (sym c.entries.ensures);
 }
