@@ -82,11 +82,11 @@ fn the_first_answer_that_differs_is_told(rt: HostRuntime) {
 #[test]
 fn a_run_tells_what_differs(rt: HostRuntime) {
     let good: &[u8] =
-        b"ecall 0x08454E43 0 0x80200000 1 0 0 0 0 # call 0 0x0000000000000001 0 4: created\nload s 8 0x80200000 # fault 5\nload s 8 0x80300000 # ok 0x0000000000000000\nirq # irq 0 4\n";
-    let report = "1 call 0 0x0000000000000001 0 4\n2 fault 5\n3 ok 0x0000000000000000\n4 irq 0 4\n";
+        b"ecall 0x08454E43 0 0x80200000 1 0 0 0 0 # call 0 0x0000000000000001 0 3: created\nload s 8 0x80200000 # fault 5\nload s 8 0x80300000 # ok 0x0000000000000000\nirq # irq 0 3\n";
+    let report = "1 call 0 0x0000000000000001 0 3\n2 fault 5\n3 ok 0x0000000000000000\n4 irq 0 3\n";
     prints(&rt, rt.alloc(), &RUN, PLATFORM, good, report);
-    let wrong: &[u8] = b"irq # 1 irq 0 3\nload s 8 0x80300000 # ok\n";
+    let wrong: &[u8] = b"irq # 1 irq 0 2\nload s 8 0x80300000 # ok\n";
     let told =
-        "1 irq 0 3\n2 ok 0x0000000000000000\nline 2: answered '2 ok 0x0000000000000000', expected # ok\n";
+        "1 irq 0 2\n2 ok 0x0000000000000000\nline 2: answered '2 ok 0x0000000000000000', expected # ok\n";
     denies(&rt, rt.alloc(), &RUN, PLATFORM, wrong, told);
 }

@@ -34,8 +34,8 @@ returns-in-Ok-tell_first g c =
     let w = c.in-Ok-tell_first.ensures in
     λ file first platform has is. compared platform c.args.machine _ _ _ _ _ has is (rw ended at e.all c.requires.kept) m.measured w.told (rw ended at e.reads) (w.well.0 ∙ m.well.0 ∙ before.0, w.well.1 ∙ m.well.1 ∙ before.1)
 
-pub returns-in-Err-tell_first : goal.returns-in-Err-tell_first
-returns-in-Err-tell_first g c =
+pub returns : goal.returns
+returns g c =
     let ended = c.in-Ok.is in
     let e = c.compare_lines-lines.ensures in
     let before = rw ended at e.writes in
