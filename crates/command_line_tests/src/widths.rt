@@ -25,6 +25,7 @@ fn each_command_on_registers_takes_a_width(rt: HostRuntime) {
                 trace: "t",
                 limit: Limit::Sixteen,
                 registers: true,
+                expect: false,
                 xlen,
             },
         ),
