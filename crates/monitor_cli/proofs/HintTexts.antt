@@ -61,3 +61,10 @@ pub told_by :
     → Prints hints err printed → TellsHints task first second err
 told_by task first second err hints (Ok x) has whole = told hints has whole
 told_by task first second err hints (Err y) has broken = cut hints has broken
+
+-- hints of one input, where the other is not read
+pub and_unread :
+    {X E Q : Type 0} (Hints : Option (List ℕ) → Type 0) (text : Option X → Option (List ℕ)) (result : Result (Option X) E) → IfOk result (λ hints. Hints (text hints)) → Q
+    → IfOk result (λ hints. Hints (text hints) × Q)
+and_unread Hints text (Ok hints) has unread = (has, unread)
+and_unread Hints text (Err fault) has unread = tt
