@@ -17,7 +17,7 @@ fn hints(rt: &impl Abort, alloc: Global, words: &[&str], wanted: &str) {
     let mut err = Counted::new(Vec::new(alloc));
     tell_hints(alloc, &task, &mut first, &mut second, &mut err);
     let said = err.into_inner();
-    assert!(rt; said.as_slice() == wanted.as_bytes(), "{words:?}");
+    assert!(rt; said.as_slice() == wanted.as_bytes(), "{wanted}");
 }
 
 #[test]
