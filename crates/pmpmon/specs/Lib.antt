@@ -1,2 +1,3 @@
 pub mod Hinted
+pub mod Names
 pub mod Places

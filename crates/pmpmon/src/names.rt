@@ -1,5 +1,9 @@
 //! The names of a task's files, as messages show them.
 
+ghost use Rattle.std.specs.Prelude.{◌≡◌, ℕ, List};
+ghost use Rattle.std.specs.Borrow.{Bor};
+ghost use Rattle.pmpmon.specs.Names.{renamed, renamed_kind};
+
 use program_tasks::{Format, LintKind, Task};
 use program_troubles::shown;
 use std::alloc::{AllocError, Global};
@@ -75,7 +79,9 @@ fn text_of(bytes: &[u8]) -> &str {
 }
 
 /// Gives what a task reads first another name.
-fn name_first<'a>(task: &mut Task<'a>, name: &'a str) {
+fn name_first<'a>(task: &mut Task<'a>, name: &'a str)
+    ensures { (any : Bor (List ℕ)) → renamed any task.new ≡ renamed any task.old }
+{
     match task {
         Task::Run { platform, .. } => *platform = name,
         Task::Judge { map, .. } => *map = name,
@@ -89,7 +95,9 @@ fn name_first<'a>(task: &mut Task<'a>, name: &'a str) {
 }
 
 /// The same of what it reads after that, where it does.
-fn name_second<'a>(task: &mut Task<'a>, name: &'a str) {
+fn name_second<'a>(task: &mut Task<'a>, name: &'a str)
+    ensures { (any : Bor (List ℕ)) → renamed any task.new ≡ renamed any task.old }
+{
     match task {
         Task::Run { trace, .. } => *trace = name,
         Task::Judge { trace, .. } => *trace = name,
@@ -101,7 +109,9 @@ fn name_second<'a>(task: &mut Task<'a>, name: &'a str) {
 }
 
 /// The same of the platform of a trace that is linted, where it has one.
-fn name_platform<'a>(kind: &mut LintKind<'a>, name: &'a str) {
+fn name_platform<'a>(kind: &mut LintKind<'a>, name: &'a str)
+    ensures { (any : Bor (List ℕ)) → renamed_kind any kind.new ≡ renamed_kind any kind.old }
+{
     if let LintKind::Trace { platform: Some(_) } = kind {
         *kind = LintKind::Trace {
             platform: Some(name),
@@ -110,7 +120,9 @@ fn name_platform<'a>(kind: &mut LintKind<'a>, name: &'a str) {
 }
 
 /// The same of the certificate that it writes, where it writes one.
-fn name_cert<'a>(task: &mut Task<'a>, name: &'a str) {
+fn name_cert<'a>(task: &mut Task<'a>, name: &'a str)
+    ensures { (any : Bor (List ℕ)) → renamed any task.new ≡ renamed any task.old }
+{
     if let Task::Plan { cert, .. } = task {
         if cert.is_some() {
             *cert = Some(name);
@@ -130,7 +142,9 @@ fn is_json(task: &Task<'_>) -> bool {
 }
 
 /// The task with these names in place of its own. In JSON a map has its own name.
-pub fn with_names<'a>(task: &Task<'a>, names: &'a ShownNames) -> Task<'a> {
+pub fn with_names<'a>(task: &Task<'a>, names: &'a ShownNames) -> Task<'a>
+    ensures { (any : Bor (List ℕ)) → renamed any result ≡ renamed any task.now }
+{
     let mut named = *task;
     if !is_json(task) {
         name_first(&mut named, names.first());
