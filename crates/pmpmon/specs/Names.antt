@@ -1,5 +1,5 @@
 -- The names of a task's files.
-use Rattle.std.specs.Prelude.{ℕ, List, Option, option_map}
+use Rattle.std.specs.Prelude.{ℕ, List, [], ◌∷◌, Option, Some, None, option_map}
 use Rattle.std.specs.Borrow.{Bor}
 use Rattle.program_tasks.specs.declared.task.LintKind.{LintKind}
 use Rattle.program_tasks.specs.declared.task.LintKind.TheVariants as kinds
@@ -22,3 +22,20 @@ renamed name (tasks.Audit map registers all xlen) = tasks.Audit name name all xl
 renamed name (tasks.Map registers xlen) = tasks.Map name xlen
 renamed name (tasks.Lint file kind xlen) = tasks.Lint name (renamed_kind name kind) xlen
 renamed name (tasks.Show map limit at_most registers xlen format costs) = tasks.Show name limit at_most registers xlen format costs
+
+-- the name of a file, where there is one, and otherwise that of none
+abbrev pub name_or_none : Option (Bor (List ℕ)) → List ℕ
+name_or_none None = []
+name_or_none (Some name) = name.now
+
+-- the names of what a task reads first and after that, and of the certificate that it writes
+abbrev pub names_in : Task → List (List ℕ)
+names_in (tasks.Run platform trace measure expect) = platform.now ∷ trace.now ∷ [] ∷ []
+names_in (tasks.Plan map cert limit at_most format prefix begin xlen) = map.now ∷ [] ∷ name_or_none cert ∷ []
+names_in (tasks.Judge map trace limit registers expect xlen) = map.now ∷ trace.now ∷ [] ∷ []
+names_in (tasks.Check map cert) = map.now ∷ cert.now ∷ [] ∷ []
+names_in (tasks.Audit map registers all xlen) = map.now ∷ registers.now ∷ [] ∷ []
+names_in (tasks.Map registers xlen) = registers.now ∷ [] ∷ [] ∷ []
+names_in (tasks.Lint file (kinds.Trace platform) xlen) = file.now ∷ name_or_none platform ∷ [] ∷ []
+names_in (tasks.Lint file kind xlen) = file.now ∷ [] ∷ [] ∷ []
+names_in (tasks.Show map limit at_most registers xlen format costs) = map.now ∷ [] ∷ [] ∷ []

@@ -1,8 +1,9 @@
 //! The names of a task's files, as messages show them.
 
-ghost use Rattle.std.specs.Prelude.{◌≡◌, ℕ, List};
+ghost use Rattle.std.specs.Prelude.{◌≡◌, ℕ, List, [], ◌∷◌, IfOk, map};
 ghost use Rattle.std.specs.Borrow.{Bor};
-ghost use Rattle.pmpmon.specs.Names.{renamed, renamed_kind};
+ghost use Rattle.program_troubles.specs.Shown.{shown};
+ghost use Rattle.pmpmon.specs.Names.{names_in, renamed, renamed_kind};
 
 use program_tasks::{Format, LintKind, Task};
 use program_troubles::shown;
@@ -14,7 +15,9 @@ pub const NO_FILE: &str = "";
 
 /// The names of what a task reads first and after that, and of the certificate that it writes; of what it does not use the name
 /// of no file.
-fn names_of<'a>(task: &Task<'a>) -> [&'a str; 3] {
+fn names_of<'a>(task: &Task<'a>) -> [&'a str; 3]
+    ensures { map (λ name. name.now) result ≡ names_in task.now }
+{
     match *task {
         Task::Run {
             platform,
@@ -48,7 +51,11 @@ pub struct ShownNames {
 
 impl ShownNames {
     /// Those of a task.
-    pub fn of(alloc: Global, task: &Task<'_>) -> Result<ShownNames, AllocError> {
+    pub fn of(alloc: Global, task: &Task<'_>) -> Result<ShownNames, AllocError>
+        ensures { IfOk result (λ names.
+            names.first.items ∷ names.second.items ∷ names.cert.items ∷ []
+            ≡ map shown (names_in task.now)) }
+    {
         let [first, second, cert] = names_of(task);
         Ok(ShownNames {
             first: shown(alloc, first.as_bytes())?,
