@@ -72,8 +72,8 @@ first_page : (cfg address : ℕ) (e : Entry) → MeansEntry cfg address e → 12
 first_page cfg address e (inl four) page = absurd (let two = four.size in omega (arith, two, page))
 first_page cfg address e (inr block) page =
     let ones : ℕ = block.ones in
-    let above : ℕ = block.trailing.above in
-    let split : address + 1 ≡ above * 2 ^ (ones + 1) + 2 ^ ones = block.trailing.split in
+    let above : ℕ = block.above in
+    let split : address + 1 ≡ above * 2 ^ (ones + 1) + 2 ^ ones = block.trailing in
     let both : bit_and address (address + 1) ≡ above * 2 ^ (ones + 1) = shared address ones above split in
     let double : 2 ^ (ones + 1) ≡ 2 ^ ones * 2 = pow-add 2 ones 1 in
     let some : 0 < 2 ^ ones = pow_pos ones in

@@ -23,7 +23,7 @@ impl Hart {
     ghost use Rattle.std.specs.Borrow.{sem};
     ghost use Rattle.sbi_decode.specs.Registers.{zeros};
     ghost use Rattle.pmp_encoding.specs.Limits.{limit_number};
-    ghost use Rattle.pmp_encoding.specs.Banks.{limit_of, HasList, IsBankOf};
+    ghost use Rattle.pmp_encoding.specs.Banks.{HasList, IsBankOf};
     ghost use Rattle.worlds.specs.Runners.{IsWorld};
     ghost use Rattle.context_switch.specs.Harts.{number_of, world_of, registers_of, bank_of, LendsRegisters};
 
@@ -85,9 +85,9 @@ impl Hart {
 
     /// Loads entries, at most as many as the bank has places, and leaves all else of the hart.
     pub fn load(&mut self, entries: &[Entry])
-        requires { length entries.now ≤ limit_number (limit_of (bank_of self.old)) }
+        requires { length entries.now ≤ limit_number (bank_of self.old).limit }
         ensures list { HasList (bank_of self.new) entries.now }
-        ensures bank { IsBankOf (bank_of self.new) (limit_of (bank_of self.old)) entries.now }
+        ensures bank { IsBankOf (bank_of self.new) (bank_of self.old).limit entries.now }
         ensures number { number_of self.new ≡ number_of self.old }
         ensures world { world_of self.new ≡ world_of self.old }
         ensures registers { registers_of self.new ≡ registers_of self.old }

@@ -2,7 +2,7 @@
 
 ghost use Rattle.std.specs.Prelude.{◌≤◌, length};
 ghost use Rattle.pmp_encoding.specs.Limits.{limit_number};
-ghost use Rattle.pmp_encoding.specs.Banks.{limit_of, HasList, IsBankOf};
+ghost use Rattle.pmp_encoding.specs.Banks.{HasList, IsBankOf};
 ghost use Rattle.worlds.specs.Runners.{IsWorld};
 ghost use Rattle.context_switch.specs.Harts.{bank_of};
 ghost use Rattle.context_switch.specs.Switch.{Switches};
@@ -17,10 +17,10 @@ use worlds::World;
 /// hart's bank has places, become its bank. It always succeeds.
 pub fn switch(hart: &mut Hart, contexts: &mut Contexts, to: World, entries: &[Entry])
     requires world { IsWorld to }
-    requires entries { length entries.now ≤ limit_number (limit_of (bank_of hart.old)) }
+    requires entries { length entries.now ≤ limit_number (bank_of hart.old).limit }
     ensures switches { Switches hart.old hart.new contexts.old contexts.new to }
     ensures list { HasList (bank_of hart.new) entries.now }
-    ensures bank { IsBankOf (bank_of hart.new) (limit_of (bank_of hart.old)) entries.now }
+    ensures bank { IsBankOf (bank_of hart.new) (bank_of hart.old).limit entries.now }
 {
     contexts.set(hart.number(), hart.world, hart.registers);
     hart.registers = contexts.get(hart.number(), to);

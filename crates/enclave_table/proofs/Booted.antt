@@ -6,7 +6,7 @@ use Rattle.pmp_encoding.specs.declared.perm.Perm.TheVariants.{NoAccess}
 use Rattle.pmp_encoding.specs.declared.region.Entry.{Entry}
 use Rattle.pmp_match.specs.Meaning.{View}
 use Rattle.permission_map.specs.Views.{SameView}
-use Rattle.enclave_table.specs.Platform.{Layout, IsLayout, is_monitor, platform_perm}
+use Rattle.enclave_table.specs.Platform.{Layout, IsLayout, platform_perm}
 use Rattle.enclave_table.specs.Enclaves.{enclave_at}
 use Rattle.enclave_table.specs.Views.{host_view}
 use Rattle.enclave_table.proofs.ShortNames.{any_private}
@@ -15,6 +15,7 @@ use Rattle.enclave_table.specs.Tables.{IsKept}
 use Rattle.enclave_table.specs.Boot.{opening}
 use Rattle.enclave_table.specs.declared.enclave.Enclave.{Enclave}
 use Rattle.enclave_table.proofs.Places.{live_place}
+use Rattle.enclave_table.specs.Ranges.{has_page}
 
 abbrev absent : Option Enclave
 absent = None
@@ -38,10 +39,10 @@ or_none : (b : Bool) → (b || false) ≡ b
 or_none true = refl
 or_none false = refl
 
-pub opening_view : (layout : Layout) (view : View) → SameView view (λ page. cond (is_monitor layout page) NoAccess (platform_perm layout page)) → SameView view (host_view (opening layout))
+pub opening_view : (layout : Layout) (view : View) → SameView view (λ page. cond (has_page layout.monitor page) NoAccess (platform_perm layout page)) → SameView view (host_view (opening layout))
 opening_view layout view same page small =
-    let hidden : (is_monitor layout page || any_private (replicate 64 None) page) ≡ is_monitor layout page =
-    ap (λ t. is_monitor layout page || t) (none_private 64 page) ∙ or_none (is_monitor layout page) in
+    let hidden : (has_page layout.monitor page || any_private (replicate 64 None) page) ≡ has_page layout.monitor page =
+    ap (λ t. has_page layout.monitor page || t) (none_private 64 page) ∙ or_none (has_page layout.monitor page) in
     same page small ∙ sym (ap (λ t. cond t NoAccess (platform_perm layout page)) hidden)
 
 pub opening_kept :

@@ -10,7 +10,7 @@ use Rattle.permission_map.proofs.Counted.{two_more}
 use Rattle.permission_map.proofs.Determined.{determined}
 use Rattle.prefix_tree.specs.RunsOf.{AreRunsOf}
 use Rattle.prefix_tree.proofs.RunsExist.{runs_exist}
-use Rattle.enclave_table.specs.Platform.{device_perm, is_monitor, platform_perm}
+use Rattle.enclave_table.specs.Platform.{device_perm, platform_perm}
 use Rattle.enclave_table.specs.Ranges.{has_page}
 use Rattle.enclave_table.proofs.ShortNames.{is_among}
 use Rattle.enclave_table.specs.Enclaves.{EnclaveTable}
@@ -84,14 +84,14 @@ host_few table is =
     let devices : HasFewRuns (device_perm table.layout.devices) (2 * length table.layout.devices) = devices_few table.layout.devices in
     let platform : HasFewRuns (platform_perm table.layout) (2 * length table.layout.ram + 2 * length table.layout.devices) =
     memory_few table.layout.ram (device_perm table.layout.devices) (2 * length table.layout.devices) devices in
-    let monitor : HasFewRuns (λ page. cond (is_monitor table.layout page) NoAccess (platform_perm table.layout page)) (2 * length table.layout.ram + 2 * length table.layout.devices + 2) =
-    two_runs_more (platform_perm table.layout) (λ page. cond (is_monitor table.layout page) NoAccess (platform_perm table.layout page)) (table.layout.monitor.0 / 4096)
+    let monitor : HasFewRuns (λ page. cond (has_page table.layout.monitor page) NoAccess (platform_perm table.layout page)) (2 * length table.layout.ram + 2 * length table.layout.devices + 2) =
+    two_runs_more (platform_perm table.layout) (λ page. cond (has_page table.layout.monitor page) NoAccess (platform_perm table.layout page)) (table.layout.monitor.0 / 4096)
     (table.layout.monitor.1 / 4096) NoAccess (2 * length table.layout.ram + 2 * length table.layout.devices) (λ page small. refl) platform in
     let few_ram : length table.layout.ram ≤ 32 = is.layout.rules.1.1.1.0.1 in
     let few_devices : length table.layout.devices ≤ 32 = is.layout.rules.1.1.1.0.2 in
     more (host_view table) (2 * length table.enclaves + (2 * length table.layout.ram + 2 * length table.layout.devices + 2)) 258
     (omega (arith, is.places, few_ram, few_devices))
-    (enclaves_few table.enclaves (is_monitor table.layout) (platform_perm table.layout) (2 * length table.layout.ram + 2 * length table.layout.devices + 2) monitor)
+    (enclaves_few table.enclaves (has_page table.layout.monitor) (platform_perm table.layout) (2 * length table.layout.ram + 2 * length table.layout.devices + 2) monitor)
 
 -- with one range more it is still far from too many
 pub host_with_few :

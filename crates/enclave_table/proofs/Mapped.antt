@@ -6,7 +6,7 @@ use Rattle.pmp_encoding.specs.declared.perm.Perm.TheVariants.{NoAccess, ReadWrit
 use Rattle.pmp_match.specs.Meaning.{View}
 use Rattle.permission_map.specs.Runs.{in_range}
 use Rattle.permission_map.specs.Views.{SameView, overwritten}
-use Rattle.enclave_table.specs.Platform.{Layout, device_perm, is_monitor, platform_perm}
+use Rattle.enclave_table.specs.Platform.{Layout, device_perm, platform_perm}
 use Rattle.enclave_table.specs.Ranges.{has_page}
 use Rattle.enclave_table.proofs.ShortNames.{is_among}
 use Rattle.enclave_table.specs.Requests.{is_private}
@@ -72,9 +72,9 @@ pub platform_view :
     (layout : Layout) (devices : List (ℕ × ℕ × Perm)) (ram : List (ℕ × ℕ)) (pages : PageRange) (first second third : View) → layout.devices ≡ devices → layout.ram ≡ ram
     → pages ≡ record { first = layout.monitor.0 / 4096; count = layout.monitor.1 / 4096 } → SameView first (device_perm devices)
     → SameView second (λ page. cond (is_among ram page) ReadWriteExecute (first page)) → SameView third (overwritten second pages.first pages.count NoAccess)
-    → SameView third (λ page. cond (is_monitor layout page) NoAccess (platform_perm layout page))
+    → SameView third (λ page. cond (has_page layout.monitor page) NoAccess (platform_perm layout page))
 platform_view layout devices ram pages first second third devices_are ram_is pages_are on_devices on_ram on_monitor page small =
     on_monitor page small
     ∙ ap (λ (r : PageRange). cond (in_range r.first r.count page) NoAccess (second page)) pages_are
-    ∙ ap (λ p. cond (is_monitor layout page) NoAccess p)
+    ∙ ap (λ p. cond (has_page layout.monitor page) NoAccess p)
     (on_ram page small ∙ ap (λ p. cond (is_among ram page) ReadWriteExecute p) (on_devices page small ∙ sym (ap (λ ds. device_perm ds page) devices_are)) ∙ sym (ap (λ rs. cond (is_among rs page) ReadWriteExecute (device_perm layout.devices page)) ram_is))

@@ -7,7 +7,7 @@ use Rattle.pmp_encoding.specs.declared.perm.Perm.{Perm}
 use Rattle.pmp_encoding.specs.declared.perm.Perm.TheVariants.{NoAccess, ReadWriteExecute}
 use Rattle.pmp_encoding.specs.declared.region.Entry.{Entry}
 use Rattle.permission_map.specs.Views.{SameView, overwritten}
-use Rattle.enclave_table.specs.Platform.{is_monitor, is_ram, platform_perm, device_perm}
+use Rattle.enclave_table.specs.Platform.{is_ram, platform_perm, device_perm}
 use Rattle.enclave_table.specs.Enclaves.{EnclaveTable, enclave_at, Live, with_enclave}
 use Rattle.enclave_table.specs.Requests.{is_private, is_shared, is_part, ArePartsApart}
 use Rattle.enclave_table.specs.Views.{host_view, enclave_view}
@@ -17,6 +17,7 @@ use Rattle.enclave_table.specs.Fewest.{IsListOf}
 use Rattle.enclave_table.specs.declared.request.Create.{Create}
 use Rattle.enclave_table.specs.declared.enclave.Enclave.{Enclave}
 use Rattle.enclave_table.proofs.Places.{live_above, live_inside, live_place, at_place, set_same, set_other, private_set}
+use Rattle.enclave_table.specs.Ranges.{has_page}
 
 no_some : (f : Enclave) → None ≡ Some f → ⊥
 no_some f h = cc
@@ -77,8 +78,8 @@ pub host_added :
 host_added table id e at free page small =
     let added : any_private (set table.enclaves (id - 1) (Some e)) page ≡ (is_private e.parts page || any_private table.enclaves page)
     = any_added table.enclaves (id - 1) e page (sym (at_place table.enclaves id at.0) ∙ free) at.1 in
-    added_perm (is_private e.parts page) (is_monitor table.layout page) (any_private table.enclaves page) (platform_perm table.layout page)
-    ∙ sym (ap (λ t. cond (is_monitor table.layout page || t) NoAccess (platform_perm table.layout page)) added)
+    added_perm (is_private e.parts page) (has_page table.layout.monitor page) (any_private table.enclaves page) (platform_perm table.layout page)
+    ∙ sym (ap (λ t. cond (has_page table.layout.monitor page || t) NoAccess (platform_perm table.layout page)) added)
 
 pub host_removed :
     (table : EnclaveTable) (id : ℕ) (e : Enclave) → IsTable table → Live table id e
@@ -92,7 +93,7 @@ host_removed table id e is live page small = ⊎_elim inside outside (cases_Bool
     inside private =
         let part : is_part e.parts page ≡ true = or_left (is_private e.parts page) (is_shared e.parts page) private in
         let ram : is_ram table.layout page ≡ true = (is.sound id e live).in_ram page part in
-        let other : is_monitor table.layout page ≡ false = (is.sound id e live).not_monitor page part in
+        let other : has_page table.layout.monitor page ≡ false = (is.sound id e live).not_monitor page part in
         let none : any_private (set table.enclaves (id - 1) None) page ≡ false = any_none (set table.enclaves (id - 1) None) page (λ k f at. alone k f at part) in
         ap (λ t. cond t ReadWriteExecute (host_view table page)) private
         ∙ sym (ap (λ t. cond t ReadWriteExecute (device_perm table.layout.devices page)) ram)
@@ -113,7 +114,7 @@ host_removed table id e is live page small = ⊎_elim inside outside (cases_Bool
         let same : any_private (set table.enclaves (id - 1) None) page ≡ any_private table.enclaves page
         = private_set table.enclaves (id - 1) None page (sym none ∙ sym (ap (λ slot. has_private slot page) (live_place table.enclaves id e live))) place in
         ap (λ t. cond t ReadWriteExecute (host_view table page)) none
-        ∙ sym (ap (λ t. cond (is_monitor table.layout page || t) NoAccess (platform_perm table.layout page)) same)
+        ∙ sym (ap (λ t. cond (has_page table.layout.monitor page || t) NoAccess (platform_perm table.layout page)) same)
 
 -- ---- the rules of a table
 

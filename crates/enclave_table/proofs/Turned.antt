@@ -6,7 +6,7 @@ use Rattle.std.proofs.lemmas.Option.{same_Some}
 use Rattle.pmp_encoding.specs.declared.perm.Perm.TheVariants.{NoAccess}
 use Rattle.permission_map.specs.Views.{SameView}
 use Rattle.prefix_tree.specs.Trees.{PermTree}
-use Rattle.enclave_table.specs.Platform.{is_monitor, platform_perm}
+use Rattle.enclave_table.specs.Platform.{platform_perm}
 use Rattle.enclave_table.specs.Enclaves.{EnclaveTable, enclave_at, Live, with_enclave}
 use Rattle.enclave_table.specs.Requests.{is_part}
 use Rattle.enclave_table.specs.Views.{host_view, enclave_view}
@@ -18,6 +18,7 @@ use Rattle.enclave_table.specs.declared.enclave.Enclave.{Enclave}
 use Rattle.enclave_table.specs.declared.enclave.State.{State}
 use Rattle.enclave_table.proofs.Places.{live_above, live_inside, live_place, set_same, set_other, private_set}
 use Rattle.enclave_table.proofs.SameViews.{list_same, tree_same}
+use Rattle.enclave_table.specs.Ranges.{has_page}
 
 abbrev pub in_state : Enclave → State → Enclave
 in_state e state = record e { state = state }
@@ -42,7 +43,7 @@ pub same_host_view :
 same_host_view table id e state live page small =
     let same : any_private (set table.enclaves (id - 1) (Some (in_state e state))) page ≡ any_private table.enclaves page
     = private_set table.enclaves (id - 1) (Some (in_state e state)) page (sym (ap (λ slot. has_private slot page) (live_place table.enclaves id e live))) (live_inside table.enclaves id e live) in
-    sym (ap (λ t. cond (is_monitor table.layout page || t) NoAccess (platform_perm table.layout page)) same)
+    sym (ap (λ t. cond (has_page table.layout.monitor page || t) NoAccess (platform_perm table.layout page)) same)
 
 sound_along : (table new : EnclaveTable) (p q : Create) → new.layout ≡ table.layout → p ≡ q → IsSound table q → IsSound new p
 sound_along table new p q layout parts sound = rw (parts, layout) (record { counts = sound.counts; places = sound.places; entry = sound.entry; in_ram = sound.in_ram; not_monitor = sound.not_monitor; apart = sound.apart })

@@ -2,7 +2,7 @@
 use Rattle.std.specs.Prelude.{◌≡◌, ℕ, true, List, false, [], ◌∷◌, ◌≢◌, ◌<◌}
 use Rattle.worlds.specs.declared.world.World.{World}
 use Rattle.worlds.specs.declared.world.World.TheVariants.{Host, Enclave as InEnclave}
-use Rattle.enclave_table.specs.Platform.{is_monitor, is_ram}
+use Rattle.enclave_table.specs.Platform.{is_ram}
 use Rattle.enclave_table.specs.Requests.{is_private, is_shared, is_part, HasCounts, HasPlaces, HasEntry}
 use Rattle.enclave_table.specs.Enclaves.{EnclaveTable, Live, IsFree}
 use Rattle.enclave_table.specs.declared.enclave.Enclave.{Enclave}
@@ -13,12 +13,13 @@ use Rattle.enclave_table.specs.declared.life.Entering.TheVariants.{Run, Resume}
 use Rattle.enclave_table.specs.declared.refusal.Refusal.{Refusal}
 use Rattle.enclave_table.specs.declared.refusal.Refusal.TheVariants.{NotHost, NotEnclave, BadCount, BadAddress, BadEntry, NotRam, Overlap, TableFull, BadId, BadState, BadWord}
 use Rattle.enclave_table.specs.declared.request.Create.{Create}
+use Rattle.enclave_table.specs.Ranges.{has_page}
 
 -- no page is the monitor's or an enclave's, and none is both private and shared
 pub record IsClear (table : EnclaveTable) (parts : Create) : Type 0 where
   pub owned :
       (page : ℕ) → is_part parts page ≡ true
-      → (is_monitor table.layout page ≡ false) × ((id : ℕ) (e : Enclave) → Live table id e → is_part e.parts page ≡ false)
+      → (has_page table.layout.monitor page ≡ false) × ((id : ℕ) (e : Enclave) → Live table id e → is_part e.parts page ≡ false)
   pub apart : (page : ℕ) → is_private parts page ≡ true → is_shared parts page ≡ false
 
 -- create: what each check asks, of the parts as they are kept, and the refusal where it does not hold

@@ -1,15 +1,15 @@
 -- Who owns each page.
 use Rattle.std.specs.Prelude.{◌≡◌, ℕ, true, false}
-use Rattle.enclave_table.specs.Platform.{is_monitor}
 use Rattle.enclave_table.specs.Requests.{is_private, is_shared, is_part}
 use Rattle.enclave_table.specs.Enclaves.{EnclaveTable, Live}
 use Rattle.enclave_table.specs.declared.enclave.Enclave.{Enclave}
 use Rattle.enclave_table.specs.declared.owner.Owner.{Owner}
 use Rattle.enclave_table.specs.declared.owner.Owner.TheVariants.{Monitor, Private, Shared, Host}
+use Rattle.enclave_table.specs.Ranges.{has_page}
 
 -- the monitor owns its range, an enclave its text and data, both it and the host what they share, and the host the rest
 abbrev pub IsOwner : EnclaveTable → ℕ → Owner → Type 0
-IsOwner table page Monitor = is_monitor table.layout page ≡ true
+IsOwner table page Monitor = has_page table.layout.monitor page ≡ true
 IsOwner table page (Private id) = (e : Enclave) × Live table id e × (is_private e.parts page ≡ true)
 IsOwner table page (Shared id) = (e : Enclave) × Live table id e × (is_shared e.parts page ≡ true)
-IsOwner table page Host = (is_monitor table.layout page ≡ false) × ((id : ℕ) (e : Enclave) → Live table id e → is_part e.parts page ≡ false)
+IsOwner table page Host = (has_page table.layout.monitor page ≡ false) × ((id : ℕ) (e : Enclave) → Live table id e → is_part e.parts page ≡ false)

@@ -29,14 +29,10 @@ pub record HasCounts (parts : Create) : Type 0 where
   pub few_private : parts.text_pages + parts.data_pages ≤ 1024
   pub few_shared : parts.shared_count ≤ 256
 
--- so many whole pages, which end at 2 ^ 56 at most
-pub record IsPlaced (base count : ℕ) : Type 0 where
-  pub aligned : base % 4096 ≡ 0
-  pub inside : base + count * 4096 ≤ 2 ^ 56
-
+-- pages of both kinds begin with a page and end at 2 ^ 56 at most
 pub record HasPlaces (parts : Create) : Type 0 where
-  pub private : IsPlaced parts.base (parts.text_pages + parts.data_pages)
-  pub shared : IsPlaced parts.shared_base parts.shared_count
+  pub private : (parts.base % 4096 ≡ 0) × (parts.base + (parts.text_pages + parts.data_pages) * 4096 ≤ 2 ^ 56)
+  pub shared : (parts.shared_base % 4096 ≡ 0) × (parts.shared_base + parts.shared_count * 4096 ≤ 2 ^ 56)
 
 -- the entry is even, and in the text
 pub record HasEntry (parts : Create) : Type 0 where

@@ -4,7 +4,7 @@ use Rattle.pmp_encoding.specs.declared.region.Entry.{Entry}
 use Rattle.prefix_tree.specs.Trees.{PermTree, TreeMeans, IsCanonical}
 use Rattle.worlds.specs.declared.world.World.{World}
 use Rattle.worlds.specs.declared.world.World.TheVariants.{Host, Enclave as InEnclave}
-use Rattle.enclave_table.specs.Platform.{is_monitor, is_ram, IsLayout}
+use Rattle.enclave_table.specs.Platform.{is_ram, IsLayout}
 use Rattle.enclave_table.specs.Requests.{is_private, is_shared, is_part, HasCounts, HasPlaces, HasEntry}
 use Rattle.enclave_table.specs.Enclaves.{EnclaveTable, Live}
 use Rattle.enclave_table.specs.Views.{host_view, enclave_view}
@@ -12,6 +12,7 @@ use Rattle.enclave_table.specs.Fewest.{IsListOf}
 use Rattle.enclave_table.specs.declared.enclave.Enclave.{Enclave}
 use Rattle.enclave_table.specs.declared.enclave.State.TheVariants.{Running}
 use Rattle.enclave_table.specs.declared.request.Create.{Create}
+use Rattle.enclave_table.specs.Ranges.{has_page}
 
 -- each live enclave is as create asked for it, its pages are memory, and none of the monitor's or both private and shared
 pub record IsSound (table : EnclaveTable) (parts : Create) : Type 0 where
@@ -19,7 +20,7 @@ pub record IsSound (table : EnclaveTable) (parts : Create) : Type 0 where
   pub places : HasPlaces parts
   pub entry : HasEntry parts
   pub in_ram : (page : ℕ) → is_part parts page ≡ true → is_ram table.layout page ≡ true
-  pub not_monitor : (page : ℕ) → is_part parts page ≡ true → is_monitor table.layout page ≡ false
+  pub not_monitor : (page : ℕ) → is_part parts page ≡ true → has_page table.layout.monitor page ≡ false
   pub apart : (page : ℕ) → is_private parts page ≡ true → is_shared parts page ≡ false
 
 -- what is true of every table: 64 places, and no page belongs to two enclaves

@@ -1,8 +1,8 @@
 //! What the host asks for when it creates an enclave.
 
-ghost use Rattle.std.specs.Prelude.{◌≡◌, ℕ, ◌+◌, ◌*◌, ◌/◌, ◌^◌, ◌<◌, ◌≤◌, ◌↔◌, IsTrue, true, false};
+ghost use Rattle.std.specs.Prelude.{◌≡◌, ℕ, ◌+◌, ◌*◌, ◌/◌, ◌%◌, ◌^◌, ◌<◌, ◌≤◌, ◌↔◌, IsTrue, true, false};
 ghost use Rattle.permission_map.specs.Runs.{in_range};
-ghost use Rattle.enclave_table.specs.Requests.{parts_of, is_private, is_shared, is_part, ArePartsApart, HasCounts, IsPlaced, HasPlaces, HasEntry};
+ghost use Rattle.enclave_table.specs.Requests.{parts_of, is_private, is_shared, is_part, ArePartsApart, HasCounts, HasPlaces, HasEntry};
 
 use page_views::{PAGE_SIZE, PageRange, SPACE_SIZE};
 
@@ -31,7 +31,8 @@ pub struct Create {
 /// Whether so many pages from an address on begin with a page and end in the space.
 fn is_placed(base: u64, count: u64) -> bool
     requires { count ≤ 1024 }
-    ensures { IsTrue result ↔ IsPlaced base count }
+    ensures { IsTrue result
+        ↔ ((base % 4096 ≡ 0) × (base + count * 4096 ≤ 2 ^ 56)) }
 {
     base % PAGE_SIZE == 0 && base <= SPACE_SIZE - count * PAGE_SIZE
 }

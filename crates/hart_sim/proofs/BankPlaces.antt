@@ -6,7 +6,7 @@ use Rattle.pmp_encoding.specs.declared.bank.Bank.{Bank}
 use Rattle.pmp_encoding.specs.declared.limit.Limit.{Limit}
 use Rattle.pmp_encoding.specs.declared.perm.Perm.{Perm}
 use Rattle.pmp_encoding.specs.declared.region.Entry.{Entry}
-use Rattle.pmp_encoding.specs.Banks.{HasList, limit_of}
+use Rattle.pmp_encoding.specs.Banks.{HasList}
 use Rattle.pmp_encoding.specs.Limits.{limit_number}
 use Rattle.permission_map.specs.Views.{SameView}
 use Rattle.enclave_table.specs.Platform.{IsLayout}
@@ -49,14 +49,14 @@ put_length (first ∷ banks) zero bank = refl
 put_length (first ∷ banks) (suc n) bank = ap suc (put_length banks n bank)
 
 -- the banks have their limit where the one that is put has it
-pub put_limited : (banks : List Bank) (limit : Limit) (n : ℕ) (bank : Bank) → n < 4 → AreBanks banks limit → limit_number (limit_of bank) ≡ limit_number limit → AreBanks (slice_set banks n bank) limit
+pub put_limited : (banks : List Bank) (limit : Limit) (n : ℕ) (bank : Bank) → n < 4 → AreBanks banks limit → limit_number bank.limit ≡ limit_number limit → AreBanks (slice_set banks n bank) limit
 put_limited banks limit n bank low all has = record {
   four = put_length banks n bank ∙ all.four;
   limited = λ i b at. both (i == n)
       (λ e.
       let is : i ≡ n = eqb-true i n e in
       let same : b ≡ bank = same_Some b bank (sym at ∙ ap (slice_get (slice_set banks n bank)) is ∙ put_here banks n bank (omega (arith, all.four, low))) in
-      ap (λ x. limit_number (limit_of x)) same ∙ has)
+      ap (λ x. limit_number x.limit) same ∙ has)
       (λ e. all.limited i b (sym (put_there banks n i bank (λ is. both_ways (i == n) e (eq-eqb i n is))) ∙ at));
 }
 

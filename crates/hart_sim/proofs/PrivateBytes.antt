@@ -14,7 +14,7 @@ use Rattle.enclave_table.specs.Enclaves.{EnclaveTable, Live, enclave_at}
 use Rattle.enclave_table.specs.Requests.{is_private, is_shared, is_part}
 use Rattle.enclave_table.specs.Views.{host_view, enclave_view}
 use Rattle.enclave_table.proofs.ShortNames.{any_private, has_private}
-use Rattle.enclave_table.specs.Platform.{is_monitor, platform_perm}
+use Rattle.enclave_table.specs.Platform.{platform_perm}
 use Rattle.enclave_table.specs.Tables.{IsTable}
 use Rattle.enclave_table.specs.declared.request.Create.{Create}
 use Rattle.enclave_table.specs.declared.enclave.Enclave.{Enclave}
@@ -33,6 +33,7 @@ use Rattle.page_views.specs.declared.pages.PageRange.{PageRange}
 use Rattle.hart_sim.proofs.Asked.{awoken, named, asked, lent, is_zeroed}
 use Rattle.hart_sim.specs.Privacy.{StoresTo, KeepsPrivate}
 use Rattle.hart_sim.proofs.Verdicts.{allowed_by, some_held, page_of_byte}
+use Rattle.enclave_table.specs.Ranges.{has_page}
 
 or_first : (a b : Bool) → a ≡ true → (a || b) ≡ true
 or_first true b e = refl
@@ -53,7 +54,7 @@ any_at slots id page e at p = any_is slots (id - 1) page e (live_place slots id 
 -- the host may do nothing there
 host_none : (table : EnclaveTable) (id page : ℕ) (e : Enclave) → Live table id e → is_private e.parts page ≡ true → host_view table page ≡ NoAccess
 host_none table id page e live p =
-    ap (λ b. cond b NoAccess (platform_perm table.layout page)) (or_second (is_monitor table.layout page) (any_private table.enclaves page) (any_at table.enclaves id page e live p))
+    ap (λ b. cond b NoAccess (platform_perm table.layout page)) (or_second (has_page table.layout.monitor page) (any_private table.enclaves page) (any_at table.enclaves id page e live p))
 
 wider : (first count more page : ℕ) → in_range first count page ≡ true → in_range first (count + more) page ≡ true
 wider first count more page e =

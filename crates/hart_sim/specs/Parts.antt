@@ -2,7 +2,6 @@
 use Rattle.std.specs.Prelude.{◌≡◌, ℕ, List, length, Option, Some, slice_get}
 use Rattle.pmp_encoding.specs.declared.bank.Bank.{Bank}
 use Rattle.pmp_encoding.specs.declared.limit.Limit.{Limit}
-use Rattle.pmp_encoding.specs.Banks.{limit_of}
 use Rattle.pmp_encoding.specs.Limits.{limit_number}
 use Rattle.monitor_core.specs.Monitors.{state_of}
 use Rattle.monitor_core.specs.States.{State as Core}
@@ -32,4 +31,4 @@ bank_in parts hart = slice_get parts.banks hart
 -- there are four banks, and each has as many entries as the platform says
 pub record AreBanks (banks : List Bank) (limit : Limit) : Type 0 where
   pub four : length banks ≡ 4
-  pub limited : (hart : ℕ) (bank : Bank) → slice_get banks hart ≡ Some bank → limit_number (limit_of bank) ≡ limit_number limit
+  pub limited : (hart : ℕ) (bank : Bank) → slice_get banks hart ≡ Some bank → limit_number bank.limit ≡ limit_number limit

@@ -6,7 +6,7 @@ use pmp_encoding::Bank;
 impl Parts {
     ghost use Rattle.std.specs.Prelude.{◌≡◌, ◌≢◌, ℕ, ◌<◌, true, false, Some};
     ghost use Rattle.pmp_encoding.specs.declared.bank.Bank.{Bank};
-    ghost use Rattle.pmp_encoding.specs.Banks.{HasList, limit_of};
+    ghost use Rattle.pmp_encoding.specs.Banks.{HasList};
     ghost use Rattle.pmp_encoding.specs.Limits.{limit_number};
     ghost use Rattle.monitor_core.specs.Monitors.{kept_of, list_of};
     ghost use Rattle.monitor_core.specs.Changes.{without_mark};
@@ -27,7 +27,7 @@ impl Parts {
     pub(crate) fn put_bank(&mut self, hart: u8, bank: Bank)
         requires hart { hart < 4 }
         requires limited { AreBanks self.old.banks (state_in self.old).table.layout.limit }
-        requires limit { limit_number (limit_of bank)
+        requires limit { limit_number bank.limit
             ≡ limit_number (state_in self.old).table.layout.limit }
         ensures bank { bank_in self.new hart ≡ Some bank }
         ensures others { (other : ℕ) → other ≢ hart

@@ -22,7 +22,7 @@ impl Machine {
     ghost use Rattle.std.specs.Prelude.{◌≡◌, ◌≢◌, ℕ, ◌^◌, ◌<◌, ◌≤◌, false, List, [], ◌∷◌, ◌++◌, IfOk, IfErr, Some};
     ghost use Rattle.pmp_encoding.specs.declared.bank.Bank.{Bank};
     ghost use Rattle.pmp_encoding.specs.declared.region.Entry.{Entry};
-    ghost use Rattle.pmp_encoding.specs.Banks.{HasList, limit_of};
+    ghost use Rattle.pmp_encoding.specs.Banks.{HasList};
     ghost use Rattle.pmp_encoding.specs.Limits.{limit_number};
     ghost use Rattle.pmp_match.specs.declared.access.Access.{Access};
     ghost use Rattle.enclave_table.specs.Boot.{IsBootFault, opening as opening_table};
@@ -45,7 +45,7 @@ impl Machine {
     pub fn bank(&self, hart: u8) -> &Bank
         requires { hart < 4 }
         ensures bank { bank_on self.now hart ≡ Some result.now }
-        ensures limit { limit_number (limit_of result.now)
+        ensures limit { limit_number result.now.limit
             ≡ limit_number (state_of self.now).table.layout.limit }
     {
         self.parts.bank(hart)
@@ -110,7 +110,7 @@ impl Machine {
     #[tactic(auto, unfolding(crate::specs::Machines::state_of, crate::specs::Machines::kept_of))]
     pub fn set_bank(&mut self, hart: u8, bank: Bank)
         requires hart { hart < 4 }
-        requires limit { limit_number (limit_of bank)
+        requires limit { limit_number bank.limit
             ≡ limit_number (state_of self.old).table.layout.limit }
         ensures bank { bank_on self.new hart ≡ Some bank }
         ensures others { (other : ℕ) → other ≢ hart

@@ -19,7 +19,7 @@ first_is a b is = ap (λ x. x || b) is
 private_clears : (table : EnclaveTable) (id : ℕ) (e : Enclave) → IsTable table → Live table id e → ClearsMemory table.layout (private_of e)
 private_clears table id e t live =
     let sound = t.sound id e live in
-    let at = sound.places.private.inside in
+    let at = sound.places.private.1 in
     record {
       inside = omega (arith, at);
       in_ram = λ page is. sound.in_ram page (first_is (is_private e.parts page) (is_shared e.parts page) is);

@@ -2,11 +2,12 @@
 use Rattle.std.specs.Prelude.{◌≡◌, ◌≢◌, ℕ, ◌+◌, ◌^◌, ◌<◌, ◌≤◌, Bool, true, false}
 use Rattle.page_views.specs.Views.{in_range, SameView}
 use Rattle.page_views.specs.declared.pages.PageRange.{PageRange}
-use Rattle.enclave_table.specs.Platform.{Layout, is_monitor, is_ram}
+use Rattle.enclave_table.specs.Platform.{Layout, is_ram}
 use Rattle.monitor_core.specs.declared.parts.Parts.{Parts}
 use Rattle.monitor_core.specs.Parts.{HoldsTogether}
 use Rattle.monitor_core.specs.States.{State}
 use Rattle.enclave_table.specs.Views.{current_view}
+use Rattle.enclave_table.specs.Ranges.{has_page}
 
 -- the hart is one of the platform, and the parts belong together
 pub record IsOn (parts : Parts) (hart : ℕ) : Type 0 where
@@ -33,4 +34,4 @@ pub record KeepsOthers (s new : State) (hart : ℕ) : Type 0 where
 pub record ClearsMemory (layout : Layout) (range : PageRange) : Type 0 where
   pub inside : range.first + range.count ≤ 2 ^ 44
   pub in_ram : (page : ℕ) → in_range range.first range.count page ≡ true → is_ram layout page ≡ true
-  pub not_monitor : (page : ℕ) → in_range range.first range.count page ≡ true → is_monitor layout page ≡ false
+  pub not_monitor : (page : ℕ) → in_range range.first range.count page ≡ true → has_page layout.monitor page ≡ false

@@ -77,7 +77,7 @@ module _ (cfg address : ℕ) (clean : IsFaultless cfg address) where
               region = record { base = 4 * address / 2 ^ (n + 3) * 2 ^ (n + 3); log2 = n + 3; block = block_round (4 * address) (n + 3) (omega arith) (omega (arith, few)) (omega (arith, inside)) };
               perm = perm.0;
             },
-            inr (record { bits = bits; small = small; ones = n; trailing = trailing_is address small; size = omega (arith, few); place = block_holds (4 * address) (n + 3) }),
+            inr (record { bits = bits; small = small; ones = n; above = (trailing_is address small).above; trailing = (trailing_is address small).split; size = omega (arith, few); place = block_holds (4 * address) (n + 3) }),
           )
 
       whole : 53 ≤ trailing_ones w64 address → (e : Entry) × MeansEntry cfg address e
@@ -89,7 +89,8 @@ module _ (cfg address : ℕ) (clean : IsFaultless cfg address) where
                   bits = bits;
                   small = small;
                   ones = trailing_ones w64 address;
-                  trailing = trailing_is address small;
+                  above = (trailing_is address small).above;
+                  trailing = (trailing_is address small).split;
                   size = omega (arith, many);
                   place = (omega arith, omega (arith, inside));
                 }),

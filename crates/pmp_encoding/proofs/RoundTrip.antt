@@ -27,7 +27,7 @@ module _ (cfg address : ℕ) (e : Entry) (a : IsNapot cfg address e) where
   few_ones : a.ones ≤ 54
   few_ones =
       ⊎_elim (λ h. omega (arith, h))
-      (λ h. absurd (let most = pow_rises 55 a.ones h in let small = a.small in omega (arith, a.trailing.split, most, small))) (cases_lt a.ones 55)
+      (λ h. absurd (let most = pow_rises 55 a.ones h in let small = a.small in omega (arith, a.trailing, most, small))) (cases_lt a.ones 55)
 
   module _ (few : a.ones ≤ 53) where
     log_is : e.region.log2 ≡ a.ones + 3
@@ -36,35 +36,35 @@ module _ (cfg address : ℕ) (e : Entry) (a : IsNapot cfg address e) where
     block : 2 ^ e.region.log2 ≡ 2 ^ a.ones * 8
     block = ap (λ k. 2 ^ k) log_is ∙ pow-add 2 a.ones 3
 
-    number : address + 1 ≡ (a.trailing.above * 2 ^ a.ones) * 2 + 2 ^ a.ones
-    number = a.trailing.split ∙ ap (λ n. n + 2 ^ a.ones) (ap (λ n. a.trailing.above * n) (pow-add 2 a.ones 1) ∙ sym (mul_assoc a.trailing.above (2 ^ a.ones) 2))
+    number : address + 1 ≡ (a.above * 2 ^ a.ones) * 2 + 2 ^ a.ones
+    number = a.trailing ∙ ap (λ n. n + 2 ^ a.ones) (ap (λ n. a.above * n) (pow-add 2 a.ones 1) ∙ sym (mul_assoc a.above (2 ^ a.ones) 2))
 
-    eights : a.trailing.above * (2 ^ a.ones * 8) ≡ (a.trailing.above * 2 ^ a.ones) * 8
-    eights = sym (mul_assoc a.trailing.above (2 ^ a.ones) 8)
+    eights : a.above * (2 ^ a.ones * 8) ≡ (a.above * 2 ^ a.ones) * 8
+    eights = sym (mul_assoc a.above (2 ^ a.ones) 8)
 
     here : IsMultiple (2 ^ a.ones * 8) e.region.base
     here = multiple_from_mod (2 ^ a.ones * 8) e.region.base (ap (λ m. e.region.base % m) (sym block) ∙ e.region.block.aligned)
 
-    there : IsMultiple (2 ^ a.ones * 8) (a.trailing.above * (2 ^ a.ones * 8))
-    there = (a.trailing.above, refl)
+    there : IsMultiple (2 ^ a.ones * 8) (a.above * (2 ^ a.ones * 8))
+    there = (a.above, refl)
 
-    base_is : e.region.base ≡ (a.trailing.above * 2 ^ a.ones) * 8
+    base_is : e.region.base ≡ (a.above * 2 ^ a.ones) * 8
     base_is =
         ⊎_elim
         (λ under.
         absurd
-        (let gap = next_multiple (2 ^ a.ones * 8) e.region.base (a.trailing.above * (2 ^ a.ones * 8)) here there under in
+        (let gap = next_multiple (2 ^ a.ones * 8) e.region.base (a.above * (2 ^ a.ones * 8)) here there under in
         let one = pow_pos a.ones in
         omega (arith, gap, one, eights, number, block, a.place.1)))
         (λ over.
         ⊎_elim
         (λ above.
         absurd
-        (let gap = next_multiple (2 ^ a.ones * 8) (a.trailing.above * (2 ^ a.ones * 8)) e.region.base there here above in
+        (let gap = next_multiple (2 ^ a.ones * 8) (a.above * (2 ^ a.ones * 8)) e.region.base there here above in
         let one = pow_pos a.ones in
         omega (arith, gap, one, eights, number, block, a.place.0)))
-        (λ low. omega (arith, over, low, eights)) (cases_lt (a.trailing.above * (2 ^ a.ones * 8)) e.region.base))
-        (cases_lt e.region.base (a.trailing.above * (2 ^ a.ones * 8)))
+        (λ low. omega (arith, over, low, eights)) (cases_lt (a.above * (2 ^ a.ones * 8)) e.region.base))
+        (cases_lt e.region.base (a.above * (2 ^ a.ones * 8)))
 
     part_address : address_of e ≡ address
     part_address =
@@ -79,7 +79,7 @@ module _ (cfg address : ℕ) (e : Entry) (a : IsNapot cfg address e) where
       let power : 2 ^ a.ones ≡ 2 ^ 54 = ap (λ k. 2 ^ k) is in
       let double : 2 ^ (a.ones + 1) ≡ 2 ^ 55 = ap (λ k. 2 ^ (k + 1)) is in
       let small = a.small in
-      sum a.trailing.above (omega (arith, a.trailing.split, power, ap (λ n. a.trailing.above * n) double)) small
+      sum a.above (omega (arith, a.trailing, power, ap (λ n. a.above * n) double)) small
     where
       sum : (above : ℕ) → address + 1 ≡ above * 2 ^ 55 + 2 ^ 54 → address < 2 ^ 54 → address + 1 ≡ 2 ^ 54
       sum above e small = omega (arith, e, small)
@@ -92,7 +92,7 @@ module _ (cfg address : ℕ) (e : Entry) (a : IsNapot cfg address e) where
 
   whole_address : IsAllOnes cfg address → address_of e ≡ 2 ^ 53 - 1
   whole_address all =
-      let is : a.ones ≡ 54 = same_ones address a.ones 54 a.trailing (record { above = 0; split = omega (arith, all.1) }) in
+      let is : a.ones ≡ 54 = same_ones address a.ones 54 (record { above = a.above; split = a.trailing }) (record { above = 0; split = omega (arith, all.1) }) in
       let size : e.region.log2 ≡ 56 = omega (arith, a.size, is) in
       let inside = e.region.block.inside in
       let power : 2 ^ e.region.log2 ≡ 2 ^ 56 = ap (λ k. 2 ^ k) size in

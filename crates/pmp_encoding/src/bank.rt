@@ -40,7 +40,7 @@ impl Bank {
     ghost use Rattle.pmp_encoding.specs.Encoding.{IsOff, MeansEntry};
     ghost use Rattle.pmp_encoding.specs.Extents.{extent_of};
     ghost use Rattle.pmp_encoding.specs.Csrs.{IsCfgCsr, IsAddressCsr, IsCsr, IsFaultlessWord, IsFaultOfWord, WritesWord, WritesAddress};
-    ghost use Rattle.pmp_encoding.specs.Banks.{limit_of, word_at, cfg_at, address_at, HasList, IsBankOf};
+    ghost use Rattle.pmp_encoding.specs.Banks.{word_at, cfg_at, address_at, HasList, IsBankOf};
 
     /// The bank whose entries 0, 1, .. are these, each in its canonical pair, and whose others are OFF with address 0.
     pub fn of(entries: &[Entry], limit: Limit) -> Bank
@@ -55,7 +55,7 @@ impl Bank {
 
     /// The bank that has no entry.
     fn empty(limit: Limit) -> Bank
-        ensures { limit_of result ≡ limit }
+        ensures { result.limit ≡ limit }
     {
         Bank {
             limit,
@@ -68,9 +68,9 @@ impl Bank {
 
     /// Makes its entries 0, 1, .. these, each in its canonical pair, and its others OFF with address 0. Its limit stays.
     pub fn load(&mut self, entries: &[Entry])
-        requires { length entries.now ≤ limit_number (limit_of self.old) }
+        requires { length entries.now ≤ limit_number self.old.limit }
         ensures list { HasList self.new entries.now }
-        ensures registers { IsBankOf self.new (limit_of self.old) entries.now }
+        ensures registers { IsBankOf self.new self.old.limit entries.now }
     {
         fill(
             &mut self.words,
@@ -84,7 +84,7 @@ impl Bank {
     /// The bank with these registers.
     fn holding(limit: Limit, words: [u64; 8], addresses: [u64; 64]) -> Bank
         requires { AreRegisters limit words addresses }
-        ensures limit { limit_of result ≡ limit }
+        ensures limit { result.limit ≡ limit }
         ensures words { result.words ≡ words }
         ensures addresses { result.addresses ≡ addresses }
     {
@@ -109,7 +109,7 @@ impl Bank {
 
     /// How many entries it has.
     pub fn limit(&self) -> Limit
-        ensures { result ≡ limit_of self.now }
+        ensures { result ≡ self.now.limit }
     {
         self.limit
     }
@@ -169,21 +169,21 @@ impl Bank {
     /// the bank has `NoSuchCsr`; each refusal leaves the bank as it was.
     pub fn write_csr(&mut self, number: u16, value: u64) -> Result<(), EncodingFault>
         ensures unknown { (result ≡ Err EncodingFault.NoSuchCsr)
-            ↔ (¬ IsCsr (limit_of self.old) number) }
+            ↔ (¬ IsCsr self.old.limit number) }
         ensures wide { (result ≡ Err EncodingFault.AddressBits)
-            ↔ ((i : ℕ) × IsAddressCsr (limit_of self.old) number i × (2 ^ 54 ≤ value)) }
+            ↔ ((i : ℕ) × IsAddressCsr self.old.limit number i × (2 ^ 54 ≤ value)) }
 
         // A configuration word.
-        ensures word { (k : ℕ) → IsCfgCsr (limit_of self.old) number k
+        ensures word { (k : ℕ) → IsCfgCsr self.old.limit number k
             → MatchResult result (λ _. IsFaultlessWord value) (IsFaultOfWord value) }
-        ensures word_written { OnOk result ((k : ℕ) → IsCfgCsr (limit_of self.old) number k
+        ensures word_written { OnOk result ((k : ℕ) → IsCfgCsr self.old.limit number k
             → WritesWord self.old self.new k value) }
 
         // An address register.
-        ensures address { (i : ℕ) → IsAddressCsr (limit_of self.old) number i
+        ensures address { (i : ℕ) → IsAddressCsr self.old.limit number i
             → MatchResult result (λ _. value < 2 ^ 54) (λ f. f ≡ EncodingFault.AddressBits) }
         ensures address_written { OnOk result ((i : ℕ)
-            → IsAddressCsr (limit_of self.old) number i
+            → IsAddressCsr self.old.limit number i
             → WritesAddress self.old self.new i value) }
 
         ensures err { OnErr result (self.new ≡ self.old) }
@@ -209,7 +209,7 @@ impl Bank {
 
     fn put_word(&mut self, k: usize, value: u64)
         requires even { k % 2 ≡ 0 }
-        requires there { 4 * k < limit_number (limit_of self.old) }
+        requires there { 4 * k < limit_number self.old.limit }
         requires clean { IsFaultlessWord value }
         ensures { WritesWord self.old self.new k value }
     {
@@ -219,7 +219,7 @@ impl Bank {
     }
 
     fn put_address(&mut self, i: usize, value: u64)
-        requires there { i < limit_number (limit_of self.old) }
+        requires there { i < limit_number self.old.limit }
         requires small { value < 2 ^ 54 }
         ensures { WritesAddress self.old self.new i value }
     {

@@ -9,9 +9,9 @@ use Rattle.pmp_match.specs.declared.access.Access.{Access}
 use Rattle.pmp_match.specs.Kinds.{holds}
 use Rattle.pmp_match.specs.Accesses.{Meets, ContainsAll, meets}
 use Rattle.pmp_match.specs.Bytes.{holds_byte, perm_at}
-use Rattle.pmp_match.specs.Decision.{NoneMeets, IsFirstMatch, Allows, matched, unmatched}
+use Rattle.pmp_match.specs.Decision.{IsFirstMatch, Allows, matched, unmatched}
 use Rattle.pmp_match.specs.Meaning.{View, Means, IsNeverCut}
-use Rattle.pmp_match.proofs.Decided.{Meets-from_test, test_from_Meets, size_positive}
+use Rattle.pmp_match.proofs.Decided.{NoneMeets, Meets-from_test, test_from_Meets, size_positive}
 use Rattle.pmp_match.proofs.EachByte.{byte_law_proof}
 use Rattle.pmp_match.proofs.FirstByte.{no_access}
 

@@ -8,7 +8,6 @@ use Rattle.std.proofs.lemmas.Option.{get_or_from_slice_get, slice_get-get_or, sl
 use Rattle.pmp_encoding.specs.declared.extent.Extent.{Extent}
 use Rattle.pmp_encoding.specs.declared.perm.Perm.{Perm}
 use Rattle.pmp_encoding.specs.declared.perm.Perm.TheVariants.{NoAccess, Read, ReadWrite, Execute, ReadExecute, ReadWriteExecute}
-use Rattle.pmp_encoding.specs.Perms.{can_read}
 use Rattle.page_views.specs.Views.{View}
 use Rattle.pmp_match.specs.declared.access.Access.{Access}
 use Rattle.pmp_match.specs.declared.access.Kind.{Kind}
@@ -91,7 +90,7 @@ size_of Store size h =
     ⊎_elim (λ p. ⊎_elim (λ e. small (inl (eqb-true size 1 e))) (λ e. small (inr (inl (eqb-true size 2 e)))) (or_cases _ _ p))
     (λ p. ⊎_elim (λ e. small (inr (inr (eqb-true size 4 e)))) (λ e. eight (eqb-true size 8 e) (λ k. cc)) (or_cases _ _ p)) (or_cases _ _ h)
 
-reads : (perm : Perm) (kind : Kind) → kind ≢ Fetch → holds perm kind ≡ true → can_read perm ≡ true
+reads : (perm : Perm) (kind : Kind) → kind ≢ Fetch → holds perm kind ≡ true → holds perm Load ≡ true
 reads perm Fetch other h = absurd (other refl)
 reads perm Load other h = h
 reads NoAccess Store other h = cc
@@ -117,7 +116,7 @@ all_misses (x ∷ xs) a size none =
     ((λ m. none.0 (m.0, (m.1.0, (let last = m.1.1 in omega (arith, last, size))), m.2)), all_misses xs a size none.1)
 
 eight_bytes : (view : View) (xs : List Extent) (a : Access) (x : Extent) → AllByRecursion IsWords xs → ((i : ℕ) → IsUncut view xs i) → a.size ≡ 8 → IsAligned a → a.address < 2 ^ 56
-    → can_read (view (a.address / 4096)) ≡ true → IsFirstMatch xs a x → (¬ ContainsAll x (load_of_eight a.address)) → ⊥
+    → holds (view (a.address / 4096)) Load ≡ true → IsFirstMatch xs a x → (¬ ContainsAll x (load_of_eight a.address)) → ⊥
 eight_bytes view xs a x words uncut size aligned inside may first partly =
     let P : Extent → Type 0 = λ y. ¬ Meets y (load_of_eight a.address) in
     uncut (length first.before) a.address
@@ -174,7 +173,7 @@ end_four xs i end words inside ends =
     ⊎_elim (λ low. omega (arith, low, w.base)) (λ high. omega (arith, high, w.end)) (ends (get_or xs i nowhere) (slice_get-get_or xs i nowhere inside))
 
 pub cut_found : (view : View) (xs : List Extent) (i end at : ℕ) → All IsWords xs → i < length xs → ((x : Extent) → slice_get xs i ≡ Some x → (end ≡ x.base) ⊎ (end ≡ x.end)) → end ≤ 2 ^ 56
-    → (end % 8 ≡ 0 → ⊥) → end ≡ at + 4 → can_read (view (at / 4096)) ≡ true → ((x : Extent) → slice_get xs i ≡ Some x → IsFirstOf xs i at x) → IsCut view xs i at
+    → (end % 8 ≡ 0 → ⊥) → end ≡ at + 4 → holds (view (at / 4096)) Load ≡ true → ((x : Extent) → slice_get xs i ≡ Some x → IsFirstOf xs i at x) → IsCut view xs i at
 cut_found view xs i end at words inside ends within other is may first =
     let four = end_four xs i end words inside ends in
     let x = get_or xs i nowhere in

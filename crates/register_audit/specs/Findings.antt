@@ -1,7 +1,6 @@
 -- Where extents do not mean a view.
 use Rattle.std.specs.Prelude.{◌≡◌, ◌≢◌, ℕ, ◌/◌, ◌%◌, ◌^◌, ◌<◌, ◌≤◌, true, refl, All, List, ◌∷◌, ◌++◌, Some, slice_get, take}
 use Rattle.pmp_encoding.specs.declared.extent.Extent.{Extent}
-use Rattle.pmp_encoding.specs.Perms.{can_read}
 use Rattle.page_views.specs.Views.{View}
 use Rattle.pmp_match.specs.declared.access.Access.{Access}
 use Rattle.pmp_match.specs.declared.access.Mode.TheVariants.{User}
@@ -12,6 +11,7 @@ use Rattle.stretches.specs.declared.stretch.Stretch.{Stretch}
 use Rattle.stretches.specs.Stretches.{IsStretch}
 use Rattle.register_audit.specs.declared.finding.Finding.{Finding}
 use Rattle.register_audit.specs.declared.finding.Finding.TheVariants as findings
+use Rattle.pmp_match.specs.Kinds.{holds}
 
 -- the extents give the bytes of the stretch the permission of the view
 abbrev pub agrees : Stretch → Type 0
@@ -40,7 +40,7 @@ pub record IsFirstOf (extents : List Extent) (i at : ℕ) (x : Extent) : Type 0 
 pub record IsCut (view : View) (extents : List Extent) (i at : ℕ) : Type 0 where
   pub aligned : at % 8 ≡ 0
   pub inside : at < 2 ^ 56
-  pub may : can_read (view (at / 4096)) ≡ true
+  pub may : holds (view (at / 4096)) Load ≡ true
   pub extent : Extent
   pub first : IsFirstOf extents i at extent
   pub partly : ¬ ContainsAll extent (load_of_eight at)

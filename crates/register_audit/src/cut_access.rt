@@ -3,9 +3,10 @@
 ghost use Rattle.std.specs.Prelude.{◌≡◌, ℕ, ◌+◌, ◌^◌, ◌<◌, ◌≤◌, ◌⊎◌, ◌↔◌, All, IfNone, IfSome, IsTrue, MatchOption, Some, length, slice_get};
 ghost use Rattle.permission_map.specs.Runs.{view_of_runs};
 ghost use Rattle.pmp_encoding.specs.declared.extent.Extent.{Extent};
-ghost use Rattle.pmp_encoding.specs.Perms.{can_read};
 ghost use Rattle.pmp_registers.specs.Decision.{IsWords, Meets};
 ghost use Rattle.register_audit.specs.Findings.{IsCut, IsFirstCut, IsFirstOf, IsLowestCut, IsUncut, load_of_eight};
+ghost use Rattle.pmp_match.specs.Kinds.{holds};
+ghost use Rattle.pmp_match.specs.declared.access.Kind.TheVariants.{Load};
 
 use page_views::PAGE_SIZE;
 use permission_map::PermissionMap;
@@ -20,7 +21,7 @@ pub(crate) struct Cut {
 }
 
 fn can_read(perm: Perm) -> bool
-    ensures { result ≡ can_read perm }
+    ensures { result ≡ holds perm Load }
 {
     !matches!(perm, Perm::NoAccess | Perm::Execute)
 }
