@@ -36,6 +36,7 @@ fn lines_on_regions_that_are_not_understood(rt: HostRuntime) {
         ),
         (b"Domain0 Region00 : 0x80000000-0x80000001 ()", 1),
         (b"Domain0 Region00 : 0x80001000-0x80002fff ()", 1),
+        (b"Domain0 Region00 : 0x80000200-0x800005ff ()", 1),
         (b"Domain0 Region00 : 0x1000-0xfff ()", 1),
         (b"Domain0 Region00 : 0x1000-0x7ff ()", 1),
         (b"Domain0 Region00 : 0-0x1ffffffffffffff ()", 1),
