@@ -11,7 +11,7 @@ use std::marker::Model;
 pub(crate) const SIZES: usize = 45;
 
 /// The 2^size pages from `first` to before `end`, and a permission on them.
-#[derive(Clone, Copy, PartialEq, Eq, Debug)]
+#[derive(Clone, Copy)]
 pub(crate) struct Span {
     pub(crate) first: u64,
     pub(crate) end: u64,

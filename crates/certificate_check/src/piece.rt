@@ -3,7 +3,7 @@
 use pmp_encoding::Perm;
 
 /// A permission that holds from some page to before `end`.
-#[derive(Clone, Copy, PartialEq, Eq, Debug)]
+#[derive(Clone, Copy)]
 pub(crate) struct Piece {
     pub(crate) end: u64,
     pub(crate) perm: Perm,

@@ -26,7 +26,7 @@ pub enum MapFileFault {
 }
 
 /// Why a line is not followed.
-#[derive(Clone, Copy, Debug, PartialEq, Eq)]
+#[derive(Clone, Copy)]
 enum LineFault {
     NotUnderstood,
     TooManyRanges,

@@ -14,7 +14,7 @@ use pmp_encoding::Perm;
 use pmp_registers::Extent;
 
 /// Eight bytes that an entry cuts.
-#[derive(Clone, Copy, PartialEq, Eq, Debug)]
+#[derive(Clone, Copy)]
 pub(crate) struct Cut {
     pub(crate) entry: usize,
     pub(crate) at: u64,

@@ -16,7 +16,7 @@ pub enum MapOfFault {
 }
 
 /// Why there is no map of registers.
-#[derive(Clone, Copy, PartialEq, Eq, Debug)]
+#[derive(Clone, Copy)]
 pub(crate) enum Refusal {
     /// The map would have more than 4096 ranges.
     TooManyRanges,

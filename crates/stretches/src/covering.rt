@@ -9,7 +9,7 @@ use crate::extent_tree::ExtentTree;
 use pmp_encoding::{Perm, SPACE_SIZE};
 
 /// The first extent that has each byte from some byte to before `end`, and its permission.
-#[derive(Clone, Copy, PartialEq, Eq, Debug)]
+#[derive(Clone, Copy)]
 pub(crate) struct Covering {
     pub(crate) end: u64,
     pub(crate) entry: Option<usize>,

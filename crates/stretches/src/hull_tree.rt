@@ -9,7 +9,7 @@ use std::marker::Model;
 
 /// The bytes from `base` to before `end`, and the number of an extent: of a leaf its own, otherwise the least of those
 /// that lie there.
-#[derive(Clone, Copy, PartialEq, Eq, Debug)]
+#[derive(Clone, Copy)]
 pub(crate) struct Hull {
     pub(crate) base: u64,
     pub(crate) end: u64,

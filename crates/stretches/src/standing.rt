@@ -9,7 +9,7 @@ use permission_map::PermissionMap;
 use pmp_encoding::Perm;
 
 /// The permission of each page from some page to before `end`.
-#[derive(Clone, Copy, PartialEq, Eq, Debug)]
+#[derive(Clone, Copy)]
 pub(crate) struct Standing {
     pub(crate) end: u64,
     pub(crate) wanted: Perm,
