@@ -18,8 +18,6 @@ mod fields;
 mod overridden;
 mod rows;
 mod table;
-#[cfg(test)]
-mod tests;
 
 pub use rows::{count_line, number_line};
 pub use table::{TableFault, extent_table, print_map, table_of};

@@ -23,6 +23,8 @@ mod lints;
 #[cfg(test)]
 mod listings;
 #[cfg(test)]
+mod map_tables;
+#[cfg(test)]
 mod maps;
 #[cfg(test)]
 mod narrow_formats;

@@ -1,6 +1,6 @@
 //! The table of the README's map and of others, as text.
 
-use crate::table::table_of;
+use map_table::table_of;
 use permission_map::PermissionMap;
 use pmp_encoding::{Entry, Limit, Perm, Region};
 use std::alloc::Global;
