@@ -1,5 +1,5 @@
 -- Extents that mean no view.
-use Rattle.std.proofs.Common.{◌≡◌, ◌≢◌, ◌∙◌, ℕ, ◌*◌, ◌/◌, ◌^◌, ◌<◌, ◌⊎◌, inl, inr, List, Bool, false, ap, sym, subst, arith}
+use Rattle.std.proofs.Common.{◌≡◌, ◌≢◌, ◌∙◌, ℕ, ◌*◌, ◌/◌, ◌%◌, ◌==◌, ◌^◌, ◌<◌, ◌⊎◌, inl, inr, List, Bool, false, ap, sym, subst, arith}
 use Rattle.std.specs.List.{AllByRecursion}
 use Rattle.pmp_encoding.specs.declared.extent.Extent.{Extent}
 use Rattle.page_views.specs.Views.{View}
@@ -12,8 +12,7 @@ use Rattle.register_audit.specs.Findings.{CutsAlone, IsCut, IsFirstDifference}
 use Rattle.register_audit.proofs.Cut.{cut_not}
 use Rattle.register_map.specs.Pages.{HasFirstBytes}
 use Rattle.register_map.specs.Maps.{IsMapOf, IsMapOfExtents, below, cut, mapped, reserved, told, unmodelled}
-use Rattle.pmp_match.specs.Kinds.{holds}
-use Rattle.pmp_match.specs.declared.access.Kind.TheVariants.{Load}
+use Rattle.pmp_encoding.specs.Perms.{bits_of}
 
 -- a view that extents mean is what they give the first byte of each page
 same_view : (xs : List Extent) (view other : View) → AllByRecursion IsWords xs → HasFirstBytes xs view → ExtentsMean xs other → (page : ℕ) → page < 2 ^ 44 → view page ≡ other page
@@ -36,7 +35,7 @@ cut_none xs view other i at words first c means =
     let moved : IsCut other xs i at = record {
       aligned = found.aligned;
       inside = found.inside;
-      may = ap (λ perm. holds perm Load) (sym same) ∙ found.may;
+      may = ap (λ perm. bits_of perm % 2 == 1) (sym same) ∙ found.may;
       extent = found.extent;
       first = found.first;
       partly = found.partly;
