@@ -1,10 +1,10 @@
 -- Texts that are written one after another: all of them, or a beginning where one of them breaks off.
-use Rattle.std.proofs.Common.{ℕ, List, [], ◌++◌, ◌≡◌, ◌∙◌, ◌+◌, ◌<◌, Option, ap, arith, length, length-append, refl, subst, take}
+use Rattle.std.proofs.Common.{ℕ, List, [], ◌++◌, ◌≡◌, ◌∙◌, ◌+◌, ◌<◌, Option, Result, Ok, Err, ap, arith, length, length-append, refl, subst, take}
 use Rattle.std.proofs.Math.Seq.{take-append-add, take-append-le}
 use Rattle.std.proofs.KnownBytes.{Appends-trans, Appends-nil}
 use Rattle.std.specs.Io.KnownBytes.{Appends}
 use Rattle.byte_streams.specs.Streams.{WriteFails}
-use Rattle.byte_streams.specs.Writings.{Breaks, TakesAll, TakesPart, writing}
+use Rattle.byte_streams.specs.Writings.{Breaks, Prints, TakesAll, TakesPart, writing}
 
 -- no text
 pub takes_none : {W : Type 0} (contents : W → Option (List ℕ)) (failures stalls : W → ℕ) (sink : W) → TakesAll [] (writing contents failures stalls sink sink)
@@ -64,3 +64,11 @@ pub breaks_within :
 breaks_within contents failures stalls {old} {mid} {new} {done} {text} {all} rest is p q =
     subst (λ (t : List ℕ). Breaks t (writing contents failures stalls old new)) is
     (breaks_after contents failures stalls {old = old} {mid = mid} {new = new} p (breaks_before contents failures stalls {old = mid} {new = new} rest q))
+
+-- a text is written in two parts, the first of them whole
+pub prints_on :
+    {W X Y : Type 0} (contents : W → Option (List ℕ)) (failures stalls : W → ℕ) (old mid new : W) (first second : List ℕ) (result : Result X Y)
+    → TakesAll first (writing contents failures stalls old mid) → Prints second (writing contents failures stalls mid new) result
+    → Prints (first ++ second) (writing contents failures stalls old new) result
+prints_on contents failures stalls old mid new first second (Ok x) p q = takes_then contents failures stalls {old = old} {mid = mid} {new = new} p q
+prints_on contents failures stalls old mid new first second (Err y) p q = breaks_after contents failures stalls {old = old} {mid = mid} {new = new} p q

@@ -157,8 +157,10 @@ impl<T: Write> Sink for Counted<T> {
     }
 }
 
-/// Writes all of the bytes. A write that takes none of some bytes is a fault too.
-pub fn write_whole<W: Sink>(sink: &mut W, bytes: &[u8]) -> Result<(), DeviceFault>
+/// Writes all of the bytes, in as many writes as it takes. It stands apart, for nearly all sinks take them at once.
+#[cold]
+#[inline(never)]
+fn write_on<W: Sink>(sink: &mut W, bytes: &[u8]) -> Result<(), DeviceFault>
     ensures { Prints bytes.now (writing W.contents W.failures W.stalls sink.old sink.new) result }
 {
     let mut done = 0;
@@ -170,4 +172,22 @@ pub fn write_whole<W: Sink>(sink: &mut W, bytes: &[u8]) -> Result<(), DeviceFaul
         done += n;
     }
     Ok(())
+}
+
+/// Writes all of the bytes. A write that takes none of some bytes is a fault too.
+#[inline(always)]
+pub fn write_whole<W: Sink>(sink: &mut W, bytes: &[u8]) -> Result<(), DeviceFault>
+    ensures { Prints bytes.now (writing W.contents W.failures W.stalls sink.old sink.new) result }
+{
+    if bytes.is_empty() {
+        return Ok(());
+    }
+    let n = sink.write(bytes)?;
+    if n == bytes.len() {
+        return Ok(());
+    }
+    if n > 0 {
+        return write_on(sink, &bytes[n..]);
+    }
+    Err(DeviceFault)
 }

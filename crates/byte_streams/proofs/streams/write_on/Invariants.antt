@@ -1,6 +1,6 @@
 use Rattle.std.proofs.Common.{length, take, ◌-◌, ◌≤◌}
 use Rattle.byte_streams.specs.Writings.{TakesAll, writing}
-use Rattle.byte_streams.proofs.streams.write_whole.Given as goal
+use Rattle.byte_streams.proofs.streams.write_on.Given as goal
 
 abbrev pub invariant-loop-done : goal.invariant-loop-done
 invariant-loop-done g l = record {
