@@ -3,6 +3,7 @@ pub mod Counted
 pub mod SamePerm
 pub mod Joins
 pub mod Cut
+pub mod Searched
 pub mod Halved
 pub mod RunCount
 pub mod Edges

@@ -1,7 +1,7 @@
 //! Blocks of a map, for which no tree is made.
 
 ghost use Rattle.std.specs.Prelude.{◌≡◌, ◌*◌, ◌≤◌, length, count_by, nat_lt, nat_le, ◌-◌};
-ghost use Rattle.permission_map.specs.Runs.{view_of_runs};
+ghost use Rattle.permission_map.specs.Runs.{AreRuns, view_of_runs};
 ghost use Rattle.prefix_tree.specs.Joined.{one_perm};
 ghost use Rattle.prefix_tree.specs.Slices.{AreBlockRuns};
 ghost use Rattle.prefix_tree.specs.Counts.{runs_in, splits};
@@ -40,17 +40,29 @@ impl<'a> Model for MapBlock<'a> {
     ghost invariant = { λ b. AreBlockRuns b.runs.now b.first b.height };
 }
 
+/// The most runs that are counted one by one, which takes no branch on a run. More are searched by halves: the counts of a
+/// block's runs at each height would be as many steps as there are runs, for each height again.
+const FEW: usize = 8;
+
 /// How many of the runs begin before the page.
 fn begun_before(runs: &[Run], page: u64) -> usize
+    requires { AreRuns runs.now }
     ensures { result ≡ count_by (λ run. nat_lt run.first page) runs.now }
 {
+    if runs.len() > FEW {
+        return runs.partition_point(|run| run.first < page);
+    }
     runs.iter().filter(|run| run.first < page).count()
 }
 
 /// How many of the runs end before the page.
 fn ended_before(runs: &[Run], page: u64) -> usize
+    requires { AreRuns runs.now }
     ensures { result ≡ count_by (λ run. nat_le run.count (page - run.first)) runs.now }
 {
+    if runs.len() > FEW {
+        return runs.partition_point(|run| run.count <= page.saturating_sub(run.first));
+    }
     runs.iter()
         .filter(|run| run.count <= page.saturating_sub(run.first))
         .count()
