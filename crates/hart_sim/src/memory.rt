@@ -12,25 +12,35 @@ use std::collections::BTreeMap;
 /// The bytes of a page.
 const PAGE: u64 = 4096;
 
-/// The number that bytes are, the lowest first.
-fn number_of(bytes: &[u8]) -> u64
-    requires { length bytes.now ≤ 8 }
-    ensures value { result ≡ number_of bytes.now }
-    ensures small { result < 256 ^ length bytes.now }
+/// The little-endian number of bytes of a page, byte by byte from the highest one. Where the size is a constant, it is one load.
+#[inline(always)]
+fn number_of(page: &[u8; 4096], at: usize, size: usize) -> u64
+    requires size { size ≤ 8 }
+    requires inside { at + size ≤ 4096 }
+    ensures { result ≡ number_of (bytes_at (slice_index page.now) at size) }
 {
-    match bytes {
-        [] => 0,
-        [first, rest @ ..] => u64::from(*first) + 256 * number_of(rest),
+    let mut number = 0;
+    let mut left = size;
+    while left > 0 {
+        left -= 1;
+        number = u64::from(page[at + left]) + 256 * number;
     }
+    number
 }
 
-/// The little-endian number of bytes of a page.
+/// The little-endian number of bytes of a page. The sizes that accesses have are constants here.
 fn number_at(page: &[u8; 4096], at: usize, size: usize) -> u64
     requires size { size ≤ 8 }
     requires inside { at + size ≤ 4096 }
     ensures { result ≡ number_of (bytes_at (slice_index page.now) at size) }
 {
-    number_of(&page[at..at + size])
+    match size {
+        1 => number_of(page, at, 1),
+        2 => number_of(page, at, 2),
+        4 => number_of(page, at, 4),
+        8 => number_of(page, at, 8),
+        _ => number_of(page, at, size),
+    }
 }
 
 /// Copies a page.
@@ -55,8 +65,9 @@ fn byte_of(value: u64, k: usize) -> u8
     ((value >> (8 * k)) % 256) as u8
 }
 
-/// Puts the lowest bytes of a value into a page, the lowest first.
-fn put(page: &mut [u8; 4096], at: usize, size: usize, value: u64)
+/// Puts the lowest bytes of a value into a page, byte by byte from the lowest one. Where the size is a constant, it is one store.
+#[inline(always)]
+fn put_bytes(page: &mut [u8; 4096], at: usize, size: usize, value: u64)
     requires size { size ≤ 8 }
     requires inside { at + size ≤ 4096 }
     ensures { (k : ℕ)
@@ -68,16 +79,21 @@ fn put(page: &mut [u8; 4096], at: usize, size: usize, value: u64)
     }
 }
 
-/// A page of zeros but for a value.
-fn page_with(at: usize, size: usize, value: u64) -> [u8; 4096]
+/// Puts the lowest bytes of a value into a page, the lowest first. The sizes that accesses have are constants here.
+fn put(page: &mut [u8; 4096], at: usize, size: usize, value: u64)
     requires size { size ≤ 8 }
     requires inside { at + size ≤ 4096 }
-    ensures { (k : ℕ) → slice_index result k
-        ≡ (if in_range at size k then byte_of value (k - at) else 0) }
+    ensures { (k : ℕ)
+        → slice_index page.new k ≡
+        (if in_range at size k then byte_of value (k - at) else slice_index page.old k) }
 {
-    let mut page = [0; 4096];
-    put(&mut page, at, size, value);
-    page
+    match size {
+        1 => put_bytes(page, at, 1, value),
+        2 => put_bytes(page, at, 2, value),
+        4 => put_bytes(page, at, 4, value),
+        8 => put_bytes(page, at, 8, value),
+        _ => put_bytes(page, at, size, value),
+    }
 }
 
 /// A page of its own of zeros but for a value. It stands apart so that a store to a page that is there clears no room for
@@ -91,7 +107,8 @@ fn page_of(alloc: Global, at: usize, size: usize, value: u64) -> Result<Box<[u8;
         → slice_index page.value k ≡
         (if in_range at size k then byte_of value (k - at) else 0)) }
 {
-    let page = Box::new(alloc, page_with(at, size, value))?;
+    let mut page = Box::new(alloc, [0; 4096])?;
+    put(&mut page, at, size, value);
     Ok(page)
 }
 

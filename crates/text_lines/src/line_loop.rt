@@ -133,7 +133,7 @@ pub fn interpret_lines<I: Interpreter, R: Source, W: Sink>(
     let mut answer: Line = ArrayVec::new();
     let mut count: u64 = 0;
     'lines: while next_line(&mut reader, source, sink)? {
-        answer.clear();
+        answer = ArrayVec::new();
         let answered = match interpreter.interpret(reader.line(), count, &mut answer) {
             Ok(answered) => answered,
             Err(Refusal::NotUnderstood) => return Err(RunFault::Line(reader.number())),
