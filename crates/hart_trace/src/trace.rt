@@ -23,13 +23,14 @@ fn mode_of(word: &[u8]) -> Option<Mode>
     }
 }
 
+/// Whether the kind has the size, without a branch on the size: it would be guessed wrong too often.
 #[inline(always)]
 fn has_size(kind: Kind, size: u64) -> bool
     ensures { result ≡ has_size kind size }
 {
     match kind {
-        Kind::Fetch => size == 2 || size == 4,
-        Kind::Load | Kind::Store => (size == 1 || size == 2) || (size == 4 || size == 8),
+        Kind::Fetch => (size == 2) | (size == 4),
+        Kind::Load | Kind::Store => ((size == 1) | (size == 2)) | ((size == 4) | (size == 8)),
     }
 }
 

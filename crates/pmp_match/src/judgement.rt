@@ -13,17 +13,16 @@ use crate::cause::Cause;
 use page_views::SPACE_SIZE;
 use pmp_encoding::{Bank, Extent, Perm};
 
+/// Whether the permission has the right that the kind wants, without a branch: it would be guessed wrong too often.
 #[inline(always)]
 pub(crate) fn holds(perm: Perm, kind: Kind) -> bool
     ensures { result ≡ holds perm kind }
 {
+    let bits = perm.bits();
     match kind {
-        Kind::Fetch => matches!(
-            perm,
-            Perm::Execute | Perm::ReadExecute | Perm::ReadWriteExecute
-        ),
-        Kind::Load => !matches!(perm, Perm::NoAccess | Perm::Execute),
-        Kind::Store => matches!(perm, Perm::ReadWrite | Perm::ReadWriteExecute),
+        Kind::Fetch => bits / 4 == 1,
+        Kind::Load => bits % 2 == 1,
+        Kind::Store => bits / 2 % 2 == 1,
     }
 }
 
