@@ -23,14 +23,23 @@ fn mode_of(word: &[u8]) -> Option<Mode>
     }
 }
 
+/// Which sizes up to 8 a fetch has.
+static FETCHES: [bool; 9] = [false, false, true, false, true, false, false, false, false];
+
+/// Which sizes up to 8 a load and a store have.
+static OTHERS: [bool; 9] = [false, true, true, false, true, false, false, false, true];
+
 /// Whether the kind has the size, without a branch on the size: it would be guessed wrong too often.
 #[inline(always)]
 fn has_size(kind: Kind, size: u64) -> bool
     ensures { result ≡ has_size kind size }
 {
+    if size > 8 {
+        return false;
+    }
     match kind {
-        Kind::Fetch => (size == 2) | (size == 4),
-        Kind::Load | Kind::Store => ((size == 1) | (size == 2)) | ((size == 4) | (size == 8)),
+        Kind::Fetch => FETCHES[size as usize],
+        Kind::Load | Kind::Store => OTHERS[size as usize],
     }
 }
 

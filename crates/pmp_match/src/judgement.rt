@@ -1,6 +1,8 @@
 //! The judgement of an access by a bank.
 
-ghost use Rattle.std.specs.Prelude.{◌≡◌, ◌+◌, ◌^◌, ◌<◌, ◌&&◌, ◌||◌, ◌%◌, ◌==◌, List};
+ghost use Rattle.std.specs.Prelude.{◌≡◌, ◌+◌, ◌^◌, ◌<◌, ◌&&◌, ◌||◌, ◌%◌, ◌==◌, not, bit_and, List};
+ghost use Rattle.pmp_encoding.specs.declared.perm.Perm.{Perm};
+ghost use Rattle.pmp_encoding.specs.Perms.{bits_of};
 ghost use Rattle.pmp_encoding.specs.declared.region.Entry.{Entry};
 ghost use Rattle.pmp_encoding.specs.Banks.{HasList};
 ghost use Rattle.pmp_match.specs.Kinds.{holds};
@@ -13,17 +15,25 @@ use crate::cause::Cause;
 use page_views::SPACE_SIZE;
 use pmp_encoding::{Bank, Extent, Perm};
 
-/// Whether the permission has the right that the kind wants, without a branch: it would be guessed wrong too often.
+/// The bit of the right that a kind wants.
+#[inline(always)]
+#[tactic(auto, using(crate::proofs::Rights::wants_execute, crate::proofs::Rights::wants_read, crate::proofs::Rights::wants_write))]
+fn right(kind: Kind) -> u8
+    ensures { (perm : Perm) → not (bit_and (bits_of perm) result == 0) ≡ holds perm kind }
+{
+    match kind {
+        Kind::Fetch => 4,
+        Kind::Load => 1,
+        Kind::Store => 2,
+    }
+}
+
+/// Whether the permission has the right that the kind wants, without a branch on either: it would be guessed wrong too often.
 #[inline(always)]
 pub(crate) fn holds(perm: Perm, kind: Kind) -> bool
     ensures { result ≡ holds perm kind }
 {
-    let bits = perm.bits();
-    match kind {
-        Kind::Fetch => bits / 4 == 1,
-        Kind::Load => bits % 2 == 1,
-        Kind::Store => bits / 2 % 2 == 1,
-    }
+    perm.bits() & right(kind) != 0
 }
 
 #[inline(always)]
