@@ -55,6 +55,7 @@ pub trait Interpreter {
 }
 
 /// Writes an answer, where there is one, and says how many there are with it.
+#[inline(always)]
 fn write_answer<W: Sink>(
     answered: bool,
     answer: &Line,

@@ -70,6 +70,7 @@ impl<J: AccessJudge> Interpreter for LineJudge<'_, J> {
 
     ghost keeps = { λ now. Unit {0} };
 
+    #[inline(always)]
     fn interpret(&mut self, line: &[u8], count: u64, answer: &mut Line) -> Result<bool, Refusal> {
         if let Some(access) = plain_access_in(line) {
             push_answer(answer, count + 1, self.by.outcome(&access));
