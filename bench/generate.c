@@ -21,6 +21,9 @@
  *   mixed-64.trace the same on the two harts of platform-64.toml, with twenty enclaves
  *   pairs.trace    20,000 times an enclave of one page, made and destroyed
  *   churn.trace    40,000 creations and destructions on platform-64.toml, up to 25 enclaves alive
+ *   worlds.trace   100,000 changes of world: an enclave is resumed and stops itself, in turn
+ *   zeros.trace    ten enclaves of nearly 4 MiB that nobody wrote, each of another layout, made and destroyed
+ *   memory.trace   1,000,000 loads and stores of eight bytes, at random places of 8192 pages
  */
 #include <inttypes.h>
 #include <stdint.h>
@@ -319,6 +322,39 @@ static void churn(const char *folder)
     fclose(trace);
 }
 
+/* An enclave goes on and stops, again and again. */
+static void worlds(const char *folder)
+{
+    FILE *trace = make(folder, "worlds.trace");
+    create(trace, 1);
+    fputs(CALL "2 1\n" CALL "3\n", trace);
+    for (int i = 1; i < 50000; i++)
+        fputs(CALL "4 1\n" CALL "3\n", trace);
+    fclose(trace);
+}
+
+/* Enclaves of so many unwritten pages that no two layouts are the same. */
+static void zeros(const char *folder)
+{
+    FILE *trace = make(folder, "zeros.trace");
+    for (int i = 0; i < 10; i++)
+        fprintf(trace, CALL "0 0x80200000 %d 1 0x87000000 1 0\n" CALL "1 1\n", 1000 + i);
+    fclose(trace);
+}
+
+static void memory(const char *folder)
+{
+    FILE *trace = make(folder, "memory.trace");
+    for (int i = 0; i < 1000000; i++) {
+        uint64_t addr = 0x80200000 + (below(8192) << 12) + below(512) * 8;
+        if (below(2))
+            fprintf(trace, "load s 8 0x%" PRIx64 "\n", addr);
+        else
+            fprintf(trace, "store s 8 0x%" PRIx64 " 0x%" PRIx64 "\n", addr, draw());
+    }
+    fclose(trace);
+}
+
 int main(int count, char **words)
 {
     if (count != 2) {
@@ -338,5 +374,8 @@ int main(int count, char **words)
     pairs(words[1]);
     churn(words[1]);
     accesses(words[1], "tiny.trace", 100);
+    worlds(words[1]);
+    zeros(words[1]);
+    memory(words[1]);
     return 0;
 }
