@@ -1,5 +1,5 @@
 -- Points with one range overwritten.
-use Rattle.std.proofs.Common.{◌≡◌, ℕ, ◌+◌, ◌-◌, ◌/◌, ◌^◌, ◌<◌, ◌≤◌, ⊎_elim, List, [], ◌∷◌, ◌++◌, length, take, drop, get_or, count_by, All, nat_lt, cond, Option, None, Some, option_to_list, refl, sym, ap, subst, ◌∙◌, arith}
+use Rattle.std.proofs.Common.{◌≡◌, ℕ, zero, suc, ◌+◌, ◌-◌, ◌*◌, ◌^◌, ◌<◌, ◌≤◌, ⊎_elim, List, [], ◌∷◌, ◌++◌, length, take, drop, get_or, count_by, All, nat_lt, cond, Option, None, Some, option_to_list, refl, sym, ap, subst, ◌∙◌, arith}
 use Rattle.std.specs.List.{AllByRecursion}
 use Rattle.std.proofs.lemmas.Bool.{cases_lt, cond-true, cond-false, lt-ltb, le-ltb}
 use Rattle.std.proofs.lemmas.List.{take-append-drop, get_or_default, get_or-drop, length-drop}
@@ -226,42 +226,84 @@ behind_from ps i page e are less low = λ k d inside.
     let same : page_of (get_or ps i e) ≡ page_of (get_or ps i d) = ap page_of (get_or_default ps i e d less) in
     rw (get_or-drop i ps k d) (omega (arith, rise, same, low))
 
--- ---- a step of a search: the point in the middle tells which half goes on
+-- ---- a step of a search: the last of the points that it goes past tells whether it does
 
-pub halved_inside :
-    (ps : List Point) (page low half size moved : ℕ) (e : Point) → low + size ≤ length ps → half ≡ size / 2 → (page_of (get_or ps (low + half) e) < page → moved ≡ half)
-    → (page ≤ page_of (get_or ps (low + half) e) → moved ≡ 0) → low + moved + (size - half) ≤ length ps
-halved_inside ps page low half size moved e inside is before behind =
-    ⊎_elim (λ under. let m = before under in omega (arith, inside, is, m)) (λ over. let m = behind over in omega (arith, inside, is, m)) (cases_lt (page_of (get_or ps (low + half) e)) page)
+pub halves : (k : ℕ) → 0 < k → 2 ^ k ≡ 2 ^ (k - 1) + 2 ^ (k - 1)
+halves zero some = absurd (omega (arith, some))
+halves (suc k) some = grind arith
 
-pub halved_front :
-    (ps : List Point) (page low half size moved : ℕ) (e : Point) → ArePoints ps → low + size ≤ length ps → half ≡ size / 2 → 1 < size → (page_of (get_or ps (low + half) e) < page → moved ≡ half)
-    → (page ≤ page_of (get_or ps (low + half) e) → moved ≡ 0) → ((k : ℕ) (d : Point) → k < low → page_of (get_or ps k d) < page) → (k : ℕ) (d : Point) → k < low + moved
-    → page_of (get_or ps k d) < page
-halved_front ps page low half size moved e are inside is some before behind front k d less =
+-- the two cases of a step
+abbrev Before : List Point → ℕ → ℕ → ℕ → Type 0
+Before ps page count moved = (d : Point) → count ≤ length ps → page_of (get_or ps (count - 1) d) < page → moved ≡ 1
+
+abbrev After : List Point → ℕ → ℕ → ℕ → Type 0
+After ps page count moved = (d : Point) → (count ≤ length ps → page ≤ page_of (get_or ps (count - 1) d)) → moved ≡ 0
+
+whole_step : (step moved : ℕ) → moved ≡ 1 → step * moved ≡ step
+whole_step step moved is = rw is (omega arith)
+
+no_step : (step moved : ℕ) → moved ≡ 0 → step * moved ≡ 0
+no_step step moved is = rw is (omega arith)
+
+pub step_small : (step moved : ℕ) → moved ≤ 1 → step * moved ≤ step
+step_small step moved bit =
+    ⊎_elim (λ zero. let none : moved ≡ 0 = omega arith in let e = no_step step moved none in omega (arith, e)) (λ one. let is : moved ≡ 1 = omega arith in let e = whole_step step moved is in omega (arith, e))
+    (cases_lt moved 1)
+
+pub stepped_inside :
+    (ps : List Point) (page low step moved : ℕ) (d : Point) → low ≤ length ps → Before ps page (low + step) moved → After ps page (low + step) moved → low + step * moved ≤ length ps
+stepped_inside ps page low step moved d inside before after =
+    ⊎_elim (λ beyond. let e = no_step step moved (after d (λ within. absurd (omega (arith, within, beyond)))) in omega (arith, e, inside))
+    (λ within.
+    ⊎_elim (λ under. let e = whole_step step moved (before d within under) in omega (arith, e, within)) (λ over. let e = no_step step moved (after d (λ _. over)) in omega (arith, e, inside))
+    (cases_lt (page_of (get_or ps (low + step - 1) d)) page))
+    (cases_lt (length ps) (low + step))
+
+pub stepped_front :
+    (ps : List Point) (page low step moved : ℕ) → ArePoints ps → 0 < step → Before ps page (low + step) moved → After ps page (low + step) moved
+    → ((k : ℕ) (d : Point) → k < low → page_of (get_or ps k d) < page) → (k : ℕ) (d : Point) → k < low + step * moved → page_of (get_or ps k d) < page
+stepped_front ps page low step moved are some before after front k d less =
+    ⊎_elim (λ beyond. let e = no_step step moved (after d (λ within. absurd (omega (arith, within, beyond)))) in front k d (omega (arith, e, less)))
+    (λ within.
     ⊎_elim
     (λ under.
-    let m = before under in
-    let middle : low + half < length ps = omega (arith, inside, is, some) in
-    let rise : page_of (get_or ps k d) ≤ page_of (get_or ps (low + half) d) = pages_rise 0 NoAccess ps are k (low + half) d (omega (arith, less, m)) middle in
-    let same : page_of (get_or ps (low + half) e) ≡ page_of (get_or ps (low + half) d) = ap page_of (get_or_default ps (low + half) e d middle) in
-    omega (arith, rise, same, under))
-    (λ over. let m = behind over in front k d (omega (arith, less, m)))
-    (cases_lt (page_of (get_or ps (low + half) e)) page)
+    let e = whole_step step moved (before d within under) in
+    let rise : page_of (get_or ps k d) ≤ page_of (get_or ps (low + step - 1) d) =
+    pages_rise 0 NoAccess ps are k (low + step - 1) d (omega (arith, e, less, some)) (omega (arith, within, some)) in
+    omega (arith, rise, under))
+    (λ over. let e = no_step step moved (after d (λ _. over)) in front k d (omega (arith, e, less)))
+    (cases_lt (page_of (get_or ps (low + step - 1) d)) page))
+    (cases_lt (length ps) (low + step))
 
-pub halved_rest :
-    (ps : List Point) (page low half size moved : ℕ) (e : Point) → ArePoints ps → low + size ≤ length ps → half ≡ size / 2 → 1 < size → (page_of (get_or ps (low + half) e) < page → moved ≡ half)
-    → (page ≤ page_of (get_or ps (low + half) e) → moved ≡ 0) → ((k : ℕ) (d : Point) → low + size ≤ k → k < length ps → page ≤ page_of (get_or ps k d)) → (k : ℕ) (d : Point)
-    → low + moved + (size - half) ≤ k → k < length ps → page ≤ page_of (get_or ps k d)
-halved_rest ps page low half size moved e are inside is some before behind rest k d more less =
-    ⊎_elim (λ under. let m = before under in rest k d (omega (arith, more, m, is)) less)
+pub stepped_rest :
+    (ps : List Point) (page low step moved : ℕ) → ArePoints ps → 0 < step → Before ps page (low + step) moved → After ps page (low + step) moved
+    → ((k : ℕ) (d : Point) → low + (step + step) ≤ k + 1 → k < length ps → page ≤ page_of (get_or ps k d)) → (k : ℕ) (d : Point) → low + step * moved + step ≤ k + 1
+    → k < length ps → page ≤ page_of (get_or ps k d)
+stepped_rest ps page low step moved are some before after rest k d more less =
+    ⊎_elim (λ beyond. absurd (omega (arith, more, less, beyond)))
+    (λ within.
+    ⊎_elim (λ under. let e = whole_step step moved (before d within under) in rest k d (omega (arith, e, more)) less)
     (λ over.
-    let m = behind over in
-    let middle : low + half < length ps = omega (arith, inside, is, some) in
-    let rise : page_of (get_or ps (low + half) d) ≤ page_of (get_or ps k d) = pages_rise 0 NoAccess ps are (low + half) k d (omega (arith, more, m, is)) less in
-    let same : page_of (get_or ps (low + half) e) ≡ page_of (get_or ps (low + half) d) = ap page_of (get_or_default ps (low + half) e d middle) in
-    omega (arith, rise, same, over))
-    (cases_lt (page_of (get_or ps (low + half) e)) page)
+    let rise : page_of (get_or ps (low + step - 1) d) ≤ page_of (get_or ps k d) =
+    pages_rise 0 NoAccess ps are (low + step - 1) k d (omega (arith, more, some)) less in
+    omega (arith, rise, over))
+    (cases_lt (page_of (get_or ps (low + step - 1) d)) page))
+    (cases_lt (length ps) (low + step))
+
+pub stepped_room : (low step moved bound : ℕ) → moved ≤ 1 → low + (step + step) ≤ bound → low + step * moved + step ≤ bound
+stepped_room low step moved bound bit room = omega (arith, step_small step moved bit, room)
+
+-- no more points than pages
+room_after : (at : ℕ) (p : Perm) (ps : List Point) → ArePointsAfter at p ps → at ≤ 2 ^ 44 → at + length ps ≤ 2 ^ 44
+room_after at p [] are low = omega (arith, low)
+room_after at p (q ∷ ps) are low =
+    let begin : at ≤ page_of q = are.0.rising in
+    let inside : page_of q < 2 ^ 44 = are.0.inside in
+    let rest : page_of q + 1 + length ps ≤ 2 ^ 44 = room_after (page_of q + 1) (perm_of q) ps are.1 (omega (arith, inside)) in
+    omega (arith, begin, rest)
+
+pub as_many_as_pages : (ps : List Point) → ArePoints ps → length ps ≤ 2 ^ 44
+as_many_as_pages ps are = omega (arith, room_after 0 NoAccess ps are (omega arith))
 
 -- ---- as the code says it
 

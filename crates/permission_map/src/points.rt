@@ -1,6 +1,7 @@
 //! Pages at which the permission changes, searched without a branch.
 
-ghost use Rattle.std.specs.Prelude.{◌≡◌, ◌≤◌, ◌<◌, ◌+◌, ◌^◌, ◌++◌, Some, All, length, take, drop, count_by, option_to_list, vec_len, vec_capacity};
+ghost use Rattle.std.specs.Prelude.{◌≡◌, ◌≤◌, ◌<◌, ◌+◌, ◌-◌, ◌^◌, ◌++◌, Some, All, length, take, drop, slice_index_or, count_by, option_to_list, vec_len, vec_capacity};
+ghost use Rattle.permission_map.specs.declared.points.Point.{Point};
 ghost use Rattle.pmp_encoding.specs.declared.perm.Perm.TheVariants.{NoAccess};
 ghost use Rattle.permission_map.specs.Points.{ArePoints, IsStop, IsTurn, allows, page_of, perm_of, standing};
 
@@ -52,14 +53,52 @@ impl Point {
     }
 }
 
-/// The count, where the point comes before the page, otherwise 0. The sign of the difference tells it: of a branch, a search
-/// guesses every other one wrong.
-fn past(point: Point, page: u64, count: usize) -> usize
-    requires { page ≤ 2 ^ 44 }
-    ensures before { page_of point < page → result ≡ count }
-    ensures behind { page ≤ page_of point → result ≡ 0 }
+/// 1 where there are so many points and the last of them comes before the page, otherwise 0. It takes no branch: of one, a
+/// search guesses every other wrong.
+#[inline(always)]
+fn past(points: &[Point], count: usize, page: u64) -> usize
+    requires some { 0 < length points.now }
+    requires count { 0 < count }
+    ensures before { (d : Point) → count ≤ length points.now
+        → page_of (slice_index_or points.now (count - 1) d) < page → result ≡ 1 }
+    ensures behind { (d : Point)
+        → (count ≤ length points.now → page ≤ page_of (slice_index_or points.now (count - 1) d))
+        → result ≡ 0 }
+    ensures bit { result ≤ 1 }
 {
-    count * (point.page().wrapping_sub(page) >> 63) as usize
+    let last = count.min(points.len()) - 1;
+    usize::from((count <= points.len()) & (points[last].page() < page))
+}
+
+/// How far a search goes by so many bits.
+#[inline(always)]
+fn step_of(bits: u32) -> usize
+    requires { bits ≤ 44 }
+    ensures { result ≡ 2 ^ bits }
+{
+    1 << bits
+}
+
+/// How many of the points come before the page, where there is one at least, and fewer than 2^bits. Where `bits` is a constant,
+/// so is each step: of a step that it does not know the compiler makes a branch.
+#[inline(always)]
+fn before_within(points: &[Point], page: u64, bits: u32) -> usize
+    requires points { ArePoints points.now }
+    requires some { 0 < length points.now }
+    requires few { length points.now < 2 ^ bits }
+    requires most { bits ≤ 45 }
+    ensures bound { result ≤ length points.now }
+    ensures front { All (λ p. page_of p < page) (take result points.now) }
+    ensures rest { All (λ p. page ≤ page_of p) (drop result points.now) }
+{
+    let mut low = 0;
+    let mut left = bits;
+    while left > 0 {
+        left -= 1;
+        let step = step_of(left);
+        low += step * past(points, low + step, page);
+    }
+    low
 }
 
 /// How many of the points come before the page.
@@ -70,17 +109,13 @@ pub(crate) fn before(points: &[Point], page: u64) -> usize
     ensures front { All (λ p. page_of p < page) (take result points.now) }
     ensures rest { All (λ p. page ≤ page_of p) (drop result points.now) }
 {
-    let mut low = 0;
-    let mut size = points.len();
-    while size > 1 {
-        let half = size / 2;
-        low += past(points[low + half], page, half);
-        size -= half;
+    match points.len() {
+        0 => 0,
+        1..=15 => before_within(points, page, 4),
+        16..=255 => before_within(points, page, 8),
+        256..=16383 => before_within(points, page, 14),
+        _ => before_within(points, page, 45),
     }
-    if size == 1 {
-        low += past(points[low], page, 1);
-    }
-    low
 }
 
 /// How many of the points come before the page or at it, where the first `from` do. Those after them are passed one by
