@@ -14,14 +14,14 @@ pub start_next : (ends : List ℕ) (i : ℕ) → start_of ends (i + 1) ≡ slice
 start_next ends i = let e : i + 1 ≡ suc i = omega arith in ap (λ n. start_of ends n) e
 
 -- before the chains nothing was read
-pub places_begun : (spans : ℕ → Span) (ends : List ℕ) (page n : ℕ) (p : Place) → length ends ≤ n → p.next ≡ 0 → p.span.end ≡ 0 → ArePlaces spans ends page (replicate n p)
-places_begun spans ends page n p few first none k d less =
+pub places_begun : (spans : ℕ → Span) (ends : List ℕ) (page n : ℕ) (p : Place) → length ends ≤ n → p.next ≡ 0 → p.span.first ≡ 0 → p.span.end ≡ 0 → ArePlaces spans ends page (replicate n p)
+places_begun spans ends page n p few first begin none k d less =
     let is : get_or (replicate n p) k d ≡ p = grind (arith, common_steps) in
-    subst (λ (x : Place). IsPlace spans (start_of ends k) (slice_index ends k) page x) (sym is) (before (omega arith) none)
+    subst (λ (x : Place). IsPlace spans (start_of ends k) (slice_index ends k) page x) (sym is) (before (omega arith) begin none)
 
 -- where the span of a place has ended, all of its chain's before the next have
 pub ended_before : (spans : ℕ → Span) (from to page : ℕ) (p : Place) → IsPlace spans from to page p → p.span.end ≤ page → HaveEnded spans from p.next page
-ended_before spans from to page p (before low none) past j low' less = absurd (omega arith)
+ended_before spans from to page p (before low begin none) past j low' less = absurd (omega arith)
 ended_before spans from to page p (stands i next low inside ended is some) past j low' less =
     ⊎_elim (λ below. ended j low' below)
     (λ over.
@@ -38,12 +38,12 @@ place_on spans from to page p s place past low inside is some = stands p.next (o
 
 -- a place is in its chain
 pub place_from : (spans : ℕ → Span) (from to page : ℕ) (p : Place) (n : ℕ) → n ≡ max p.next from → IsPlace spans from to page p → IsPlace spans from to page (record { next = n; span = p.span })
-place_from spans from to page p n e (before low none) = before (omega arith) none
+place_from spans from to page p n e (before low begin none) = before (omega arith) begin none
 place_from spans from to page p n e (stands i next low inside ended is some) = stands i (omega arith) low inside ended is some
 
 -- it stays one as the pages go on
 pub place_later : (spans : ℕ → Span) (from to page later : ℕ) (p : Place) → page ≤ later → IsPlace spans from to page p → IsPlace spans from to later p
-place_later spans from to page later p h (before low none) = before low none
+place_later spans from to page later p h (before low begin none) = before low begin none
 place_later spans from to page later p h (stands i next low inside ended is some) =
     stands i next low inside (λ j low' less. let past : (spans j).end ≤ page = ended j low' less in omega arith) is some
 
@@ -53,8 +53,13 @@ places_later spans ends page later places h are k d less = place_later spans (st
 
 -- a span that ends after the page is the first of its chain that does
 pub place_open : (spans : ℕ → Span) (from to page : ℕ) (p : Place) → IsPlace spans from to page p → page < p.span.end → IsNextInChain spans from to page p.span × (p.span.first < p.span.end)
-place_open spans from to page p (before low none) behind = absurd (omega arith)
+place_open spans from to page p (before low begin none) behind = absurd (omega arith)
 place_open spans from to page p (stands i next low inside ended is some) behind = ((i, low, inside, ended, is), some)
+
+-- a span that begins after the page ends after it
+pub ahead : (spans : ℕ → Span) (from to page : ℕ) (p : Place) → IsPlace spans from to page p → page < p.span.first → page < p.span.end
+ahead spans from to page p (before low begin none) behind = absurd (omega arith)
+ahead spans from to page p (stands i next low inside ended is some) behind = omega arith
 
 -- one place goes on
 pub places_set :

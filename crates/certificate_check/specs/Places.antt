@@ -6,7 +6,7 @@ use Rattle.certificate_check.specs.Spans.{HaveEnded}
 
 -- the place is before the chain of the spans from one number to before another, or after one of them where those before it have ended before the page
 pub data IsPlace (spans : ℕ → Span) (from to page : ℕ) (place : Place) : Type 0 where
-  before : place.next ≤ from → place.span.end ≡ 0 → IsPlace spans from to page place
+  before : place.next ≤ from → place.span.first ≡ 0 → place.span.end ≡ 0 → IsPlace spans from to page place
   stands :
       (i : ℕ) → place.next ≡ suc i → from ≤ i → i < to → HaveEnded spans from i page → place.span ≡ spans i → place.span.first < place.span.end
       → IsPlace spans from to page place

@@ -96,15 +96,19 @@ pub(crate) fn piece_of_chains(
     let mut end = SPACE_PAGES;
     let mut from = 0;
     for (i, to) in ends.iter().enumerate() {
-        go_on(entries, places, i, from, *to, page);
-        if page < places[i].span.end {
-            if places[i].span.first <= page {
-                return Piece {
-                    end: end.min(places[i].span.end),
-                    perm: places[i].span.perm,
-                };
-            }
+        if page < places[i].span.first {
             end = end.min(places[i].span.first);
+        } else {
+            go_on(entries, places, i, from, *to, page);
+            if page < places[i].span.end {
+                if places[i].span.first <= page {
+                    return Piece {
+                        end: end.min(places[i].span.end),
+                        perm: places[i].span.perm,
+                    };
+                }
+                end = end.min(places[i].span.first);
+            }
         }
         from = *to;
     }

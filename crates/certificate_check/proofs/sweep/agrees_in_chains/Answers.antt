@@ -24,7 +24,7 @@ loop-page-init c = record {
   inside = omega arith;
   later = c.requires.later;
   same = λ at h. refl;
-  places = λ spans reads. places_begun spans c.args.ends.now 0 45 _ c.requires.few refl refl;
+  places = λ spans reads. places_begun spans c.args.ends.now 0 45 _ c.requires.few refl refl refl;
   given = λ spans reads at less. absurd (omega arith);
 }
 
