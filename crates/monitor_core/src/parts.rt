@@ -1,5 +1,6 @@
 //! The parts of the monitor, and what a call changes of them, one part at a time.
 
+use crate::call_registers::put_answer;
 use crate::register_sets::RegisterSets;
 use enclave_table::{Table, World};
 use sbi_decode::Registers;
@@ -86,9 +87,9 @@ impl Parts {
         ensures worlds { self.new.worlds ≡ self.old.worlds }
         ensures marks { self.new.marked ≡ self.old.marked }
     {
-        self.table.cite_invariant();
-        let world = self.world(hart);
-        self.registers.answer(hart, world, first, second);
+        let mut registers = *self.running(hart);
+        put_answer(&mut registers, first, second);
+        self.put_running(hart, registers);
     }
 
     /// The registers that an enclave is to go on with.

@@ -3,7 +3,6 @@
 ghost use Rattle.std.specs.Prelude.{◌≡◌, IfOk, length, replicate};
 ghost use Rattle.sbi_decode.specs.Registers.{zeros};
 
-use crate::call_registers::put_answer;
 use sbi_decode::Registers;
 use std::alloc::{AllocError, Global};
 use worlds::World;
@@ -86,21 +85,6 @@ impl RegisterSets {
         match world {
             World::Host => self.hosts[hart as usize].set(n as usize, value),
             World::Enclave(id) => self.enclaves[id as usize - 1].set(n as usize, value),
-        }
-    }
-
-    /// Puts two words into a0 and a1 of the host on this hart, or of the enclave.
-    pub(crate) fn answer(&mut self, hart: u8, world: World, first: u64, second: u64)
-        requires hart { hart < 4 }
-        requires world { IsWorld world }
-        ensures { (who : Runner) → registers_in self.new who
-            ≡ (if is_same who (runner_of hart world)
-            then with_x (with_x (registers_in self.old (runner_of hart world)) 10 first) 11 second
-            else registers_in self.old who) }
-    {
-        match world {
-            World::Host => put_answer(&mut self.hosts[hart as usize], first, second),
-            World::Enclave(id) => put_answer(&mut self.enclaves[id as usize - 1], first, second),
         }
     }
 }
