@@ -7,10 +7,12 @@
 
 mod columns;
 mod lines;
+mod marks;
 mod numbers;
 mod texts;
 
 pub use columns::{Placed, len_before, next_word, word_from};
-pub use lines::{allowed_len, are_allowed, content_of, has_mark, split_line};
+pub use lines::{allowed_len, are_allowed, content_of, split_line};
+pub use marks::{begins_comment, byte_fault, has_mark};
 pub use numbers::{looks_like_number, no_number};
 pub use texts::{push, push_address, push_column, push_number, push_place, push_quoted};

@@ -4,7 +4,6 @@ ghost use Rattle.std.specs.Prelude.{◌≡◌, ◌∷◌, ◌<◌, ◌≤◌, le
 ghost use Rattle.std.specs.List.{list_all, prefix_len};
 ghost use Rattle.text_lines.specs.Lines.{raw_lines};
 ghost use Rattle.text_lines.specs.Words.{content_of, is_allowed};
-ghost use Rattle.lint_texts.specs.Marks.{has_mark};
 
 use crate::columns::len_before;
 
@@ -52,11 +51,4 @@ pub fn content_of(line: &[u8]) -> &[u8]
     ensures { result.now ≡ content_of line.now }
 {
     &line[..len_before(b'#', line)]
-}
-
-/// Whether a line begins with a byte order mark.
-pub fn has_mark(raw: &[u8]) -> bool
-    ensures { result ≡ has_mark raw.now }
-{
-    matches!(raw, [0xEF, 0xBB, 0xBF, ..])
 }

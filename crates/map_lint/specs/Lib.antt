@@ -1,4 +1,5 @@
 pub mod Findings
 pub mod Lints
+pub mod Numbers
 pub mod Reasons
 pub mod Settings

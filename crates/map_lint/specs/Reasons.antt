@@ -1,5 +1,5 @@
 -- Why a line of a map file is not understood, with its column and what would fix it.
-use Rattle.std.specs.Prelude.{ℕ, ◌+◌, ◌-◌, ◌%◌, ◌^◌, ◌==◌, ◌||◌, ◌&&◌, not, nat_lt, if◌then◌else◌, Bool, true, false, List, ◌++◌, length, Option, Some, None, codes}
+use Rattle.std.specs.Prelude.{ℕ, ◌+◌, ◌-◌, ◌%◌, ◌^◌, ◌==◌, ◌||◌, ◌&&◌, not, nat_lt, if◌then◌else◌, Bool, true, false, List, [], ◌∷◌, ◌++◌, length, drop, Option, Some, None, codes}
 use Rattle.std.specs.List.{list_all, list_any, prefix_len}
 use Rattle.pmp_encoding.specs.declared.perm.Perm.{Perm}
 use Rattle.text_lines.specs.Lines.{without_return}
@@ -7,25 +7,9 @@ use Rattle.pmp_encoding.specs.Perms.{permission_of}
 use Rattle.text_lines.specs.Numbers.{number_of}
 use Rattle.text_lines.specs.Words.{content_of, is_allowed}
 use Rattle.lint_texts.specs.Columns.{begin_from, end_from, word_from}
-use Rattle.lint_texts.specs.Marks.{has_mark}
-use Rattle.lint_texts.specs.Numbers.{looks_like_number, no_number}
+use Rattle.lint_texts.specs.Marks.{byte_fault, has_mark}
 use Rattle.lint_texts.specs.Pieces.{address_text, column_text, quoted}
-
--- the column of a word, and its name
-abbrev pub named_text : List ℕ → ℕ → List ℕ
-named_text name before = column_text before ++ (name ++ codes " ")
-
--- what is said of a word that is no number
-abbrev pub number_text : List ℕ → ℕ → List ℕ → List ℕ
-number_text name before word = named_text name before ++ (quoted word ++ no_number (looks_like_number word))
-
--- a number of bytes that is no whole number of pages
-abbrev pub whole_text : List ℕ → ℕ → List ℕ
-whole_text mend whole = codes " is not a multiple of 4096; " ++ (mend ++ address_text whole)
-
--- what is said of a number that is no whole number of pages
-abbrev pub part_text : List ℕ → ℕ → List ℕ → List ℕ → ℕ → List ℕ
-part_text name before word mend whole = named_text name before ++ (word ++ whole_text mend whole)
+use Rattle.map_lint.specs.Numbers.{base_part, base_text, number_text, size_part}
 
 -- a letter in either case
 abbrev pub is_letter : ℕ → ℕ → Bool
@@ -50,17 +34,21 @@ perm_mend true true true = codes " is not written so; write rwx"
 abbrev pub letters_mend : List ℕ → List ℕ
 letters_mend word = perm_mend (list_any (is_letter 114) word) (list_any (is_letter 119) word) (list_any (is_letter 120) word)
 
+-- `none` in letters of either case
+abbrev pub is_none_word : List ℕ → Bool
+is_none_word (a ∷ b ∷ c ∷ d ∷ []) = is_letter 110 a && (is_letter 111 b && (is_letter 110 c && is_letter 101 d))
+is_none_word _ = false
+
 -- what is wrong with a word that is no permission
 abbrev pub perm_fault : List ℕ → List ℕ
-perm_fault word = if list_all is_perm_letter word then letters_mend word else codes " is no permission; write none, r, rw, x, rx or rwx"
+perm_fault word =
+    if list_all is_perm_letter word then letters_mend word
+    else if is_none_word word then codes " is not written so; write none"
+    else codes " is no permission; write none, r, rw, x, rx or rwx"
 
 -- a word that is no permission
 abbrev pub perm_text : ℕ → List ℕ → List ℕ
 perm_text before word = column_text before ++ (codes "PERM " ++ (quoted word ++ perm_fault word))
-
--- what a size that is no whole number of pages is fixed by
-abbrev pub pages_mend : ℕ → List ℕ
-pages_mend bytes = if nat_lt bytes 4096 then codes "the whole page is " else codes "the whole pages are "
 
 -- how large a size may be at most
 abbrev pub most_text : ℕ → List ℕ
@@ -81,37 +69,37 @@ pages_text base_at size_at perm_at perm first (Some named) = past_text base_at s
 -- two numbers and a word: the first of the faults that they can have
 unfoldable pub range_text : ℕ → List ℕ → ℕ → List ℕ → ℕ → List ℕ → ℕ → ℕ → List ℕ
 range_text base_at base size_at size perm_at perm first bytes =
-    if not (first % 4096 == 0) then part_text (codes "BASE") base_at base (codes "its page begins at ") (first - first % 4096)
-    else if not (bytes % 4096 == 0) && nat_lt bytes (2 ^ 56) then part_text (codes "SIZE") size_at size (pages_mend bytes) (bytes - bytes % 4096 + 4096)
+    if not (first % 4096 == 0) then base_part base_at base first bytes
+    else if not (bytes % 4096 == 0) && nat_lt bytes (2 ^ 56) then size_part size_at size bytes
     else pages_text base_at size_at perm_at perm first (permission_of perm)
 
--- three words, by the numbers that the first two are
-abbrev pub three_by : ℕ → List ℕ → ℕ → List ℕ → ℕ → List ℕ → Option ℕ → Option ℕ → List ℕ
-three_by base_at base size_at size perm_at perm None bytes = number_text (codes "BASE") base_at base
-three_by base_at base size_at size perm_at perm (Some first) None = number_text (codes "SIZE") size_at size
-three_by base_at base size_at size perm_at perm (Some first) (Some bytes) = range_text base_at base size_at size perm_at perm first bytes
+-- three words of which the first is a number, by the number that the second is
+abbrev pub three_by : ℕ → List ℕ → ℕ → List ℕ → ℕ → List ℕ → ℕ → Option ℕ → List ℕ
+three_by base_at base size_at size perm_at perm first None = number_text (codes "SIZE") size_at size
+three_by base_at base size_at size perm_at perm first (Some bytes) = range_text base_at base size_at size perm_at perm first bytes
 
--- three words, each with how many bytes stand before it
-unfoldable pub three_text : ℕ → List ℕ → ℕ → List ℕ → ℕ → List ℕ → List ℕ
-three_text base_at base size_at size perm_at perm = three_by base_at base size_at size perm_at perm (number_of base) (number_of size)
+-- three words of which the first is this number, each with how many bytes stand before it
+unfoldable pub three_text : ℕ → List ℕ → ℕ → List ℕ → ℕ → List ℕ → ℕ → List ℕ
+three_text base_at base size_at size perm_at perm first = three_by base_at base size_at size perm_at perm first (number_of size)
 
--- the words of a line without its comment, by where the first three of them end
-abbrev pub words_by : List ℕ → ℕ → ℕ → ℕ → List ℕ
-words_by text first second third =
+-- the words of a line without its comment, by where the first three of them end and the number that the first is
+abbrev pub words_by : List ℕ → ℕ → ℕ → ℕ → Option ℕ → List ℕ
+words_by text first second third None = base_text (begin_from text 0) (word_from text 0)
+words_by text first second third (Some base) =
     if length (word_from text first) == 0 then column_text first ++ codes "SIZE and PERM are wanting; a line is BASE SIZE PERM"
     else if length (word_from text second) == 0 then column_text second ++ codes "PERM is wanting; write none, r, rw, x, rx or rwx"
     else if not (length (word_from text third) == 0) then column_text (begin_from text third) ++ codes "a fourth word; a comment begins with #"
-    else three_text (begin_from text 0) (word_from text 0) (begin_from text first) (word_from text first) (begin_from text second) (word_from text second)
+    else three_text (begin_from text 0) (word_from text 0) (begin_from text first) (word_from text first) (begin_from text second) (word_from text second) base
 
 -- what is said of the words of a line without its comment
 unfoldable pub words_text : List ℕ → List ℕ
-words_text text = words_by text (end_from text 0) (end_from text (end_from text 0)) (end_from text (end_from text (end_from text 0)))
+words_text text = words_by text (end_from text 0) (end_from text (end_from text 0)) (end_from text (end_from text (end_from text 0))) (number_of (word_from text 0))
 
 -- a line without its LF and its CR
 unfoldable pub line_text : List ℕ → List ℕ
 line_text line =
     if list_all is_allowed (content_of line) then words_text (content_of line)
-    else column_text (prefix_len is_allowed line) ++ codes "a byte that is no visible ASCII character; write it behind a #"
+    else column_text (prefix_len is_allowed line) ++ byte_fault (drop (prefix_len is_allowed line) line)
 
 -- a line of at most 1023 bytes
 unfoldable pub short_reason : List ℕ → List ℕ

@@ -11,6 +11,7 @@
 
 mod findings;
 mod idle;
+mod numbers;
 mod perms;
 mod reasons;
 mod report;

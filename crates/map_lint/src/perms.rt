@@ -2,7 +2,7 @@
 
 ghost use Rattle.std.specs.Prelude.{◌≡◌, ◌++◌, ◌-◌, ◌^◌, ◌<◌, OnOk};
 ghost use Rattle.std.specs.List.{list_all, list_any};
-ghost use Rattle.map_lint.specs.Reasons.{is_letter, is_perm_letter, letters_mend, perm_fault, perm_mend, perm_text};
+ghost use Rattle.map_lint.specs.Reasons.{is_letter, is_none_word, is_perm_letter, letters_mend, perm_fault, perm_mend, perm_text};
 
 use lint_texts::{push, push_column, push_quoted};
 use permission_map::Memory;
@@ -62,12 +62,28 @@ fn are_perm_letters(word: &[u8]) -> bool
     word.iter().all(|byte| is_perm_letter(*byte))
 }
 
+/// Whether a word is `none` in letters of either case.
+fn is_none_word(word: &[u8]) -> bool
+    ensures { result ≡ is_none_word word.now }
+{
+    match word {
+        [a, b, c, d] => {
+            is_letter(b'n', *a)
+                && (is_letter(b'o', *b) && (is_letter(b'n', *c) && is_letter(b'e', *d)))
+        }
+        _ => false,
+    }
+}
+
 /// What is wrong with a word that is no permission.
 fn fault_of(word: &[u8]) -> &'static str
     ensures { result.now ≡ perm_fault word.now }
 {
     if are_perm_letters(word) {
         return letters_mend(word);
+    }
+    if is_none_word(word) {
+        return " is not written so; write none";
     }
     " is no permission; write none, r, rw, x, rx or rwx"
 }

@@ -2,77 +2,17 @@
 
 ghost use Rattle.std.specs.Prelude.{◌≡◌, ◌++◌, ◌-◌, ◌^◌, ◌<◌, ◌≤◌, OnOk, length, nat_lt};
 ghost use Rattle.lint_texts.specs.Pieces.{column_text};
-ghost use Rattle.map_lint.specs.Reasons.{line_text, most_text, named_text, number_text, pages_mend, part_text, past_text, range_text, reason_of, short_reason, three_text, whole_text, words_text};
+ghost use Rattle.map_lint.specs.Reasons.{line_text, most_text, past_text, range_text, reason_of, short_reason, three_text, words_text};
 
+use crate::numbers::{push_base_part, push_no_base, push_no_number, push_size_part};
 use crate::perms::push_perm;
 use lint_texts::{
-    Placed, allowed_len, are_allowed, content_of, has_mark, no_number, push, push_address,
-    push_column, push_quoted, word_from,
+    Placed, allowed_len, are_allowed, byte_fault, content_of, has_mark, push, push_address,
+    push_column, word_from,
 };
 use permission_map::Memory;
 use pmp_encoding::{Perm, SPACE_SIZE};
 use text_lines::{LONGEST, number, without_return};
-
-/// Appends the column of a word, and its name.
-fn push_named(text: &mut Vec<u8>, name: &str, before: usize) -> Result<(), Memory>
-    requires { before < 2 ^ 64 - 1 }
-    ensures { OnOk result (text.new.items ≡ text.old.items ++ named_text name.now before) }
-{
-    push_column(text, before)?;
-    push(text, name)?;
-    push(text, " ")
-}
-
-/// Appends what is wrong with a word that is no number.
-fn push_no_number(text: &mut Vec<u8>, name: &str, placed: Placed<'_>) -> Result<(), Memory>
-    requires { placed.before < 2 ^ 64 - 1 }
-    ensures { OnOk result (text.new.items
-        ≡ text.old.items ++ number_text name.now placed.entry.before placed.entry.word.now) }
-{
-    push_named(text, name, placed.before)?;
-    push_quoted(text, placed.word)?;
-    push(text, no_number(placed.word))
-}
-
-/// Appends that a number of bytes is no number of whole pages, and what would be one.
-fn push_whole(text: &mut Vec<u8>, mend: &str, whole: u64) -> Result<(), Memory>
-    ensures { OnOk result (text.new.items ≡ text.old.items ++ whole_text mend.now whole) }
-{
-    push(text, " is not a multiple of 4096; ")?;
-    push(text, mend)?;
-    push_address(text, whole)?;
-    Ok(())
-}
-
-/// Appends what is wrong with a word whose number of bytes is no number of whole pages.
-fn push_part(
-    text: &mut Vec<u8>,
-    name: &str,
-    placed: Placed<'_>,
-    mend: &str,
-    whole: u64,
-) -> Result<(), Memory>
-    requires { placed.before < 2 ^ 64 - 1 }
-    ensures { OnOk result (text.new.items ≡ text.old.items
-        ++ part_text name.now placed.entry.before
-        placed.entry.word.now mend.now whole) }
-{
-    push_named(text, name, placed.before)?;
-    text.extend_from_slice(placed.word)?;
-    push_whole(text, mend, whole)?;
-    Ok(())
-}
-
-/// How a size that is no whole number of pages is fixed.
-fn pages_mend(bytes: u64) -> &'static str
-    ensures { result.now ≡ pages_mend bytes }
-{
-    if bytes < 4096 {
-        "the whole page is "
-    } else {
-        "the whole pages are "
-    }
-}
 
 /// Appends how large a size may be at most.
 fn push_most(text: &mut Vec<u8>, first: u64) -> Result<(), Memory>
@@ -130,14 +70,11 @@ fn push_range(
         size.entry.before size.entry.word.now perm.entry.before perm.entry.word.now
         first bytes) }
 {
-    let part = first % 4096;
-    if part != 0 {
-        return push_part(text, "BASE", base, "its page begins at ", first - part);
+    if first % 4096 != 0 {
+        return push_base_part(text, base, first, bytes);
     }
-    let part = bytes % 4096;
-    if part != 0 && bytes < SPACE_SIZE {
-        let whole = bytes - part + 4096;
-        return push_part(text, "SIZE", size, pages_mend(bytes), whole);
+    if bytes % 4096 != 0 && bytes < SPACE_SIZE {
+        return push_size_part(text, size, bytes);
     }
     match Perm::from_word(perm.word) {
         None => push_perm(text, perm.before, perm.word),
@@ -145,24 +82,22 @@ fn push_range(
     }
 }
 
-/// Appends what is wrong with three words.
+/// Appends what is wrong with three words, of which the first is this number.
 #[tactic(auto, unfolding(crate::specs::Reasons::three_text))]
 fn push_three(
     text: &mut Vec<u8>,
     base: Placed<'_>,
     size: Placed<'_>,
     perm: Placed<'_>,
+    first: u64,
 ) -> Result<(), Memory>
     requires base { base.before < 2 ^ 64 - 1 }
     requires size { size.before < 2 ^ 64 - 1 }
     requires perm { perm.before < 2 ^ 64 - 1 }
     ensures { OnOk result
         (text.new.items ≡ text.old.items ++ three_text base.entry.before base.entry.word.now
-        size.entry.before size.entry.word.now perm.entry.before perm.entry.word.now) }
+        size.entry.before size.entry.word.now perm.entry.before perm.entry.word.now first) }
 {
-    let Some(first) = number(base.word) else {
-        return push_no_number(text, "BASE", base);
-    };
     let Some(bytes) = number(size.word) else {
         return push_no_number(text, "SIZE", size);
     };
@@ -176,6 +111,9 @@ fn push_words(text: &mut Vec<u8>, line: &[u8]) -> Result<(), Memory>
     ensures { OnOk result (text.new.items ≡ text.old.items ++ words_text line.now) }
 {
     let base = word_from(line, 0);
+    let Some(first) = number(base.word) else {
+        return push_no_base(text, base);
+    };
     let size = word_from(line, base.end);
     if size.word.is_empty() {
         push_column(text, base.end)?;
@@ -191,7 +129,7 @@ fn push_words(text: &mut Vec<u8>, line: &[u8]) -> Result<(), Memory>
         push_column(text, more.before)?;
         return push(text, "a fourth word; a comment begins with #");
     }
-    push_three(text, base, size, perm)
+    push_three(text, base, size, perm, first)
 }
 
 /// Appends what is wrong with a line that comes without its LF and its CR.
@@ -204,11 +142,9 @@ fn push_line(text: &mut Vec<u8>, line: &[u8]) -> Result<(), Memory>
     if are_allowed(content) {
         return push_words(text, content);
     }
-    push_column(text, allowed_len(line))?;
-    push(
-        text,
-        "a byte that is no visible ASCII character; write it behind a #",
-    )
+    let at = allowed_len(line);
+    push_column(text, at)?;
+    push(text, byte_fault(&line[at..]))
 }
 
 /// Appends why a line of at most 1023 bytes is not understood.

@@ -32,7 +32,15 @@ fn each_line_at_fault_by_its_column_and_reason(rt: HostRuntime) -> Result<(), Fa
         ),
         (
             b"\n0x80000800 0x1000 rwx",
-            "m:2:1: BASE 0x80000800 is not a multiple of 4096; its page begins at 0x80000000\n",
+            "m:2:1: BASE 0x80000800 is not a multiple of 4096; the whole pages are 0x80000000 0x2000\n",
+        ),
+        (
+            b"0x80000800 0 rwx\n0x80000800 0x100000000000000 rwx\n",
+            "m:1:1: BASE 0x80000800 is not a multiple of 4096; its page begins at 0x80000000\nm:2:1: BASE 0x80000800 is not a multiple of 4096; its page begins at 0x80000000\n",
+        ),
+        (
+            b"80000000 0x1000 rwx\n0 1000 rwx\n80000001 0x1000 rwx\n",
+            "m:1:1: BASE 80000000 is not a multiple of 4096 in decimal; write 0x80000000\nm:2:3: SIZE 1000 is not a multiple of 4096 in decimal; write 0x1000\nm:3:1: BASE 80000001 is not a multiple of 4096; the whole pages are 0x4c4b000 0x2000\n",
         ),
         (
             b"0 0x1800 r\n",
@@ -45,6 +53,18 @@ fn each_line_at_fault_by_its_column_and_reason(rt: HostRuntime) -> Result<(), Fa
         (
             b"0 4096 XR\n0 4096 ---\n0 4096 all\n",
             "m:1:8: PERM 'XR' is not written so; write rx\nm:2:8: PERM '---' is not written so; write none\nm:3:8: PERM 'all' is no permission; write none, r, rw, x, rx or rwx\n",
+        ),
+        (
+            b"0 4096 None\n0 4096 NONE\n0 4096 nones\n",
+            "m:1:8: PERM 'None' is not written so; write none\nm:2:8: PERM 'NONE' is not written so; write none\nm:3:8: PERM 'nones' is no permission; write none, r, rw, x, rx or rwx\n",
+        ),
+        (
+            b"// comment\n; comment\n0x1000-0x1fff rwx\n-1 4096 r\nDomain0 Region00 : 0x2000000-0x200ffff (I)\n",
+            "m:1:1: BASE '//' is no number; a comment begins with #\nm:2:1: BASE ';' is no number; a comment begins with #\nm:3:1: BASE '0x1000-0x1fff' is no number; a line is BASE SIZE PERM, SIZE in bytes\nm:4:1: BASE '-1' is no number; write decimal digits, or 0x and hexadecimal digits\nm:5:1: BASE 'Domain0' is no number; 'pmpmon map' reads a boot log\n",
+        ),
+        (
+            b"0 4096 r\r0 4096 r\n0\xC2\xA0 4096 r\n0 4096 r\0\n\xFF\xFE0\0\n\xFE\xFF\0\n",
+            "m:1:9: a CR that no LF follows; end lines with LF\nm:2:2: a no-break space; write a space\nm:3:9: a NUL byte; save the file as UTF-8\nm:4:1: a byte order mark of UTF-16; save the file as UTF-8 without one\nm:5:1: a byte order mark of UTF-16; save the file as UTF-8 without one\n",
         ),
         (
             b"0xfffffffffff000 0x2000 r\n0x100000000001000 0 r\n",

@@ -85,8 +85,12 @@ fn harts_and_events_are_named(rt: HostRuntime) -> Result<(), Fail> {
             "t:1:1: 'IRQ' is no event; write irq\nt:2:1: 'lead' is no event; write load\nt:3:1: 'st' is no event; write store\nt:4:1: 'register' is no event; write reg\nt:5:1: 'read' is no event; write fetch, load, store, reg, ecall or irq\nt:6:1: 'irq@1' is no event; write irq\n",
         ),
         (
+            b"// comment\n;comment\nirq\0\n",
+            "t:1:1: '//' is no event; a comment begins with #\nt:2:1: ';comment' is no event; a comment begins with #\nt:3:4: a NUL byte; save the file as UTF-8\n",
+        ),
+        (
             b"\xEF\xBB\xBFirq\nirq \xC3\xA9\nirq\r\r\n",
-            "t:1:1: a byte order mark; save the file without one\nt:2:5: a byte that is no visible ASCII character; write it behind a #\nt:3:4: a byte that is no visible ASCII character; write it behind a #\n",
+            "t:1:1: a byte order mark; save the file without one\nt:2:5: a byte that is no visible ASCII character; write it behind a #\nt:3:4: a CR that no LF follows; end lines with LF\n",
         ),
         (
             b"irq\n0123456789012345678901234567890123456789\n\nirq irq",

@@ -1,5 +1,5 @@
 -- What is wrong with a line that is none of a trace, and where.
-use Rattle.std.specs.Prelude.{◌≡◌, ℕ, ◌+◌, ◌<◌, ◌==◌, nat_le, Bool, true, false, List, [], ◌∷◌, length, slice_get, Option, Some, None, if◌then◌else◌, is_some}
+use Rattle.std.specs.Prelude.{◌≡◌, ℕ, ◌+◌, ◌<◌, ◌==◌, nat_le, Bool, true, false, List, [], ◌∷◌, length, drop, slice_get, Option, Some, None, if◌then◌else◌, is_some}
 use Rattle.std.specs.List.{list_all, prefix_len}
 use Rattle.text_lines.specs.Lines.{without_return}
 use Rattle.text_lines.specs.Words.{content_of, is_allowed}
@@ -55,5 +55,5 @@ BreaksWords harts words before word reason = BreaksEvent (event_words harts word
 abbrev pub BreaksLine : ℕ → List ℕ → ℕ → Word → Reason → Type 0
 BreaksLine harts raw before word LongLine = (1023 < length raw) × (before ≡ 1023)
 BreaksLine harts raw before word ByteOrderMark = (has_mark raw ≡ true) × (before ≡ 0)
-BreaksLine harts raw before word NoText = (list_all is_allowed (content_of (without_return raw)) ≡ false) × (before ≡ prefix_len is_allowed (without_return raw))
+BreaksLine harts raw before word NoText = (list_all is_allowed (content_of (without_return raw)) ≡ false) × (before ≡ prefix_len is_allowed (without_return raw)) × (word ≡ drop before (without_return raw))
 BreaksLine harts raw before word reason = BreaksWords harts (placed_words (content_of (without_return raw))) before word reason

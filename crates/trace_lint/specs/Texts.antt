@@ -4,6 +4,7 @@ use Rattle.pmp_match.specs.declared.access.Kind.{Kind}
 use Rattle.pmp_match.specs.declared.access.Kind.TheVariants as accesses
 use Rattle.text_lines.specs.Numbers.{number_of}
 use Rattle.hart_trace.specs.Events.{Word}
+use Rattle.lint_texts.specs.Marks.{begins_comment, byte_fault}
 use Rattle.lint_texts.specs.Numbers.{looks_like_number, no_number}
 use Rattle.lint_texts.specs.Pieces.{column_text, place_text, quoted}
 use Rattle.trace_lint.specs.declared.forms.EventKind.{EventKind}
@@ -77,6 +78,10 @@ abbrev pub unknown_fault : Option EventKind → List ℕ
 unknown_fault None = codes " is no event; write fetch, load, store, reg, ecall or irq"
 unknown_fault (Some kind) = codes " is no event; write " ++ keyword kind
 
+-- a word that begins no event: it begins a comment of another language, or is near to one that does
+abbrev pub event_fault : Word → List ℕ
+event_fault word = if begins_comment word then codes " is no event; a comment begins with #" else unknown_fault (near_kind word)
+
 -- a word that an event has no longer
 abbrev pub extra_fault : EventKind → List ℕ
 extra_fault Fetch = codes " is too much; a fetch ends with ADDR, and a comment begins with #"
@@ -90,10 +95,10 @@ extra_fault Irq = codes " is too much; irq stands alone, and a comment begins wi
 abbrev pub reason_text : ℕ → Word → Reason → List ℕ
 reason_text harts word LongLine = codes "the line is too long; it has at most 1023 bytes"
 reason_text harts word ByteOrderMark = codes "a byte order mark; save the file without one"
-reason_text harts word NoText = codes "a byte that is no visible ASCII character; write it behind a #"
+reason_text harts word NoText = byte_fault word
 reason_text harts word NoHart = quoted word ++ hart_fault harts (is_at_digit word)
 reason_text harts word NoEvent = codes "no event stands after the hart; write fetch, load, store, reg, ecall or irq"
-reason_text harts word UnknownEvent = quoted word ++ unknown_fault (near_kind word)
+reason_text harts word UnknownEvent = quoted word ++ event_fault word
 reason_text harts word (Misfit slot) = slot_name slot ++ (codes " " ++ (quoted word ++ misfit_fault slot word))
 reason_text harts word (Missing kind slot) = slot_name slot ++ (codes " is wanting; write " ++ form_text kind)
 reason_text harts word (Extra kind) = quoted word ++ extra_fault kind

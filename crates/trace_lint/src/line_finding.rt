@@ -91,9 +91,10 @@ pub(crate) fn line_finding(raw: &[u8], harts: u8) -> Finding<'_>
     let line = without_return(raw);
     let content = content_of(line);
     if !are_allowed(content) {
+        let before = allowed_len(line);
         return Finding {
-            before: allowed_len(line),
-            word: &[],
+            before,
+            word: &line[before..],
             reason: Reason::NoText,
         };
     }

@@ -25,7 +25,8 @@ pub enum Reason {
     Extra(EventKind),
 }
 
-/// A reason, the word at fault where there is one, and how many bytes of the line stand before it.
+/// A reason, the word at fault where there is one, and how many bytes of the line stand before it. Of a byte that may not stand
+/// there the word is what begins with it.
 #[derive(Clone, Copy)]
 pub struct Finding<'a> {
     pub before: usize,

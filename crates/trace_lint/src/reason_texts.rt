@@ -1,7 +1,7 @@
 //! What is said of a line at fault, and what would fix it.
 
 ghost use Rattle.std.specs.Prelude.{◌≡◌, ◌++◌, ◌-◌, ◌^◌, ◌<◌, OnOk, Some, codes, true};
-ghost use Rattle.trace_lint.specs.Texts.{extra_fault, finding_text, form_text, hart_fault, is_at_digit, misfit_fault, mode_fault, no_size, reason_text, register_fault, size_fault, slot_name, unknown_fault};
+ghost use Rattle.trace_lint.specs.Texts.{event_fault, extra_fault, finding_text, form_text, hart_fault, is_at_digit, misfit_fault, mode_fault, no_size, reason_text, register_fault, size_fault, slot_name, unknown_fault};
 ghost use Rattle.trace_lint.specs.Keywords.{near_kind};
 ghost use Rattle.trace_lint.specs.Registers.{meant_register};
 ghost use Rattle.text_lines.specs.Numbers.{number_of};
@@ -11,7 +11,9 @@ use crate::forms::{EventKind, Slot};
 use crate::keywords::{is_text, keyword, near_kind};
 use crate::reason::{Finding, Reason};
 use crate::registers::meant_register;
-use lint_texts::{no_number, push, push_column, push_number, push_place, push_quoted};
+use lint_texts::{
+    begins_comment, byte_fault, no_number, push, push_column, push_number, push_place, push_quoted,
+};
 use pmp_match::Kind;
 use std::alloc::AllocError;
 use text_lines::number;
@@ -135,7 +137,7 @@ fn push_hart(text: &mut Vec<u8>, harts: u8, word: &[u8]) -> Result<(), AllocErro
     push(text, " names no hart; write @ and one digit")
 }
 
-/// Appends what is wrong with a word that begins no event.
+/// Appends what is said of a word that begins no event, by the one that is near.
 fn push_unknown(text: &mut Vec<u8>, word: &[u8]) -> Result<(), AllocError>
     ensures { OnOk result (text.new.items
         ≡ text.old.items ++ unknown_fault (near_kind word.now)) }
@@ -150,6 +152,16 @@ fn push_unknown(text: &mut Vec<u8>, word: &[u8]) -> Result<(), AllocError>
             push(text, keyword(kind))
         }
     }
+}
+
+/// Appends what is wrong with a word that begins no event.
+fn push_no_event(text: &mut Vec<u8>, word: &[u8]) -> Result<(), AllocError>
+    ensures { OnOk result (text.new.items ≡ text.old.items ++ event_fault word.now) }
+{
+    if begins_comment(word) {
+        return push(text, " is no event; a comment begins with #");
+    }
+    push_unknown(text, word)
 }
 
 /// What is said of a word that an event has no longer.
@@ -196,10 +208,7 @@ fn push_reason(text: &mut Vec<u8>, harts: u8, word: &[u8], reason: Reason) -> Re
     match reason {
         Reason::LongLine => push(text, "the line is too long; it has at most 1023 bytes"),
         Reason::ByteOrderMark => push(text, "a byte order mark; save the file without one"),
-        Reason::NoText => push(
-            text,
-            "a byte that is no visible ASCII character; write it behind a #",
-        ),
+        Reason::NoText => push(text, byte_fault(word)),
         Reason::NoHart => {
             push_quoted(text, word)?;
             push_hart(text, harts, word)
@@ -210,7 +219,7 @@ fn push_reason(text: &mut Vec<u8>, harts: u8, word: &[u8], reason: Reason) -> Re
         ),
         Reason::UnknownEvent => {
             push_quoted(text, word)?;
-            push_unknown(text, word)
+            push_no_event(text, word)
         }
         Reason::Misfit(slot) => push_named(text, slot, word),
         Reason::Missing(kind, slot) => push_missing(text, kind, slot),

@@ -1,0 +1,216 @@
+//! Words that should be numbers of bytes, of whole pages.
+
+ghost use Rattle.std.specs.Prelude.{◌≡◌, ◌++◌, ◌-◌, ◌%◌, ◌^◌, ◌<◌, ◌==◌, OnOk, bytes_eq, codes};
+ghost use Rattle.std.specs.List.{list_any};
+ghost use Rattle.text_lines.specs.Numbers.{numeral_of};
+ghost use Rattle.lint_texts.specs.Pieces.{address_text};
+ghost use Rattle.map_lint.specs.Numbers.{base_fault, base_mend, base_part, base_text, has_hyphen, hex_text, is_whole_hex, named_text, number_text, pages_mend, part_text, size_mend, size_part, whole_bytes, whole_pages};
+
+use lint_texts::{Placed, begins_comment, no_number, push, push_address, push_column, push_quoted};
+use permission_map::Memory;
+use pmp_encoding::SPACE_SIZE;
+use text_lines::numeral;
+
+/// Appends the column of a word, and its name.
+fn push_named(text: &mut Vec<u8>, name: &str, before: usize) -> Result<(), Memory>
+    requires { before < 2 ^ 64 - 1 }
+    ensures { OnOk result (text.new.items ≡ text.old.items ++ named_text name.now before) }
+{
+    push_column(text, before)?;
+    push(text, name)?;
+    push(text, " ")
+}
+
+/// Appends what is wrong with a word that is no number.
+pub(crate) fn push_no_number(
+    text: &mut Vec<u8>,
+    name: &str,
+    placed: Placed<'_>,
+) -> Result<(), Memory>
+    requires { placed.before < 2 ^ 64 - 1 }
+    ensures { OnOk result (text.new.items
+        ≡ text.old.items ++ number_text name.now placed.entry.before placed.entry.word.now) }
+{
+    push_named(text, name, placed.before)?;
+    push_quoted(text, placed.word)?;
+    push(text, no_number(placed.word))
+}
+
+/// Whether a hyphen stands in a text.
+fn any_hyphen(text: &[u8]) -> bool
+    ensures { result ≡ list_any (λ b. b == 45) text.now }
+{
+    text.iter().any(|byte| *byte == b'-')
+}
+
+/// Whether a hyphen stands in a word, after its first byte.
+fn has_hyphen(word: &[u8]) -> bool
+    ensures { result ≡ has_hyphen word.now }
+{
+    match word {
+        [_, rest @ ..] => any_hyphen(rest),
+        [] => false,
+    }
+}
+
+/// Whether a word begins a line of OpenSBI's boot log.
+fn is_domain(word: &[u8]) -> bool
+    ensures { result ≡ bytes_eq word.now (codes "Domain0") }
+{
+    word == b"Domain0".as_slice()
+}
+
+/// What is wrong with a first word that is no number.
+fn base_fault(word: &[u8]) -> &'static str
+    ensures { result.now ≡ base_fault word.now }
+{
+    if begins_comment(word) {
+        return " is no number; a comment begins with #";
+    }
+    if has_hyphen(word) {
+        return " is no number; a line is BASE SIZE PERM, SIZE in bytes";
+    }
+    if is_domain(word) {
+        return " is no number; 'pmpmon map' reads a boot log";
+    }
+    no_number(word)
+}
+
+/// Appends what is wrong with a first word that is no number.
+pub(crate) fn push_no_base(text: &mut Vec<u8>, placed: Placed<'_>) -> Result<(), Memory>
+    requires { placed.before < 2 ^ 64 - 1 }
+    ensures { OnOk result (text.new.items
+        ≡ text.old.items ++ base_text placed.entry.before placed.entry.word.now) }
+{
+    push_named(text, "BASE", placed.before)?;
+    push_quoted(text, placed.word)?;
+    push(text, base_fault(placed.word))
+}
+
+/// Whether digits are a whole number of pages as hexadecimal ones, inside the space.
+fn is_whole_hex(digits: &[u8]) -> bool
+    ensures { result ≡ is_whole_hex (numeral_of 16 digits.now) }
+{
+    match numeral(digits, 16) {
+        Some(n) => n % 4096 == 0 && n < SPACE_SIZE,
+        None => false,
+    }
+}
+
+/// Appends that `0x` is wanting before the digits of a number.
+fn push_hex(text: &mut Vec<u8>, name: &str, placed: Placed<'_>) -> Result<(), Memory>
+    requires { placed.before < 2 ^ 64 - 1 }
+    ensures { OnOk result (text.new.items
+        ≡ text.old.items ++ hex_text name.now placed.entry.before placed.entry.word.now) }
+{
+    push_named(text, name, placed.before)?;
+    text.extend_from_slice(placed.word)?;
+    push(text, " is not a multiple of 4096 in decimal; write 0x")?;
+    text.extend_from_slice(placed.word)?;
+    Ok(())
+}
+
+/// Appends that a word's number of bytes is no number of whole pages.
+fn push_part(text: &mut Vec<u8>, name: &str, placed: Placed<'_>) -> Result<(), Memory>
+    requires { placed.before < 2 ^ 64 - 1 }
+    ensures { OnOk result (text.new.items
+        ≡ text.old.items ++ part_text name.now placed.entry.before placed.entry.word.now) }
+{
+    push_named(text, name, placed.before)?;
+    text.extend_from_slice(placed.word)?;
+    push(text, " is not a multiple of 4096; ")?;
+    Ok(())
+}
+
+/// As many bytes as the fewest whole pages that have so many.
+fn whole_bytes(bytes: u64) -> u64
+    requires { bytes < 2 ^ 63 }
+    ensures { result ≡ whole_bytes bytes }
+{
+    let most = bytes + 4095;
+    most - most % 4096
+}
+
+/// Appends the whole pages of a range, from its first byte on.
+fn push_whole_pages(text: &mut Vec<u8>, first: u64, bytes: u64) -> Result<(), Memory>
+    requires { bytes < 2 ^ 56 }
+    ensures { OnOk result (text.new.items ≡ text.old.items ++ whole_pages first bytes) }
+{
+    let part = first % 4096;
+    push(text, "the whole pages are ")?;
+    push_address(text, first - part)?;
+    push(text, " ")?;
+    push_address(text, whole_bytes(part + bytes))?;
+    Ok(())
+}
+
+/// Appends where the page of a byte begins.
+fn push_page(text: &mut Vec<u8>, first: u64) -> Result<(), Memory>
+    ensures { OnOk result (text.new.items ≡ text.old.items
+        ++ (codes "its page begins at " ++ address_text (first - first % 4096))) }
+{
+    push(text, "its page begins at ")?;
+    push_address(text, first - first % 4096)
+}
+
+/// Appends what fixes a base that is no whole number of pages.
+fn push_base_mend(text: &mut Vec<u8>, first: u64, bytes: u64) -> Result<(), Memory>
+    ensures { OnOk result (text.new.items ≡ text.old.items ++ base_mend first bytes) }
+{
+    if bytes > 0 && bytes < SPACE_SIZE {
+        return push_whole_pages(text, first, bytes);
+    }
+    push_page(text, first)
+}
+
+/// Appends what is wrong with a base that is no whole number of pages.
+pub(crate) fn push_base_part(
+    text: &mut Vec<u8>,
+    base: Placed<'_>,
+    first: u64,
+    bytes: u64,
+) -> Result<(), Memory>
+    requires { base.before < 2 ^ 64 - 1 }
+    ensures { OnOk result (text.new.items
+        ≡ text.old.items ++ base_part base.entry.before base.entry.word.now first bytes) }
+{
+    if is_whole_hex(base.word) {
+        return push_hex(text, "BASE", base);
+    }
+    push_part(text, "BASE", base)?;
+    push_base_mend(text, first, bytes)
+}
+
+/// What stands before the whole pages of a size.
+fn pages_mend(bytes: u64) -> &'static str
+    ensures { result.now ≡ pages_mend bytes }
+{
+    if bytes < 4096 {
+        "the whole page is "
+    } else {
+        "the whole pages are "
+    }
+}
+
+/// Appends what fixes a size that is no whole number of pages.
+fn push_size_mend(text: &mut Vec<u8>, bytes: u64) -> Result<(), Memory>
+    requires { bytes < 2 ^ 56 }
+    ensures { OnOk result (text.new.items ≡ text.old.items ++ size_mend bytes) }
+{
+    push(text, pages_mend(bytes))?;
+    push_address(text, whole_bytes(bytes))
+}
+
+/// Appends what is wrong with a size that is no whole number of pages.
+pub(crate) fn push_size_part(text: &mut Vec<u8>, size: Placed<'_>, bytes: u64) -> Result<(), Memory>
+    requires before { size.before < 2 ^ 64 - 1 }
+    requires bytes { bytes < 2 ^ 56 }
+    ensures { OnOk result (text.new.items
+        ≡ text.old.items ++ size_part size.entry.before size.entry.word.now bytes) }
+{
+    if is_whole_hex(size.word) {
+        return push_hex(text, "SIZE", size);
+    }
+    push_part(text, "SIZE", size)?;
+    push_size_mend(text, bytes)
+}
