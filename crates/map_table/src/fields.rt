@@ -1,22 +1,74 @@
 //! The column of sizes.
 
-ghost use Rattle.std.specs.Prelude.{◌≡◌, ◌++◌, ◌+◌, ◌≤◌};
+ghost use Rattle.std.specs.Prelude.{◌≡◌, ◌++◌, ◌+◌, ◌*◌, ◌^◌, ◌<◌, ◌≤◌, [], length};
 ghost use Rattle.arrayvec.specs.ArrayVec.{array_vec_len};
-ghost use Rattle.printed_lines.specs.Fields.{size_text};
-ghost use Rattle.map_table.specs.Fields.{column};
+ghost use Rattle.map_table.specs.Fields.{column, column_size, more_than, rounded_text};
 
 use arrayvec::ArrayVec;
 use printed_lines::push_size;
-use text_lines::{Line, push_text};
+use text_lines::{Line, push_decimal, push_text};
+
+/// How many bytes an exact size may have.
+const MOST: usize = 8;
+
+/// Writes how many of a unit a size has more than, to an empty line: with tenths below ten.
+fn push_more_than(line: &mut Line, size: u64, unit: u64, name: &str)
+    requires empty { line.old.items ≡ [] }
+    requires unit { 0 < unit }
+    requires small { unit ≤ 2 ^ 50 }
+    requires name { length name.now ≤ 4 }
+    ensures items { line.new.items ≡ more_than size unit name.now }
+    ensures len { array_vec_len line.new ≤ 50 }
+{
+    line.push(b'>');
+    push_decimal(line, size / unit);
+    if size < 10 * unit {
+        line.push(b'.');
+        push_decimal(line, size % unit * 10 / unit);
+        push_text(line, name.as_bytes());
+    } else {
+        push_text(line, name.as_bytes());
+    }
+}
+
+/// A size rounded down, in the unit of which it has fewer than a thousand.
+fn rounded(size: u64) -> Line
+    ensures items { result.items ≡ rounded_text size }
+    ensures len { array_vec_len result ≤ 50 }
+{
+    let mut line = ArrayVec::new();
+    if size < 1000 << 20 {
+        push_more_than(&mut line, size, 1 << 20, " MiB");
+    } else if size < 1000 << 30 {
+        push_more_than(&mut line, size, 1 << 30, " GiB");
+    } else if size < 1000 << 40 {
+        push_more_than(&mut line, size, 1 << 40, " TiB");
+    } else {
+        push_more_than(&mut line, size, 1 << 50, " PiB");
+    }
+    line
+}
+
+/// A size as it stands in the column: exact where that is short.
+fn column_size(size: u64) -> Line
+    ensures items { result.items ≡ column_size size }
+    ensures len { array_vec_len result ≤ 50 }
+{
+    let mut exact: Line = ArrayVec::new();
+    push_size(&mut exact, size);
+    if exact.len() > MOST {
+        return rounded(size);
+    }
+    exact
+}
 
 /// Appends a size, with blanks before one of fewer than seven bytes.
 pub(crate) fn push_column(line: &mut Line, size: u64)
-    requires room { array_vec_len line.old + 31 ≤ 128 }
-    ensures items { line.new.items ≡ line.old.items ++ column (size_text size) }
-    ensures len { array_vec_len line.new ≤ array_vec_len line.old + 31 }
+    requires room { array_vec_len line.old + 57 ≤ 128 }
+    ensures items { line.new.items ≡ line.old.items ++ column (column_size size) }
+    ensures len { array_vec_len line.new ≤ array_vec_len line.old + 57 }
 {
-    let mut text: Line = ArrayVec::new();
-    push_size(&mut text, size);
+    let text = column_size(size);
     let blanks = b"       ";
     push_text(line, &blanks[..7usize.saturating_sub(text.len())]);
     push_text(line, text.as_slice());

@@ -25,7 +25,7 @@ fn ranges_blocks_and_what_they_override(rt: HostRuntime) -> Result<(), Fail> {
 from               to                 size    perm by
 0x0000000000000400 0x00000000000007ff   1 KiB  r--  1
 0x0000000080000000 0x0000000080007fff  32 KiB  ---  2 (before 3)
-0x0000000080008000 0x0000000087ffffff 131040 KiB  rwx  3
+0x0000000080008000 0x0000000087ffffff >127 MiB  rwx  3
 all else                                       ---  no entry
 4 entries are not OFF
 ";
