@@ -17,5 +17,7 @@ fault_kind (faults.Name word) = ValueValidation
 fault_kind (faults.First word) = ValueValidation
 fault_kind faults.InputTwice = ArgumentConflict
 fault_kind faults.TwoKinds = ArgumentConflict
+fault_kind faults.NoPicture = ArgumentConflict
+fault_kind faults.NoCosts = ArgumentConflict
 fault_kind faults.PlatformAlone = MissingRequiredArgument
 fault_kind (faults.TakesPlace map) = ArgumentConflict

@@ -10,7 +10,7 @@ pub const ABOUT: &str =
 
 /// What stands after the list of subcommands.
 pub const EXAMPLE: &str =
-    "Example, with a file map.txt that holds the line\n\n  0x80000000 0x1000 rwx\n\n  pmpmon plan map.txt map.pmpc      prints one entry, and writes its certificate\n  pmpmon check map.txt map.pmpc     prints 'accepted 1'\n\nMAP, TRACE and REGISTERS can be '-', standard input.\n\nStatus: 0 done, 1 refused by the checker, by audit, by lint or by --expect, 2 bad input, 3 input or output failed, 4 memory";
+    "Example, with a file map.txt that holds the line\n\n  0x80000000 0x1000 rwx\n\n  pmpmon plan map.txt map.pmpc      prints one entry, and writes its certificate\n  pmpmon check map.txt map.pmpc     prints 'accepted 1'\n\nA file that is read can be '-', standard input; the certificate that plan writes cannot.\n\nStatus: 0 done, 1 refused by the checker, by audit, by lint or by --expect, 2 bad input, 3 input or output failed, 4 memory";
 
 /// What stands after the options of `run`.
 pub const RUN_HELP: &str =
@@ -34,7 +34,7 @@ pub const LINT_HELP: &str =
 
 /// After those of `show`.
 pub const SHOW_HELP: &str =
-    "Prints the map as a table: each stretch of bytes with one permission that one entry decides, its size, its\npermission (r, w, x, a hyphen for each that it lacks), the entry, and the entries that it overrides there; then all\nelse; then how many entries the map needs, and whether a hart of --entries has as many.\n\nWith --costs lines as 'without line 3: 22 entries' follow, one for each line of the map that sets something: what it\nneeds without that line. With --format svg the table is a picture, with --format json one object. Both are for a map.\n\nWith --registers the file is a listing of registers, as audit takes it, and the table says what they give: OFF, TOR, NA4\nand NAPOT, locked or not. --entries and --at-most say nothing then. Registers with reserved values, or beside an mseccfg\nthat is not zero, have no table: one line says why, with status 1.\n\nWith --xlen 32 the registers are those of RV32, and a map with a byte at or beyond 2^34 is too far for it, with status 2.\n\nExamples:\n  pmpmon show map.txt --entries 64\n  pmpmon show map.txt --format svg > map.svg\n  pmpmon show --registers board.txt";
+    "Prints the map as a table: each stretch of bytes with one permission that one entry decides, its size, its\npermission (r, w, x, a hyphen for each that it lacks), the entry, and the entries that it overrides there; then all\nelse; then how many entries the map needs, and whether a hart of --entries has as many.\n\nWith --costs lines as 'without line 3: 22 entries' follow, one for each line of the map that sets something: what it\nneeds without that line. With --format svg the table is a picture, with --format json one object, without costs.\nNone of them can be used with --registers.\n\nWith --registers the file is a listing of registers, as audit takes it, and the table says what they give: OFF, TOR, NA4\nand NAPOT, locked or not. --entries and --at-most say nothing then. Registers with reserved values, or beside an mseccfg\nthat is not zero, have no table: one line says why, with status 1.\n\nWith --xlen 32 the registers are those of RV32, and a map with a byte at or beyond 2^34 is too far for it, with status 2.\n\nExamples:\n  pmpmon show map.txt --entries 64\n  pmpmon show map.txt --format svg > map.svg\n  pmpmon show --registers board.txt";
 
 /// After those of `judge`.
 pub const JUDGE_HELP: &str =

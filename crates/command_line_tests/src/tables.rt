@@ -43,8 +43,8 @@ fn a_table_has_formats_and_costs(rt: HostRuntime) {
             false,
         ),
         (
-            &["pmpmon", "show", "--costs", "m", "--format", "json"],
-            TableFormat::Json,
+            &["pmpmon", "show", "--costs", "m", "--format", "text"],
+            TableFormat::Text,
             true,
         ),
     ];
@@ -58,5 +58,34 @@ fn a_table_is_no_c(rt: HostRuntime) {
     match command_of(rt.alloc(), &["pmpmon", "show", "m", "--format", "asm"]) {
         Ok(_) => panic!(&rt; "a task"),
         Err(error) => assert!(&rt; error.exit_code() == 2),
+    }
+}
+
+/// The words are no task, and a fault of the command line.
+fn is_fault(rt: &impl Abort, alloc: Global, words: &[&str]) {
+    match command_of(alloc, words) {
+        Ok(_) => panic!(rt; "a task"),
+        Err(error) => assert!(rt; error.exit_code() == 2),
+    }
+}
+
+#[test]
+fn what_a_table_has_not_is_a_fault(rt: HostRuntime) {
+    let rows: [&[&str]; 5] = [
+        &["pmpmon", "show", "--costs", "m", "--format", "json"],
+        &["pmpmon", "show", "--costs", "m", "--format", "svg"],
+        &["pmpmon", "show", "--registers", "r", "--format", "json"],
+        &["pmpmon", "show", "--registers", "r", "--format=svg"],
+        &["pmpmon", "show", "--registers", "r", "--costs"],
+    ];
+    for words in rows {
+        is_fault(&rt, rt.alloc(), words);
+    }
+    match command_of(
+        rt.alloc(),
+        &["pmpmon", "show", "--registers", "r", "--format", "text"],
+    ) {
+        Ok(_) => {}
+        Err(_) => panic!(&rt; "a table of registers as text is one"),
     }
 }

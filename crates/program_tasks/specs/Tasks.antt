@@ -130,8 +130,16 @@ HasValues value flag (Lint file kind xlen) =
 abbrev pub input_word : Text
 input_word = codes "-"
 
--- standard input is read once at most, a certificate never takes the place of its map, a name is an identifier, and a plan
--- begins at an entry that such a hart has
+-- of registers there is a table as text alone
+abbrev pub IsOfMap : Bool → TableFormat → Type 0
+IsOfMap registers format = registers ≡ true → format ≡ tables.Text
+
+-- costs stand in the text of a map's table alone
+abbrev pub IsOfText : Bool → TableFormat → Bool → Type 0
+IsOfText registers format costs = costs ≡ true → (registers ≡ false) × (format ≡ tables.Text)
+
+-- standard input is read once at most, a certificate never takes the place of its map, a name is an identifier, a plan
+-- begins at an entry that such a hart has, and a table has a form and costs that there are
 abbrev pub IsSound : Task → Type 0
 IsSound (Plan map cert limit at_most format name first xlen) =
     (option_map (λ s. s.now) cert ≢ Some map.now)
@@ -139,6 +147,7 @@ IsSound (Plan map cert limit at_most format name first xlen) =
     × (first < limit_number limit)
 IsSound (Judge map trace limit registers expect xlen) = ¬ ((map.now ≡ input_word) × (trace.now ≡ input_word))
 IsSound (Audit map registers all xlen) = ¬ ((map.now ≡ input_word) × (registers.now ≡ input_word))
+IsSound (Show map limit at_most registers xlen format costs) = IsOfMap registers format × IsOfText registers format costs
 IsSound task = Unit {0}
 
 -- no sound task is that subcommand with these values

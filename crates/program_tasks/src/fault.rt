@@ -32,6 +32,10 @@ pub enum Fault<'a> {
     TwoKinds,
     /// `--platform` is given without `--trace`.
     PlatformAlone,
+    /// Of registers another table is asked for than the text.
+    NoPicture,
+    /// Costs are asked for of what is no text of a map.
+    NoCosts,
     /// The certificate would take the place of the map of this name.
     TakesPlace(&'a str),
 }
@@ -90,6 +94,16 @@ impl Fault<'_> {
             Fault::PlatformAlone => {
                 format!(in alloc;
                     "the argument '--platform <PLATFORM>' cannot be used without '--trace'"
+                )
+            }
+            Fault::NoPicture => {
+                format!(in alloc;
+                    "'--format svg' and '--format json' are for a map, and cannot be used with '--registers'"
+                )
+            }
+            Fault::NoCosts => {
+                format!(in alloc;
+                    "'--costs' is for the text of a map, and cannot be used with '--registers', '--format svg' or '--format json'"
                 )
             }
             Fault::TakesPlace(map) => {

@@ -1,11 +1,11 @@
 //! The task that a subcommand with its values is.
 
-ghost use Rattle.std.specs.Prelude.{◌≡◌, ◌≢◌, ◌<◌, ◌↔◌, [], ◌∷◌, IfErr, IfOk, Option, None, Some, codes, true, option_map};
+ghost use Rattle.std.specs.Prelude.{◌≡◌, ◌≢◌, ◌<◌, ◌↔◌, ◌⊎◌, [], ◌∷◌, IfErr, IfOk, Option, None, Some, codes, true, option_map};
 ghost use Rattle.program_tasks.specs.declared.task.LintKind.{LintKind};
 ghost use Rattle.program_tasks.specs.Faults.{IsFaultOf, IsFirst, RefusesTask};
 ghost use Rattle.program_tasks.specs.Faults.Demand.{of_trace, one_kind};
 ghost use Rattle.program_tasks.specs.Subcommands.{word_of};
-ghost use Rattle.program_tasks.specs.Tasks.{input_word, HasKind, HasValues, IsSound, IsTaskOf, NamesNone};
+ghost use Rattle.program_tasks.specs.Tasks.{input_word, HasKind, HasValues, IsOfMap, IsOfText, IsSound, IsTaskOf, NamesNone};
 
 use crate::arguments::{
     at_most_in, first_in, format_in, limit_in, name_in, table_format_in, value_in, width_in,
@@ -13,7 +13,7 @@ use crate::arguments::{
 use crate::fault::Fault;
 use crate::given::Values;
 use crate::subcommand::Subcommand;
-use crate::task::{LintKind, Task};
+use crate::task::{LintKind, TableFormat, Task};
 
 /// The word that standard input stands for.
 const INPUT: &str = "-";
@@ -135,6 +135,31 @@ fn check_in<'a, V: Values<'a>>(given: &V) -> Result<Task<'a>, Fault<'a>>
     Ok(Task::Check { map, cert })
 }
 
+/// Refuses another table of registers than the text.
+fn of_map<'a>(format: TableFormat, registers: bool) -> Result<(), Fault<'a>>
+    ensures is { IfOk result (λ _. IsOfMap registers format) }
+    ensures none { IfErr result (λ _. (registers ≡ true) × (format ≢ TableFormat.Text)) }
+    ensures fault { IfErr result (λ fault. fault ≡ Fault.NoPicture) }
+{
+    if registers && format != TableFormat::Text {
+        return Err(Fault::NoPicture);
+    }
+    Ok(())
+}
+
+/// Refuses costs of what is no text of a map.
+fn of_text<'a>(format: TableFormat, registers: bool, costs: bool) -> Result<(), Fault<'a>>
+    ensures is { IfOk result (λ _. IsOfText registers format costs) }
+    ensures none { IfErr result (λ _. (costs ≡ true)
+        × ((registers ≡ true) ⊎ (format ≢ TableFormat.Text))) }
+    ensures fault { IfErr result (λ fault. fault ≡ Fault.NoCosts) }
+{
+    if costs && (registers || format != TableFormat::Text) {
+        return Err(Fault::NoCosts);
+    }
+    Ok(())
+}
+
 fn show_in<'a, V: Values<'a>>(given: &V) -> Result<Task<'a>, Fault<'a>>
     ensures task { IfOk result (IsTaskOf Subcommand.Show (V.value given.now)
         (V.flag given.now)) }
@@ -148,6 +173,8 @@ fn show_in<'a, V: Values<'a>>(given: &V) -> Result<Task<'a>, Fault<'a>>
     let format = table_format_in(given)?;
     let registers = given.is_given("registers");
     let costs = given.is_given("costs");
+    of_map(format, registers)?;
+    of_text(format, registers, costs)?;
     Ok(Task::Show {
         map,
         limit,
