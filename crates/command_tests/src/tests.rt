@@ -9,6 +9,7 @@ mod inputs;
 mod judged;
 mod machine;
 mod maps;
+mod names;
 mod needs;
 mod options;
 mod plans;

@@ -1,6 +1,6 @@
 //! The words of the command line, and which of them is no text.
 
-use program_troubles::shown;
+use program_troubles::{push_escaped, shown};
 use std::alloc::{AllocError, Global};
 use std::env::{self, FillError};
 use std::io;
@@ -39,29 +39,23 @@ pub fn texts_of(alloc: Global, words: &[Vec<u8>]) -> Result<Vec<&str>, AllocErro
 const LONGEST: usize = 4096;
 
 /// A word's bytes, each that is no visible character of ASCII as `\x` and its two hexadecimal digits.
-fn quoted(alloc: Global, word: &[u8]) -> Result<String, AllocError> {
-    let mut text = String::new(alloc);
+fn quoted(alloc: Global, word: &[u8]) -> Result<Vec<u8>, AllocError> {
+    let mut text = Vec::new(alloc);
     for byte in word {
         if *byte >= 32 && *byte <= 126 {
-            text.push(char::from(*byte))?;
+            text.push(*byte)?;
         } else {
-            text.push_str("\\x")?;
-            text.push(digit(*byte / 16))?;
-            text.push(digit(*byte % 16))?;
+            push_escaped(&mut text, *byte)?;
         }
     }
     Ok(text)
-}
-
-/// A hexadecimal digit.
-fn digit(value: u8) -> char {
-    char::from_digit(u32::from(value % 16), 16).unwrap_or('0')
 }
 
 /// Says that a word is no text, and where it stops to be one.
 fn say_word(rt: &HostRuntime, number: usize, word: &[u8], at: usize) {
     match quoted(rt.alloc(), word) {
         Ok(text) => {
+            let text = from_utf8(text.as_slice()).unwrap_or("");
             let _ = eprintln!(rt;
                 "error: the command line: word {number} is no UTF-8 from its byte {at} on: '{text}'"
             );

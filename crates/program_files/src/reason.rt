@@ -157,6 +157,12 @@ impl<T: Write> Write for Explained<T> {
     }
 
     fn flush(&mut self) -> io::Result<()> {
-        self.inner.flush()
+        match self.inner.flush() {
+            Ok(()) => Ok(()),
+            Err(error) => {
+                self.reason = Some(Reason::of(&error));
+                Err(error)
+            }
+        }
     }
 }
