@@ -1,14 +1,18 @@
 -- The hints that a lint gives, by its status and what it wrote.
 use Rattle.std.proofs.Common.{ℕ, ◌≡◌, ◌≢◌, ◌^◌, ◌<◌, Bool, true, false, List, [], Option, Some, None, Result, Ok, Err, IfOk, arith, refl, subst, sym}
 use Rattle.byte_streams.specs.Writings.{Prints, Writing}
+use Rattle.enclave_table.specs.Boot.{IsBootFault}
 use Rattle.enclave_table.specs.Platform.{Layout}
+use Rattle.enclave_table.specs.declared.boot.BootFault.TheVariants.{NeedsMoreEntries}
+use Rattle.hart_sim.specs.declared.machine.Machine.{Machine}
+use Rattle.hart_sim.specs.After.{IsBooted}
 use Rattle.program_tasks.specs.declared.task.Task.{Task}
 use Rattle.program_troubles.specs.declared.trouble.Trouble.{Trouble}
-use Rattle.map_commands.specs.Commands.{Reading, Tells, answer_status}
+use Rattle.map_commands.specs.Commands.{IsUnread, Reading, Tells, answer_status}
 use Rattle.map_commands.specs.Commands as commands
 use Rattle.monitor_cli.specs.declared.hints.Form.{Form}
 use Rattle.monitor_cli.specs.declared.hints.Form.TheVariants.{Map, Platform, Listing, Trace}
-use Rattle.monitor_cli.specs.Hints.{AreHints, HasHints, HasTaskHints, HasTraceHints, InOrder, TellsHints, cut, hints_in, most_bytes, of_second, told}
+use Rattle.monitor_cli.specs.Hints.{AreHints, HasHints, HasRunHints, HasTaskHints, InOrder, TellsHints, boot_hint, cut, hints_in, most_bytes, of_boot, of_second, of_trace, told}
 use Rattle.monitor_cli.specs.Runs.{HasPlatform}
 
 -- no file of a form is beyond what can be read
@@ -48,12 +52,20 @@ pub in_second :
 in_second First Second second text (Ok hints) none has = of_second (text hints) none has
 in_second First Second second text (Err fault) none has = tt
 
--- the hints of a trace, for the harts of a platform
-pub of_trace :
-    {R X E : Type 0} (name : List ℕ) (first second : Reading R) (platform : Layout) (text : Option X → Option (List ℕ)) (result : Result (Option X) E) → HasPlatform first platform
-    → IfOk result (λ hints. HasHints (Trace platform.harts) name second (text hints)) → IfOk result (λ hints. HasTraceHints name first second (text hints))
-of_trace name first second platform text (Ok hints) is has = (platform, is, has)
-of_trace name first second platform text (Err fault) is has = tt
+-- the hints of a trace, for the harts of a platform that boots
+pub of_traces :
+    {R X E : Type 0} (file name : List ℕ) (first second : Reading R) (platform : Layout) (text : Option X → Option (List ℕ)) (result : Result (Option X) E) → HasPlatform first platform
+    → ((machine : Machine) × IsBooted platform machine)
+    → IfOk result (λ hints. HasHints (Trace platform.harts) name second (text hints)) → IfOk result (λ hints. HasRunHints file name first second (text hints))
+of_traces file name first second platform text (Ok hints) is boots has = of_trace platform boots.0 (text hints) is boots.1 has
+of_traces file name first second platform text (Err fault) is boots has = tt
+
+-- the hint of a platform that does not boot
+pub of_need :
+    {R : Type 0} (file name hint : List ℕ) (first second : Reading R) (platform : Layout) → HasPlatform first platform
+    → ((n : ℕ) × IsBootFault platform (NeedsMoreEntries n) × (hint ≡ boot_hint file platform n)) → IsUnread second → HasRunHints file name first second (Some hint)
+of_need file name hint first second platform is needs unread =
+    subst (λ said. HasRunHints file name first second (Some said)) (sym needs.2) (of_boot platform needs.0 is needs.1 unread)
 
 -- hints that were written, whole or in part
 pub told_by :

@@ -1,9 +1,13 @@
 -- What is said of the inputs of a task that ended for bad input: the lint of the first that is not what it should be.
 use Rattle.std.specs.Prelude.{◌≡◌, ℕ, ◌^◌, Bool, true, false, List, [], ◌∷◌, ◌++◌, codes, Option, Some, None}
-use Rattle.std.specs.Borrow.{Bor}
 use Rattle.byte_streams.specs.Writings.{Breaks, IsUnwritten, TakesAll, Writing}
 use Rattle.text_lines.specs.Lines.{raw_lines}
+use Rattle.pmp_encoding.specs.Limits.{limit_number}
+use Rattle.enclave_table.specs.Boot.{IsBootFault}
 use Rattle.enclave_table.specs.Platform.{Layout}
+use Rattle.enclave_table.specs.declared.boot.BootFault.TheVariants.{NeedsMoreEntries}
+use Rattle.hart_sim.specs.declared.machine.Machine.{Machine}
+use Rattle.hart_sim.specs.After.{IsBooted}
 use Rattle.register_width.specs.declared.xlen.Xlen.{Xlen}
 use Rattle.program_tasks.specs.declared.task.LintKind.TheVariants as kinds
 use Rattle.program_tasks.specs.declared.task.Task.{Task}
@@ -12,7 +16,7 @@ use Rattle.map_commands.specs.Commands.{AreNeeded, HasBytes, IsListingLint, IsMa
 use Rattle.monitor_cli.specs.declared.hints.Form.{Form}
 use Rattle.monitor_cli.specs.declared.hints.Form.TheVariants.{Map, Platform, Listing, Trace}
 use Rattle.monitor_cli.specs.declared.needs.Bounds.{Bounds}
-use Rattle.monitor_cli.specs.Needs.{bank_bounds, need_hint, plan_bounds, table_bounds}
+use Rattle.monitor_cli.specs.Needs.{bank_bounds, most_text, need_hint, need_text, plan_bounds, table_bounds}
 use Rattle.monitor_cli.specs.Runs.{HasPlatform}
 use Rattle.monitor_cli.specs.Traces.{IsTraceLint}
 
@@ -67,15 +71,21 @@ abbrev pub HasFileHints : {R : Type 0} → Bool → Xlen → List ℕ → Bounds
 HasFileHints true xlen name bounds source hints = HasHints (Listing xlen) name source hints
 HasFileHints false xlen name bounds source hints = HasMapHints name bounds source hints
 
--- the trace of `run`, for the harts of its platform
-abbrev pub HasTraceHints : {R : Type 0} → List ℕ → Reading R → Reading R → Option (List ℕ) → Type 0
-HasTraceHints name first second hints = (platform : Layout) × HasPlatform first platform × HasHints (Trace platform.harts) name second hints
+-- what is said of a platform whose host's view needs n entries, which is more than its harts have
+abbrev pub boot_hint : List ℕ → Layout → ℕ → List ℕ
+boot_hint name platform n = need_text name (most_text n (limit_number platform.limit))
 
--- the hints of a task: those of its first input that is not what it should be, or that is a map which needs more entries than it
--- may. A certificate has none, nor has a file that `lint`
+-- the hints of `run` where its platform is right: that the host's view needs more entries than a hart has, and the trace is not
+-- read; or where the platform boots those of the trace, for its harts
+pub data HasRunHints {R : Type 0} (file trace : List ℕ) (first second : Reading R) : Option (List ℕ) → Type 0 where
+  of_boot : (platform : Layout) (n : ℕ) → HasPlatform first platform → IsBootFault platform (NeedsMoreEntries n) → IsUnread second → HasRunHints file trace first second (Some (boot_hint file platform n))
+  of_trace : (platform : Layout) (machine : Machine) (hints : Option (List ℕ)) → HasPlatform first platform → IsBooted platform machine → HasHints (Trace platform.harts) trace second hints → HasRunHints file trace first second hints
+
+-- the hints of a task: those of its first input that is not what it should be, or that is a map or a platform which needs more
+-- entries than it may. A certificate has none, nor has a file that `lint`
 -- itself speaks of; a trace is for the harts of its platform, and without one for four
 abbrev pub HasTaskHints : {R : Type 0} → Task → Reading R → Reading R → Option (List ℕ) → Type 0
-HasTaskHints (tasks.Run platform trace measure expect) first second hints = InOrder (HasHints Platform platform.now first) (HasTraceHints trace.now first second) second hints
+HasTaskHints (tasks.Run platform trace measure expect) first second hints = InOrder (HasHints Platform platform.now first) (HasRunHints platform.now trace.now first second) second hints
 HasTaskHints (tasks.Plan map file limit at_most format name begin xlen) first second hints = HasMapHints map.now (plan_bounds limit begin at_most format) first hints × IsUnread second
 HasTaskHints (tasks.Judge map trace limit registers expect xlen) first second hints = InOrder (HasFileHints registers xlen map.now (bank_bounds limit) first) (HasHints (Trace 4) trace.now second) second hints
 HasTaskHints (tasks.Check map file) first second hints = HasHints Map map.now first hints × IsUnread second

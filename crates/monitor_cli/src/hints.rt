@@ -1,14 +1,18 @@
 //! Hints: what is wrong with the inputs of a task that ended for bad input, line by line, as `lint` says it.
 
-ghost use Rattle.std.specs.Prelude.{◌≡◌, ◌≤◌, ◌-◌, ◌^◌, ◌<◌, IfOk, option_map, length};
+ghost use Rattle.std.specs.Prelude.{◌≡◌, ℕ, ◌≤◌, ◌-◌, ◌^◌, ◌<◌, IfOk, IfSome, None, option_map, length};
+ghost use Rattle.enclave_table.specs.Boot.{IsBootFault};
+ghost use Rattle.hart_sim.specs.After.{IsBooted};
 ghost use Rattle.byte_streams.specs.Writings.{writing};
 ghost use Rattle.map_commands.specs.Commands.{reading, Tells};
-ghost use Rattle.monitor_cli.specs.Hints.{hints_in, most_bytes, AreHints, HasFileHints, HasHints, HasMapHints, HasTaskHints, HasTraceHints, InOrder, IsLintAs, TellsHints};
+ghost use Rattle.monitor_cli.specs.Hints.{hints_in, most_bytes, AreHints, HasFileHints, HasHints, HasMapHints, HasRunHints, HasTaskHints, InOrder, boot_hint, IsLintAs, TellsHints};
 
 use crate::commands::{TRACE_BYTES, lint_as_trace};
 use crate::machine_run::{PLATFORM_BYTES, platform_in};
-use crate::needs::{Bounds, bank_bounds, need_hint, plan_bounds, table_bounds};
+use crate::needs::{Bounds, bank_bounds, boot_hint, need_hint, plan_bounds, table_bounds};
 use byte_streams::{Counted, Sink, Source, write_whole};
+use enclave_table::{BootFault, Platform};
+use hart_sim::Machine;
 use lint_texts::split_line;
 use map_commands::{
     MAP_BYTES, REGISTER_BYTES, bytes_in, lint_as_platform, lint_listing, lint_map, needed_by,
@@ -125,7 +129,29 @@ fn hints_of<'a, R: Source>(
     hints_for(alloc, form, name, bytes.as_slice())
 }
 
-/// The hints of `run`: those of its platform, and of its trace where the platform is right.
+/// The hint of a platform that does not boot, and none where it does.
+fn hint_of_boot(
+    alloc: Global,
+    name: &str,
+    platform: Platform,
+) -> Result<Option<Vec<u8>>, Trouble<'static>>
+    ensures boots { IfOk result (λ hint.
+        hint ≡ None → (machine : Machine) × IsBooted platform machine) }
+    ensures needs { IfOk result (λ hint. IfSome hint (λ text. (n : ℕ)
+        × IsBootFault platform (BootFault.NeedsMoreEntries n)
+        × (text.items ≡ boot_hint name.now platform n))) }
+{
+    let limit = platform.limit();
+    match Machine::boot(alloc, platform) {
+        Ok(_) => Ok(None),
+        Err(BootFault::NeedsMoreEntries(needed)) => {
+            Ok(Some(boot_hint(alloc, name, needed, limit)?))
+        }
+        Err(BootFault::Memory) => Err(Trouble::Memory),
+    }
+}
+
+/// The hints of `run`: those of its platform; where it is right that it does not boot; and otherwise those of its trace.
 fn hints_of_run<'a, R: Source>(
     alloc: Global,
     platform: &'a str,
@@ -136,7 +162,7 @@ fn hints_of_run<'a, R: Source>(
     ensures { let source = reading R.remaining R.failures in
         IfOk result (λ hints. InOrder
         (HasHints Form.Platform platform.entry.now (source first.old first.new))
-        (HasTraceHints trace.entry.now (source first.old first.new)
+        (HasRunHints platform.entry.now trace.entry.now (source first.old first.new)
         (source second.old second.new))
         (source second.old second.new) (option_map (λ text. text.items) hints)) }
 {
@@ -147,6 +173,9 @@ fn hints_of_run<'a, R: Source>(
     }
     let layout = platform_in(alloc, platform, text)?;
     let harts = layout.harts();
+    if let Some(hint) = hint_of_boot(alloc, platform, layout)? {
+        return Ok(Some(hint));
+    }
     hints_of(alloc, Form::Trace { harts }, trace, second)
 }
 

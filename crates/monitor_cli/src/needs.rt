@@ -1,6 +1,7 @@
-//! Hints of maps that need more entries than they may have, or than configuration words have room for.
+//! Hints of maps and platforms that need more entries than they may have, or than configuration words have room for.
 
 ghost use Rattle.std.specs.Prelude.{◌≡◌, ◌≤◌, IfOk, length, option_map};
+ghost use Rattle.pmp_encoding.specs.Limits.{limit_number};
 ghost use Rattle.monitor_cli.specs.Needs.{bank_bounds, entries_named, most_text, need_hint, need_text, plan_bounds, table_bounds, words_hint, words_text};
 
 use arrayvec::ArrayVec;
@@ -98,6 +99,19 @@ fn need_of(alloc: Global, name: &str, end: &Line) -> Result<Vec<u8>, AllocError>
     hint.extend_from_slice(name.as_bytes())?;
     hint.extend_from_slice(end.as_slice())?;
     Ok(hint)
+}
+
+/// The hint of a platform whose host's view needs so many entries, which is more than a hart has.
+pub(crate) fn boot_hint(
+    alloc: Global,
+    name: &str,
+    needed: u64,
+    limit: Limit,
+) -> Result<Vec<u8>, AllocError>
+    ensures { IfOk result (λ hint.
+        hint.items ≡ need_text name.now (most_text needed (limit_number limit))) }
+{
+    need_of(alloc, name, &most_line(needed, u64::from(limit.number())))
 }
 
 /// The hint of a map that needs so many entries, where configuration words have no room for them.
