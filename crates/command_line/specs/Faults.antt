@@ -19,5 +19,6 @@ fault_kind faults.InputTwice = ArgumentConflict
 fault_kind faults.TwoKinds = ArgumentConflict
 fault_kind faults.NoPicture = ArgumentConflict
 fault_kind faults.NoCosts = ArgumentConflict
+fault_kind faults.TwoAnswers = ArgumentConflict
 fault_kind faults.PlatformAlone = MissingRequiredArgument
 fault_kind (faults.TakesPlace map) = ArgumentConflict

@@ -25,6 +25,7 @@ fn kind_of(fault: &Fault<'_>) -> ErrorKind
         Fault::AtMost(_) | Fault::Name(_) | Fault::First(_) => ErrorKind::ValueValidation,
         Fault::InputTwice
         | Fault::TwoKinds
+        | Fault::TwoAnswers
         | Fault::NoPicture
         | Fault::NoCosts
         | Fault::TakesPlace(_) => ErrorKind::ArgumentConflict,
