@@ -1,0 +1,3 @@
+pub mod FirstFound
+mod Addresses
+pub mod Judged
