@@ -3,9 +3,9 @@ use Rattle.std.specs.Prelude.{◌≡◌, List, [], ◌∷◌, true, false}
 use Rattle.clap.specs.Words.{App, Rule, app_of, with_rule, with_subcommand}
 use Rattle.clap.specs.declared.builder.command.Command.{Command}
 use Rattle.clap.specs.declared.builder.command.Command.TheViews.{out-Command}
-use Rattle.command_line.specs.CommandLine.{all_rule, at_most_rule, audit_app, check_app, costs_rule, entries_rule, expect_rule, file_rule, first_rule, format_rule, hints_rule, judge_app, lint_app, map_app, measure_rule, name_rule, plan_app, platform_rule, registers_rule, run_app, show_app, trace_rule, xlen_rule}
+use Rattle.command_line.specs.CommandLine.{all_rule, at_most_rule, audit_app, check_app, costs_rule, entries_rule, expect_rule, explain_rule, file_rule, first_rule, format_rule, hints_rule, judge_app, lint_app, map_app, measure_rule, name_rule, plan_app, platform_rule, registers_rule, run_app, show_app, trace_rule, xlen_rule}
 use Rattle.command_line.specs.declared.arguments.Argument.{Argument}
-use Rattle.command_line.specs.declared.arguments.Argument.TheVariants.{All, AtMost, Costs, Entries, Expect, File, First, Format, Hints, MaybeFile, Measure, Name, Platform, Registers, TableFormat, Trace, Xlen}
+use Rattle.command_line.specs.declared.arguments.Argument.TheVariants.{All, AtMost, Costs, Entries, Expect, Explain, File, First, Format, Hints, MaybeFile, Measure, Name, Platform, Registers, TableFormat, Trace, Xlen}
 use Rattle.program_tasks.specs.declared.subcommand.Subcommand.{Subcommand}
 use Rattle.program_tasks.specs.declared.subcommand.Subcommand.TheVariants.{Audit, Check, Judge, Lint, Map, Plan, Run, Show}
 
@@ -25,6 +25,7 @@ rule_by Trace = trace_rule
 rule_by Platform = platform_rule
 rule_by All = all_rule
 rule_by Expect = expect_rule
+rule_by Explain = explain_rule
 rule_by Hints = hints_rule
 rule_by TableFormat = format_rule
 rule_by Costs = costs_rule

@@ -74,6 +74,10 @@ all_rule = record (new_rule (codes "all")) { long = Some (codes "all"); action =
 abbrev pub expect_rule : Rule
 expect_rule = record (new_rule (codes "expect")) { long = Some (codes "expect"); action = Some SetTrue }
 
+-- `--explain`, which takes no value
+abbrev pub explain_rule : Rule
+explain_rule = record (new_rule (codes "explain")) { long = Some (codes "explain"); action = Some SetTrue }
+
 -- `--costs`, which takes no value
 abbrev pub costs_rule : Rule
 costs_rule = record (new_rule (codes "costs")) { long = Some (codes "costs"); action = Some SetTrue }
@@ -113,9 +117,11 @@ judge_app = with_rule
     (with_rule
     (with_rule
     (with_rule
+    (with_rule
     (with_rule (with_rule (with_rule (new_app (codes "judge")) (file_rule (codes "MAP") true)) (file_rule (codes "TRACE") true)) entries_rule)
     registers_rule)
     expect_rule)
+    explain_rule)
     xlen_rule)
     hints_rule
 

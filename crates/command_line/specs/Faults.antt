@@ -17,5 +17,6 @@ fault_kind (faults.Name word) = ValueValidation
 fault_kind (faults.First word) = ValueValidation
 fault_kind faults.InputTwice = ArgumentConflict
 fault_kind faults.TwoKinds = ArgumentConflict
+fault_kind faults.TwoAnswers = ArgumentConflict
 fault_kind faults.PlatformAlone = MissingRequiredArgument
 fault_kind (faults.TakesPlace map) = ArgumentConflict

@@ -2,7 +2,7 @@
 
 ghost use Rattle.std.specs.Prelude.{◌≡◌, false};
 ghost use Rattle.clap.specs.Words.{rule_of};
-ghost use Rattle.command_line.specs.CommandLine.{all_rule, at_most_rule, costs_rule, entries_rule, expect_rule, file_rule, first_rule, format_rule, hints_rule, measure_rule, name_rule, platform_rule, registers_rule, trace_rule, xlen_rule};
+ghost use Rattle.command_line.specs.CommandLine.{all_rule, at_most_rule, costs_rule, entries_rule, expect_rule, explain_rule, file_rule, first_rule, format_rule, hints_rule, measure_rule, name_rule, platform_rule, registers_rule, trace_rule, xlen_rule};
 ghost use Rattle.command_line.specs.ClapModel.{rule_by};
 
 use clap::{Arg, ArgAction};
@@ -39,6 +39,8 @@ pub enum Argument<'a> {
     All,
     /// `--expect`, whether answers are compared with those that a trace says.
     Expect,
+    /// `--explain`, whether what decided each answer is said behind it.
+    Explain,
     /// `--hints`, when standard error is told what is wrong with an input.
     Hints,
     /// `--format` of a table.
@@ -68,6 +70,7 @@ impl<'a> Argument<'a> {
             Argument::Platform => platform_arg(alloc),
             Argument::All => all_arg(alloc),
             Argument::Expect => expect_arg(alloc),
+            Argument::Explain => explain_arg(alloc),
             Argument::Hints => hints_arg(alloc),
             Argument::TableFormat => table_format_arg(alloc),
             Argument::Costs => costs_arg(alloc),
@@ -225,6 +228,17 @@ fn expect_arg<'a>(alloc: Global) -> Arg<'a>
     Arg::new(alloc, "expect")
         .long("expect")
         .help("Compare each answer with the one that the comment of its line says")
+        .action(ArgAction::SetTrue)
+}
+
+/// The flag that asks for what decided each answer.
+fn explain_arg<'a>(alloc: Global) -> Arg<'a>
+    ensures rule { rule_of result ≡ explain_rule }
+    ensures local { result.global ≡ false }
+{
+    Arg::new(alloc, "explain")
+        .long("explain")
+        .help("Say behind each answer, as a comment, what decided it")
         .action(ArgAction::SetTrue)
 }
 

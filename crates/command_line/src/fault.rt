@@ -23,7 +23,9 @@ fn kind_of(fault: &Fault<'_>) -> ErrorKind
         | Fault::Xlen(_)
         | Fault::Hints(_) => ErrorKind::InvalidValue,
         Fault::AtMost(_) | Fault::Name(_) | Fault::First(_) => ErrorKind::ValueValidation,
-        Fault::InputTwice | Fault::TwoKinds | Fault::TakesPlace(_) => ErrorKind::ArgumentConflict,
+        Fault::InputTwice | Fault::TwoKinds | Fault::TwoAnswers | Fault::TakesPlace(_) => {
+            ErrorKind::ArgumentConflict
+        }
     }
 }
 

@@ -104,6 +104,7 @@ fn judge_command<'a>(alloc: Global) -> Result<Command<'a>, AllocError>
         Argument::Entries,
         Argument::Registers(AS_THEY_STAND),
         Argument::Expect,
+        Argument::Explain,
         Argument::Xlen,
         Argument::Hints,
     ];

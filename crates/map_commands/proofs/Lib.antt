@@ -2,4 +2,3 @@ pub mod Ends
 pub mod Names
 mod PlanCertificates
 pub mod Refusals
-mod JudgedTraces

@@ -32,7 +32,7 @@ use Rattle.map_lint.specs.Lints.{IsVerdictOfLines}
 use Rattle.certificate_check.specs.Certificates.{IsRight}
 use Rattle.certificate_format.specs.Spelling.{Spells}
 use Rattle.plan_certificate.specs.Written.{version_for}
-use Rattle.trace_judge.specs.Answers.{is_no_access, judged_by}
+use Rattle.trace_judge.specs.Answers.{Outcomes, answered_by, by_list, is_no_access}
 use Rattle.printed_lines.specs.Plans.{IsPlanText}
 use Rattle.register_width.specs.declared.xlen.Xlen.{Xlen}
 use Rattle.register_width.specs.declared.xlen.Xlen.TheVariants.{Rv32, Rv64}
@@ -44,12 +44,15 @@ use Rattle.register_formats.specs.AsmTexts.{IsAsmText}
 use Rattle.register_formats.specs.CTexts.{IsCText}
 use Rattle.register_formats.specs.JsonTexts.{IsJsonText}
 use Rattle.register_audit.specs.Audits.{IsAudit}
-use Rattle.register_judge.specs.Answers.{judged_by_registers}
+use Rattle.register_judge.specs.Answers.{by_registers}
+use Rattle.register_judge.specs.Deciders.{by_entry}
 use Rattle.register_judge.specs.Listings.{HasRules, IsRefused}
 use Rattle.register_map.specs.Maps.{AreTooFine, IsMapFile}
 use Rattle.register_table.specs.Tables.{IsRegisterTable}
 use Rattle.register_text.specs.declared.listing.Listing.{Listing}
 use Rattle.register_text.specs.Listings.{IsFirstUnknown, listed}
+use Rattle.program_tasks.specs.declared.task.Answers.{Answers}
+use Rattle.program_tasks.specs.declared.task.Answers.TheVariants as answers
 use Rattle.program_tasks.specs.declared.task.Format.{Format}
 use Rattle.program_tasks.specs.declared.task.Format.TheVariants as formats
 use Rattle.program_tasks.specs.declared.task.TableFormat.{TableFormat}
@@ -57,6 +60,9 @@ use Rattle.program_tasks.specs.declared.task.TableFormat.TheVariants as tables
 use Rattle.program_troubles.specs.declared.trouble.Trouble.{Trouble}
 use Rattle.program_troubles.specs.declared.trouble.Trouble.TheVariants.{NotUnderstood, TooFar, TooLarge, TooManyRanges, NeedsEntries, CannotRead, CannotWrite, Output, Memory}
 use Rattle.expected_answers.specs.Comparisons.{ComparesAll}
+use Rattle.explained_answers.specs.Deciders.{by_first}
+use Rattle.explained_answers.specs.Explained.{explaining}
+use Rattle.explained_answers.specs.Reasons.{Decides, on_access}
 use Rattle.map_commands.specs.Expected.{IsTold}
 use Rattle.map_commands.specs.Parts.{IsMapFault, IsWhole, Stops}
 use Rattle.program_troubles.specs.Troubles.{map_trouble, run_trouble}
@@ -308,43 +314,45 @@ pub data JudgesExpecting {R W : Type 0} (does : Meaning (Unit {0})) (trace : Bor
       → CountsReads (Err fault) second.failures second.failed → CountsWrites (Err fault) out.failures out.failed out.stalls out.stalled
       → JudgesExpecting does trace second out (Err (run_trouble trace fault))
 
--- a trace is judged, with `--expect` or without
-abbrev pub JudgesTraceAs : {R W : Type 0} → Bool → Meaning (Unit {0}) → Bor (List ℕ) → Reading R → Writing W → Result ℕ Trouble → Type 0
-JudgesTraceAs true does trace second out done = JudgesExpecting does trace second out done
-JudgesTraceAs false does trace second out done = JudgesTrace does trace second out done
+-- a trace is judged; with `--explain` a comment behind each answer says which entry decided it, and with `--expect` the answers are
+-- compared
+abbrev pub JudgesTraceAs : {R W : Type 0} → Answers → Outcomes → Decides → Bor (List ℕ) → Reading R → Writing W → Result ℕ Trouble → Type 0
+JudgesTraceAs answers.Plain outcomes decides trace second out done = JudgesTrace (answered_by outcomes) trace second out done
+JudgesTraceAs answers.Explained outcomes decides trace second out done = JudgesTrace (explaining (answered_by outcomes) (on_access decides)) trace second out done
+JudgesTraceAs answers.Compared outcomes decides trace second out done = JudgesExpecting (answered_by outcomes) trace second out done
 
 -- `judge`: the map is read and its entries are loaded, and then the trace is judged by them
-pub data Judges {R W : Type 0} (expect : Bool) (map trace : Bor (List ℕ)) (xlen : Xlen) (limit : Limit) (first second : Reading R) (out : Writing W) : Result ℕ Trouble → Type 0 where
+pub data Judges {R W : Type 0} (answers : Answers) (map trace : Bor (List ℕ)) (xlen : Xlen) (limit : Limit) (first second : Reading R) (out : Writing W) : Result ℕ Trouble → Type 0 where
   judged :
       (runs : List Run) (bank : Bank) (result : Result ℕ Trouble) → HasMap first runs → IsLoaded (view_of_runs runs) xlen limit bank
-      → JudgesTraceAs expect (judged_by bank) trace second out result → Judges expect map trace xlen limit first second out result
-  no_map : (trouble : Trouble) → HasNoMap map first trouble → IsUnread second → IsUnwritten out → Judges expect map trace xlen limit first second out (Err trouble)
-  no_memory : (runs : List Run) → HasMap first runs → IsUnread second → IsUnwritten out → Judges expect map trace xlen limit first second out (Err Memory)
+      → JudgesTraceAs answers (by_list bank) (by_first bank) trace second out result → Judges answers map trace xlen limit first second out result
+  no_map : (trouble : Trouble) → HasNoMap map first trouble → IsUnread second → IsUnwritten out → Judges answers map trace xlen limit first second out (Err trouble)
+  no_memory : (runs : List Run) → HasMap first runs → IsUnread second → IsUnwritten out → Judges answers map trace xlen limit first second out (Err Memory)
   no_bank :
       (runs : List Run) (entries : List Entry) → HasMap first runs → IsFewest (view_of_runs runs) entries → limit_number limit < length entries → IsUnread second → IsUnwritten out
-      → Judges expect map trace xlen limit first second out (Err (NeedsEntries (length entries)))
+      → Judges answers map trace xlen limit first second out (Err (NeedsEntries (length entries)))
   too_far :
       (runs : List Run) (trouble : Trouble) → HasMap first runs → IsTooFar (view_of_runs runs) xlen None map trouble → IsUnread second → IsUnwritten out
-      → Judges expect map trace xlen limit first second out (Err trouble)
+      → Judges answers map trace xlen limit first second out (Err trouble)
 
 -- `judge --registers`: the listing of registers is read, and then the trace is judged by them line by line; where they judge nothing
 -- the trace is not read, and why is printed
-pub data JudgesByRegisters {R W : Type 0} (expect : Bool) (listing trace : Bor (List ℕ)) (xlen : Xlen) (first second : Reading R) (out : Writing W) : Result ℕ Trouble → Type 0 where
+pub data JudgesByRegisters {R W : Type 0} (answers : Answers) (listing trace : Bor (List ℕ)) (xlen : Xlen) (first second : Reading R) (out : Writing W) : Result ℕ Trouble → Type 0 where
   ruled :
       (bytes : List ℕ) (registers : Registers) (result : Result ℕ Trouble) → HasBytes (2 ^ 20) first bytes → HasRules xlen bytes registers
-      → JudgesTraceAs expect (judged_by_registers registers) trace second out result → JudgesByRegisters expect listing trace xlen first second out result
-  refused : (bytes text : List ℕ) → HasBytes (2 ^ 20) first bytes → IsRefused xlen bytes text → IsUnread second → TakesAll text out → JudgesByRegisters expect listing trace xlen first second out (Ok 1)
-  no_bytes : (trouble : Trouble) → HasNoBytes (2 ^ 20) listing first trouble → IsUnread second → IsUnwritten out → JudgesByRegisters expect listing trace xlen first second out (Err trouble)
-  no_memory : (bytes : List ℕ) → HasBytes (2 ^ 20) first bytes → IsUnread second → IsUnwritten out → JudgesByRegisters expect listing trace xlen first second out (Err Memory)
+      → JudgesTraceAs answers (by_registers registers) (by_entry registers) trace second out result → JudgesByRegisters answers listing trace xlen first second out result
+  refused : (bytes text : List ℕ) → HasBytes (2 ^ 20) first bytes → IsRefused xlen bytes text → IsUnread second → TakesAll text out → JudgesByRegisters answers listing trace xlen first second out (Ok 1)
+  no_bytes : (trouble : Trouble) → HasNoBytes (2 ^ 20) listing first trouble → IsUnread second → IsUnwritten out → JudgesByRegisters answers listing trace xlen first second out (Err trouble)
+  no_memory : (bytes : List ℕ) → HasBytes (2 ^ 20) first bytes → IsUnread second → IsUnwritten out → JudgesByRegisters answers listing trace xlen first second out (Err Memory)
   not_understood :
       (bytes : List ℕ) (n : ℕ) → HasBytes (2 ^ 20) first bytes → IsFirstUnknown xlen bytes n → IsUnread second → IsUnwritten out
-      → JudgesByRegisters expect listing trace xlen first second out (Err (NotUnderstood listing n))
-  no_output : (bytes text : List ℕ) → HasBytes (2 ^ 20) first bytes → IsRefused xlen bytes text → IsUnread second → Breaks text out → JudgesByRegisters expect listing trace xlen first second out (Err Output)
+      → JudgesByRegisters answers listing trace xlen first second out (Err (NotUnderstood listing n))
+  no_output : (bytes text : List ℕ) → HasBytes (2 ^ 20) first bytes → IsRefused xlen bytes text → IsUnread second → Breaks text out → JudgesByRegisters answers listing trace xlen first second out (Err Output)
 
--- `judge`, with `--registers` or without, and with `--expect` or without
-abbrev pub JudgesAs : {R W : Type 0} → Bool → Bool → Bor (List ℕ) → Bor (List ℕ) → Xlen → Limit → Reading R → Reading R → Writing W → Result ℕ Trouble → Type 0
-JudgesAs true expect file trace xlen limit first second out done = JudgesByRegisters expect file trace xlen first second out done
-JudgesAs false expect file trace xlen limit first second out done = Judges expect file trace xlen limit first second out done
+-- `judge`, with `--registers` or without, and what is written of the answers
+abbrev pub JudgesAs : {R W : Type 0} → Bool → Answers → Bor (List ℕ) → Bor (List ℕ) → Xlen → Limit → Reading R → Reading R → Writing W → Result ℕ Trouble → Type 0
+JudgesAs true answers file trace xlen limit first second out done = JudgesByRegisters answers file trace xlen first second out done
+JudgesAs false answers file trace xlen limit first second out done = Judges expect file trace xlen limit first second out done
 
 -- `check`: the map is read, then the certificate, and the line of the verdict is written
 pub data Checks {R W : Type 0} (map cert : Bor (List ℕ)) (first second : Reading R) (out : Writing W) : Result ℕ Trouble → Type 0 where

@@ -77,7 +77,7 @@ HasTraceHints name first second hints = (platform : Layout) × HasPlatform first
 abbrev pub HasTaskHints : {R : Type 0} → Task → Reading R → Reading R → Option (List ℕ) → Type 0
 HasTaskHints (tasks.Run platform trace measure expect) first second hints = InOrder (HasHints Platform platform.now first) (HasTraceHints trace.now first second) second hints
 HasTaskHints (tasks.Plan map file limit at_most format name begin xlen) first second hints = HasMapHints map.now (plan_bounds limit begin at_most format) first hints × IsUnread second
-HasTaskHints (tasks.Judge map trace limit registers expect xlen) first second hints = InOrder (HasFileHints registers xlen map.now (bank_bounds limit) first) (HasHints (Trace 4) trace.now second) second hints
+HasTaskHints (tasks.Judge map trace limit registers answers xlen) first second hints = InOrder (HasFileHints registers xlen map.now (bank_bounds limit) first) (HasHints (Trace 4) trace.now second) second hints
 HasTaskHints (tasks.Check map file) first second hints = HasHints Map map.now first hints × IsUnread second
 HasTaskHints (tasks.Audit map registers all xlen) first second hints = InOrder (HasHints Map map.now first) (HasHints (Listing xlen) registers.now second) second hints
 HasTaskHints (tasks.Map registers xlen) first second hints = HasHints (Listing xlen) registers.now first hints × IsUnread second

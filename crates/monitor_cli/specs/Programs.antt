@@ -24,7 +24,7 @@ LintsAs (kinds.Trace platform) xlen file first second out done = LintsTrace file
 abbrev pub Performs : {R C W : Type 0} → Task → Reading R → Reading R → Placing C → Writing W → Result ℕ Trouble → Type 0
 Performs (tasks.Run platform trace measure expect) first second cert out done = RunsAs expect platform trace measure first second out done × IsUnwritten cert.sink
 Performs (tasks.Plan map file limit at_most format name begin xlen) first second cert out done = Plans map file xlen limit at_most format (option_map (λ s. s.now) name) begin first cert out done × IsUnread second
-Performs (tasks.Judge file trace limit registers expect xlen) first second cert out done = JudgesAs registers expect file trace xlen limit first second out done × IsUnwritten cert.sink
+Performs (tasks.Judge file trace limit registers answers xlen) first second cert out done = JudgesAs registers answers file trace xlen limit first second out done × IsUnwritten cert.sink
 Performs (tasks.Check map file) first second cert out done = Checks map file first second out done × IsUnwritten cert.sink
 Performs (tasks.Audit map registers all xlen) first second cert out done = Audits map registers xlen all first second out done × IsUnwritten cert.sink
 Performs (tasks.Map registers xlen) first second cert out done = Maps registers xlen first out done × IsUnread second × IsUnwritten cert.sink

@@ -103,10 +103,10 @@ fn run_task<'a, R: Source, C: WholeSink, W: Sink>(
             trace,
             limit,
             registers,
-            expect,
+            answers,
             xlen,
         } => do_judge_as(
-            alloc, *registers, *expect, *map, *trace, *xlen, *limit, first, second, out,
+            alloc, *registers, *answers, *map, *trace, *xlen, *limit, first, second, out,
         ),
         Task::Check { map, cert } => do_check(alloc, *map, *cert, first, second, out),
         Task::Audit {

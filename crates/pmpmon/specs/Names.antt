@@ -16,7 +16,7 @@ renamed_kind name (kinds.Trace platform) = kinds.Trace (option_map (λ s. name) 
 abbrev pub renamed : Bor (List ℕ) → Task → Task
 renamed name (tasks.Run platform trace measure expect) = tasks.Run name name measure expect
 renamed name (tasks.Plan map cert limit at_most format prefix begin xlen) = tasks.Plan name (option_map (λ s. name) cert) limit at_most format prefix begin xlen
-renamed name (tasks.Judge map trace limit registers expect xlen) = tasks.Judge name name limit registers expect xlen
+renamed name (tasks.Judge map trace limit registers answers xlen) = tasks.Judge name name limit registers answers xlen
 renamed name (tasks.Check map cert) = tasks.Check name name
 renamed name (tasks.Audit map registers all xlen) = tasks.Audit name name all xlen
 renamed name (tasks.Map registers xlen) = tasks.Map name xlen
@@ -32,7 +32,7 @@ name_or_none (Some name) = name.now
 abbrev pub names_in : Task → List (List ℕ)
 names_in (tasks.Run platform trace measure expect) = platform.now ∷ trace.now ∷ [] ∷ []
 names_in (tasks.Plan map cert limit at_most format prefix begin xlen) = map.now ∷ [] ∷ name_or_none cert ∷ []
-names_in (tasks.Judge map trace limit registers expect xlen) = map.now ∷ trace.now ∷ [] ∷ []
+names_in (tasks.Judge map trace limit registers answers xlen) = map.now ∷ trace.now ∷ [] ∷ []
 names_in (tasks.Check map cert) = map.now ∷ cert.now ∷ [] ∷ []
 names_in (tasks.Audit map registers all xlen) = map.now ∷ registers.now ∷ [] ∷ []
 names_in (tasks.Map registers xlen) = registers.now ∷ [] ∷ [] ∷ []

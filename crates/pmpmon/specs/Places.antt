@@ -29,7 +29,7 @@ IsAt None input = (name : Bor (List ℕ)) × (name.now ≡ []) × IsOfFile name 
 abbrev pub first_of : Task → Place
 first_of (tasks.Run platform trace measure expect) = place_of platform
 first_of (tasks.Plan map cert limit at_most format name begin xlen) = place_of map
-first_of (tasks.Judge map trace limit registers expect xlen) = place_of map
+first_of (tasks.Judge map trace limit registers answers xlen) = place_of map
 first_of (tasks.Check map cert) = place_of map
 first_of (tasks.Audit map registers all xlen) = place_of map
 first_of (tasks.Map registers xlen) = place_of registers
@@ -39,7 +39,7 @@ first_of (tasks.Show map limit at_most registers xlen format costs) = place_of m
 -- what it reads after that
 abbrev pub second_of : Task → Option Place
 second_of (tasks.Run platform trace measure expect) = Some (place_of trace)
-second_of (tasks.Judge map trace limit registers expect xlen) = Some (place_of trace)
+second_of (tasks.Judge map trace limit registers answers xlen) = Some (place_of trace)
 second_of (tasks.Check map cert) = Some (place_of cert)
 second_of (tasks.Audit map registers all xlen) = Some (place_of registers)
 second_of (tasks.Lint file (kinds.Trace (Some platform)) xlen) = Some (place_of platform)

@@ -31,6 +31,7 @@ fault_text (faults.Xlen word) = value_text word.now (codes "' for '--xlen <32|64
 fault_text (faults.Hints word) = value_text word.now (codes "' for '--hints <auto|always|never>'\n  [possible values: auto, always, never]")
 fault_text faults.InputTwice = codes "standard input, '-', cannot be read twice"
 fault_text faults.TwoKinds = codes "the argument '--registers' cannot be used with '--trace'"
+fault_text faults.TwoAnswers = codes "the argument '--explain' cannot be used with '--expect'"
 fault_text faults.PlatformAlone = codes "the argument '--platform <PLATFORM>' cannot be used without '--trace'"
 fault_text (faults.TakesPlace map) = codes "the certificate would take the place of the map '" ++ (map.now ++ codes "'")
 
@@ -48,11 +49,12 @@ pub data Demand : Type 0 where
   reads_once : Text → Demand
   keeps_map : Demand
   one_kind : Demand
+  one_answer : Demand
   of_trace : Demand
 
 -- the values lack it: the argument of that name has no value; the word of `--entries` names no limit, that of `--format` no
 -- format of a plan or of a table, that of `--xlen` no width, that of `--at-most` no number, that of `--name` is no identifier, that of `--first` names no entry below the limit, that of `--hints` not whether hints are told; the map and that other file are both standard input; the certificate is the map; the file is
--- said to be a listing and a trace; or a platform is named where it is said to be no trace
+-- said to be a listing and a trace; answers are to be explained and to be compared; or a platform is named where it is said to be no trace
 abbrev pub Lacks : (Text → Option Text) → (Text → Option Text) → Demand → Type 0
 Lacks value flag (has name) = value name ≡ None
 Lacks value flag names_limit = (limit : Limit) → value (codes "entries") ≢ Some (limit_word limit)
@@ -66,6 +68,7 @@ Lacks value flag names_hints = (hints : Hints) → value (codes "hints") ≢ Som
 Lacks value flag (reads_once other) = (value (codes "MAP") ≡ Some input_word) × (value other ≡ Some input_word)
 Lacks value flag keeps_map = value (codes "CERT") ≡ value (codes "MAP")
 Lacks value flag one_kind = IsGiven (flag (codes "registers")) × IsGiven (flag (codes "trace"))
+Lacks value flag one_answer = IsGiven (flag (codes "expect")) × IsGiven (flag (codes "explain"))
 Lacks value flag of_trace = (value (codes "platform") ≢ None) × ¬ IsGiven (flag (codes "trace"))
 
 -- what is told where they lack it: a value of an option with its word, a certificate in the place of its map with the map
@@ -82,6 +85,7 @@ Tells value names_hints (faults.Hints word) = value (codes "hints") ≡ Some wor
 Tells value (reads_once other) fault = fault ≡ faults.InputTwice
 Tells value keeps_map (faults.TakesPlace map) = value (codes "MAP") ≡ Some map.now
 Tells value one_kind fault = fault ≡ faults.TwoKinds
+Tells value one_answer fault = fault ≡ faults.TwoAnswers
 Tells value of_trace fault = fault ≡ faults.PlatformAlone
 Tells value demand fault = ⊥
 
@@ -99,7 +103,7 @@ abbrev pub demands_of : Subcommand → List Demand
 demands_of subcommands.Run = has (codes "PLATFORM") ∷ has (codes "TRACE") ∷ []
 demands_of subcommands.Plan =
     has (codes "MAP") ∷ keeps_map ∷ has (codes "entries") ∷ names_limit ∷ counts ∷ has (codes "format") ∷ names_format ∷ has (codes "xlen") ∷ names_width ∷ identifies ∷ begins_inside ∷ []
-demands_of subcommands.Judge = has (codes "MAP") ∷ has (codes "TRACE") ∷ has (codes "entries") ∷ names_limit ∷ reads_once (codes "TRACE") ∷ has (codes "xlen") ∷ names_width ∷ []
+demands_of subcommands.Judge = has (codes "MAP") ∷ has (codes "TRACE") ∷ has (codes "entries") ∷ names_limit ∷ reads_once (codes "TRACE") ∷ has (codes "xlen") ∷ names_width ∷ one_answer ∷ []
 demands_of subcommands.Check = has (codes "MAP") ∷ has (codes "CERT") ∷ []
 demands_of subcommands.Show = has (codes "MAP") ∷ has (codes "entries") ∷ names_limit ∷ counts ∷ has (codes "xlen") ∷ names_width ∷ has (codes "format") ∷ names_table_format ∷ []
 demands_of subcommands.Audit = has (codes "MAP") ∷ has (codes "REGISTERS") ∷ reads_once (codes "REGISTERS") ∷ has (codes "xlen") ∷ names_width ∷ []

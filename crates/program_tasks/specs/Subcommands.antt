@@ -28,7 +28,7 @@ usage_words subcommand = codes "pmpmon " ++ subcommand_word subcommand
 abbrev pub subcommand_of : Task → Subcommand
 subcommand_of (Run platform trace measure expect) = subcommands.Run
 subcommand_of (Plan map cert limit at_most format name first xlen) = subcommands.Plan
-subcommand_of (Judge map trace limit registers expect xlen) = subcommands.Judge
+subcommand_of (Judge map trace limit registers answers xlen) = subcommands.Judge
 subcommand_of (Check map cert) = subcommands.Check
 subcommand_of (Show map limit at_most registers xlen format costs) = subcommands.Show
 subcommand_of (Audit map registers all xlen) = subcommands.Audit

@@ -11,6 +11,8 @@ use Rattle.program_tasks.specs.declared.task.Format.{Format}
 use Rattle.program_tasks.specs.declared.task.Format.TheVariants as formats
 use Rattle.program_tasks.specs.declared.task.TableFormat.{TableFormat}
 use Rattle.program_tasks.specs.declared.task.TableFormat.TheVariants as tables
+use Rattle.program_tasks.specs.declared.task.Answers.{Answers}
+use Rattle.program_tasks.specs.declared.task.Answers.TheVariants as answers
 use Rattle.program_tasks.specs.declared.task.LintKind.{LintKind}
 use Rattle.program_tasks.specs.declared.task.LintKind.TheVariants as kinds
 use Rattle.program_tasks.specs.declared.subcommand.Subcommand.{Subcommand}
@@ -66,6 +68,12 @@ HasKind value flag kinds.Registers = IsGiven (flag (codes "registers")) × (¬ I
 HasKind value flag (kinds.Trace platform) =
     (¬ IsGiven (flag (codes "registers"))) × IsGiven (flag (codes "trace")) × (value (codes "platform") ≡ option_map (λ s. s.now) platform)
 
+-- what is written of the answers to a trace, by the flags: they are explained, or compared with those that are expected, or neither
+abbrev pub HasAnswers : (Text → Option Text) → Answers → Type 0
+HasAnswers flag answers.Plain = (¬ IsGiven (flag (codes "expect"))) × (¬ IsGiven (flag (codes "explain")))
+HasAnswers flag answers.Explained = (¬ IsGiven (flag (codes "expect"))) × IsGiven (flag (codes "explain"))
+HasAnswers flag answers.Compared = IsGiven (flag (codes "expect")) × (¬ IsGiven (flag (codes "explain")))
+
 -- a letter of ASCII or an underscore
 abbrev pub is_letter : ℕ → Bool
 is_letter b = (nat_lt 64 b && nat_lt b 91) || (nat_lt 96 b && nat_lt b 123) || b == 95
@@ -95,12 +103,12 @@ HasValues value flag (Plan map cert limit at_most format name first xlen) =
     × (value (codes "name") ≡ option_map (λ s. s.now) name)
     × BeginsAt (value (codes "first")) first
     × (value (codes "xlen") ≡ Some (width_word xlen))
-HasValues value flag (Judge map trace limit registers expect xlen) =
+HasValues value flag (Judge map trace limit registers answers xlen) =
     (value (codes "MAP") ≡ Some map.now)
     × (value (codes "TRACE") ≡ Some trace.now)
     × (value (codes "entries") ≡ Some (limit_word limit))
     × IsFlag (flag (codes "registers")) registers
-    × IsFlag (flag (codes "expect")) expect
+    × HasAnswers flag answers
     × (value (codes "xlen") ≡ Some (width_word xlen))
 HasValues value flag (Check map cert) =
     (value (codes "MAP") ≡ Some map.now)
@@ -137,7 +145,7 @@ IsSound (Plan map cert limit at_most format name first xlen) =
     (option_map (λ s. s.now) cert ≢ Some map.now)
     × IfSome name (λ s. is_identifier s.now ≡ true)
     × (first < limit_number limit)
-IsSound (Judge map trace limit registers expect xlen) = ¬ ((map.now ≡ input_word) × (trace.now ≡ input_word))
+IsSound (Judge map trace limit registers answers xlen) = ¬ ((map.now ≡ input_word) × (trace.now ≡ input_word))
 IsSound (Audit map registers all xlen) = ¬ ((map.now ≡ input_word) × (registers.now ≡ input_word))
 IsSound task = Unit {0}
 

@@ -30,6 +30,8 @@ pub enum Fault<'a> {
     InputTwice,
     /// `--registers` and `--trace` are both given.
     TwoKinds,
+    /// `--explain` and `--expect` are both given.
+    TwoAnswers,
     /// `--platform` is given without `--trace`.
     PlatformAlone,
     /// The certificate would take the place of the map of this name.
@@ -86,6 +88,9 @@ impl Fault<'_> {
             Fault::InputTwice => format!(in alloc; "standard input, '-', cannot be read twice"),
             Fault::TwoKinds => {
                 format!(in alloc; "the argument '--registers' cannot be used with '--trace'")
+            }
+            Fault::TwoAnswers => {
+                format!(in alloc; "the argument '--explain' cannot be used with '--expect'")
             }
             Fault::PlatformAlone => {
                 format!(in alloc;

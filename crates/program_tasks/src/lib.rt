@@ -24,5 +24,5 @@ pub use given::Values;
 pub use hints::Hints;
 pub use request::{Request, request_of};
 pub use subcommand::{SUBCOMMANDS, Subcommand};
-pub use task::{Format, LintKind, TableFormat, Task};
+pub use task::{Answers, Format, LintKind, TableFormat, Task};
 pub use tasks::task_of;

@@ -27,6 +27,17 @@ pub enum TableFormat {
     Json,
 }
 
+/// What is written of the answers to a trace.
+#[derive(Clone, Copy, Debug, PartialEq, Eq)]
+pub enum Answers {
+    /// The answers alone.
+    Plain,
+    /// The answers, and behind each what decided it.
+    Explained,
+    /// The answers, compared with those that the comments of the trace say.
+    Compared,
+}
+
 /// What a file that is linted should be.
 #[derive(Clone, Copy, Debug, PartialEq, Eq)]
 pub enum LintKind<'a> {
@@ -84,8 +95,8 @@ pub enum Task<'a> {
         limit: Limit,
         /// Whether the file is a listing of registers.
         registers: bool,
-        /// Whether the answers are compared with those that the comments of the trace say.
-        expect: bool,
+        /// What is written of the answers.
+        answers: Answers,
         /// How many bits the hart's registers have.
         xlen: Xlen,
     },

@@ -1,11 +1,12 @@
 //! The task that a subcommand with its values is.
 
 ghost use Rattle.std.specs.Prelude.{◌≡◌, ◌≢◌, ◌<◌, ◌↔◌, [], ◌∷◌, IfErr, IfOk, Option, None, Some, codes, true, option_map};
+ghost use Rattle.program_tasks.specs.declared.task.Answers.{Answers};
 ghost use Rattle.program_tasks.specs.declared.task.LintKind.{LintKind};
-ghost use Rattle.program_tasks.specs.Faults.{IsFaultOf, IsFirst, RefusesTask};
-ghost use Rattle.program_tasks.specs.Faults.Demand.{of_trace, one_kind};
+ghost use Rattle.program_tasks.specs.Faults.{Breaks, IsFaultOf, IsFirst, RefusesTask};
+ghost use Rattle.program_tasks.specs.Faults.Demand.{of_trace, one_answer, one_kind};
 ghost use Rattle.program_tasks.specs.Subcommands.{word_of};
-ghost use Rattle.program_tasks.specs.Tasks.{input_word, HasKind, HasValues, IsSound, IsTaskOf, NamesNone};
+ghost use Rattle.program_tasks.specs.Tasks.{input_word, HasAnswers, HasKind, HasValues, IsSound, IsTaskOf, NamesNone};
 
 use crate::arguments::{
     at_most_in, first_in, format_in, limit_in, name_in, table_format_in, value_in, width_in,
@@ -13,7 +14,7 @@ use crate::arguments::{
 use crate::fault::Fault;
 use crate::given::Values;
 use crate::subcommand::Subcommand;
-use crate::task::{LintKind, Task};
+use crate::task::{Answers, LintKind, Task};
 
 /// The word that standard input stands for.
 const INPUT: &str = "-";
@@ -101,6 +102,27 @@ fn once<'a>(map: &str, other: &str) -> Result<(), Fault<'a>>
     Ok(())
 }
 
+/// What is written of the answers to a trace.
+fn answers_in<'a, V: Values<'a>>(given: &V) -> Result<Answers, Fault<'a>>
+    ensures answers { IfOk result (HasAnswers (V.flag given.now)) }
+    ensures none { IfErr result (λ _. (answers : Answers)
+        → ¬ HasAnswers (V.flag given.now) answers) }
+    ensures fault { IfErr result (Breaks (V.value given.now) (V.flag given.now) one_answer) }
+{
+    let is_compared = given.is_given("expect");
+    let is_explained = given.is_given("explain");
+    if is_explained {
+        if is_compared {
+            return Err(Fault::TwoAnswers);
+        }
+        return Ok(Answers::Explained);
+    }
+    if is_compared {
+        return Ok(Answers::Compared);
+    }
+    Ok(Answers::Plain)
+}
+
 fn judge_in<'a, V: Values<'a>>(given: &V) -> Result<Task<'a>, Fault<'a>>
     ensures task { IfOk result (IsTaskOf Subcommand.Judge (V.value given.now)
         (V.flag given.now)) }
@@ -112,14 +134,14 @@ fn judge_in<'a, V: Values<'a>>(given: &V) -> Result<Task<'a>, Fault<'a>>
     let limit = limit_in(given)?;
     once(map, trace)?;
     let xlen = width_in(given)?;
+    let answers = answers_in(given)?;
     let registers = given.is_given("registers");
-    let expect = given.is_given("expect");
     Ok(Task::Judge {
         map,
         trace,
         limit,
         registers,
-        expect,
+        answers,
         xlen,
     })
 }

@@ -123,3 +123,8 @@ module _ (registers : Registers) (a : Access) where
     decided_by first x inside is met,
     (λ may. by_place first x (record { low = omega arith; inside = inside; is_extent = is; met = met; missed = λ lower low less. absurd (omega (arith, low, less)) }) may.0 may.1),
   )
+
+-- one more entry misses
+pub missed_with : (registers : Registers) (a : Access) (n : ℕ) → ((place : ℕ) → place < n → Misses registers a place) → Misses registers a n → (place : ℕ) → place < n + 1 → Misses registers a place
+missed_with registers a n below off place less =
+    ⊎_elim (λ under. below place under) (λ over. let same : n ≡ place = omega (arith, over, less) in subst (λ p. Misses registers a p) same off) (cases_lt place n)

@@ -1,6 +1,7 @@
 //! Rules as what the accesses of a trace are judged by.
 
 use crate::rules::Rules;
+use explained_answers::{Decider, Deciders};
 use pmp_match::{Access, Cause};
 use trace_judge::AccessJudge;
 
@@ -11,5 +12,15 @@ impl AccessJudge for Rules {
 
     fn outcome(&self, access: &Access) -> Result<(), Cause> {
         self.judge(access)
+    }
+}
+
+impl Deciders for Rules {
+    ghost use Rattle.register_judge.specs.Deciders.{by_entry};
+
+    ghost decides = { by_entry };
+
+    fn decider(&self, access: &Access) -> Option<Decider> {
+        self.first_met(access)
     }
 }

@@ -4,9 +4,11 @@ ghost use Rattle.std.specs.Prelude.{◌≡◌, ◌^◌, ◌<◌, ◌↔◌, IsTr
 ghost use Rattle.pmp_match.specs.declared.access.Mode.TheVariants.{Machine};
 ghost use Rattle.pmp_registers.specs.Decision.{ContainsAll};
 ghost use Rattle.pmp_registers.specs.Matching.{AreExtents};
+ghost use Rattle.register_judge.specs.Deciders.{by_entry};
 ghost use Rattle.register_judge.specs.Decision.{IsLocked, LetsThrough, RegistersAllow};
 
 use crate::kinds::{contains, holds, is_machine, meets};
+use explained_answers::Decider;
 use pmp_match::{Access, Mode};
 use pmp_registers::{Extent, Registers};
 
@@ -57,4 +59,23 @@ pub(crate) fn allow(registers: &Registers, extents: &[Extent; 64], access: &Acce
         }
     }
     is_machine(access.mode)
+}
+
+/// The first entry by number that has a byte of the access, where there is one.
+pub(crate) fn first_met(
+    registers: &Registers,
+    extents: &[Extent; 64],
+    access: &Access,
+) -> Option<Decider>
+    requires extents { AreExtents registers.now extents.now }
+    requires inside { access.now.address < 2 ^ 56 }
+    ensures { by_entry registers.now access.now result }
+{
+    for number in 0..64 {
+        let extent = extents[number];
+        if meets(&extent, access) {
+            return Some(Decider { number, extent });
+        }
+    }
+    None
 }

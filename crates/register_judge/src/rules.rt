@@ -1,13 +1,15 @@
 //! What registers say of accesses.
 
-ghost use Rattle.std.specs.Prelude.{◌≡◌, IfErr, IfOk, List};
+ghost use Rattle.std.specs.Prelude.{◌≡◌, ◌^◌, ◌<◌, IfErr, IfOk, List};
 ghost use Rattle.pmp_encoding.specs.declared.extent.Extent.{Extent};
 ghost use Rattle.pmp_registers.specs.Matching.{AreExtents};
 ghost use Rattle.pmp_registers.specs.Reserved.{IsFirstReserved};
+ghost use Rattle.register_judge.specs.Deciders.{by_entry};
 ghost use Rattle.register_judge.specs.Judgement.{RegistersJudge};
 
-use crate::decision::allow;
+use crate::decision::{allow, first_met};
 use crate::kinds::{access_fault, is_aligned, misaligned};
+use explained_answers::Decider;
 use page_views::SPACE_SIZE;
 use pmp_match::{Access, Cause};
 use pmp_registers::{Extent, Registers, ReservedAt, extents_of};
@@ -62,5 +64,13 @@ impl Rules {
             return Err(access_fault(access.kind));
         }
         Ok(())
+    }
+
+    /// The entry that decides the access, where one does.
+    pub fn first_met(&self, access: &Access) -> Option<Decider>
+        requires { access.now.address < 2 ^ 56 }
+        ensures { by_entry self.now access.now result }
+    {
+        first_met(&self.registers, &self.extents, access)
     }
 }

@@ -3,37 +3,56 @@
 ghost use Rattle.std.specs.Prelude.{◌-◌, ◌^◌, ◌<◌};
 ghost use Rattle.byte_streams.specs.Writings.{writing};
 ghost use Rattle.trace_judge.specs.Answers.{answered_by};
-ghost use Rattle.map_commands.specs.Commands.{reading, Judges, JudgesAs, JudgesByRegisters, JudgesExpecting, JudgesTraceAs};
+ghost use Rattle.explained_answers.specs.Explained.{explaining};
+ghost use Rattle.explained_answers.specs.Reasons.{on_access};
+ghost use Rattle.map_commands.specs.Commands.{reading, Judges, JudgesAs, JudgesByRegisters, JudgesExpecting, JudgesTrace, JudgesTraceAs};
 
 use crate::certified_plan::bank_in;
 use crate::expected::tell_first;
 use crate::inputs::{REGISTER_BYTES, bytes_in, map_in};
 use byte_streams::{DeviceFault, Sink, Source, write_whole};
 use expected_answers::compare_judged;
+use explained_answers::{Deciders, explain_judged};
 use pmp_encoding::Limit;
 use pmp_match::Segments;
+use program_tasks::Answers;
 use program_troubles::Trouble;
 use register_judge::{Ruled, RulesFault, rules_in};
 use register_width::Xlen;
 use std::alloc::Global;
 use trace_judge::{AccessJudge, judge_lines};
 
-/// Judges a trace, and where that is asked for compares the answers with those that its comments say.
-fn judge_by<'a, J: AccessJudge, R: Source, W: Sink>(
+/// Judges a trace.
+fn judge_plainly<'a, J: AccessJudge, R: Source, W: Sink>(
     by: &J,
-    expect: bool,
     trace: &'a str,
     second: &mut R,
     out: &mut W,
 ) -> Result<u8, Trouble<'a>>
-    ensures { JudgesTraceAs expect (answered_by (J.outcomes by.now)) trace.entry
+    ensures { JudgesTrace (answered_by (J.outcomes by.now)) trace.entry
         (reading R.remaining R.failures second.old second.new)
         (writing W.contents W.failures W.stalls out.old out.new) result }
 {
-    if expect {
-        return judge_expecting(by, trace, second, out);
-    }
     match judge_lines(by, second, out) {
+        Ok(()) => Ok(0),
+        Err(fault) => Err(Trouble::of_run(trace, fault)),
+    }
+}
+
+/// Judges a trace, and says behind each answer which entry decided it.
+fn judge_explaining<'a, J: AccessJudge, D: Deciders, R: Source, W: Sink>(
+    by: &J,
+    deciders: &D,
+    trace: &'a str,
+    second: &mut R,
+    out: &mut W,
+) -> Result<u8, Trouble<'a>>
+    ensures { JudgesTrace
+        (explaining (answered_by (J.outcomes by.now)) (on_access (D.decides deciders.now)))
+        trace.entry (reading R.remaining R.failures second.old second.new)
+        (writing W.contents W.failures W.stalls out.old out.new) result }
+{
+    match explain_judged(by, deciders, second, out) {
         Ok(()) => Ok(0),
         Err(fault) => Err(Trouble::of_run(trace, fault)),
     }
@@ -61,10 +80,30 @@ fn judge_expecting<'a, J: AccessJudge, R: Source, W: Sink>(
     }
 }
 
+/// Judges a trace, and writes of the answers what is asked for.
+fn judge_by<'a, J: AccessJudge, D: Deciders, R: Source, W: Sink>(
+    by: &J,
+    deciders: &D,
+    answers: Answers,
+    trace: &'a str,
+    second: &mut R,
+    out: &mut W,
+) -> Result<u8, Trouble<'a>>
+    ensures { JudgesTraceAs answers (J.outcomes by.now) (D.decides deciders.now) trace.entry
+        (reading R.remaining R.failures second.old second.new)
+        (writing W.contents W.failures W.stalls out.old out.new) result }
+{
+    match answers {
+        Answers::Plain => judge_plainly(by, trace, second, out),
+        Answers::Explained => judge_explaining(by, deciders, trace, second, out),
+        Answers::Compared => judge_expecting(by, trace, second, out),
+    }
+}
+
 /// Loads the entries of a map and judges a trace by them.
 fn do_judge<'a, R: Source, W: Sink>(
     alloc: Global,
-    expect: bool,
+    answers: Answers,
     map: &'a str,
     trace: &'a str,
     xlen: Xlen,
@@ -74,7 +113,7 @@ fn do_judge<'a, R: Source, W: Sink>(
     out: &mut W,
 ) -> Result<u8, Trouble<'a>>
     ensures { let source = reading R.remaining R.failures in
-        Judges expect map.entry trace.entry xlen limit (source first.old first.new)
+        Judges answers map.entry trace.entry xlen limit (source first.old first.new)
         (source second.old second.new) (writing W.contents W.failures W.stalls out.old out.new)
         result }
 {
@@ -82,13 +121,13 @@ fn do_judge<'a, R: Source, W: Sink>(
     let map = map_in(alloc, file, first)?;
     let bank = bank_in(alloc, file, &map, xlen, limit)?;
     let segments = Segments::of(&bank);
-    judge_by(&segments, expect, trace, second, out)
+    judge_by(&segments, &bank, answers, trace, second, out)
 }
 
 /// Takes registers as they stand and judges a trace by them. The status is 1 where they judge nothing.
 fn do_judge_registers<'a, R: Source, W: Sink>(
     alloc: Global,
-    expect: bool,
+    answers: Answers,
     registers: &'a str,
     trace: &'a str,
     xlen: Xlen,
@@ -97,13 +136,13 @@ fn do_judge_registers<'a, R: Source, W: Sink>(
     out: &mut W,
 ) -> Result<u8, Trouble<'a>>
     ensures { let source = reading R.remaining R.failures in
-        JudgesByRegisters expect registers.entry trace.entry xlen (source first.old first.new)
+        JudgesByRegisters answers registers.entry trace.entry xlen (source first.old first.new)
         (source second.old second.new) (writing W.contents W.failures W.stalls out.old out.new)
         result }
 {
     let listing = bytes_in(alloc, registers, first, REGISTER_BYTES)?;
     match rules_in(alloc, xlen, listing.as_slice()) {
-        Ok(Ruled::Rules(rules)) => judge_by(&rules, expect, trace, second, out),
+        Ok(Ruled::Rules(rules)) => judge_by(&rules, &rules, answers, trace, second, out),
         Ok(Ruled::Refused(text)) => match write_whole(out, text.as_slice()) {
             Ok(()) => Ok(1),
             Err(DeviceFault) => Err(Trouble::Output),
@@ -116,12 +155,11 @@ fn do_judge_registers<'a, R: Source, W: Sink>(
     }
 }
 
-/// Judges a trace by the entries of a map, or by registers as they stand, and where that is asked for compares the answers with
-/// those that the trace says.
+/// Judges a trace by the entries of a map, or by registers as they stand, and writes of the answers what is asked for.
 pub fn do_judge_as<'a, R: Source, W: Sink>(
     alloc: Global,
     registers: bool,
-    expect: bool,
+    answers: Answers,
     file: &'a str,
     trace: &'a str,
     xlen: Xlen,
@@ -131,12 +169,12 @@ pub fn do_judge_as<'a, R: Source, W: Sink>(
     out: &mut W,
 ) -> Result<u8, Trouble<'a>>
     ensures { let source = reading R.remaining R.failures in
-        JudgesAs registers expect file.entry trace.entry xlen limit (source first.old first.new)
+        JudgesAs registers answers file.entry trace.entry xlen limit (source first.old first.new)
         (source second.old second.new) (writing W.contents W.failures W.stalls out.old out.new)
         result }
 {
     if registers {
-        return do_judge_registers(alloc, expect, file, trace, xlen, first, second, out);
+        return do_judge_registers(alloc, answers, file, trace, xlen, first, second, out);
     }
-    do_judge(alloc, expect, file, trace, xlen, limit, first, second, out)
+    do_judge(alloc, answers, file, trace, xlen, limit, first, second, out)
 }
