@@ -1,5 +1,5 @@
 -- The first extent that has a byte of an access is that of the first entry that meets it.
-use Rattle.std.proofs.Common.{◌≡◌, ◌∙◌, ℕ, ◌+◌, ◌<◌, Bool, true, false, cond, List, [], ◌∷◌, length, drop, get_or, map, Option, Some, None, refl, ap, arith}
+use Rattle.std.proofs.Common.{◌≡◌, ◌∙◌, ℕ, ◌+◌, ◌<◌, Bool, true, false, cond, All, List, [], ◌∷◌, length, drop, get_or, map, Option, Some, None, refl, ap, arith}
 use Rattle.std.proofs.lemmas.Bool.{both_ways}
 use Rattle.std.proofs.lemmas.List.{at_drop_more}
 use Rattle.std.proofs.lemmas.List.Elements.{All-nil, All-cons}
@@ -8,7 +8,7 @@ use Rattle.pmp_encoding.specs.declared.region.Entry.{Entry}
 use Rattle.pmp_encoding.specs.Extents.{extent_of}
 use Rattle.pmp_match.specs.declared.access.Access.{Access}
 use Rattle.pmp_match.specs.Accesses.{Meets}
-use Rattle.pmp_match.specs.Decision.{IsFirstMatch, NoneMeets}
+use Rattle.pmp_match.specs.Decision.{IsFirstMatch}
 use Rattle.pmp_match.specs.Matching.{touches}
 use Rattle.pmp_match.proofs.Decided.{Meets-from_test, test_from_Meets}
 use Rattle.explained_answers.specs.declared.deciders.Decider.{Decider}
@@ -24,7 +24,7 @@ found_at n extents i d a inside touched =
 
 -- of entries, the first of which has this number, the first that meets the access
 abbrev DecidesFrom : ℕ → List Entry → Access → Option Decider → Type 0
-DecidesFrom n entries a None = NoneMeets entries a
+DecidesFrom n entries a None = All (λ x. ¬ Meets x.region a) entries
 DecidesFrom n entries a (Some found) = (e : Entry) × (first : IsFirstMatch entries a e) × (found.number ≡ n + length first.before) × (found.extent ≡ extent_of e)
 
 -- one that does not meet it stands before them
