@@ -17,5 +17,5 @@ mod texts;
 mod words;
 
 pub use fault::{no_certificate, reads_twice, takes_place};
-pub use program_tasks::{Format, Hints, LintKind, Request, TableFormat, Task};
+pub use program_tasks::{Answers, Format, Hints, LintKind, Request, TableFormat, Task};
 pub use words::command_of;

@@ -97,7 +97,11 @@ fn is_told(alloc: Global, words: &[&str], wanted: &str) -> Result<bool, Fail> {
 
 #[test]
 fn a_fault_names_the_value_and_the_usage(rt: HostRuntime) -> Result<(), Fail> {
-    let rows: [(&[&str], &str); 8] = [
+    let rows: [(&[&str], &str); 9] = [
+        (
+            &["pmpmon", "judge", "m", "t", "--explain", "--expect"],
+            "error: the argument '--explain' cannot be used with '--expect'\n\nUsage: pmpmon judge [OPTIONS] <MAP> <TRACE>\n\nFor more information, try '--help'.\n",
+        ),
         (
             &["pmpmon", "judge", "map.txt", "trace.txt", "--entries", "32"],
             "error: invalid value '32' for '--entries <16|64>'\n  [possible values: 16, 64]\n\nUsage: pmpmon judge [OPTIONS] <MAP> <TRACE>\n\nFor more information, try '--help'.\n",

@@ -1,6 +1,6 @@
 //! Words, and the tasks that they are.
 
-use command_line::{Format, LintKind, TableFormat, Task, command_of};
+use command_line::{Answers, Format, LintKind, TableFormat, Task, command_of};
 use pmp_encoding::Limit;
 use register_width::Xlen;
 use std::alloc::Global;
@@ -181,35 +181,40 @@ fn plan_has_a_number_at_most_and_a_format(rt: HostRuntime) {
 
 #[test]
 fn judge_takes_a_map_and_a_trace(rt: HostRuntime) {
-    let rows: [(&[&str], Limit, bool); 4] = [
+    let rows: [(&[&str], Limit, Answers); 5] = [
         (
             &["pmpmon", "judge", "map.txt", "trace.txt"],
             Limit::Sixteen,
-            false,
+            Answers::Plain,
         ),
         (
             &["pmpmon", "judge", "map.txt", "trace.txt", "--entries=16"],
             Limit::Sixteen,
-            false,
+            Answers::Plain,
         ),
         (
             &["pmpmon", "judge", "map.txt", "trace.txt", "--entries", "64"],
             Limit::SixtyFour,
-            false,
+            Answers::Plain,
         ),
         (
             &["pmpmon", "judge", "map.txt", "trace.txt", "--expect"],
             Limit::Sixteen,
-            true,
+            Answers::Compared,
+        ),
+        (
+            &["pmpmon", "judge", "map.txt", "--explain", "trace.txt"],
+            Limit::Sixteen,
+            Answers::Explained,
         ),
     ];
-    for (words, limit, expect) in rows {
+    for (words, limit, answers) in rows {
         let wanted = Task::Judge {
             map: "map.txt",
             trace: "trace.txt",
             limit,
             registers: false,
-            expect,
+            answers,
             xlen: Xlen::Rv64,
         };
         is_task(&rt, rt.alloc(), words, wanted);

@@ -1,6 +1,6 @@
 //! Words with a width of registers, and the tasks that they are.
 
-use command_line::{LintKind, TableFormat, Task, command_of};
+use command_line::{Answers, LintKind, TableFormat, Task, command_of};
 use pmp_encoding::Limit;
 use register_width::Xlen;
 use std::alloc::Global;
@@ -25,7 +25,7 @@ fn each_command_on_registers_takes_a_width(rt: HostRuntime) {
                 trace: "t",
                 limit: Limit::Sixteen,
                 registers: true,
-                expect: false,
+                answers: Answers::Plain,
                 xlen,
             },
         ),

@@ -3,6 +3,7 @@
 mod certificates;
 mod devices;
 mod expected;
+mod explained;
 mod failures;
 mod hints;
 mod inputs;

@@ -28,7 +28,8 @@ struct ExplainingJudge<'a, J, D> {
 
 /// The access of a line, where it is one.
 fn access_in(line: &[u8]) -> Option<Access>
-    ensures { (access : Access) → access_on line.now ≡ Some (Some access) → result ≡ Some access }
+    ensures { (access : Access) → access_on line.now ≡ Some (Some access)
+        → result ≡ Some access }
 {
     match parse_line(line, 0) {
         Ok(Some((_, Event::Access(access, _)))) => Some(access),

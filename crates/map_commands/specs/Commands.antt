@@ -352,7 +352,7 @@ pub data JudgesByRegisters {R W : Type 0} (answers : Answers) (listing trace : B
 -- `judge`, with `--registers` or without, and what is written of the answers
 abbrev pub JudgesAs : {R W : Type 0} → Bool → Answers → Bor (List ℕ) → Bor (List ℕ) → Xlen → Limit → Reading R → Reading R → Writing W → Result ℕ Trouble → Type 0
 JudgesAs true answers file trace xlen limit first second out done = JudgesByRegisters answers file trace xlen first second out done
-JudgesAs false answers file trace xlen limit first second out done = Judges expect file trace xlen limit first second out done
+JudgesAs false answers file trace xlen limit first second out done = Judges answers file trace xlen limit first second out done
 
 -- `check`: the map is read, then the certificate, and the line of the verdict is written
 pub data Checks {R W : Type 0} (map cert : Bor (List ℕ)) (first second : Reading R) (out : Writing W) : Result ℕ Trouble → Type 0 where
