@@ -16,7 +16,7 @@ returns-in-Ok-Rules g c =
 pub returns-in-Err-Line : goal.returns-in-Err-Line
 returns-in-Err-Line g c =
     let unknown = rw c.as_slice.ensures.value at c.in-Err-Line.ensures.line c.in-Err-Line.line (ap (λ f. Err f) c.in-Err-Line.field-0-is) in
-    commands.JudgesByRegisters.not_understood _ c.in-Err-Line.line c.in_ok-listing.ensures.whole unknown refl refl
+    rw c.in-Err-Line.field-0-is (commands.JudgesByRegisters.not_understood _ c.in-Err-Line.line c.in_ok-listing.ensures.whole unknown refl refl)
 
 pub returns-in-Ok : goal.returns-in-Ok
 returns-in-Ok g c =
