@@ -7,17 +7,12 @@ ghost use Rattle.clap.specs.Words.{kind_of};
 ghost use Rattle.clap.specs.declared.error.kind.ErrorKind.TheVariants as kind;
 ghost use Rattle.byte_streams.specs.Streams.{failures_of, inner_of};
 ghost use Rattle.program_tasks.specs.Tasks.{input_word};
-ghost use Rattle.pmpmon.specs.Hinted.{may_be_hinted};
-ghost use Rattle.pmpmon.specs.Places.{cert_of, IsAt, IsToStandardOutput, ReadsTwice};
+ghost use Rattle.task_files.specs.Places.{cert_of, IsAt, IsToStandardOutput, ReadsTwice};
 ghost use Rattle.program_troubles.specs.Troubles.{trouble_status};
 
-mod names;
-mod places;
 mod words;
 
-use crate::names::{NO_FILE, ShownNames, with_names};
-use crate::places::{Place, again, cert_of, first_of, reads_twice, second_of};
-use crate::words::{say_which, shown_words, texts_of, words_in};
+use crate::words::{say_which, words_in};
 use byte_streams::Counted;
 use clap::Error;
 use clap::error::ErrorKind;
@@ -33,6 +28,10 @@ use std::alloc::AllocError;
 use std::io::{BufWriter, IsTerminal, Stderr, Stdin};
 use std::process::ExitCode;
 use std::{fs, io};
+use task_files::{
+    NO_FILE, Place, ShownNames, again, cert_of, first_of, may_be_hinted, reads_twice, second_of,
+    shown_words, texts_of, with_names,
+};
 
 /// What a task reads.
 type Input<'a> = Counted<Explained<InputToRead<'a, HostRuntime, Stdin>>>;
@@ -149,22 +148,8 @@ fn refused(rt: &HostRuntime, task: &Task<'_>) -> Option<ExitCode>
     None
 }
 
-/// The status of a task that ended for bad input.
-const BAD_INPUT: u8 = 2;
-
 /// The status of a task that ended since a device failed.
 const DEVICE_FAILED: u8 = 3;
-
-/// Whether there may be something to say of the inputs of a task that ended with that status: it ended for bad input, or it is a
-/// plan, which may have been printed without configuration words.
-fn may_be_hinted(task: &Task<'_>, status: u8) -> bool
-    ensures { result ≡ may_be_hinted task.now status }
-{
-    match task {
-        Task::Plan { .. } => status == BAD_INPUT || status == 0,
-        _ => status == BAD_INPUT,
-    }
-}
 
 /// What reads a second time at that place, where a plain file stands there. A pipe is not there again, and might never come.
 fn input_again<'a>(rt: &'a HostRuntime, place: Option<Place<'a>>) -> Input<'a>

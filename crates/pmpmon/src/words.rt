@@ -1,11 +1,11 @@
 //! The words of the command line, and which of them is no text.
 
-use program_troubles::{push_escaped, shown};
-use std::alloc::{AllocError, Global};
+use std::alloc::AllocError;
 use std::env::{self, FillError};
 use std::io;
 use std::rt::Env;
 use std::str::from_utf8;
+use task_files::quoted;
 
 /// The words of the command line, the program's own first.
 pub fn words_in(rt: &HostRuntime) -> io::Result<Vec<String>> {
@@ -16,40 +16,8 @@ pub fn words_in(rt: &HostRuntime) -> io::Result<Vec<String>> {
     Ok(words)
 }
 
-/// The words without control characters.
-pub fn shown_words(alloc: Global, words: &[&str]) -> Result<Vec<Vec<u8>>, AllocError> {
-    let mut all = Vec::new(alloc);
-    for word in words {
-        let text = shown(alloc, word.as_bytes())?;
-        all.push(text)?;
-    }
-    Ok(all)
-}
-
-/// Words as texts.
-pub fn texts_of(alloc: Global, words: &[Vec<u8>]) -> Result<Vec<&str>, AllocError> {
-    let mut texts = Vec::new(alloc);
-    for word in words {
-        texts.push(from_utf8(word.as_slice()).unwrap_or(""))?;
-    }
-    Ok(texts)
-}
-
 /// How many bytes of a word are looked at.
 const LONGEST: usize = 4096;
-
-/// A word's bytes, each that is no visible character of ASCII as `\x` and its two hexadecimal digits.
-fn quoted(alloc: Global, word: &[u8]) -> Result<Vec<u8>, AllocError> {
-    let mut text = Vec::new(alloc);
-    for byte in word {
-        if *byte >= 32 && *byte <= 126 {
-            text.push(*byte)?;
-        } else {
-            push_escaped(&mut text, *byte)?;
-        }
-    }
-    Ok(text)
-}
 
 /// Says that a word is no text, and where it stops to be one.
 fn say_word(rt: &HostRuntime, number: usize, word: &[u8], at: usize) {

@@ -1,7 +1,7 @@
 //! What a task reads and writes, by name.
 
 ghost use Rattle.std.specs.Prelude.{◌≡◌, ◌↔◌, true};
-ghost use Rattle.pmpmon.specs.Places.{again, cert_of, first_of, place_of, second_of, ReadsTwice};
+ghost use Rattle.task_files.specs.Places.{again, cert_of, first_of, place_of, second_of, ReadsTwice};
 
 use program_tasks::{LintKind, Task};
 

@@ -1,3 +1,4 @@
 pub mod Hinted
 pub mod Names
 pub mod Places
+pub mod Words

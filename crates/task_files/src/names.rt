@@ -3,12 +3,12 @@
 ghost use Rattle.std.specs.Prelude.{◌≡◌, ℕ, List, [], ◌∷◌, IfOk, map};
 ghost use Rattle.std.specs.Borrow.{Bor};
 ghost use Rattle.program_troubles.specs.Shown.{shown};
-ghost use Rattle.pmpmon.specs.Names.{names_in, renamed, renamed_kind};
+ghost use Rattle.task_files.specs.Names.{names_in, renamed, renamed_kind};
 
+use crate::words::text_of;
 use program_tasks::{Format, LintKind, Task};
 use program_troubles::shown;
 use std::alloc::{AllocError, Global};
-use std::str::from_utf8;
 
 /// The name of a file that is not read or written.
 pub const NO_FILE: &str = "";
@@ -50,6 +50,11 @@ pub struct ShownNames {
 }
 
 impl ShownNames {
+    ghost use Rattle.std.specs.Prelude.{◌≡◌, ◌∷◌, [], IfOk, map};
+    ghost use Rattle.std.specs.Str.{IsUtf8};
+    ghost use Rattle.program_troubles.specs.Shown.{shown};
+    ghost use Rattle.task_files.specs.Names.{names_in};
+
     /// Those of a task.
     pub fn of(alloc: Global, task: &Task<'_>) -> Result<ShownNames, AllocError>
         ensures { IfOk result (λ names.
@@ -65,24 +70,25 @@ impl ShownNames {
     }
 
     /// That of what is read first.
-    pub fn first(&self) -> &str {
+    pub fn first(&self) -> &str
+        ensures { IsUtf8 self.now.first.items → result.now ≡ self.now.first.items }
+    {
         text_of(self.first.as_slice())
     }
 
     /// That of what is read after that.
-    pub fn second(&self) -> &str {
+    pub fn second(&self) -> &str
+        ensures { IsUtf8 self.now.second.items → result.now ≡ self.now.second.items }
+    {
         text_of(self.second.as_slice())
     }
 
     /// That of the certificate that is written.
-    pub fn cert(&self) -> &str {
+    pub fn cert(&self) -> &str
+        ensures { IsUtf8 self.now.cert.items → result.now ≡ self.now.cert.items }
+    {
         text_of(self.cert.as_slice())
     }
-}
-
-/// The text of bytes, which are those of a text.
-fn text_of(bytes: &[u8]) -> &str {
-    from_utf8(bytes).unwrap_or("")
 }
 
 /// Gives what a task reads first another name.

@@ -5,8 +5,8 @@ use Rattle.program_tasks.specs.Tasks.{input_word}
 use Rattle.program_tasks.specs.declared.task.LintKind.TheVariants as kinds
 use Rattle.program_tasks.specs.declared.task.Task.{Task}
 use Rattle.program_tasks.specs.declared.task.Task.TheVariants as tasks
-use Rattle.pmpmon.specs.declared.places.Place.{Place}
-use Rattle.pmpmon.specs.declared.places.Place.TheVariants.{File, StandardInput}
+use Rattle.task_files.specs.declared.places.Place.{Place}
+use Rattle.task_files.specs.declared.places.Place.TheVariants.{File, StandardInput}
 use Rattle.program_files.specs.declared.devices.InputToRead.{InputToRead}
 use Rattle.program_files.specs.Inputs.{IsOfFile, IsOfStream}
 
