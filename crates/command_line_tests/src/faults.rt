@@ -60,6 +60,8 @@ fn numbers_and_words_that_do_not_go_together(rt: HostRuntime) {
         ],
         &["pmpmon", "plan", "map.txt", "--first", "-1"],
         &["pmpmon", "plan", "map.txt", "--first", "three"],
+        &["pmpmon", "plan", "map.txt", "--name", "7up"],
+        &["pmpmon", "plan", "map.txt", "--name", "a-b"],
         &["pmpmon", "plan", "map.txt", "--at-most", "few"],
         &["pmpmon", "plan", "map.txt", "--at-most", "-1"],
         &[
