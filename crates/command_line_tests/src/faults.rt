@@ -47,7 +47,7 @@ fn words_and_values_that_no_command_takes(rt: HostRuntime) {
 
 #[test]
 fn numbers_and_words_that_do_not_go_together(rt: HostRuntime) {
-    let lines: [&[&str]; 16] = [
+    let lines: [&[&str]; 18] = [
         &["pmpmon", "plan", "map.txt", "--first", "16"],
         &[
             "pmpmon",
