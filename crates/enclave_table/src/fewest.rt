@@ -10,13 +10,12 @@ ghost use Rattle.enclave_table.specs.Views.{host_view, enclave_view};
 ghost use Rattle.enclave_table.specs.Fewest.{IsListOf, IsWant};
 
 use crate::entry_list::EntryList;
+use crate::planned::{PlannedView, enclave_plan};
 use crate::refusal::Refusal;
 use crate::request::Create;
 use crate::table::Table;
-use crate::views::enclave_map;
-use entry_planner::{Plan, plan, plan_map};
+use entry_planner::Plan;
 use page_views::PageRange;
-use permission_map::MapFault;
 use pmp_encoding::{Limit, Perm};
 use prefix_tree::Tree;
 use std::alloc::Global;
@@ -48,10 +47,7 @@ pub(crate) fn enclave_list(
     ensures list { IfOk result (λ list. IsListOf limit (enclave_view parts.now) list) }
     ensures want { IfErr result (λ refusal. IsWant limit (enclave_view parts.now) refusal) }
 {
-    let Ok(map) = enclave_map(alloc, parts) else {
-        return Err(Refusal::NoMemory);
-    };
-    let Ok(plan) = plan_map(alloc, &map) else {
+    let Ok(plan) = enclave_plan(alloc, parts) else {
         return Err(Refusal::NoMemory);
     };
     listed(alloc, limit, &plan)
@@ -79,14 +75,7 @@ impl Table {
             IsWant self.now.table.layout.limit
             (overwritten (host_view self.now.table) pages.first pages.count perm) refusal) }
     {
-        self.cite_invariant();
-        let tree = match self.host_tree().with_range(pages.first, pages.count, perm) {
-            Ok(tree) => tree,
-            Err(MapFault::Memory) => return Err(Refusal::NoMemory),
-            Err(MapFault::TooManyRanges) => unreachable!(),
-            Err(MapFault::PastEnd) => unreachable!(),
-        };
-        let Ok(plan) = plan(self.alloc(), &tree) else {
+        let Ok(PlannedView { tree, plan }) = self.host_plan(pages, perm) else {
             return Err(Refusal::NoMemory);
         };
         let list = listed(self.alloc(), self.limit(), &plan)?;

@@ -4,6 +4,7 @@ ghost use Rattle.std.specs.Prelude.{replicate, ◌<◌, ◌^◌};
 
 mod anew;
 mod life;
+mod needs;
 mod platforms;
 mod refusals;
 mod scattered;
@@ -110,6 +111,10 @@ enum Step {
     Uses(usize),
     Owns(u32, Owner),
     Configures(u64),
+    /// The host's view and the enclave's own would need that many entries after this creation.
+    WouldNeed(Create, u32, u32),
+    /// The host's view would need that many entries after the destruction of this enclave.
+    WouldNeedWithout(u64, u32),
 }
 
 /// Takes the steps, one after the other.
@@ -130,6 +135,8 @@ fn takes(rt: &impl Abort, alloc: Global, table: &mut Table, steps: &[Step]) {
             Step::Uses(wanted) => uses(rt, table, wanted),
             Step::Owns(page, wanted) => owns(rt, table, page, wanted),
             Step::Configures(wanted) => configures(rt, table, wanted),
+            Step::WouldNeed(asked, host, own) => needs::of_creation(rt, table, asked, host, own),
+            Step::WouldNeedWithout(id, host) => needs::of_destruction(rt, table, id, host),
         }
     }
 }

@@ -103,6 +103,7 @@ fn an_enclaves_own_view_can_need_too_many(rt: HostRuntime) {
         shared_count: 11,
         entry_offset: 0,
     };
+    needs::of_creation(&rt, &table, asked, 13, 17);
     creates(&rt, &mut table, asked, Err(Refusal::NoEntries));
     asked.shared_count = 10;
     creates(&rt, &mut table, asked, Ok(1));

@@ -1,0 +1,74 @@
+//! How many entries the views after a creation or a destruction need.
+
+ghost use Rattle.std.specs.Prelude.{IfOk, IfSome, IfNone, None};
+ghost use Rattle.pmp_match.specs.Meaning.{Needs};
+ghost use Rattle.enclave_table.specs.Checks.{create_checks, host_checks, MayDestroy};
+ghost use Rattle.enclave_table.specs.Enclaves.{with_enclave};
+ghost use Rattle.enclave_table.specs.Needs.{NeedsWithCreated};
+ghost use Rattle.enclave_table.specs.Refusals.{AllPass};
+ghost use Rattle.enclave_table.specs.Requests.{parts_of};
+ghost use Rattle.enclave_table.specs.Views.{host_view, enclave_view};
+
+use crate::planned::enclave_plan;
+use crate::request::Create;
+use crate::table::Table;
+use permission_map::Memory;
+use pmp_encoding::Perm;
+use worlds::World;
+
+/// How many entries the views after a creation need.
+#[derive(Clone, Copy, PartialEq, Eq, Debug)]
+pub struct CreateNeeds {
+    /// Those of the host's view, with the new enclave.
+    pub host: u32,
+    /// Those of the enclave's own view.
+    pub own: u32,
+}
+
+impl Table {
+    /// How many entries the views after a creation need, whether or not there are as many; nothing where it does not
+    /// pass its other checks. Nothing is changed.
+    pub fn needed_by_create(
+        &self,
+        world: World,
+        asked: Create,
+    ) -> Result<Option<CreateNeeds>, Memory>
+        ensures passes { IfOk result (λ answer. IfSome answer (λ _.
+            AllPass (create_checks self.now.table world (parts_of asked)))) }
+        ensures none { IfOk result (λ answer. IfNone answer
+            (AllPass (create_checks self.now.table world (parts_of asked)) → ⊥)) }
+        ensures host { IfOk result (λ answer. IfSome answer (λ needs.
+            NeedsWithCreated self.now.table asked needs.host)) }
+        ensures own { IfOk result (λ answer. IfSome answer (λ needs.
+            Needs (enclave_view (parts_of asked)) needs.own)) }
+    {
+        self.cite_invariant();
+        let Some(parts) = self.measures(world, asked) else {
+            return Ok(None);
+        };
+        let host = self.host_plan(parts.private_pages(), Perm::NoAccess)?;
+        let own = enclave_plan(self.alloc(), &parts)?;
+        Ok(Some(CreateNeeds {
+            host: host.plan.needed(),
+            own: own.needed(),
+        }))
+    }
+
+    /// How many entries the host's view after a destruction needs, whether or not there are as many; nothing where it
+    /// does not pass its other checks. Nothing is changed.
+    pub fn needed_by_destroy(&self, world: World, id: u64) -> Result<Option<u32>, Memory>
+        ensures passes { IfOk result (λ answer. IfSome answer (λ _.
+            AllPass (host_checks MayDestroy self.now.table world id))) }
+        ensures none { IfOk result (λ answer. IfNone answer
+            (AllPass (host_checks MayDestroy self.now.table world id) → ⊥)) }
+        ensures host { IfOk result (λ answer. IfSome answer
+            (Needs (host_view (with_enclave self.now.table id None)))) }
+    {
+        self.cite_invariant();
+        let Ok(enclave) = self.checked_destroy(world, id) else {
+            return Ok(None);
+        };
+        let host = self.host_plan(enclave.parts.private_pages(), Perm::ReadWriteExecute)?;
+        Ok(Some(host.plan.needed()))
+    }
+}
