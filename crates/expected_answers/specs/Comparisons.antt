@@ -1,5 +1,5 @@
 -- What comes of an input whose answers are compared with those that its comments say.
-use Rattle.std.specs.Prelude.{◌≡◌, ℕ, ◌+◌, Bool, true, false, if◌then◌else◌, List, [], ◌∷◌, ◌++◌, length, take, min, Option, Some, None, codes, decimal}
+use Rattle.std.specs.Prelude.{◌≡◌, ℕ, ◌+◌, true, false, if◌then◌else◌, List, ◌∷◌, ◌++◌, length, take, min, Option, Some, None, codes, decimal}
 use Rattle.std.specs.List.{prefix_len}
 use Rattle.text_lines.specs.Lines.{without_return}
 use Rattle.text_lines.specs.LineLoop.{Meaning, Does, DoesAll}

@@ -6,8 +6,8 @@ ghost use Rattle.lint_texts.specs.Pieces.{address_text};
 
 use arrayvec::ArrayVec;
 use itoa::Buffer;
-use lint_texts::without_zeros;
 pub use lint_texts::append as push;
+use lint_texts::without_zeros;
 use text_lines::{Line, push_hex};
 
 /// A comment that is being written.

@@ -39,7 +39,7 @@ fn line_of(text: &[u8]) -> Line
 pub fn explain(answer: &mut Line, comment: &Comment)
     ensures { answer.new.items ≡ explained answer.old.items comment.now.items }
 {
-    let mut whole = ArrayVec::new();
+    let mut whole: Whole = ArrayVec::new();
     append(&mut whole, unended(answer.as_slice()));
     append(&mut whole, b" # ");
     append(&mut whole, comment.as_slice());
