@@ -29,7 +29,7 @@ pub record HasCounts (parts : Create) : Type 0 where
   pub few_private : parts.text_pages + parts.data_pages ≤ 1024
   pub few_shared : parts.shared_count ≤ 256
 
--- pages of both kinds begin with a page and end at 2 ^ 56 at most
+-- pages of both kinds begin at a multiple of 4096, and end at 2 ^ 56 at most
 pub record HasPlaces (parts : Create) : Type 0 where
   pub private : (parts.base % 4096 ≡ 0) × (parts.base + (parts.text_pages + parts.data_pages) * 4096 ≤ 2 ^ 56)
   pub shared : (parts.shared_base % 4096 ≡ 0) × (parts.shared_base + parts.shared_count * 4096 ≤ 2 ^ 56)

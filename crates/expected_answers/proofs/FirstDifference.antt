@@ -1,7 +1,7 @@
 -- What the lines whose answers were compared come to.
-use Rattle.std.proofs.Common.{◌≡◌, ◌∙◌, ℕ, ◌+◌, ◌-◌, ◌^◌, ◌<◌, ◌≤◌, Bool, true, false, min, if◌then◌else◌, List, [], ◌∷◌, ◌++◌, length, Option, Some, None, option_map, append_assoc, length-append, refl, ap, sym, arith, inl, inr}
+use Rattle.std.proofs.Common.{◌≡◌, ◌∙◌, ℕ, ◌+◌, ◌-◌, ◌^◌, ◌<◌, ◌≤◌, Bool, true, false, min, if◌then◌else◌, List, [], ◌∷◌, ◌++◌, length, Option, Some, None, option_map, append_assoc, length-append, refl, ap, arith, inl, inr}
 use Rattle.arrayvec.specs.declared.array_vec.ArrayVec.{ArrayVec}
-use Rattle.text_lines.specs.Lines.{AreLines, EndsLine, IsShortLine, without_return}
+use Rattle.text_lines.specs.Lines.{AreLines, IsShortLine, without_return}
 use Rattle.text_lines.specs.LineLoop.{Meaning, Does, DoesAll}
 use Rattle.text_lines.specs.LineLoop.{none, silent, answer}
 use Rattle.text_lines.proofs.Mapped.{Follows, mapped}

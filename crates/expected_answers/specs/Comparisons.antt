@@ -1,23 +1,20 @@
 -- What comes of an input whose answers are compared with those that its comments say.
-use Rattle.std.specs.Prelude.{◌≡◌, ℕ, ◌+◌, ◌==◌, Bool, true, false, if◌then◌else◌, List, [], ◌∷◌, ◌++◌, length, take, min, Option, Some, None, codes, decimal}
-use Rattle.std.specs.List.{before_first, prefix_len}
+use Rattle.std.specs.Prelude.{◌≡◌, ℕ, ◌+◌, true, false, if◌then◌else◌, List, ◌∷◌, ◌++◌, length, take, min, Option, Some, None, codes, decimal}
+use Rattle.std.specs.List.{prefix_len}
 use Rattle.text_lines.specs.Lines.{without_return}
 use Rattle.text_lines.specs.LineLoop.{Meaning, Does, DoesAll}
 use Rattle.text_lines.specs.Words.{is_allowed}
+use Rattle.lint_texts.specs.Lines.{unended}
 use Rattle.expected_answers.specs.Comments.{agrees, answer_agrees, comment_of}
 
 -- the comment of a line as it is shown: up to its first byte that is not visible, and at most 128 bytes
 abbrev pub shown_comment : List ℕ → List ℕ
 shown_comment line = take (min (prefix_len is_allowed (comment_of line)) 128) (comment_of line)
 
--- an answer as it is shown: without its LF
-abbrev pub shown_answer : List ℕ → List ℕ
-shown_answer answer = before_first (λ b. b == 10) answer
-
 -- what is said of an answer that differs, and of its line
 abbrev pub difference_text : ℕ → List ℕ → List ℕ → List ℕ
 difference_text n line answer =
-    codes "line " ++ (decimal n ++ (codes ": answered '" ++ (shown_answer answer ++ (codes "', expected " ++ (shown_comment line ++ codes "\n")))))
+    codes "line " ++ (decimal n ++ (codes ": answered '" ++ (unended answer ++ (codes "', expected " ++ (shown_comment line ++ codes "\n")))))
 
 -- the same meaning, for lines alone whose comments agree with their answers
 abbrev pub agreeing : {S : Type 0} → Meaning S → Meaning S

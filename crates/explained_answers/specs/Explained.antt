@@ -1,11 +1,7 @@
 -- An answer with a comment behind it.
-use Rattle.std.specs.Prelude.{◌≡◌, ℕ, ◌==◌, List, ◌++◌, take, Option, Some, None, codes}
-use Rattle.std.specs.List.{before_first}
+use Rattle.std.specs.Prelude.{◌≡◌, ℕ, List, ◌++◌, take, Option, Some, None, codes}
 use Rattle.text_lines.specs.LineLoop.{Meaning}
-
--- an answer without its LF
-abbrev pub unended : List ℕ → List ℕ
-unended answer = before_first (λ b. b == 10) answer
+use Rattle.lint_texts.specs.Lines.{unended}
 
 -- an answer with a comment behind it, and of the comment as much as a line of 128 bytes has room for
 abbrev pub explained : List ℕ → List ℕ → List ℕ

@@ -1,26 +1,17 @@
 //! A comment that is being written, piece by piece, in a buffer of a fixed length.
 
-ghost use Rattle.std.specs.Prelude.{◌≡◌, ◌+◌, ◌≤◌, ◌++◌, decimal, length};
+ghost use Rattle.std.specs.Prelude.{◌≡◌, ◌+◌, ◌≤◌, ◌++◌, decimal};
 ghost use Rattle.arrayvec.specs.ArrayVec.{array_vec_len};
-ghost use Rattle.lint_texts.specs.Pieces.{address_text, without_zeros};
+ghost use Rattle.lint_texts.specs.Pieces.{address_text};
 
 use arrayvec::ArrayVec;
 use itoa::Buffer;
+pub use lint_texts::append as push;
+use lint_texts::without_zeros;
 use text_lines::{Line, push_hex};
 
 /// A comment that is being written.
 pub type Comment = ArrayVec<u8, 256>;
-
-/// Appends a text.
-pub fn push(comment: &mut Comment, text: &[u8])
-    requires { array_vec_len comment.old + length text.now ≤ 256 }
-    ensures items { comment.new.items ≡ comment.old.items ++ text.now }
-    ensures len { array_vec_len comment.new ≡ array_vec_len comment.old + length text.now }
-{
-    let Ok(()) = comment.try_extend_from_slice(text) else {
-        unreachable!();
-    };
-}
 
 /// Appends a number in decimal.
 pub fn push_number(comment: &mut Comment, n: u64)
@@ -30,23 +21,6 @@ pub fn push_number(comment: &mut Comment, n: u64)
 {
     let mut buffer = Buffer::new();
     push(comment, buffer.format(n).as_bytes());
-}
-
-/// Digits without the zeros before the first other digit, or before the last.
-fn without_zeros(digits: &[u8]) -> &[u8]
-    ensures value { result.now ≡ without_zeros digits.now }
-    ensures most { length result.now ≤ length digits.now }
-{
-    match digits {
-        [b'0', rest @ ..] => {
-            if rest.is_empty() {
-                digits
-            } else {
-                without_zeros(rest)
-            }
-        }
-        _ => digits,
-    }
 }
 
 /// Appends a number as `0x1000`.

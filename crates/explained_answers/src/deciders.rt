@@ -7,7 +7,7 @@ ghost use Rattle.explained_answers.specs.declared.deciders.Decider.{Decider};
 ghost use Rattle.explained_answers.specs.Deciders.{found_from};
 
 use pmp_encoding::{Bank, Extent};
-use pmp_match::Access;
+use pmp_match::{Access, touches};
 
 /// The entry that decides an access: its number, and what it matches.
 #[derive(Clone, Copy, PartialEq, Eq, Debug)]
@@ -27,14 +27,6 @@ pub trait Deciders {
     fn decider(&self, access: &Access) -> Option<Decider>
         requires { access.now.address < 2 ^ 56 }
         ensures { decides self.now access.now result };
-}
-
-/// Whether some byte of the access is in the extent.
-fn touches(extent: &Extent, access: &Access) -> bool
-    requires { access.now.address < 2 ^ 56 }
-    ensures { result ≡ touches extent.now access.now }
-{
-    extent.base < access.addr() + u64::from(access.size()) && access.addr() < extent.end
 }
 
 /// The first of some extents that has a byte of the access.

@@ -1,12 +1,11 @@
 //! An answer with a comment behind it.
 
-ghost use Rattle.std.specs.Prelude.{◌≡◌, ◌+◌, ◌≤◌, ◌++◌, codes, length, take};
-ghost use Rattle.arrayvec.specs.ArrayVec.{array_vec_len};
-ghost use Rattle.explained_answers.specs.Explained.{explained, unended};
+ghost use Rattle.std.specs.Prelude.{◌≡◌, ◌≤◌, ◌++◌, codes, length, take};
+ghost use Rattle.explained_answers.specs.Explained.{explained};
 
 use crate::comment::Comment;
 use arrayvec::ArrayVec;
-use lint_texts::len_before;
+use lint_texts::{append, unended};
 use text_lines::{Line, push_text};
 
 /// How many bytes of a line stand before its LF at most.
@@ -14,26 +13,6 @@ const ROOM: usize = 127;
 
 /// An answer and its comment, as long as they are.
 type Whole = ArrayVec<u8, 512>;
-
-/// Appends a text.
-fn push_whole(whole: &mut Whole, text: &[u8])
-    requires { array_vec_len whole.old + length text.now ≤ 512 }
-    ensures items { whole.new.items ≡ whole.old.items ++ text.now }
-    ensures len { array_vec_len whole.new ≡ array_vec_len whole.old + length text.now }
-{
-    let Ok(()) = whole.try_extend_from_slice(text) else {
-        unreachable!();
-    };
-}
-
-/// An answer without its LF.
-fn unended(answer: &Line) -> &[u8]
-    ensures value { result.now ≡ unended answer.now.items }
-    ensures most { length result.now ≤ 128 }
-{
-    let text = answer.as_slice();
-    &text[..len_before(b'\n', text)]
-}
 
 /// As much of a text as a line has room for.
 fn fitting(text: &[u8]) -> &[u8]
@@ -60,9 +39,9 @@ fn line_of(text: &[u8]) -> Line
 pub fn explain(answer: &mut Line, comment: &Comment)
     ensures { answer.new.items ≡ explained answer.old.items comment.now.items }
 {
-    let mut whole = ArrayVec::new();
-    push_whole(&mut whole, unended(answer));
-    push_whole(&mut whole, b" # ");
-    push_whole(&mut whole, comment.as_slice());
+    let mut whole: Whole = ArrayVec::new();
+    append(&mut whole, unended(answer.as_slice()));
+    append(&mut whole, b" # ");
+    append(&mut whole, comment.as_slice());
     *answer = line_of(whole.as_slice());
 }

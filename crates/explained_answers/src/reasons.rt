@@ -1,15 +1,14 @@
 //! What decides an access, and its text.
 
-ghost use Rattle.std.specs.Prelude.{◌≡◌, ◌+◌, ◌^◌, ◌<◌, ◌≤◌, ◌++◌, ◌↔◌, IsTrue};
+ghost use Rattle.std.specs.Prelude.{◌≡◌, ◌+◌, ◌^◌, ◌<◌, ◌≤◌, ◌++◌};
 ghost use Rattle.arrayvec.specs.ArrayVec.{array_vec_len};
-ghost use Rattle.pmp_match.specs.Accesses.{IsAligned};
 ghost use Rattle.explained_answers.specs.Reasons.{IsReason, extent_text, has_all, part_text, reason_text};
 
 use crate::comment::{Comment, push, push_address, push_number};
 use crate::deciders::Deciders;
 use page_views::SPACE_SIZE;
 use pmp_encoding::Extent;
-use pmp_match::Access;
+use pmp_match::{Access, is_aligned};
 use printed_lines::letters;
 
 /// What decides an access.
@@ -27,13 +26,6 @@ pub enum Reason {
         extent: Extent,
         is_whole: bool,
     },
-}
-
-/// Whether the access is at a multiple of its size.
-fn is_aligned(access: &Access) -> bool
-    ensures { IsTrue result ↔ IsAligned access.now }
-{
-    access.addr() % u64::from(access.size()) == 0
 }
 
 /// Whether the extent has each byte of the access.

@@ -1,4 +1,5 @@
 pub mod Columns
-pub mod Numbers
+pub mod Lines
 pub mod Marks
+pub mod Numbers
 pub mod Pieces

@@ -5,14 +5,18 @@
 //! [`split_line`] gives the lines of a file.
 #![tactic(auto)]
 
+mod buffers;
 mod columns;
 mod lines;
 mod marks;
 mod numbers;
 mod texts;
 
+pub use buffers::append;
 pub use columns::{Placed, len_before, next_word, word_from};
-pub use lines::{allowed_len, are_allowed, content_of, split_line};
+pub use lines::{allowed_len, are_allowed, content_of, split_line, unended};
 pub use marks::{begins_comment, byte_fault, has_mark};
 pub use numbers::{looks_like_number, no_number};
-pub use texts::{push, push_address, push_column, push_number, push_place, push_quoted};
+pub use texts::{
+    push, push_address, push_column, push_number, push_place, push_quoted, without_zeros,
+};

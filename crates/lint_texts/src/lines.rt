@@ -1,9 +1,10 @@
 //! The lines of a file, and what may stand in them.
 
-ghost use Rattle.std.specs.Prelude.{◌≡◌, ◌∷◌, ◌<◌, ◌≤◌, length};
-ghost use Rattle.std.specs.List.{list_all, prefix_len};
+ghost use Rattle.std.specs.Prelude.{◌≡◌, ◌∷◌, ◌==◌, ◌<◌, ◌≤◌, length};
+ghost use Rattle.std.specs.List.{before_first, list_all, prefix_len};
 ghost use Rattle.text_lines.specs.Lines.{raw_lines};
 ghost use Rattle.text_lines.specs.Words.{content_of, is_allowed};
+ghost use Rattle.lint_texts.specs.Lines.{unended};
 
 use crate::columns::len_before;
 
@@ -18,6 +19,14 @@ pub fn split_line(bytes: &[u8]) -> (&[u8], &[u8])
         return (bytes, &[]);
     }
     (&bytes[..len], &bytes[len + 1..])
+}
+
+/// A line without its LF.
+pub fn unended(line: &[u8]) -> &[u8]
+    ensures value { result.now ≡ unended line.now }
+    ensures most { length result.now ≤ length line.now }
+{
+    &line[..len_before(b'\n', line)]
 }
 
 fn is_allowed(byte: u8) -> bool

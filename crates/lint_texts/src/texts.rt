@@ -29,8 +29,9 @@ pub fn push_number(text: &mut Vec<u8>, number: u64) -> Result<(), AllocError>
 }
 
 /// Digits without the zeros before the first other digit, or before the last.
-fn without_zeros(digits: &[u8]) -> &[u8]
-    ensures { result.now ≡ without_zeros digits.now }
+pub fn without_zeros(digits: &[u8]) -> &[u8]
+    ensures value { result.now ≡ without_zeros digits.now }
+    ensures most { length result.now ≤ length digits.now }
 {
     match digits {
         [b'0', rest @ ..] => {

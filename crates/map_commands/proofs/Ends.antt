@@ -12,7 +12,8 @@ use Rattle.pmp_match.specs.Meaning.{View}
 use Rattle.register_width.specs.declared.xlen.Xlen.{Xlen}
 use Rattle.program_tasks.specs.declared.task.Format.TheVariants as formats
 use Rattle.program_troubles.specs.declared.trouble.Trouble.TheVariants.{Memory}
-use Rattle.map_commands.specs.Commands.{Placing, IsTooFar, IsUnplanned, IsWithin, NeedsMore, beyond, most_entries, starved, unreached}
+use Rattle.map_commands.specs.CertifiedPlan.{Placing, IsTooFar, IsUnplanned, IsWithin, NeedsMore, beyond, starved, unreached}
+use Rattle.map_commands.specs.Plan.{most_entries}
 use Rattle.map_commands.specs.Parts.{Stops}
 
 pub stops :

@@ -9,7 +9,7 @@ use Rattle.prefix_tree.specs.TreeOf.{tree_of}
 use Rattle.entry_planner.specs.Plans.{Planned, costed}
 use Rattle.plan_certificate.specs.Written.{certificate_for, version_for}
 use Rattle.plan_certificate.proofs.Sums.{plan_certified, plan_spelled}
-use Rattle.map_commands.specs.Commands.{IsCertificateOf}
+use Rattle.map_commands.specs.CertifiedPlan.{IsCertificateOf}
 
 pub certificate_is :
     (view : View) (limit : Limit) (plan : Planned) → length plan.costs ≡ splits (tree_of view) → length plan.costs ≤ 44 * 8192

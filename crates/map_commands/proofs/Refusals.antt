@@ -10,8 +10,8 @@ use Rattle.permission_map.specs.declared.runs.Run.{Run}
 use Rattle.program_troubles.specs.declared.trouble.Trouble.{Trouble}
 use Rattle.program_files.specs.declared.whole.WholeFault.{WholeFault}
 use Rattle.program_files.specs.declared.whole.WholeFault.TheVariants as whole
-use Rattle.map_commands.specs.Commands.{HasBytes, HasMap, HasNoBytes, HasNoMap, Reading, too_large, cannot_read}
-use Rattle.map_commands.specs.Commands as commands
+use Rattle.map_commands.specs.Inputs.{HasBytes, HasMap, HasNoBytes, HasNoMap, Reading, too_large, cannot_read}
+use Rattle.map_commands.specs.Inputs as inputs
 use Rattle.map_commands.specs.Parts.{IsMapFault}
 use Rattle.program_troubles.specs.Troubles.{map_trouble, whole_trouble}
 
@@ -23,7 +23,7 @@ pub no_bytes :
     → HasNoBytes most file source (whole_trouble file fault)
 no_bytes most file source whole.TooLarge large failed well = let b = large refl in too_large b.0 b.1 b.2
 no_bytes most file source whole.Read large failed well = cannot_read (failed refl)
-no_bytes most file source whole.Memory large failed well = commands.HasNoBytes.memory (well (λ e. cc))
+no_bytes most file source whole.Memory large failed well = inputs.HasNoBytes.memory (well (λ e. cc))
 
 pub map_fault :
     (bytes : List ℕ) (fault : MapFileFault)
@@ -44,7 +44,7 @@ has_map source bytes (Err e) read makes = tt
 pub no_map_of :
     {R : Type 0} (file : Bor (List ℕ)) (source : Reading R) (bytes : List ℕ) (trouble : Trouble) → HasBytes (2 ^ 20) source bytes
     → (fault : MapFileFault) × IsMapFault bytes fault × (trouble ≡ map_trouble file fault) → HasNoMap file source trouble
-no_map_of file source bytes trouble read refused = rw refused.2 (commands.HasNoMap.no_map bytes read refused.0 refused.1)
+no_map_of file source bytes trouble read refused = rw refused.2 (inputs.HasNoMap.no_map bytes read refused.0 refused.1)
 
 pub has_no_map :
     {R X : Type 0} (file : Bor (List ℕ)) (source : Reading R) (bytes : List ℕ) (result : Result X Trouble) → HasBytes (2 ^ 20) source bytes

@@ -1,4 +1,12 @@
-pub mod Commands
+pub mod Audit
+pub mod CertifiedPlan
+pub mod Check
 pub mod Expected
+pub mod Inputs
+pub mod Judge
+pub mod Lint
+pub mod Map
 pub mod Parts
+pub mod Plan
+pub mod Show
 pub mod Verdicts

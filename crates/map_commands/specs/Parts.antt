@@ -1,5 +1,5 @@
--- What the parts of a command come to: a file's bytes, its map, and a run over lines.
-use Rattle.std.specs.Prelude.{ℕ, ◌≤◌, List, length, Option}
+-- What the parts of a command come to: a file's bytes, its map, a run over lines, and its status.
+use Rattle.std.specs.Prelude.{ℕ, ◌≤◌, Bool, true, false, List, length, Option}
 use Rattle.std.specs.Io.KnownBytes.{Consumes, IsAtEnd}
 use Rattle.map_text.specs.declared.map_file.MapFileFault.{MapFileFault}
 use Rattle.map_text.specs.declared.map_file.MapFileFault.TheVariants as maps
@@ -28,3 +28,8 @@ Stops does refuses starves old new before after held holds runs.TooLong = StopsT
 Stops does refuses starves old new before after held holds runs.Read = StopsReading does old new before after held holds
 Stops does refuses starves old new before after held holds runs.Write = StopsWriting does old new before after held holds
 Stops does refuses starves old new before after held holds runs.Memory = StopsForMemory does starves old new before after held holds
+
+-- the status of an answer: 0 for a yes, and 1 for a no
+abbrev pub answer_status : Bool → ℕ
+answer_status true = 0
+answer_status false = 1

@@ -13,7 +13,7 @@ ghost use Rattle.entry_planner.specs.Order.{AreInOrder};
 ghost use Rattle.plan_certificate.specs.Written.{certificate_for};
 ghost use Rattle.byte_streams.specs.Writings.{writing, TakesAll};
 ghost use Rattle.register_width.specs.Widths.{AreReached};
-ghost use Rattle.map_commands.specs.Commands.{placing, AreNeeded, IsBeyond, IsCertified, IsLoaded, IsNotPlaced, IsPlanned, IsTooFar, IsUnloaded, IsUnplanned, IsWithin, NeedsMore};
+ghost use Rattle.map_commands.specs.CertifiedPlan.{placing, AreNeeded, IsBeyond, IsCertified, IsLoaded, IsNotPlaced, IsPlanned, IsTooFar, IsUnloaded, IsUnplanned, IsWithin, NeedsMore};
 
 use crate::inputs::map_by;
 use byte_streams::DeviceFault;

@@ -1,7 +1,7 @@
 //! The commands that need no machine, each with what it reads and writes in its order.
 
 ghost use Rattle.std.specs.Prelude.{◌≡◌};
-ghost use Rattle.map_commands.specs.Commands.{answer_status};
+ghost use Rattle.map_commands.specs.Parts.{answer_status};
 
 mod audit;
 mod check;

@@ -1,7 +1,7 @@
 //! The files that a task reads whole: bytes and maps.
 
 ghost use Rattle.std.specs.Prelude.{◌≡◌, ◌-◌, ◌^◌, ◌<◌, IfErr, IfOk, length};
-ghost use Rattle.map_commands.specs.Commands.{reading, HasBytes, HasMap, HasNoBytes, HasNoMap};
+ghost use Rattle.map_commands.specs.Inputs.{reading, HasBytes, HasMap, HasNoBytes, HasNoMap};
 ghost use Rattle.map_commands.specs.Parts.{IsMapFault};
 ghost use Rattle.map_text.specs.MapFile.{Makes};
 ghost use Rattle.map_text.specs.declared.map_file.MapFileFault.{MapFileFault};

@@ -8,8 +8,10 @@ use Rattle.hart_sim.specs.declared.machine.Machine.{Machine}
 use Rattle.hart_sim.specs.After.{IsBooted}
 use Rattle.program_tasks.specs.declared.task.Task.{Task}
 use Rattle.program_troubles.specs.declared.trouble.Trouble.{Trouble}
-use Rattle.map_commands.specs.Commands.{IsUnread, Reading, Tells, answer_status}
-use Rattle.map_commands.specs.Commands as commands
+use Rattle.map_commands.specs.Inputs.{IsUnread, Reading}
+use Rattle.map_commands.specs.Lint.{Tells}
+use Rattle.map_commands.specs.Parts.{answer_status}
+use Rattle.map_commands.specs.Lint as lints
 use Rattle.monitor_cli.specs.declared.hints.Form.{Form}
 use Rattle.monitor_cli.specs.declared.hints.Form.TheVariants.{Map, Platform, Listing, Trace}
 use Rattle.monitor_cli.specs.Hints.{AreHints, HasHints, HasRunHints, HasTaskHints, InOrder, TellsHints, boot_hint, cut, hints_in, most_bytes, of_boot, of_second, of_trace, told}
@@ -40,10 +42,10 @@ same_status a b done e f = cc
 -- what a lint wrote to a sink that held nothing
 pub held : {W : Type 0} (IsText : Bool → List ℕ → Type 0) (out : Writing W) (done : Result ℕ Trouble) (status : ℕ) (text : List ℕ) → Tells IsText out done
     → done ≡ Ok status → out.before ≡ Some [] → out.after ≡ Some text → (is : Bool) × (status ≡ answer_status is) × IsText is text
-held IsText out done status text (commands.Tells.whole is said is_text takes) e before after =
+held IsText out done status text (lints.Tells.whole is said is_text takes) e before after =
     (is, same_status _ _ _ refl e, subst (IsText is) (sym (rw after at (rw before at takes.whole))) is_text)
-held IsText out done status text (commands.Tells.no_memory quiet) e before after = cc
-held IsText out done status text (commands.Tells.no_output is said is_text breaks) e before after = cc
+held IsText out done status text (lints.Tells.no_memory quiet) e before after = cc
+held IsText out done status text (lints.Tells.no_output is said is_text breaks) e before after = cc
 
 -- the hints of the second of two inputs, where the first has none
 pub in_second :

@@ -4,7 +4,7 @@ use Rattle.std.specs.Borrow.{Bor}
 use Rattle.enclave_table.specs.Platform.{Layout}
 use Rattle.program_troubles.specs.declared.trouble.Trouble.{Trouble}
 use Rattle.program_troubles.specs.declared.trouble.Trouble.TheVariants.{NotAPlatform, Memory}
-use Rattle.map_commands.specs.Commands.{HasBytes, Reading}
+use Rattle.map_commands.specs.Inputs.{HasBytes, Reading}
 use Rattle.monitor_cli.specs.Runs.{HasNoPlatform}
 use Rattle.monitor_cli.specs.Runs as running
 use Rattle.platform_file.specs.Document.{IsPlatformFile}

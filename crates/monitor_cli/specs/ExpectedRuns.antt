@@ -16,7 +16,7 @@ use Rattle.expected_answers.specs.Comparisons.{ComparesAll}
 use Rattle.program_troubles.specs.declared.trouble.Trouble.{Trouble}
 use Rattle.program_troubles.specs.declared.trouble.Trouble.TheVariants.{Output}
 use Rattle.program_troubles.specs.Troubles.{boot_trouble, run_trouble}
-use Rattle.map_commands.specs.Commands.{IsUnread, Reading}
+use Rattle.map_commands.specs.Inputs.{IsUnread, Reading}
 use Rattle.map_commands.specs.Expected.{IsTold}
 use Rattle.map_commands.specs.Parts.{Stops}
 use Rattle.monitor_cli.specs.Runs.{HasNoPlatform, HasPlatform, IsMeasured, Runs}

@@ -12,7 +12,9 @@ use Rattle.register_width.specs.declared.xlen.Xlen.{Xlen}
 use Rattle.program_tasks.specs.declared.task.LintKind.TheVariants as kinds
 use Rattle.program_tasks.specs.declared.task.Task.{Task}
 use Rattle.program_tasks.specs.declared.task.Task.TheVariants as tasks
-use Rattle.map_commands.specs.Commands.{AreNeeded, HasBytes, IsListingLint, IsMapLint, IsPlatformLint, IsUnread, Reading}
+use Rattle.map_commands.specs.CertifiedPlan.{AreNeeded}
+use Rattle.map_commands.specs.Inputs.{HasBytes, IsUnread, Reading}
+use Rattle.map_commands.specs.Lint.{IsListingLint, IsMapLint, IsPlatformLint}
 use Rattle.monitor_cli.specs.declared.hints.Form.{Form}
 use Rattle.monitor_cli.specs.declared.hints.Form.TheVariants.{Map, Platform, Listing, Trace}
 use Rattle.monitor_cli.specs.declared.needs.Bounds.{Bounds}

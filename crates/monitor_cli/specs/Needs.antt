@@ -3,7 +3,7 @@ use Rattle.std.specs.Prelude.{ℕ, ◌-◌, ◌==◌, nat_lt, if◌then◌else�
 use Rattle.pmp_encoding.specs.declared.limit.Limit.{Limit}
 use Rattle.pmp_encoding.specs.Limits.{limit_number}
 use Rattle.program_tasks.specs.declared.task.Format.{Format}
-use Rattle.map_commands.specs.Commands.{most_entries}
+use Rattle.map_commands.specs.Plan.{most_entries}
 use Rattle.monitor_cli.specs.declared.needs.Bounds.{Bounds}
 
 -- what stands after a number of entries

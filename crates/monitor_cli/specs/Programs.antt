@@ -10,7 +10,15 @@ use Rattle.program_tasks.specs.declared.task.Task.{Task}
 use Rattle.program_tasks.specs.declared.task.Task.TheVariants as tasks
 use Rattle.program_troubles.specs.declared.trouble.Trouble.{Trouble}
 use Rattle.program_troubles.specs.Troubles.{status_of, trouble_text}
-use Rattle.map_commands.specs.Commands.{Audits, Checks, IsUnread, JudgesAs, Lints, LintsListing, Maps, Placing, Plans, Reading, ShowsAs}
+use Rattle.map_commands.specs.Audit.{Audits}
+use Rattle.map_commands.specs.CertifiedPlan.{Placing}
+use Rattle.map_commands.specs.Check.{Checks}
+use Rattle.map_commands.specs.Inputs.{IsUnread, Reading}
+use Rattle.map_commands.specs.Judge.{JudgesAs}
+use Rattle.map_commands.specs.Lint.{Lints, LintsListing}
+use Rattle.map_commands.specs.Map.{Maps}
+use Rattle.map_commands.specs.Plan.{Plans}
+use Rattle.map_commands.specs.Show.{ShowsAs}
 use Rattle.monitor_cli.specs.ExpectedRuns.{RunsAs}
 use Rattle.monitor_cli.specs.Traces.{LintsTrace}
 

@@ -16,7 +16,7 @@ use Rattle.hart_sim.specs.Reports.{DoesLine, RefusesLine, StarvesLine}
 use Rattle.program_troubles.specs.declared.trouble.Trouble.{Trouble}
 use Rattle.program_troubles.specs.declared.trouble.Trouble.TheVariants.{NotAPlatform, Output, Memory}
 use Rattle.program_troubles.specs.Troubles.{boot_trouble, run_trouble}
-use Rattle.map_commands.specs.Commands.{HasBytes, HasNoBytes, IsUnread, Reading}
+use Rattle.map_commands.specs.Inputs.{HasBytes, HasNoBytes, IsUnread, Reading}
 use Rattle.map_commands.specs.Parts.{Stops}
 use Rattle.monitor_cli.specs.Tasks.{AreMeasures}
 use Rattle.platform_file.specs.Document.{IsPlatformFile}

@@ -4,7 +4,8 @@ use Rattle.std.specs.Borrow.{Bor}
 use Rattle.byte_streams.specs.Writings.{IsUnwritten, Writing}
 use Rattle.enclave_table.specs.Platform.{Layout}
 use Rattle.program_troubles.specs.declared.trouble.Trouble.{Trouble}
-use Rattle.map_commands.specs.Commands.{HasBytes, HasNoBytes, IsUnread, Reading, Tells}
+use Rattle.map_commands.specs.Inputs.{HasBytes, HasNoBytes, IsUnread, Reading}
+use Rattle.map_commands.specs.Lint.{Tells}
 use Rattle.monitor_cli.specs.Runs.{HasNoPlatform, HasPlatform}
 use Rattle.trace_lint.specs.Lints.{IsLintText, is_trace}
 

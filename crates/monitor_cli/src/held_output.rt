@@ -7,7 +7,8 @@ ghost use Rattle.monitor_cli.specs.HeldOutput.{IsClosed, held_by};
 ghost use Rattle.byte_streams.specs.declared.streams.Counted.{Counted};
 ghost use Rattle.std.specs.declared.io.buffered.BufWriter.{BufWriter};
 ghost use Rattle.byte_streams.specs.Writings.{writing};
-ghost use Rattle.map_commands.specs.Commands.{placing, reading};
+ghost use Rattle.map_commands.specs.CertifiedPlan.{placing};
+ghost use Rattle.map_commands.specs.Inputs.{reading};
 ghost use Rattle.monitor_cli.specs.Programs.{Ends, Tells};
 ghost use Rattle.program_troubles.specs.declared.trouble.Trouble.TheVariants.{Output};
 

@@ -4,7 +4,8 @@ ghost use Rattle.std.specs.Prelude.{◌≡◌, ℕ, ◌≤◌, ◌-◌, ◌^◌,
 ghost use Rattle.enclave_table.specs.Boot.{IsBootFault};
 ghost use Rattle.hart_sim.specs.After.{IsBooted};
 ghost use Rattle.byte_streams.specs.Writings.{writing};
-ghost use Rattle.map_commands.specs.Commands.{reading, Tells};
+ghost use Rattle.map_commands.specs.Inputs.{reading};
+ghost use Rattle.map_commands.specs.Lint.{Tells};
 ghost use Rattle.monitor_cli.specs.Hints.{hints_in, most_bytes, AreHints, HasFileHints, HasHints, HasMapHints, HasRunHints, HasTaskHints, InOrder, boot_hint, IsLintAs, TellsHints};
 
 use crate::commands::{TRACE_BYTES, lint_as_trace};

@@ -12,7 +12,7 @@ ghost use Rattle.enclave_table.specs.Platform.{Layout};
 ghost use Rattle.hart_sim.specs.After.{IsBooted};
 ghost use Rattle.hart_sim.specs.Machines.{KeepsBanksRight};
 ghost use Rattle.program_troubles.specs.Troubles.{boot_trouble};
-ghost use Rattle.map_commands.specs.Commands.{reading};
+ghost use Rattle.map_commands.specs.Inputs.{reading};
 ghost use Rattle.monitor_cli.specs.Runs.{HasNoPlatform, HasPlatform};
 ghost use Rattle.monitor_cli.specs.Tasks.{AreMeasures, IsDigest, IsMeasureText};
 ghost use Rattle.platform_file.specs.Document.{IsPlatformFile};

@@ -2,7 +2,8 @@
 
 ghost use Rattle.std.specs.Prelude.{◌≡◌};
 ghost use Rattle.byte_streams.specs.Writings.{writing};
-ghost use Rattle.map_commands.specs.Commands.{placing, reading};
+ghost use Rattle.map_commands.specs.CertifiedPlan.{placing};
+ghost use Rattle.map_commands.specs.Inputs.{reading};
 ghost use Rattle.monitor_cli.specs.Programs.{Ends, LintsAs, Performs, Tells};
 ghost use Rattle.program_troubles.specs.Troubles.{status_of};
 

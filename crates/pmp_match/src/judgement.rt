@@ -30,14 +30,15 @@ fn right(kind: Kind) -> u8
 
 /// Whether the permission has the right that the kind wants, without a branch on either: it would be guessed wrong too often.
 #[inline(always)]
-pub(crate) fn holds(perm: Perm, kind: Kind) -> bool
+pub fn holds(perm: Perm, kind: Kind) -> bool
     ensures { result ≡ holds perm kind }
 {
     perm.bits() & right(kind) != 0
 }
 
+/// Whether a mode is machine mode.
 #[inline(always)]
-pub(crate) fn is_machine(mode: Mode) -> bool
+pub fn is_machine(mode: Mode) -> bool
     ensures { result ≡ is_machine mode }
 {
     mode == Mode::Machine
@@ -45,7 +46,7 @@ pub(crate) fn is_machine(mode: Mode) -> bool
 
 /// Whether some byte of the access is in the extent. Both tests are made in any case: a branch between them would be
 /// guessed wrong too often.
-fn touches(extent: &Extent, access: &Access) -> bool
+pub fn touches(extent: &Extent, access: &Access) -> bool
     requires { access.now.address < 2 ^ 56 }
     ensures { result ≡ touches extent.now access.now }
 {
@@ -105,13 +106,14 @@ fn is_allowed(bank: &Bank, access: &Access) -> bool
 
 /// Whether the access is at a multiple of its size, a power of two.
 #[inline(always)]
-pub(crate) fn is_aligned(access: &Access) -> bool
+pub fn is_aligned(access: &Access) -> bool
     ensures { result ≡ (access.now.address % access.now.size == 0) }
 {
     access.address & (u64::from(access.size) - 1) == 0
 }
 
-fn misaligned(kind: Kind) -> Cause
+/// The cause of an access that is at no multiple of its size.
+pub fn misaligned(kind: Kind) -> Cause
     ensures { result ≡ misaligned kind }
 {
     match kind {
@@ -121,8 +123,9 @@ fn misaligned(kind: Kind) -> Cause
     }
 }
 
+/// The cause of an access that is not let through.
 #[inline(always)]
-pub(crate) fn access_fault(kind: Kind) -> Cause
+pub fn access_fault(kind: Kind) -> Cause
     ensures { result ≡ access_fault kind }
 {
     match kind {

@@ -25,6 +25,6 @@ mod segments;
 
 pub use access::{Access, Kind, Mode};
 pub use cause::Cause;
-pub use judgement::judge;
+pub use judgement::{access_fault, holds, is_aligned, is_machine, judge, misaligned, touches};
 pub use laws::{byte_law, decision_law, judgement_law, least_law, needs_law, page_law};
 pub use segments::Segments;

@@ -1,20 +1,17 @@
 -- Registers that hold a list of NA4 and NAPOT entries: what they match, and that none is locked.
-use Rattle.std.proofs.Common.{◌≡◌, ℕ, zero, suc, ◌+◌, ◌%◌, ◌/◌, ◌^◌, ◌<◌, ◌≤◌, ◌⊎◌, inl, inr, ⊎_elim, List, [], ◌∷◌, length, Bool, true, false, cond, ◌&&◌, nat_lt, refl, ap, subst, ◌∙◌, arith}
-use Rattle.std.proofs.lemmas.Bool.{cases_lt, le-ltb}
+use Rattle.std.proofs.Common.{◌≡◌, ℕ, zero, suc, ◌+◌, ◌<◌, ◌≤◌, ◌⊎◌, inl, inr, ⊎_elim, List, [], ◌∷◌, length, cond, refl, ap, subst, ◌∙◌, arith}
+use Rattle.std.proofs.lemmas.Bool.{cases_lt}
 use Rattle.pmp_encoding.specs.declared.extent.Extent.{Extent}
-use Rattle.pmp_encoding.specs.declared.fault.EncodingFault.TheVariants.{Locked}
 use Rattle.pmp_encoding.specs.declared.region.Entry.{Entry}
-use Rattle.pmp_encoding.specs.Encoding.{IsOff, MeansEntry}
 use Rattle.pmp_encoding.specs.Extents.{extent_of}
-use Rattle.pmp_encoding.specs.Faults.{IsFaultless}
 use Rattle.pmp_encoding.specs.Lists.{MeansList, done, skip, keep}
 use Rattle.pmp_encoding.proofs.Faulty.{entry_faultless, off_faultless}
 use Rattle.pmp_match.specs.declared.access.Access.{Access}
 use Rattle.pmp_match.specs.Decision.{allows}
 use Rattle.pmp_match.specs.Matching.{touches, grants, lets_through}
 use Rattle.pmp_registers.specs.declared.registers.Registers.{Registers}
-use Rattle.pmp_registers.specs.Matching.{AreExtentsFrom, IsExtentAt, off, block, kept, nowhere, unlocked}
-use Rattle.pmp_registers.specs.Registers.{address_at, cfg_at, pairs_from}
+use Rattle.pmp_registers.specs.Matching.{AreExtentsFrom, nowhere, unlocked}
+use Rattle.pmp_registers.specs.Registers.{cfg_at, pairs_from}
 use Rattle.register_width.specs.Widths.{AreReached}
 use Rattle.pmp_registers.proofs.Instance.{entry_extent, off_extent, off_untouched, whole_cfg}
 use Rattle.pmp_registers.proofs.Spaces.{reached_end, reached_rest}

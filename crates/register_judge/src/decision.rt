@@ -7,9 +7,9 @@ ghost use Rattle.pmp_registers.specs.Matching.{AreExtents};
 ghost use Rattle.register_judge.specs.Deciders.{by_entry};
 ghost use Rattle.register_judge.specs.Decision.{IsLocked, LetsThrough, RegistersAllow};
 
-use crate::kinds::{contains, holds, is_machine, meets};
+use crate::extents::{contains, meets};
 use explained_answers::Decider;
-use pmp_match::{Access, Mode};
+use pmp_match::{Access, Mode, holds, is_machine};
 use pmp_registers::{Extent, Registers};
 
 /// Whether the entry of a place is locked.

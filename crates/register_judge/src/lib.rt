@@ -17,7 +17,7 @@
 
 mod access_judge;
 mod decision;
-mod kinds;
+mod extents;
 mod laws;
 mod listing_rules;
 mod rules;

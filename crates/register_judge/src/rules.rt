@@ -8,10 +8,9 @@ ghost use Rattle.register_judge.specs.Deciders.{by_entry};
 ghost use Rattle.register_judge.specs.Judgement.{RegistersJudge};
 
 use crate::decision::{allow, first_met};
-use crate::kinds::{access_fault, is_aligned, misaligned};
 use explained_answers::Decider;
 use page_views::SPACE_SIZE;
-use pmp_match::{Access, Cause};
+use pmp_match::{Access, Cause, access_fault, is_aligned, misaligned};
 use pmp_registers::{Extent, Registers, ReservedAt, extents_of};
 use std::marker::Model;
 

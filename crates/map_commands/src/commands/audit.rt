@@ -2,7 +2,8 @@
 
 ghost use Rattle.std.specs.Prelude.{◌-◌, ◌^◌, ◌<◌};
 ghost use Rattle.byte_streams.specs.Writings.{writing};
-ghost use Rattle.map_commands.specs.Commands.{reading, Audits};
+ghost use Rattle.map_commands.specs.Audit.{Audits};
+ghost use Rattle.map_commands.specs.Inputs.{reading};
 
 use crate::certified_plan::fewest_in;
 use crate::commands::answer_status;

@@ -2,7 +2,8 @@
 
 ghost use Rattle.std.specs.Prelude.{◌-◌, ◌^◌, ◌<◌};
 ghost use Rattle.byte_streams.specs.Writings.{writing};
-ghost use Rattle.map_commands.specs.Commands.{reading, Checks};
+ghost use Rattle.map_commands.specs.Check.{Checks};
+ghost use Rattle.map_commands.specs.Inputs.{reading};
 
 use crate::commands::verdicts::verdict;
 use crate::inputs::{bytes_in, map_in};

@@ -5,7 +5,8 @@ ghost use Rattle.byte_streams.specs.Writings.{writing};
 ghost use Rattle.trace_judge.specs.Answers.{answered_by};
 ghost use Rattle.explained_answers.specs.Explained.{explaining};
 ghost use Rattle.explained_answers.specs.Reasons.{on_access};
-ghost use Rattle.map_commands.specs.Commands.{reading, Judges, JudgesAs, JudgesByRegisters, JudgesExpecting, JudgesTrace, JudgesTraceAs};
+ghost use Rattle.map_commands.specs.Inputs.{reading};
+ghost use Rattle.map_commands.specs.Judge.{Judges, JudgesAs, JudgesByRegisters, JudgesExpecting, JudgesTrace, JudgesTraceAs};
 
 use crate::certified_plan::bank_in;
 use crate::expected::tell_first;

@@ -2,7 +2,8 @@
 
 ghost use Rattle.std.specs.Prelude.{◌≡◌, ◌-◌, ◌^◌, ◌<◌, ◌≤◌, ◌++◌, codes, decimal, length};
 ghost use Rattle.byte_streams.specs.Writings.{writing, Prints};
-ghost use Rattle.map_commands.specs.Commands.{listing_fault, listing_reason, other_width, reading, names_platform, IsListingLint, IsMapLint, IsPlatformLint, Lints, LintsListing, Tells};
+ghost use Rattle.map_commands.specs.Inputs.{reading};
+ghost use Rattle.map_commands.specs.Lint.{listing_fault, listing_reason, other_width, names_platform, IsListingLint, IsMapLint, IsPlatformLint, Lints, LintsListing, Tells};
 
 use crate::commands::answer_status;
 use crate::inputs::{MAP_BYTES, REGISTER_BYTES, bytes_in};

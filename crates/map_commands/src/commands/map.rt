@@ -2,7 +2,8 @@
 
 ghost use Rattle.std.specs.Prelude.{◌-◌, ◌^◌, ◌<◌};
 ghost use Rattle.byte_streams.specs.Writings.{writing};
-ghost use Rattle.map_commands.specs.Commands.{reading, Maps};
+ghost use Rattle.map_commands.specs.Inputs.{reading};
+ghost use Rattle.map_commands.specs.Map.{Maps};
 
 use crate::commands::answer_status;
 use crate::inputs::{REGISTER_BYTES, bytes_in};

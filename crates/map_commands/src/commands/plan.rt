@@ -1,7 +1,9 @@
 //! `plan`: the fewest entries of a map, and their certificate.
 
 ghost use Rattle.std.specs.Prelude.{◌≡◌, ◌-◌, ◌^◌, ◌<◌, ℕ, List, Option, IfErr, IfOk, length, option_map};
-ghost use Rattle.map_commands.specs.Commands.{most_entries, placing, reading, IsPrinted, IsWithin, Plans};
+ghost use Rattle.map_commands.specs.CertifiedPlan.{placing, IsWithin};
+ghost use Rattle.map_commands.specs.Inputs.{reading};
+ghost use Rattle.map_commands.specs.Plan.{most_entries, IsPrinted, Plans};
 ghost use Rattle.byte_streams.specs.Writings.{writing, PrintsOne};
 ghost use Rattle.register_width.specs.Widths.{AreReached};
 

@@ -3,7 +3,8 @@
 ghost use Rattle.std.specs.Prelude.{◌-◌, ◌^◌, ◌<◌, IfOk, length};
 ghost use Rattle.byte_streams.specs.Writings.{writing};
 ghost use Rattle.permission_map.specs.Runs.{view_of_runs};
-ghost use Rattle.map_commands.specs.Commands.{reading, IsShown, IsText, Shows, ShowsAs, ShowsRegisters};
+ghost use Rattle.map_commands.specs.Inputs.{reading};
+ghost use Rattle.map_commands.specs.Show.{IsShown, IsText, Shows, ShowsAs, ShowsRegisters};
 
 use crate::certified_plan::planned_near;
 use crate::commands::answer_status;

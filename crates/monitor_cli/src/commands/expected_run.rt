@@ -3,7 +3,7 @@
 ghost use Rattle.std.specs.Prelude.{◌≡◌, ℕ, ◌≤◌, List, IfErr, IfOk, true};
 ghost use Rattle.hart_sim.specs.Machines.{kept_of, KeepsBanksRight};
 ghost use Rattle.byte_streams.specs.Writings.{writing, Breaks, IsWell};
-ghost use Rattle.map_commands.specs.Commands.{reading};
+ghost use Rattle.map_commands.specs.Inputs.{reading};
 ghost use Rattle.monitor_cli.specs.ExpectedRuns.{RunsAs, RunsExpecting, RunsExpectingOn};
 ghost use Rattle.monitor_cli.specs.Runs.{IsMeasured};
 ghost use Rattle.monitor_cli.specs.Tasks.{AreMeasures};

@@ -2,7 +2,9 @@
 
 ghost use Rattle.std.specs.Prelude.{◌≡◌, ◌-◌, ◌^◌, ◌<◌, IfErr, IfOk, length};
 ghost use Rattle.byte_streams.specs.Writings.{writing};
-ghost use Rattle.map_commands.specs.Commands.{answer_status, reading, Tells};
+ghost use Rattle.map_commands.specs.Inputs.{reading};
+ghost use Rattle.map_commands.specs.Lint.{Tells};
+ghost use Rattle.map_commands.specs.Parts.{answer_status};
 ghost use Rattle.monitor_cli.specs.Traces.{HasHarts, HasNoHarts, IsTraceLint, LintsTrace};
 
 use crate::machine_run::read_platform;

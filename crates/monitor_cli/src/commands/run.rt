@@ -3,7 +3,7 @@
 ghost use Rattle.std.specs.Prelude.{◌-◌, ◌^◌, ◌<◌};
 ghost use Rattle.hart_sim.specs.Machines.{KeepsBanksRight};
 ghost use Rattle.byte_streams.specs.Writings.{writing};
-ghost use Rattle.map_commands.specs.Commands.{reading};
+ghost use Rattle.map_commands.specs.Inputs.{reading};
 ghost use Rattle.monitor_cli.specs.Runs.{Runs, RunsOn};
 
 use crate::machine_run::{booted, print_measures, read_platform};

@@ -1,5 +1,5 @@
 -- The loop over lines, told of what interprets them.
-use Rattle.std.proofs.Common.{◌≡◌, ◌∙◌, refl, sym}
+use Rattle.std.proofs.Common.{◌∙◌, refl, sym}
 use Rattle.std.specs.Prelude.{Result, Ok, Err, IfOk}
 use Rattle.text_lines.specs.declared.fault.RunFault.{RunFault}
 use Rattle.text_lines.proofs.Mapped.{mapped_at, mapped_memory, mapped_reading, mapped_too_long, mapped_writing}

@@ -1,7 +1,5 @@
 -- The comparison, told of one judge and no state.
 use Rattle.std.proofs.Common.{refl}
-use Rattle.std.specs.Prelude.{Result, Ok, Err, IfOk}
-use Rattle.text_lines.specs.declared.fault.RunFault.{RunFault}
 use Rattle.text_lines.proofs.Mapped.{mapped_at, mapped_reading, mapped_too_long, mapped_writing}
 use Rattle.trace_judge.specs.declared.judge.LineJudge.{LineJudge}
 use Rattle.trace_judge.specs.Answers.{answered_by, is_no_access}

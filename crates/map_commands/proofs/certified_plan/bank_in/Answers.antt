@@ -2,7 +2,7 @@ use Rattle.std.proofs.Common.{refl, sym}
 use Rattle.std.proofs.lemmas.Result.{err_from_is_err_and}
 use Rattle.permission_map.specs.Runs.{view_of_runs}
 use Rattle.pmp_match.specs.Meaning.{IsFewest}
-use Rattle.map_commands.specs.Commands.{for_entries, for_memory, for_width}
+use Rattle.map_commands.specs.CertifiedPlan.{for_entries, for_memory, for_width}
 use Rattle.map_commands.proofs.certified_plan.bank_in.Goals as goal
 
 pub returns-in_err-plan-clause-refused : goal.returns-in_err-plan-clause-refused

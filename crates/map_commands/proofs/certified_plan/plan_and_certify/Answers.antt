@@ -3,7 +3,7 @@ use Rattle.std.proofs.lemmas.Result.{err_from_is_err_and}
 use Rattle.permission_map.specs.Runs.{view_of_runs}
 use Rattle.prefix_tree.specs.TreeOf.{tree_of}
 use Rattle.plan_certificate.specs.Written.{certificate_for}
-use Rattle.map_commands.specs.Commands.{beyond, starved, uncertified, unreached}
+use Rattle.map_commands.specs.CertifiedPlan.{beyond, starved, uncertified, unreached}
 use Rattle.map_commands.proofs.PlanCertificates.{certificate_is}
 use Rattle.map_commands.proofs.Ends.{unplanned}
 use Rattle.map_commands.proofs.certified_plan.plan_and_certify.Goals as goal

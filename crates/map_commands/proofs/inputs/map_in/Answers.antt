@@ -1,5 +1,5 @@
 use Rattle.std.proofs.lemmas.Result.{err_from_is_err_and}
-use Rattle.map_commands.specs.Commands.{no_bytes}
+use Rattle.map_commands.specs.Inputs.{no_bytes}
 use Rattle.map_commands.proofs.Refusals.{has_map, has_no_map}
 use Rattle.map_commands.proofs.inputs.map_in.Goals as goal
 

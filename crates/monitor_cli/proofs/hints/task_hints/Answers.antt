@@ -1,6 +1,6 @@
 use Rattle.std.proofs.Common.{option_map, refl}
 use Rattle.monitor_cli.specs.declared.hints.Form.TheVariants.{Listing}
-use Rattle.map_commands.specs.Commands.{IsUnread, reading}
+use Rattle.map_commands.specs.Inputs.{IsUnread, reading}
 use Rattle.monitor_cli.specs.Hints.{HasHints}
 use Rattle.monitor_cli.proofs.HintTexts.{and_unread}
 use Rattle.monitor_cli.proofs.hints.task_hints.Goals as goal

@@ -1,5 +1,5 @@
 -- Entry by entry, until one has a byte of the access.
-use Rattle.std.proofs.Common.{arith, ⊎_elim, inl, inr, subst, sym}
+use Rattle.std.proofs.Common.{arith}
 use Rattle.std.proofs.lemmas.Bool.{both_ways}
 use Rattle.pmp_registers.specs.Tor.{nowhere}
 use Rattle.pmp_registers.proofs.Matched.{extent_words}

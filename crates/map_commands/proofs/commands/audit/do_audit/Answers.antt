@@ -5,8 +5,9 @@ use Rattle.register_width.specs.Widths.{AreReached}
 use Rattle.pmp_encoding.specs.declared.region.Entry.{Entry}
 use Rattle.permission_map.specs.declared.runs.Run.{Run}
 use Rattle.permission_map.specs.Runs.{view_of_runs}
-use Rattle.map_commands.specs.Commands.{HasBytes, HasMap, IsAudited, Reading, audited, no_registers, not_understood}
-use Rattle.map_commands.specs.Commands as commands
+use Rattle.map_commands.specs.Audit.{IsAudited, audited, no_registers, not_understood}
+use Rattle.map_commands.specs.Inputs.{HasBytes, HasMap, Reading}
+use Rattle.map_commands.specs.Audit as audits
 use Rattle.pmp_match.specs.Meaning.{IsFewest}
 use Rattle.map_commands.proofs.commands.audit.do_audit.Goals as goal
 
@@ -28,7 +29,7 @@ is_audited has_map read planned = record {
 pub returns-in_err-map : goal.returns-in_err-map
 returns-in_err-map g c =
     let p = err_from_is_err_and c.from_residual.result c.from_residual.ensures.1 in
-    rw (p.1, p.2) (commands.Audits.no_map _ c.in_err-map.ensures.refused refl refl)
+    rw (p.1, p.2) (audits.Audits.no_map _ c.in_err-map.ensures.refused refl refl)
 
 pub returns-in_err-listing : goal.returns-in_err-listing
 returns-in_err-listing g c =
@@ -39,8 +40,8 @@ pub returns-in_err-fewest : goal.returns-in_err-fewest
 returns-in_err-fewest g c =
     let p = err_from_is_err_and c.from_residual-in_err-fewest.result c.from_residual-in_err-fewest.ensures.1 in
     rw (p.1, p.2) (elim c.in_err-fewest.ensures.refused [
-      | inl e ↦ rw e (commands.Audits.no_memory _ _ c.in_ok-map.ensures.made c.in_ok-listing.ensures.whole refl)
-      | inr far ↦ commands.Audits.too_far _ _ _ c.in_ok-map.ensures.made c.in_ok-listing.ensures.whole far refl
+      | inl e ↦ rw e (audits.Audits.no_memory _ _ c.in_ok-map.ensures.made c.in_ok-listing.ensures.whole refl)
+      | inr far ↦ audits.Audits.too_far _ _ _ c.in_ok-map.ensures.made c.in_ok-listing.ensures.whole far refl
     ])
 
 pub returns-in-Ok : goal.returns-in-Ok
@@ -56,11 +57,11 @@ returns-in-Err-Line g c =
     not_understood _ _ _ c.in-Err-Line.line made unknown.0 unknown.1
 
 pub returns-in-Err-Memory : goal.returns-in-Err-Memory
-returns-in-Err-Memory g c = commands.Audits.no_memory _ _ c.in_ok-map.ensures.made c.in_ok-listing.ensures.whole (c.in-Err-Memory.ensures.untouched (ap (λ f. Err f) c.in-Err-Memory.field-0-is))
+returns-in-Err-Memory g c = audits.Audits.no_memory _ _ c.in_ok-map.ensures.made c.in_ok-listing.ensures.whole (c.in-Err-Memory.ensures.untouched (ap (λ f. Err f) c.in-Err-Memory.field-0-is))
 
 pub returns : goal.returns
 returns g c =
     let device = ap (λ f. Err f) c.in-Err-Device.field-0-is in
     let w = rw c.as_slice.ensures.value at c.in-Err-Device.ensures.broken device in
     let made = is_audited c.in_ok-map.ensures.made c.in_ok-listing.ensures.whole c.in_ok-fewest.ensures.fewest in
-    commands.Audits.no_output _ _ w.0 _ w.1 made w.2 w.3
+    audits.Audits.no_output _ _ w.0 _ w.1 made w.2 w.3

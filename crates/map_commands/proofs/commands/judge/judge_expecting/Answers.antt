@@ -1,6 +1,6 @@
 use Rattle.std.proofs.Common.{◌∙◌, Err, ap}
 use Rattle.trace_judge.specs.Answers.{answered_by, is_no_access}
-use Rattle.map_commands.specs.Commands.{compared, not_told, unfinished}
+use Rattle.map_commands.specs.Judge.{compared, not_told, unfinished}
 use Rattle.map_commands.proofs.Ends.{stops}
 use Rattle.map_commands.proofs.commands.judge.judge_expecting.Goals as goal
 

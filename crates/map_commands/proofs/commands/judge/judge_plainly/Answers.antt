@@ -1,6 +1,6 @@
 use Rattle.std.proofs.Common.{Err, ap}
 use Rattle.trace_judge.specs.Answers.{answered_by, is_no_access}
-use Rattle.map_commands.specs.Commands.{to_its_end, until}
+use Rattle.map_commands.specs.Judge.{to_its_end, until}
 use Rattle.map_commands.proofs.Ends.{stops}
 use Rattle.map_commands.proofs.commands.judge.judge_plainly.Goals as goal
 

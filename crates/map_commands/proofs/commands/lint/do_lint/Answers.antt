@@ -1,13 +1,14 @@
 use Rattle.std.proofs.Common.{refl, sym, ◌∙◌}
 use Rattle.std.proofs.lemmas.Result.{err_from_is_err_and}
-use Rattle.map_commands.specs.Commands.{linted, no_bytes}
-use Rattle.map_commands.specs.Commands as commands
+use Rattle.map_commands.specs.Inputs.{no_bytes}
+use Rattle.map_commands.specs.Lint.{linted}
+use Rattle.map_commands.specs.Lint as lints
 use Rattle.map_commands.proofs.commands.lint.do_lint.Goals as goal
 
 pub returns-in_err-bytes : goal.returns-in_err-bytes
 returns-in_err-bytes g c =
     let p = err_from_is_err_and c.from_residual.result c.from_residual.ensures.1 in
-    rw (p.1, p.2) (commands.Lints.no_bytes _ c.in_err-bytes.ensures.refused refl)
+    rw (p.1, p.2) (lints.Lints.no_bytes _ c.in_err-bytes.ensures.refused refl)
 
 pub returns-then-names_platform : goal.returns-then-names_platform
 returns-then-names_platform g c =

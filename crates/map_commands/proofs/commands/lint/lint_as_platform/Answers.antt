@@ -4,8 +4,8 @@ use Rattle.byte_streams.proofs.Writings.{takes_none}
 use Rattle.enclave_table.specs.Platform.{Layout}
 use Rattle.platform_file.specs.Document.{IsPlatformFile}
 use Rattle.platform_lint.specs.Lints.{IsLintLine}
-use Rattle.map_commands.specs.Commands.{IsPlatformLint}
-use Rattle.map_commands.specs.Commands as commands
+use Rattle.map_commands.specs.Lint.{IsPlatformLint}
+use Rattle.map_commands.specs.Lint as lints
 use Rattle.map_commands.proofs.commands.lint.lint_as_platform.Goals as goal
 
 -- what was written, by the answer
@@ -24,12 +24,12 @@ returns-in-Ok g c =
     let w =
     text g.W.Sink.contents g.W.Sink.failures g.W.Sink.stalls c.args.out.now c.lint_platform.new.out c.args.name.now c.args.bytes.now c.in-Ok.is_platform
     (λ e. said.platform (ap (λ t. Ok t) e)) (λ e. said.silent (ap (λ t. Ok t) e)) (λ e. said.written (ap (λ t. Ok t) e)) in
-    rw c.answer_status.ensures (commands.Tells.whole c.in-Ok.is_platform w.0 w.1 w.2)
+    rw c.answer_status.ensures (lints.Tells.whole c.in-Ok.is_platform w.0 w.1 w.2)
 
 pub returns-in-Err-Memory : goal.returns-in-Err-Memory
-returns-in-Err-Memory g c = commands.Tells.no_memory (c.in-Err-Memory.ensures.untouched (ap (λ f. Err f) c.in-Err-Memory.field-0-is))
+returns-in-Err-Memory g c = lints.Tells.no_memory (c.in-Err-Memory.ensures.untouched (ap (λ f. Err f) c.in-Err-Memory.field-0-is))
 
 pub returns-in-Err-Device : goal.returns-in-Err-Device
 returns-in-Err-Device g c =
     let w = c.in-Err-Device.ensures.broken (ap (λ f. Err f) c.in-Err-Device.field-0-is) in
-    commands.Tells.no_output false w.0 w.1 w.2
+    lints.Tells.no_output false w.0 w.1 w.2

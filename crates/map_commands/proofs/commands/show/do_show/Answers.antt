@@ -1,19 +1,20 @@
 use Rattle.std.proofs.Common.{inl, inr, refl}
 use Rattle.std.proofs.lemmas.Result.{err_from_is_err_and}
-use Rattle.map_commands.specs.Commands.{shown}
-use Rattle.map_commands.specs.Commands as commands
+use Rattle.map_commands.specs.Show.{shown}
+use Rattle.map_commands.specs.Inputs as inputs
+use Rattle.map_commands.specs.Show as shows
 use Rattle.map_commands.proofs.Refusals.{map_read, no_map_of}
 use Rattle.map_commands.proofs.commands.show.do_show.Goals as goal
 
 pub returns-in_err-bytes : goal.returns-in_err-bytes
 returns-in_err-bytes g c =
     let p = err_from_is_err_and c.from_residual.result c.from_residual.ensures.1 in
-    rw (p.1, p.2) (commands.Shows.no_map _ (commands.HasNoMap.no_bytes _ c.in_err-bytes.ensures.refused) refl)
+    rw (p.1, p.2) (shows.Shows.no_map _ (inputs.HasNoMap.no_bytes _ c.in_err-bytes.ensures.refused) refl)
 
 pub returns-in_err-map : goal.returns-in_err-map
 returns-in_err-map g c =
     let p = err_from_is_err_and c.from_residual-in_err-map.result c.from_residual-in_err-map.ensures.1 in
-    rw (p.1, p.2) (commands.Shows.no_map _ (no_map_of c.args.file _ c.in_ok-bytes.bytes.items _ c.in_ok-bytes.ensures.whole (rw c.as_slice.ensures.value at c.in_err-map.ensures.refused)) refl)
+    rw (p.1, p.2) (shows.Shows.no_map _ (no_map_of c.args.file _ c.in_ok-bytes.bytes.items _ c.in_ok-bytes.ensures.whole (rw c.as_slice.ensures.value at c.in_err-map.ensures.refused)) refl)
 
 pub returns-in_err-plan : goal.returns-in_err-plan
 returns-in_err-plan g c =
@@ -21,10 +22,10 @@ returns-in_err-plan g c =
     let made = rw c.as_slice.ensures.value at c.in_ok-map.ensures.made in
     let has = map_read _ c.in_ok-bytes.bytes.items _ c.in_ok-bytes.ensures.whole made in
     rw (p.1, p.2) (elim c.in_err-plan.ensures.refused [
-      | inl e ↦ rw e (commands.Shows.no_memory _ has refl)
+      | inl e ↦ rw e (shows.Shows.no_memory _ has refl)
       | inr w ↦ elim w [
-        | inl more ↦ commands.Shows.too_many _ _ has more refl
-        | inr far ↦ commands.Shows.too_far _ _ has far refl
+        | inl more ↦ shows.Shows.too_many _ _ has more refl
+        | inr far ↦ shows.Shows.too_far _ _ has far refl
       ]
     ])
 
@@ -33,7 +34,7 @@ returns-in_err-text g c =
     let p = err_from_is_err_and c.from_residual-in_err-text.result c.from_residual-in_err-text.ensures.1 in
     let made = rw c.as_slice.ensures.value at c.in_ok-map.ensures.made in
     let has = map_read _ c.in_ok-bytes.bytes.items _ c.in_ok-bytes.ensures.whole made in
-    rw (p.1, p.2) (commands.Shows.no_memory _ has refl)
+    rw (p.1, p.2) (shows.Shows.no_memory _ has refl)
 
 pub returns-in-Ok : goal.returns-in-Ok
 returns-in-Ok g c =
@@ -45,4 +46,4 @@ pub returns : goal.returns
 returns g c =
     let made = rw c.as_slice.ensures.value at c.in_ok-map.ensures.made in
     let text = rw (c.entries-entries.ensures, c.as_slice-2.ensures.value) at c.in_ok-text.ensures in
-    commands.Shows.no_output _ _ _ _ c.in_ok-bytes.ensures.whole made c.in_ok-plan.ensures.planned c.in_ok-plan.ensures.reached text (rw c.as_slice-3.ensures.value at c.in-Err.ensures)
+    shows.Shows.no_output _ _ _ _ c.in_ok-bytes.ensures.whole made c.in_ok-plan.ensures.planned c.in_ok-plan.ensures.reached text (rw c.as_slice-3.ensures.value at c.in-Err.ensures)

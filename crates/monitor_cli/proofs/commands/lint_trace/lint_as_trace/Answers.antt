@@ -2,7 +2,7 @@ use Rattle.std.proofs.Common.{◌≡◌, ℕ, [], Bool, true, false, List, Err, 
 use Rattle.byte_streams.specs.Writings.{writing, TakesAll}
 use Rattle.byte_streams.proofs.Writings.{takes_none}
 use Rattle.trace_lint.specs.Lints.{IsLintText, is_trace}
-use Rattle.map_commands.specs.Commands as commands
+use Rattle.map_commands.specs.Lint as lints
 use Rattle.monitor_cli.specs.Traces.{IsTraceLint}
 use Rattle.monitor_cli.proofs.commands.lint_trace.lint_as_trace.Goals as goal
 
@@ -23,12 +23,12 @@ returns-in-Ok g c =
     let w =
     text g.W.Sink.contents g.W.Sink.failures g.W.Sink.stalls c.args.out.now c.lint_trace.new.out c.args.name.now c.args.bytes.now c.args.harts c.in-Ok.is_trace
     said.trace (λ e. said.silent (ap (λ t. Ok t) e)) (λ e. said.written (ap (λ t. Ok t) e)) in
-    rw c.answer_status.ensures (commands.Tells.whole c.in-Ok.is_trace w.0 w.1 w.2)
+    rw c.answer_status.ensures (lints.Tells.whole c.in-Ok.is_trace w.0 w.1 w.2)
 
 pub returns-in-Err-Memory : goal.returns-in-Err-Memory
-returns-in-Err-Memory g c = commands.Tells.no_memory (c.in-Err-Memory.ensures.untouched (ap (λ f. Err f) c.in-Err-Memory.field-0-is))
+returns-in-Err-Memory g c = lints.Tells.no_memory (c.in-Err-Memory.ensures.untouched (ap (λ f. Err f) c.in-Err-Memory.field-0-is))
 
 pub returns-in-Err-Device : goal.returns-in-Err-Device
 returns-in-Err-Device g c =
     let w = c.in-Err-Device.ensures.broken (ap (λ f. Err f) c.in-Err-Device.field-0-is) in
-    commands.Tells.no_output false w.1 (w.0, w.2) w.3
+    lints.Tells.no_output false w.1 (w.0, w.2) w.3

@@ -2,7 +2,7 @@
 use Rattle.std.proofs.Common.{◌<◌, ◌+◌, arith}
 use Rattle.std.proofs.lemmas.Bool.{and_from, lt-ltb}
 use Rattle.pmp_registers.proofs.Decided.{Meets-from_test}
-use Rattle.register_judge.proofs.kinds.meets.Goals as goal
+use Rattle.register_judge.proofs.extents.meets.Goals as goal
 
 pub returns-then-extent-access : goal.returns-then-extent-access
 returns-then-extent-access c =
