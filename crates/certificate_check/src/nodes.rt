@@ -52,6 +52,7 @@ fn leaf(
 }
 
 /// The numbers of a split block, where they are what the halves allow.
+#[inline(always)]
 fn branch(costs: &SixCosts, lower: &SixCosts, upper: &SixCosts) -> Result<SixCosts, CheckRefusal>
     ensures numbers { IfOk result (λ numbers.
         (p : Perm) → cost_of numbers p ≡ cost_of costs.now p) }
