@@ -142,6 +142,7 @@ fn above(costs: &SixCosts, other: &SixCosts) -> Option<Perm>
 }
 
 /// Whether some number is above the same sum of the halves' numbers, or above one more than any sum.
+#[inline(always)]
 pub(crate) fn are_too_high(costs: &SixCosts, sums: &SixCosts) -> bool
     requires { (p : Perm) → cost_of sums.now p + 1 < 2 ^ 32 }
     ensures high { IsTrue result
