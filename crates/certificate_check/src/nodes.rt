@@ -20,6 +20,7 @@ use page_views::pages_of;
 use permission_map::PermissionMap;
 
 /// Reads what follows the tag of a leaf of the 2^log2 pages from `first` on.
+#[inline(always)]
 fn leaf(
     reader: &mut Reader,
     runs: &mut RunsAhead,
@@ -51,6 +52,7 @@ fn leaf(
 }
 
 /// The numbers of a split block, where they are what the halves allow.
+#[inline(always)]
 fn branch(costs: &SixCosts, lower: &SixCosts, upper: &SixCosts) -> Result<SixCosts, CheckRefusal>
     ensures numbers { IfOk result (λ numbers.
         (p : Perm) → cost_of numbers p ≡ cost_of costs.now p) }
@@ -70,8 +72,42 @@ fn branch(costs: &SixCosts, lower: &SixCosts, upper: &SixCosts) -> Result<SixCos
     Ok(*costs)
 }
 
+/// Reads what follows the tag of a split block of 2^log2 pages from `first` on, and answers its numbers.
+#[cycle(nodes)]
+fn split(
+    reader: &mut Reader,
+    runs: &mut RunsAhead,
+    log2: u32,
+    first: u64,
+) -> Result<SixCosts, CheckRefusal>
+    requires depth { log2 ≤ 44 }
+    requires inside { first + 2 ^ log2 ≤ 2 ^ 44 }
+    ensures read { (view : View) → AgreeFrom first (view_of_runs runs.old) view
+        → IfOk result (λ numbers.
+        IsNodeRead view log2 first (1 ∷ reader.old) reader.new numbers) }
+    ensures given { (view : View) → AgreeFrom first (view_of_runs runs.old) view
+        → (tree : BoundTree) (rest : List ℕ) → IsRightNode view log2 first tree
+        → 1 ∷ reader.old ≡ node_bytes tree ++ rest → IsAnswer tree rest result reader.new }
+    ensures fault { (view : View) → AgreeFrom first (view_of_runs runs.old) view
+        → IfErr result (NodeFault view log2 first (1 ∷ reader.old)) }
+    ensures same { OnOk result (AgreeFrom (first + 2 ^ log2) (view_of_runs runs.new)
+        (view_of_runs runs.old)) }
+{
+    if log2 == 0 {
+        return Err(CheckRefusal::TooDeep);
+    }
+    let costs = reader.costs()?;
+    let half = log2 - 1;
+    let middle = first + pages_of(half);
+    let lower = node(reader, runs, half, first)?;
+    let upper = node(reader, runs, half, middle)?;
+    branch(&costs, &lower, &upper)
+}
+
 /// Reads the node of the block of 2^log2 pages from `first` on, and answers its numbers. After it the runs go on from
-/// the block's end.
+/// the block's end. (A leaf, as most halves are, is read where the split block is, without a call.)
+#[inline(always)]
+#[cycle(nodes)]
 fn node(
     reader: &mut Reader,
     runs: &mut RunsAhead,
@@ -92,17 +128,7 @@ fn node(
 {
     match reader.tag()? {
         Tag::Leaf => leaf(reader, runs, log2, first),
-        Tag::Branch => {
-            if log2 == 0 {
-                return Err(CheckRefusal::TooDeep);
-            }
-            let costs = reader.costs()?;
-            let half = log2 - 1;
-            let middle = first + pages_of(half);
-            let lower = node(reader, runs, half, first)?;
-            let upper = node(reader, runs, half, middle)?;
-            branch(&costs, &lower, &upper)
-        }
+        Tag::Branch => split(reader, runs, log2, first),
     }
 }
 

@@ -8,25 +8,64 @@ ghost use Rattle.certificate_format.specs.Costs.{cost_of};
 use certificate_format::SixCosts;
 use pmp_encoding::Perm;
 
-/// 0, or 1 where the permissions differ.
-fn one_unless(perm: Perm, other: Perm) -> u32
-    ensures { result ≡ bound_of (Leaf perm) other }
-{
-    if perm == other { 0 } else { 1 }
-}
+/// The numbers of a block of each permission, in their order: 0 for that one, and 1 for each other.
+static LEAVES: [SixCosts; 6] = [
+    SixCosts {
+        no_access: 0,
+        read: 1,
+        read_write: 1,
+        execute: 1,
+        read_execute: 1,
+        read_write_execute: 1,
+    },
+    SixCosts {
+        no_access: 1,
+        read: 0,
+        read_write: 1,
+        execute: 1,
+        read_execute: 1,
+        read_write_execute: 1,
+    },
+    SixCosts {
+        no_access: 1,
+        read: 1,
+        read_write: 0,
+        execute: 1,
+        read_execute: 1,
+        read_write_execute: 1,
+    },
+    SixCosts {
+        no_access: 1,
+        read: 1,
+        read_write: 1,
+        execute: 0,
+        read_execute: 1,
+        read_write_execute: 1,
+    },
+    SixCosts {
+        no_access: 1,
+        read: 1,
+        read_write: 1,
+        execute: 1,
+        read_execute: 0,
+        read_write_execute: 1,
+    },
+    SixCosts {
+        no_access: 1,
+        read: 1,
+        read_write: 1,
+        execute: 1,
+        read_execute: 1,
+        read_write_execute: 0,
+    },
+];
 
 /// The numbers of a block of one permission.
+#[inline(always)]
 pub(crate) fn costs_of_leaf(perm: Perm) -> SixCosts
     ensures { (p : Perm) → cost_of result p ≡ bound_of (Leaf perm) p }
 {
-    SixCosts {
-        no_access: one_unless(perm, Perm::NoAccess),
-        read: one_unless(perm, Perm::Read),
-        read_write: one_unless(perm, Perm::ReadWrite),
-        execute: one_unless(perm, Perm::Execute),
-        read_execute: one_unless(perm, Perm::ReadExecute),
-        read_write_execute: one_unless(perm, Perm::ReadWriteExecute),
-    }
+    LEAVES[perm.index()]
 }
 
 /// The sum of two numbers, where one more still has four bytes.
@@ -103,6 +142,7 @@ fn above(costs: &SixCosts, other: &SixCosts) -> Option<Perm>
 }
 
 /// Whether some number is above the same sum of the halves' numbers, or above one more than any sum.
+#[inline(always)]
 pub(crate) fn are_too_high(costs: &SixCosts, sums: &SixCosts) -> bool
     requires { (p : Perm) → cost_of sums.now p + 1 < 2 ^ 32 }
     ensures high { IsTrue result

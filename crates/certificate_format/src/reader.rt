@@ -157,6 +157,7 @@ impl<'a> Reader<'a> {
     }
 
     /// The permission of a leaf. Answers `Truncated` at the end, and `BadPerm` where another byte stands there.
+    #[inline(always)]
     pub fn perm(&mut self) -> Result<Perm, ReadFault>
         ensures read { IfOk result (λ perm. self.old ≡ bits_of perm ∷ self.new) }
         ensures whole { (perm : Perm) (rest : List ℕ) → self.old ≡ bits_of perm ∷ rest

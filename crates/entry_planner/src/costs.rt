@@ -84,6 +84,7 @@ fn cost_of_split(together: u32, perms: HalfPerms) -> BlockCost
 }
 
 /// Appends a split block after those of its upper half and of its lower half.
+#[inline(always)]
 fn add_split(
     low: BlockCost,
     high: BlockCost,

@@ -1,6 +1,6 @@
 //! Pages at which the permission changes, searched without a branch.
 
-ghost use Rattle.std.specs.Prelude.{◌≡◌, ◌≤◌, ◌<◌, ◌+◌, ◌-◌, ◌^◌, ◌++◌, Some, All, length, take, drop, slice_index_or, count_by, option_to_list, vec_len, vec_capacity};
+ghost use Rattle.std.specs.Prelude.{◌≡◌, ◌≤◌, ◌<◌, ◌+◌, ◌-◌, ◌^◌, ◌++◌, ◌∷◌, Some, All, length, take, drop, slice_index_or, count_by, option_to_list, vec_len, vec_capacity};
 ghost use Rattle.permission_map.specs.declared.points.Point.{Point};
 ghost use Rattle.pmp_encoding.specs.declared.perm.Perm.TheVariants.{NoAccess};
 ghost use Rattle.permission_map.specs.Points.{ArePoints, IsStop, IsTurn, allows, page_of, perm_of, standing};
@@ -225,6 +225,24 @@ fn put(points: &mut Vec<Point>, at: usize, end: usize, point: Point) -> usize
     end + 1
 }
 
+/// Puts two points before what stands at an index. What stands there and after it moves once for both: where the lines of a
+/// map come in no order, most of the time goes by such moves.
+fn put_two(points: &mut Vec<Point>, at: usize, start: Point, stop: Point)
+    requires inside { at ≤ vec_len points.old }
+    requires room { vec_len points.old + 2 ≤ vec_capacity points.old }
+    ensures items { points.new.items ≡ take at points.old.items ++
+        (start ∷ stop ∷ drop at points.old.items) }
+    ensures room { vec_capacity points.old ≤ vec_capacity points.new }
+{
+    let Ok(()) = points.push(start) else {
+        unreachable!();
+    };
+    let Ok(()) = points.push(stop) else {
+        unreachable!();
+    };
+    points[at..].rotate_right(2);
+}
+
 /// Puts at most two points in the place of those with the indices from `from` to before `to`.
 pub(crate) fn replace(
     points: &mut Vec<Point>,
@@ -240,6 +258,12 @@ pub(crate) fn replace(
         (option_to_list start ++ (option_to_list stop ++ drop to points.old.items)) }
     ensures room { vec_capacity points.old ≤ vec_capacity points.new }
 {
+    if from == to {
+        if let (Some(start), Some(stop)) = (start, stop) {
+            put_two(points, from, start, stop);
+            return;
+        }
+    }
     let mut at = from;
     let mut end = to;
     if let Some(start) = start {

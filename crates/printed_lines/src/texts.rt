@@ -21,6 +21,7 @@ pub fn count_line(n: u64) -> Line
 }
 
 /// Appends all digits of a register.
+#[inline(always)]
 pub fn push_register(line: &mut Line, xlen: Xlen, value: u64)
     requires { array_vec_len line.old + 16 ≤ 128 }
     ensures items { line.new.items ≡ line.old.items ++ register_text xlen value }

@@ -8,7 +8,7 @@ use byte_streams::Source;
 use std::alloc::Global;
 
 /// How many bytes are asked of a source at a time.
-const PIECE: usize = 8192;
+const PIECE: usize = 65536;
 
 /// Why a file could not be had whole.
 #[derive(Clone, Copy, Debug, PartialEq, Eq)]
