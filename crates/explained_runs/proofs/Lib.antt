@@ -1,0 +1,3 @@
+mod ListsMet
+mod Answered
+mod Plain

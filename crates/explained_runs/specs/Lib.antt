@@ -1,0 +1,5 @@
+pub mod Asked
+pub mod Outcomes
+pub mod Refusals
+pub mod Comments
+pub mod Plain

@@ -1,0 +1,18 @@
+-- What an explained run has in common with a run.
+use Rattle.std.specs.Prelude.{◌≡◌, ℕ, List, [], ◌∷◌}
+use Rattle.text_lines.specs.LineLoop.{Does}
+use Rattle.hart_sim.specs.declared.machine.Machine.{Machine}
+use Rattle.hart_sim.specs.Reports.{DoesLine}
+use Rattle.explained_answers.specs.Explained.{explained, explaining}
+use Rattle.explained_runs.specs.Comments.{on_event}
+
+-- each of these is an answer with a comment behind it
+abbrev pub AreExplained : List (List ℕ) → List (List ℕ) → Type 0
+AreExplained [] [] = Unit {0}
+AreExplained (answer ∷ answers) (said ∷ rest) = ((comment : List ℕ) × (said ≡ explained answer comment)) × AreExplained answers rest
+AreExplained _ _ = ⊥
+
+-- what lines do in turn whose answers are explained, they do without comments too
+abbrev pub IsRunExplained : Type 0
+IsRunExplained =
+    (old new : Machine) (lines said : List (List ℕ)) → Does (explaining DoesLine on_event) old lines said new → (answers : List (List ℕ)) × Does DoesLine old lines answers new × AreExplained answers said
