@@ -90,9 +90,11 @@ abbrev pub run_app : App
 run_app = with_rule
     (with_rule
     (with_rule
+    (with_rule
     (with_rule (with_rule (new_app (codes "run")) (file_rule (codes "PLATFORM") true)) (file_rule (codes "TRACE") true))
     measure_rule)
     expect_rule)
+    explain_rule)
     hints_rule
 
 abbrev pub plan_app : App

@@ -67,6 +67,7 @@ fn run_command<'a>(alloc: Global) -> Result<Command<'a>, AllocError>
         Argument::File("TRACE", "The trace of events"),
         Argument::Measure,
         Argument::Expect,
+        Argument::Explain,
         Argument::Hints,
     ];
     command(alloc, Subcommand::Run.name(), about, RUN_HELP, &arguments)

@@ -99,7 +99,11 @@ fn is_told(alloc: Global, words: &[&str], wanted: &str) -> Result<bool, Fail> {
 
 #[test]
 fn a_fault_names_the_value_and_the_usage(rt: HostRuntime) -> Result<(), Fail> {
-    let rows: [(&[&str], &str); 9] = [
+    let rows: [(&[&str], &str); 10] = [
+        (
+            &["pmpmon", "run", "p.toml", "t", "--expect", "--explain"],
+            "error: the argument '--explain' cannot be used with '--expect'\n\nUsage: pmpmon run [OPTIONS] <PLATFORM> <TRACE>\n\nFor more information, try '--help'.\n",
+        ),
         (
             &["pmpmon", "judge", "m", "t", "--explain", "--expect"],
             "error: the argument '--explain' cannot be used with '--expect'\n\nUsage: pmpmon judge [OPTIONS] <MAP> <TRACE>\n\nFor more information, try '--help'.\n",

@@ -16,35 +16,40 @@ fn is_task(rt: &impl Abort, alloc: Global, words: &[&str], wanted: Task) {
 
 #[test]
 fn run_takes_a_platform_and_a_trace(rt: HostRuntime) {
-    let rows: [(&[&str], bool, bool); 5] = [
-        (&["pmpmon", "run", "p.toml", "t.txt"], false, false),
+    let rows: [(&[&str], bool, Answers); 6] = [
+        (&["pmpmon", "run", "p.toml", "t.txt"], false, Answers::Plain),
         (
             &["pmpmon", "run", "p.toml", "t.txt", "--measure"],
             true,
-            false,
+            Answers::Plain,
         ),
         (
             &["pmpmon", "run", "--measure", "p.toml", "t.txt"],
             true,
-            false,
+            Answers::Plain,
         ),
         (
             &["pmpmon", "run", "p.toml", "t.txt", "--expect"],
             false,
-            true,
+            Answers::Compared,
         ),
         (
             &["pmpmon", "run", "--expect", "p.toml", "t.txt", "--measure"],
             true,
-            true,
+            Answers::Compared,
+        ),
+        (
+            &["pmpmon", "run", "p.toml", "--explain", "t.txt"],
+            false,
+            Answers::Explained,
         ),
     ];
-    for (words, measure, expect) in rows {
+    for (words, measure, answers) in rows {
         let wanted = Task::Run {
             platform: "p.toml",
             trace: "t.txt",
             measure,
-            expect,
+            answers,
         };
         is_task(&rt, rt.alloc(), words, wanted);
     }

@@ -6,4 +6,3 @@ pub mod Programs
 pub mod Runs
 pub mod Tasks
 pub mod Traces
-pub mod ExpectedRuns

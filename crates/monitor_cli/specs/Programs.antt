@@ -19,7 +19,7 @@ use Rattle.map_commands.specs.Lint.{Lints, LintsListing}
 use Rattle.map_commands.specs.Map.{Maps}
 use Rattle.map_commands.specs.Plan.{Plans}
 use Rattle.map_commands.specs.Show.{ShowsAs}
-use Rattle.monitor_cli.specs.ExpectedRuns.{RunsAs}
+use Rattle.monitor_cli.specs.Runs.{Runs}
 use Rattle.monitor_cli.specs.Traces.{LintsTrace}
 
 -- `lint`, by what the file should be; the width is that of the registers of a listing
@@ -30,7 +30,7 @@ LintsAs (kinds.Trace platform) xlen file first second out done = LintsTrace file
 
 -- what a task comes to: what its command does not use stays as it was
 abbrev pub Performs : {R C W : Type 0} → Task → Reading R → Reading R → Placing C → Writing W → Result ℕ Trouble → Type 0
-Performs (tasks.Run platform trace measure expect) first second cert out done = RunsAs expect platform trace measure first second out done × IsUnwritten cert.sink
+Performs (tasks.Run platform trace measure answers) first second cert out done = Runs answers platform trace measure first second out done × IsUnwritten cert.sink
 Performs (tasks.Plan map file limit at_most format name begin xlen) first second cert out done = Plans map file xlen limit at_most format (option_map (λ s. s.now) name) begin first cert out done × IsUnread second
 Performs (tasks.Judge file trace limit registers answers xlen) first second cert out done = JudgesAs registers answers file trace xlen limit first second out done × IsUnwritten cert.sink
 Performs (tasks.Check map file) first second cert out done = Checks map file first second out done × IsUnwritten cert.sink

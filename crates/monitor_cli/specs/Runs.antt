@@ -1,11 +1,11 @@
 -- What `run` comes to, on the files and streams that are lent for it: a rule for each way in which it ends.
-use Rattle.std.specs.Prelude.{◌≡◌, ℕ, ◌^◌, ◌≤◌, Bool, true, false, List, Option, Result, Ok, Err}
+use Rattle.std.specs.Prelude.{◌≡◌, ℕ, ◌^◌, ◌≤◌, Bool, true, false, List, Option, Some, Result, Ok, Err}
 use Rattle.std.specs.Borrow.{Bor}
 use Rattle.std.specs.Io.KnownBytes.{Appends}
 use Rattle.byte_streams.specs.Streams.{WriteFails}
 use Rattle.byte_streams.specs.Writings.{IsUnwritten, IsWell, TakesPart, Writing}
 use Rattle.text_lines.specs.declared.fault.RunFault.{RunFault}
-use Rattle.text_lines.specs.LineLoop.{CountsReads, CountsWrites, DoesAll}
+use Rattle.text_lines.specs.LineLoop.{CountsReads, CountsWrites, DoesAll, Meaning}
 use Rattle.enclave_table.specs.Boot.{IsBootFault}
 use Rattle.enclave_table.specs.Platform.{Layout}
 use Rattle.enclave_table.specs.declared.boot.BootFault.{BootFault}
@@ -13,10 +13,16 @@ use Rattle.hart_sim.specs.declared.machine.Machine.{Machine}
 use Rattle.hart_sim.specs.After.{IsBooted}
 use Rattle.hart_sim.specs.Machines.{kept_of}
 use Rattle.hart_sim.specs.Reports.{DoesLine, RefusesLine, StarvesLine}
+use Rattle.expected_answers.specs.Comparisons.{ComparesAll}
+use Rattle.explained_answers.specs.Explained.{explaining}
+use Rattle.explained_runs.specs.Comments.{on_event}
+use Rattle.program_tasks.specs.declared.task.Answers.{Answers}
+use Rattle.program_tasks.specs.declared.task.Answers.TheVariants as answers
 use Rattle.program_troubles.specs.declared.trouble.Trouble.{Trouble}
 use Rattle.program_troubles.specs.declared.trouble.Trouble.TheVariants.{NotAPlatform, Output, Memory}
 use Rattle.program_troubles.specs.Troubles.{boot_trouble, run_trouble}
 use Rattle.map_commands.specs.Inputs.{HasBytes, HasNoBytes, IsUnread, Reading}
+use Rattle.map_commands.specs.Expected.{IsTold}
 use Rattle.map_commands.specs.Parts.{Stops}
 use Rattle.monitor_cli.specs.Tasks.{AreMeasures}
 use Rattle.platform_file.specs.Document.{IsPlatformFile}
@@ -38,27 +44,53 @@ abbrev pub IsMeasured : Bool → Machine → Option (List ℕ) → Option (List 
 IsMeasured false machine before after = after ≡ before
 IsMeasured true machine before after = (text : List ℕ) × AreMeasures (kept_of machine).table 64 text × Appends before after text
 
--- `run`: the platform is read and booted, the trace happens to its machine line by line, and the measurements come last
-pub data Runs {R W : Type 0} (file trace : Bor (List ℕ)) (measure : Bool) (first second : Reading R) (out : Writing W) : Result ℕ Trouble → Type 0 where
+-- a trace happens to a machine line by line, to its end or until it stops, and the measurements come last
+pub data RunsTrace {R W : Type 0} (does : Meaning Machine) (booted : Machine) (trace : Bor (List ℕ)) (measure : Bool) (second : Reading R) (out : Writing W) : Result ℕ Trouble → Type 0 where
+  to_its_end :
+      (ended : Machine) (report : Option (List ℕ)) → DoesAll does booted ended second.before second.after out.before report → IsMeasured measure ended report out.after
+      → second.failed ≡ second.failures → IsWell out → RunsTrace does booted trace measure second out (Ok 0)
+  until :
+      (ended : Machine) (fault : RunFault) → Stops does RefusesLine StarvesLine booted ended second.before second.after out.before out.after fault
+      → CountsReads (Err fault) second.failures second.failed → CountsWrites (Err fault) out.failures out.failed out.stalls out.stalled
+      → RunsTrace does booted trace measure second out (Err (run_trouble trace fault))
+  not_measured :
+      (ended : Machine) (report : Option (List ℕ)) (n : ℕ) (text : List ℕ) → measure ≡ true
+      → DoesAll does booted ended second.before second.after out.before report → n ≤ 64 → AreMeasures (kept_of ended).table n text → TakesPart text report out.after
+      → second.failed ≡ second.failures → WriteFails out.failures out.failed out.stalls out.stalled → RunsTrace does booted trace measure second out (Err Output)
+
+-- a trace happens so and its answers are compared with those that its comments say: where one differs, the first that does is told behind
+-- the report and the measurements, and the status is 1
+pub data RunsExpecting {R W : Type 0} (does : Meaning Machine) (booted : Machine) (trace : Bor (List ℕ)) (measure : Bool) (second : Reading R) (out : Writing W) : Result ℕ Trouble → Type 0 where
+  compared :
+      (ended : Machine) (report measured difference : Option (List ℕ)) (status : ℕ) → ComparesAll does booted ended second.before second.after out.before report difference
+      → IsMeasured measure ended report measured → IsTold difference measured out.after status → second.failed ≡ second.failures → IsWell out
+      → RunsExpecting does booted trace measure second out (Ok status)
+  unfinished :
+      (ended : Machine) (fault : RunFault) → Stops does RefusesLine StarvesLine booted ended second.before second.after out.before out.after fault
+      → CountsReads (Err fault) second.failures second.failed → CountsWrites (Err fault) out.failures out.failed out.stalls out.stalled
+      → RunsExpecting does booted trace measure second out (Err (run_trouble trace fault))
+  unmeasured :
+      (ended : Machine) (report difference : Option (List ℕ)) (n : ℕ) (text : List ℕ) → measure ≡ true
+      → ComparesAll does booted ended second.before second.after out.before report difference → n ≤ 64 → AreMeasures (kept_of ended).table n text → TakesPart text report out.after
+      → second.failed ≡ second.failures → WriteFails out.failures out.failed out.stalls out.stalled → RunsExpecting does booted trace measure second out (Err Output)
+  not_told :
+      (ended : Machine) (report measured : Option (List ℕ)) (text : List ℕ) → ComparesAll does booted ended second.before second.after out.before report (Some text)
+      → IsMeasured measure ended report measured → TakesPart text measured out.after → second.failed ≡ second.failures → WriteFails out.failures out.failed out.stalls out.stalled
+      → RunsExpecting does booted trace measure second out (Err Output)
+
+-- a trace happens to a machine; with `--explain` a comment behind each answer says what happened, and with `--expect` the answers are
+-- compared
+abbrev pub RunsTraceAs : {R W : Type 0} → Answers → Machine → Bor (List ℕ) → Bool → Reading R → Writing W → Result ℕ Trouble → Type 0
+RunsTraceAs answers.Plain booted trace measure second out done = RunsTrace DoesLine booted trace measure second out done
+RunsTraceAs answers.Explained booted trace measure second out done = RunsTrace (explaining DoesLine on_event) booted trace measure second out done
+RunsTraceAs answers.Compared booted trace measure second out done = RunsExpecting DoesLine booted trace measure second out done
+
+-- `run`: the platform is read and booted, and then the trace happens to its machine
+pub data Runs {R W : Type 0} (answers : Answers) (file trace : Bor (List ℕ)) (measure : Bool) (first second : Reading R) (out : Writing W) : Result ℕ Trouble → Type 0 where
   ran :
-      (platform : Layout) (booted ended : Machine) (report : Option (List ℕ)) → HasPlatform first platform → IsBooted platform booted
-      → DoesAll DoesLine booted ended second.before second.after out.before report → IsMeasured measure ended report out.after → second.failed ≡ second.failures → IsWell out
-      → Runs file trace measure first second out (Ok 0)
-  no_platform : (trouble : Trouble) → HasNoPlatform file first trouble → IsUnread second → IsUnwritten out → Runs file trace measure first second out (Err trouble)
+      (platform : Layout) (booted : Machine) (result : Result ℕ Trouble) → HasPlatform first platform → IsBooted platform booted → RunsTraceAs answers booted trace measure second out result
+      → Runs answers file trace measure first second out result
+  no_platform : (trouble : Trouble) → HasNoPlatform file first trouble → IsUnread second → IsUnwritten out → Runs answers file trace measure first second out (Err trouble)
   not_booted :
       (platform : Layout) (fault : BootFault) → HasPlatform first platform → IsBootFault platform fault → IsUnread second → IsUnwritten out
-      → Runs file trace measure first second out (Err (boot_trouble fault))
-  stopped :
-      (platform : Layout) (booted ended : Machine) (fault : RunFault) → HasPlatform first platform → IsBooted platform booted
-      → Stops DoesLine RefusesLine StarvesLine booted ended second.before second.after out.before out.after fault
-      → CountsReads (Err fault) second.failures second.failed → CountsWrites (Err fault) out.failures out.failed out.stalls out.stalled
-      → Runs file trace measure first second out (Err (run_trouble trace fault))
-  not_measured :
-      (platform : Layout) (booted ended : Machine) (report : Option (List ℕ)) (n : ℕ) (text : List ℕ) → measure ≡ true → HasPlatform first platform → IsBooted platform booted
-      → DoesAll DoesLine booted ended second.before second.after out.before report → n ≤ 64 → AreMeasures (kept_of ended).table n text → TakesPart text report out.after
-      → second.failed ≡ second.failures → WriteFails out.failures out.failed out.stalls out.stalled → Runs file trace measure first second out (Err Output)
-
--- what `run` comes to on a machine, whichever file it was booted from
-abbrev pub RunsOn : {R W : Type 0} → Machine → Bor (List ℕ) → Bool → Reading R → Writing W → Result ℕ Trouble → Type 0
-RunsOn booted trace measure second out done =
-    (file : Bor (List ℕ)) (first : Reading _) (platform : Layout) → HasPlatform first platform → IsBooted platform booted → Runs file trace measure first second out done
+      → Runs answers file trace measure first second out (Err (boot_trouble fault))

@@ -1,8 +1,8 @@
 //! The parts of `run`: the platform, the machine that boots on it, and the measurements after its report.
 
-ghost use Rattle.std.specs.Prelude.{◌≡◌, ◌-◌, ◌^◌, ◌<◌, ◌≤◌, ◌++◌, ◌⊎◌, ℕ, List, Err, IfErr, IfOk, IfSome, None};
+ghost use Rattle.std.specs.Prelude.{◌≡◌, ◌-◌, ◌^◌, ◌<◌, ◌≤◌, ◌++◌, ◌⊎◌, ℕ, List, Err, IfErr, IfOk, IfSome, None, true};
 ghost use Rattle.byteorder.specs.Endian.{little_bytes};
-ghost use Rattle.byte_streams.specs.Writings.{writing, Breaks, PrintsOne, TakesAll};
+ghost use Rattle.byte_streams.specs.Writings.{writing, Breaks, IsWell, PrintsOne, TakesAll};
 ghost use Rattle.enclave_table.specs.Boot.{IsBootFault};
 ghost use Rattle.enclave_table.specs.declared.boot.BootFault.{BootFault};
 ghost use Rattle.enclave_table.specs.declared.enclave.Enclave.{Enclave};
@@ -10,10 +10,10 @@ ghost use Rattle.enclave_table.specs.Digests.{AnswersWord};
 ghost use Rattle.enclave_table.specs.Enclaves.{Live};
 ghost use Rattle.enclave_table.specs.Platform.{Layout};
 ghost use Rattle.hart_sim.specs.After.{IsBooted};
-ghost use Rattle.hart_sim.specs.Machines.{KeepsBanksRight};
+ghost use Rattle.hart_sim.specs.Machines.{kept_of, KeepsBanksRight};
 ghost use Rattle.program_troubles.specs.Troubles.{boot_trouble};
 ghost use Rattle.map_commands.specs.Inputs.{reading};
-ghost use Rattle.monitor_cli.specs.Runs.{HasNoPlatform, HasPlatform};
+ghost use Rattle.monitor_cli.specs.Runs.{HasNoPlatform, HasPlatform, IsMeasured};
 ghost use Rattle.monitor_cli.specs.Tasks.{AreMeasures, IsDigest, IsMeasureText};
 ghost use Rattle.platform_file.specs.Document.{IsPlatformFile};
 
@@ -143,4 +143,28 @@ pub fn print_measures<W: Sink>(table: &Table, out: &mut W) -> Result<(), DeviceF
         print_measure(table, i + 1, out)?;
     }
     Ok(())
+}
+
+/// Prints the measurements of a machine's enclaves where they are asked for.
+pub fn measure_where<W: Sink>(
+    machine: &Machine,
+    measure: bool,
+    out: &mut W,
+) -> Result<(), DeviceFault>
+    ensures measured { IfOk result (λ _. IsMeasured measure machine.now (W.contents out.old)
+        (W.contents out.new)) }
+    ensures well { IfOk result (λ _. IsWell
+        (writing W.contents W.failures W.stalls out.old out.new)) }
+    ensures asked { IfErr result (λ _. measure ≡ true) }
+    ensures broken { IfErr result (λ _. (n : ℕ) × (n ≤ 64) × (text : List ℕ)
+        × AreMeasures (kept_of machine.now).table n text
+        × Breaks text (writing W.contents W.failures W.stalls out.old out.new)) }
+{
+    if !measure {
+        return Ok(());
+    }
+    match print_measures(machine.table(), out) {
+        Ok(()) => Ok(()),
+        Err(DeviceFault) => Err(DeviceFault),
+    }
 }

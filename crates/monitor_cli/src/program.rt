@@ -74,9 +74,9 @@ fn run_task<'a, R: Source, C: WholeSink, W: Sink>(
             platform,
             trace,
             measure,
-            expect,
+            answers,
         } => do_run_as(
-            alloc, *expect, *platform, *trace, *measure, first, second, out,
+            alloc, *answers, *platform, *trace, *measure, first, second, out,
         ),
         Task::Plan {
             map,

@@ -109,7 +109,7 @@ IsFirst value flag (demand ∷ demands) fault = Breaks value flag demand fault �
 
 -- what each subcommand asks, in the order in which it is looked at
 abbrev pub demands_of : Subcommand → List Demand
-demands_of subcommands.Run = has (codes "PLATFORM") ∷ has (codes "TRACE") ∷ []
+demands_of subcommands.Run = has (codes "PLATFORM") ∷ has (codes "TRACE") ∷ one_answer ∷ []
 demands_of subcommands.Plan =
     has (codes "MAP") ∷ keeps_map ∷ has (codes "entries") ∷ names_limit ∷ counts ∷ has (codes "format") ∷ names_format ∷ has (codes "xlen") ∷ names_width ∷ identifies ∷ begins_inside ∷ []
 demands_of subcommands.Judge = has (codes "MAP") ∷ has (codes "TRACE") ∷ has (codes "entries") ∷ names_limit ∷ reads_once (codes "TRACE") ∷ has (codes "xlen") ∷ names_width ∷ one_answer ∷ []

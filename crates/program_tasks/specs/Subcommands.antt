@@ -26,7 +26,7 @@ usage_words subcommand = codes "pmpmon " ++ subcommand_word subcommand
 
 -- the subcommand that a task is
 abbrev pub subcommand_of : Task → Subcommand
-subcommand_of (Run platform trace measure expect) = subcommands.Run
+subcommand_of (Run platform trace measure answers) = subcommands.Run
 subcommand_of (Plan map cert limit at_most format name first xlen) = subcommands.Plan
 subcommand_of (Judge map trace limit registers answers xlen) = subcommands.Judge
 subcommand_of (Check map cert) = subcommands.Check

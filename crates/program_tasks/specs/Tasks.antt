@@ -89,11 +89,11 @@ is_identifier (first ∷ rest) = is_letter first && list_all is_letter_or_digit 
 
 -- the task has these values: of its arguments and of its flags, by their names
 abbrev pub HasValues : (Text → Option Text) → (Text → Option Text) → Task → Type 0
-HasValues value flag (Run platform trace measure expect) =
+HasValues value flag (Run platform trace measure answers) =
     (value (codes "PLATFORM") ≡ Some platform.now)
     × (value (codes "TRACE") ≡ Some trace.now)
     × IsFlag (flag (codes "measure")) measure
-    × IsFlag (flag (codes "expect")) expect
+    × HasAnswers flag answers
 HasValues value flag (Plan map cert limit at_most format name first xlen) =
     (value (codes "MAP") ≡ Some map.now)
     × (value (codes "CERT") ≡ option_map (λ s. s.now) cert)

@@ -32,7 +32,7 @@ pub enum TableFormat {
 pub enum Answers {
     /// The answers alone.
     Plain,
-    /// The answers, and behind each what decided it.
+    /// The answers, and behind each what decided it or what happened.
     Explained,
     /// The answers, compared with those that the comments of the trace say.
     Compared,
@@ -63,8 +63,8 @@ pub enum Task<'a> {
         trace: &'a str,
         /// Whether the measurement of each live enclave is printed after the report.
         measure: bool,
-        /// Whether the answers are compared with those that the comments of the trace say.
-        expect: bool,
+        /// What is written of the answers.
+        answers: Answers,
     },
     /// Plan a map, and write the certificate where a file for it is named.
     Plan {

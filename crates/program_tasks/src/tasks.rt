@@ -35,12 +35,12 @@ fn run_in<'a, V: Values<'a>>(given: &V) -> Result<Task<'a>, Fault<'a>>
     let platform = value_in(given, "PLATFORM")?;
     let trace = value_in(given, "TRACE")?;
     let measure = given.is_given("measure");
-    let expect = given.is_given("expect");
+    let answers = answers_in(given)?;
     Ok(Task::Run {
         platform,
         trace,
         measure,
-        expect,
+        answers,
     })
 }
 

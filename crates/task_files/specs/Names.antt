@@ -14,7 +14,7 @@ renamed_kind name (kinds.Trace platform) = kinds.Trace (option_map (λ s. name) 
 
 -- a task with this name in place of each name of a file
 abbrev pub renamed : Bor (List ℕ) → Task → Task
-renamed name (tasks.Run platform trace measure expect) = tasks.Run name name measure expect
+renamed name (tasks.Run platform trace measure answers) = tasks.Run name name measure answers
 renamed name (tasks.Plan map cert limit at_most format prefix begin xlen) = tasks.Plan name (option_map (λ s. name) cert) limit at_most format prefix begin xlen
 renamed name (tasks.Judge map trace limit registers answers xlen) = tasks.Judge name name limit registers answers xlen
 renamed name (tasks.Check map cert) = tasks.Check name name
@@ -30,7 +30,7 @@ name_or_none (Some name) = name.now
 
 -- the names of what a task reads first and after that, and of the certificate that it writes
 abbrev pub names_in : Task → List (List ℕ)
-names_in (tasks.Run platform trace measure expect) = platform.now ∷ trace.now ∷ [] ∷ []
+names_in (tasks.Run platform trace measure answers) = platform.now ∷ trace.now ∷ [] ∷ []
 names_in (tasks.Plan map cert limit at_most format prefix begin xlen) = map.now ∷ [] ∷ name_or_none cert ∷ []
 names_in (tasks.Judge map trace limit registers answers xlen) = map.now ∷ trace.now ∷ [] ∷ []
 names_in (tasks.Check map cert) = map.now ∷ cert.now ∷ [] ∷ []

@@ -27,7 +27,7 @@ IsAt None input = (name : Bor (List ℕ)) × (name.now ≡ []) × IsOfFile name 
 
 -- what a task reads first
 abbrev pub first_of : Task → Place
-first_of (tasks.Run platform trace measure expect) = place_of platform
+first_of (tasks.Run platform trace measure answers) = place_of platform
 first_of (tasks.Plan map cert limit at_most format name begin xlen) = place_of map
 first_of (tasks.Judge map trace limit registers answers xlen) = place_of map
 first_of (tasks.Check map cert) = place_of map
@@ -38,7 +38,7 @@ first_of (tasks.Show map limit at_most registers xlen format costs) = place_of m
 
 -- what it reads after that
 abbrev pub second_of : Task → Option Place
-second_of (tasks.Run platform trace measure expect) = Some (place_of trace)
+second_of (tasks.Run platform trace measure answers) = Some (place_of trace)
 second_of (tasks.Judge map trace limit registers answers xlen) = Some (place_of trace)
 second_of (tasks.Check map cert) = Some (place_of cert)
 second_of (tasks.Audit map registers all xlen) = Some (place_of registers)

@@ -1,4 +1,4 @@
-//! `judge --explain` on files in memory.
+//! `judge --explain` and `run --explain` on files in memory.
 
 use super::runs::prints;
 
@@ -71,4 +71,30 @@ fn the_entry_of_registers_that_decided(rt: HostRuntime) {
     for (trace, out) in rows {
         prints(&rt, rt.alloc(), &BY_REGISTERS, REGISTERS, trace, out);
     }
+}
+
+const PLATFORM: &[u8] =
+    b"[monitor]\nbase = 0x80000000\nsize = 0x200000\n[[ram]]\nbase = 0x80000000\nsize = 0x8000000\n[[device]]\nbase = 0x10000000\nsize = 0x1000\nperm = \"rw\"\n";
+
+const TWO_HARTS: &[u8] =
+    b"harts = 2\n[monitor]\nbase = 0x80000000\nsize = 0x200000\n[[ram]]\nbase = 0x80000000\nsize = 0x8000000\n[[device]]\nbase = 0x10000000\nsize = 0x1000\nperm = \"rw\"\n";
+
+const RUN: [&str; 5] = ["pmpmon", "run", "p.toml", "t.txt", "--explain"];
+
+#[test]
+fn the_life_of_an_enclave_is_told(rt: HostRuntime) {
+    let trace: &[u8] =
+        b"store s 8 0x80200000 0x1122334455667788\necall 0x08454E43 0 0x80200000 1 0 0 0 0\nload s 8 0x80200000\necall 0x08454E43 2 1\necall 0x08454E43 2 1\nload u 8 0x80200000\nirq\necall 0x08454E43 4 1\necall 0x08454E43 5 7\necall 0x08454E43 4 1\necall 0x08454E43 1 1\necall 0x08454E43 1 1\nload s 8 0x80200000\n";
+    let report =
+        "1 ok # hart 0, host: store 0x80200000: entry 2: 0x80000000-0x87ffffff rwx\n2 call 0 0x0000000000000001 0 4 # hart 0, host: create 0x80200000, 1 page: id 1\n3 fault 5 # hart 0, host: load 0x80200000: entry 1: 0x80200000-0x80200fff ---\n4 call 0 0x0000000000000000 1 1 # hart 0, host: run 1\n5 call -101 0x0000000000000000 1 1 # hart 0, enclave 1: run 1: refused, not the host\n6 ok 0x1122334455667788 # hart 0, enclave 1: load 0x80200000: entry 0: 0x80200000-0x80200fff r-x\n7 irq 0 4 # hart 0, enclave 1: interrupt: stopped\n8 call 0 0x0000000000000000 1 1 # hart 0, host: resume 1\n9 call 0 0x0000000000000007 0 4 # hart 0, enclave 1: exit 0x7\n10 call -111 0x0000000000000000 0 4 # hart 0, host: resume 1: refused, it is not stopped\n11 call 0 0x0000000000000000 0 3 # hart 0, host: destroy 1\n12 call -110 0x0000000000000000 0 3 # hart 0, host: destroy 1: refused, no such enclave\n13 ok 0x0000000000000000 # hart 0, host: load 0x80200000: entry 2: 0x80000000-0x87ffffff rwx\n";
+    prints(&rt, rt.alloc(), &RUN, PLATFORM, trace, report);
+}
+
+#[test]
+fn events_of_two_harts_are_told(rt: HostRuntime) {
+    let trace: &[u8] =
+        b"ecall 0x08454E43 0 0x80200000 1 0 0 0 0\n@1 load s 8 0x80200000\nreg x10 5\nreg x0 5\nirq\necall 0x10 0\n@1 ecall 0x08454E43 3\n@1 ecall 0x08454E43 0 0x80200000 1 2 0 0 0\necall 0x08454E43 6 1 4\necall 0x08454E43 2 1\n@1 ecall 0x08454E43 1 1\nstore s 8 0x80200001 0\nfetch u 2 0x80200000\necall 0x08454E43 3\necall 0x08454E43 2 1\necall 0x08454E43 0 0xffffffffffffffff 0xffffffffffffffff 5 0 0 0\n";
+    let report =
+        "1 call 0 0x0000000000000001 0 4 # hart 0, host: create 0x80200000, 1 page: id 1\n2 fault 5 # hart 1, host: load 0x80200000: entry 1: 0x80200000-0x80200fff ---\n3 ok # hart 0, host: x10 = 0x5\n4 ok # hart 0, host: x0 stays 0\n5 irq 0 4 # hart 0, host: interrupt\n6 call -2 0x0000000000000000 0 4 # hart 0, host: call: not supported\n7 call -101 0x0000000000000000 0 4 # hart 1, host: stop: refused, not an enclave\n8 call -106 0x0000000000000000 0 4 # hart 1, host: create 0x80200000, 3 pages: refused, a page not the host's or twice\n9 call -112 0x0000000000000000 0 4 # hart 0, host: measure 1, word 4: refused, a digest has words 0 to 3\n10 call 0 0x0000000000000000 1 1 # hart 0, host: run 1\n11 call -111 0x0000000000000000 0 4 # hart 1, host: destroy 1: refused, it runs\n12 fault 6 # hart 0, enclave 1: store 0x80200001: misaligned, no entry is asked\n13 ok # hart 0, enclave 1: fetch 0x80200000: entry 0: 0x80200000-0x80200fff r-x\n14 call 0 0x0000000000000000 0 4 # hart 0, enclave 1: stop\n15 call -111 0x0000000000000000 0 4 # hart 0, host: run 1: refused, it was run before\n16 call -102 0x0000000000000000 0 4 # hart 0, host: create 0xffffffffffffffff, 18446744073709551615 pages: refused, no text or \n";
+    prints(&rt, rt.alloc(), &RUN, TWO_HARTS, trace, report);
 }

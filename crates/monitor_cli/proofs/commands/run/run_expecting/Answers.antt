@@ -1,16 +1,16 @@
 use Rattle.std.proofs.Common.{◌∙◌, Err, ap}
 use Rattle.hart_sim.specs.Reports.{DoesLine, RefusesLine, StarvesLine}
-use Rattle.monitor_cli.specs.ExpectedRuns.{compared, not_measured, not_told, stopped}
+use Rattle.monitor_cli.specs.Runs.{compared, not_told, unfinished, unmeasured}
 use Rattle.map_commands.proofs.Ends.{stops}
-use Rattle.monitor_cli.proofs.commands.expected_run.compare_on.Goals as goal
+use Rattle.monitor_cli.proofs.commands.run.run_expecting.Goals as goal
 
 pub returns-in-Err : goal.returns-in-Err
 returns-in-Err g c =
     let kept = c.requires.kept in
     let e = c.compare_lines-lines.ensures in
     let ended = c.in-Err.is in
-    λ file first platform has is. rw c.of_run.ensures
-    (stopped platform c.args.machine _ c.in-Err.fault has is
+    rw c.of_run.ensures
+    (unfinished _ c.in-Err.fault
     (stops DoesLine RefusesLine StarvesLine _ _ _ _ _ _ c.in-Err.fault
     (λ n is. e.line kept n (ended ∙ ap (λ f. Err f) is)) (λ is. e.too_long kept (ended ∙ ap (λ f. Err f) is)) (λ is. e.read kept (ended ∙ ap (λ f. Err f) is)) (λ is. e.write kept (ended ∙ ap (λ f. Err f) is))
     (λ is. e.memory kept (ended ∙ ap (λ f. Err f) is)))
@@ -23,7 +23,7 @@ returns-in-Err-measure_where g c =
     let w = c.in-Err-measure_where.ensures in
     let b = w.broken in
     let writes = rw ended at e.writes in
-    λ file first platform has is. not_measured platform c.args.machine _ _ _ b.0 b.2 w.asked has is (rw ended at e.all c.requires.kept) b.1 b.3 b.4.part (rw ended at e.reads) (rw (writes.0, writes.1) at b.4.fails)
+    unmeasured _ _ _ b.0 b.2 w.asked (rw ended at e.all c.requires.kept) b.1 b.3 b.4.part (rw ended at e.reads) (rw (writes.0, writes.1) at b.4.fails)
 
 pub returns-in-Ok-tell_first : goal.returns-in-Ok-tell_first
 returns-in-Ok-tell_first g c =
@@ -32,7 +32,7 @@ returns-in-Ok-tell_first g c =
     let before = rw ended at e.writes in
     let m = c.in-Ok-measure_where.ensures in
     let w = c.in-Ok-tell_first.ensures in
-    λ file first platform has is. compared platform c.args.machine _ _ _ _ _ has is (rw ended at e.all c.requires.kept) m.measured w.told (rw ended at e.reads) (w.well.0 ∙ m.well.0 ∙ before.0, w.well.1 ∙ m.well.1 ∙ before.1)
+    compared _ _ _ _ _ (rw ended at e.all c.requires.kept) m.measured w.told (rw ended at e.reads) (w.well.0 ∙ m.well.0 ∙ before.0, w.well.1 ∙ m.well.1 ∙ before.1)
 
 pub returns : goal.returns
 returns g c =
@@ -41,4 +41,4 @@ returns g c =
     let before = rw ended at e.writes in
     let m = c.in-Ok-measure_where.ensures in
     let b = c.in-Err-tell_first.ensures.broken in
-    λ file first platform has is. not_told platform c.args.machine _ _ _ b.0 has is (rw (ended, b.1) at e.all c.requires.kept) m.measured b.2.part (rw ended at e.reads) (rw (m.well.0 ∙ before.0, m.well.1 ∙ before.1) at b.2.fails)
+    not_told _ _ _ b.0 (rw (ended, b.1) at e.all c.requires.kept) m.measured b.2.part (rw ended at e.reads) (rw (m.well.0 ∙ before.0, m.well.1 ∙ before.1) at b.2.fails)

@@ -1,8 +1,8 @@
 use Rattle.std.proofs.Common.{refl}
 use Rattle.std.proofs.lemmas.Result.{err_from_is_err_and}
-use Rattle.monitor_cli.specs.Runs.{not_booted}
+use Rattle.monitor_cli.specs.Runs.{not_booted, ran}
 use Rattle.monitor_cli.specs.Runs as commands
-use Rattle.monitor_cli.proofs.commands.run.do_run.Goals as goal
+use Rattle.monitor_cli.proofs.commands.run.do_run_as.Goals as goal
 
 pub returns-in_err-platform : goal.returns-in_err-platform
 returns-in_err-platform g c =
@@ -16,4 +16,4 @@ returns-in_err-machine g c =
     rw (p.1, p.2, fault.2) (not_booted _ fault.0 c.in_ok-platform.ensures.made fault.1 refl refl)
 
 pub returns : goal.returns
-returns g c = c.run_on.ensures _ _ _ c.in_ok-platform.ensures.made c.in_ok-machine.ensures.booted
+returns g c = ran _ _ _ c.in_ok-platform.ensures.made c.in_ok-machine.ensures.booted c.run_on.ensures
