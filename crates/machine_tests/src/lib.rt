@@ -19,3 +19,5 @@ mod runs;
 mod served;
 #[cfg(test)]
 mod switches;
+#[cfg(test)]
+mod tallies;
