@@ -1,5 +1,5 @@
 use Rattle.std.proofs.Common.{option_map, refl}
-use Rattle.monitor_cli.specs.declared.hints.Form.TheVariants.{Listing}
+use Rattle.monitor_cli.specs.declared.forms.Form.TheVariants.{Listing}
 use Rattle.map_commands.specs.Inputs.{IsUnread, reading}
 use Rattle.monitor_cli.specs.Hints.{HasHints}
 use Rattle.monitor_cli.proofs.HintTexts.{and_unread}
