@@ -1,28 +1,53 @@
 //! Summaries of traces that happened to a machine.
 
+ghost use Rattle.std.specs.Prelude.{◌≡◌, true};
+ghost use Rattle.hart_sim.specs.Steps.{IsEvent};
+
 use crate::machines::example_machine;
 use byte_streams::fakes::PieceSink;
-use hart_sim::{Machine, parse_line};
+use hart_sim::{Event, Machine, parse_line};
+use pmp_match::Mode;
 use run_tallies::{Tally, deed_of, print_summary};
 use std::process::Abort;
 
+/// Whether an event may happen on a hart.
+fn may_happen(event: &Event) -> bool
+    ensures { result ≡ true → IsEvent event.now }
+{
+    match event {
+        Event::Access(access, _) => match access.mode {
+            Mode::Machine => false,
+            Mode::Supervisor | Mode::User => true,
+        },
+        Event::Reg(register, _) => *register < 32,
+        Event::Ecall(_) | Event::Irq => true,
+    }
+}
+
+/// What a line says happens to a machine, and is counted.
+fn count_line(rt: &impl Abort, tally: &mut Tally, machine: &mut Machine, line: &[u8]) {
+    let Ok(Some((hart, event))) = parse_line(line, machine.harts()) else {
+        return;
+    };
+    assert!(rt; hart < machine.harts());
+    assert!(rt; may_happen(&event));
+    let deed = deed_of(machine, hart, &event);
+    let reply = machine.step(hart, event);
+    tally.add(deed, &reply);
+}
+
 /// What happens to a machine line by line, counted.
-fn tally_of(machine: &mut Machine, trace: &[u8]) -> Tally {
+fn tally_of(rt: &impl Abort, machine: &mut Machine, trace: &[u8]) -> Tally {
     let mut tally = Tally::new();
     for line in trace.split(|byte| *byte == b'\n') {
-        let Ok(Some((hart, event))) = parse_line(line, machine.harts()) else {
-            continue;
-        };
-        let deed = deed_of(machine, hart, &event);
-        let reply = machine.step(hart, event);
-        tally.add(deed, &reply);
+        count_line(rt, &mut tally, machine, line);
     }
     tally
 }
 
 /// A trace that happens to a machine has this summary.
 fn sums_up(rt: &impl Abort, machine: &mut Machine, trace: &[u8], summary: &[u8]) {
-    let tally = tally_of(machine, trace);
+    let tally = tally_of(rt, machine, trace);
     let mut sink = PieceSink::new(100, None);
     assert!(rt; print_summary(&tally, machine, &mut sink) == Ok(()));
     assert!(rt; sink.written() == summary);
