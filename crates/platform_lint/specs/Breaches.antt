@@ -6,13 +6,16 @@ use Rattle.enclave_table.specs.Platform.{platform_rules}
 use Rattle.enclave_table.specs.Ranges.{IsRange}
 use Rattle.enclave_table.specs.Refusals.{FailsFirst}
 use Rattle.enclave_table.specs.declared.platform.PlatformFault.{PlatformFault}
-use Rattle.enclave_table.specs.declared.platform.PlatformFault.TheVariants.{BadHarts, BadEntries}
+use Rattle.enclave_table.specs.declared.platform.PlatformFault.TheVariants.{BadHarts, BadEntries, Overlap}
 use Rattle.platform_file.specs.Document.{is_known, has_only, known, number, number_or, perm_of, range_in, monitor_at, ram_at, devices_at}
 use Rattle.platform_lint.specs.declared.breach.Key.{Key}
 use Rattle.platform_lint.specs.declared.breach.Key.TheVariants as keys
 use Rattle.platform_lint.specs.declared.breach.Place.{Place}
 use Rattle.platform_lint.specs.declared.breach.Place.TheVariants.{File, Monitor, Ram, Device}
+use Rattle.platform_lint.specs.declared.breach.PlacedRange.{PlacedRange}
 use Rattle.platform_lint.specs.declared.breach.Breach.{Breach}
+use Rattle.platform_lint.specs.declared.breach.Breach.TheVariants as breaches
+use Rattle.platform_lint.specs.Overlaps.{IsOverlap, placed_ranges}
 use Rattle.platform_lint.specs.declared.breach.Breach.TheVariants.{Unknown, Missing, NoNumber, NoPages, NoPerm, NoTable, NoTables, Rule}
 
 -- a key as it is written
@@ -78,10 +81,18 @@ pub record HasForm (document : Members) : Type 0 where
   pub harts_are : number_or 1 (codes "harts") document ≡ Some harts
   pub entries_are : number_or 16 (codes "entries") document ≡ Some entries
 
--- a document breaks this: what stands at a place does, a value is no array, or a rule is broken
+-- a broken rule as what a document breaks: of two ranges that have a page in common, both
+abbrev pub IsBroken : PlatformFault → List (ℕ × ℕ) → List (ℕ × ℕ × Perm) → Breach → Type 0
+IsBroken fault ram devices (Rule told) = (told ≡ fault) × (fault ≢ Overlap)
+IsBroken fault ram devices (breaches.Overlap one other) = (fault ≡ Overlap) × IsOverlap (placed_ranges ram devices) one other
+IsBroken fault ram devices _ = ⊥
+
+-- a document breaks this: what stands at a place does, a value is no array, two ranges have a page in common, or another rule is broken
 pub data IsBreach (document : Members) : Breach → Type 0 where
   at_place : (place : Place) (value : Data) (breach : Breach) → value_of document place ≡ Some value → BreaksAt value place breach → IsBreach document breach
   missing : (key : Key) → get_member (key_name key) document ≡ None → IsBreach document (Missing File key)
   no_number : (key : Key) (value : Data) → get_member (key_name key) document ≡ Some value → number value ≡ None → IsBreach document (NoNumber File key)
   no_array : (key : Key) (value : Data) → get_member (key_name key) document ≡ Some value → as_array value ≡ None → IsBreach document (NoTables key)
-  rule : (form : HasForm document) (fault : PlatformFault) → BreaksRule form.monitor form.ram form.devices form.harts form.entries fault → IsBreach document (Rule fault)
+  rule :
+      (form : HasForm document) (fault : PlatformFault) (breach : Breach) → BreaksRule form.monitor form.ram form.devices form.harts form.entries fault → IsBroken fault form.ram form.devices breach
+      → IsBreach document breach

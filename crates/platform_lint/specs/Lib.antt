@@ -1,3 +1,4 @@
 pub mod Breaches
 pub mod Lints
+pub mod Overlaps
 pub mod Texts

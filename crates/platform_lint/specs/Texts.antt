@@ -7,6 +7,9 @@ use Rattle.platform_lint.specs.declared.breach.Place.{Place}
 use Rattle.platform_lint.specs.declared.breach.Place.TheVariants.{File, Monitor, Ram, Device}
 use Rattle.platform_lint.specs.declared.breach.Breach.{Breach}
 use Rattle.platform_lint.specs.declared.breach.Breach.TheVariants.{Unknown, Missing, NoNumber, NoPages, NoPerm, NoTable, NoTables, Rule}
+use Rattle.platform_lint.specs.declared.breach.Breach.TheVariants as breaches
+use Rattle.platform_lint.specs.declared.breach.PlacedRange.{PlacedRange}
+use Rattle.lint_texts.specs.Pieces.{address_text}
 
 -- the table that is spoken of: nothing for the file's own
 abbrev pub place_text : Place → List ℕ
@@ -42,6 +45,10 @@ rule_text BadEntries = codes "entries is 16 or 64"
 abbrev pub about : Place → List ℕ → List ℕ → List ℕ → List ℕ
 about place before key after = place_text place ++ (before ++ (key ++ after))
 
+-- a range: its table, its base and its size
+abbrev pub range_text : PlacedRange → List ℕ
+range_text range = place_text range.place ++ (codes "base " ++ (address_text range.bounds.0 ++ (codes ", size " ++ address_text range.bounds.1)))
+
 -- what a file breaks
 abbrev pub breach_text : Breach → List ℕ
 breach_text (Unknown place key) = about place (codes "unknown key '") key.now (keys_text place)
@@ -51,4 +58,5 @@ breach_text (NoPages place) = place_text place ++ codes "base and size are multi
 breach_text (NoPerm place) = place_text place ++ codes "perm is no permission; write \"none\", \"r\", \"rw\", \"x\", \"rx\" or \"rwx\""
 breach_text (NoTable place) = place_text place ++ table_text place
 breach_text (NoTables key) = about File [] (key_name key) (codes " is no array of tables; write its name in double brackets")
+breach_text (breaches.Overlap one other) = range_text one ++ (codes " has a page in common with " ++ range_text other)
 breach_text (Rule fault) = rule_text fault

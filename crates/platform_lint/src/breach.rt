@@ -57,6 +57,13 @@ pub enum Place {
     Device(u64),
 }
 
+/// A range of memory or of a device: its table, and its base and its size, in bytes.
+#[derive(Clone, Copy, PartialEq, Eq, Debug)]
+pub struct PlacedRange {
+    pub place: Place,
+    pub bounds: (u64, u64),
+}
+
 /// What a platform file breaks.
 #[derive(Clone, Copy, PartialEq, Eq, Debug)]
 pub enum Breach<'a> {
@@ -74,6 +81,8 @@ pub enum Breach<'a> {
     NoTable(Place),
     /// The value of the key is no array of tables.
     NoTables(Key),
+    /// The first of these ranges has a page in common with the second, which stands before it.
+    Overlap(PlacedRange, PlacedRange),
     /// The ranges and numbers break this rule on platforms.
     Rule(PlatformFault),
 }

@@ -11,9 +11,10 @@
 mod breach;
 mod first_breach;
 mod lint;
+mod overlap;
 mod ranges;
 mod rules;
 mod texts;
 
-pub use breach::{Breach, Key, Place};
+pub use breach::{Breach, Key, Place, PlacedRange};
 pub use lint::{LintFault, lint_platform};

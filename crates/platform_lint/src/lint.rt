@@ -42,7 +42,7 @@ fn breach_of<'a>(alloc: Global, document: &'a Table) -> Result<Breach<'a>, Alloc
         return Ok(breach);
     }
     match rule_breach(alloc, document) {
-        Ok(Some(fault)) => Ok(Breach::Rule(fault)),
+        Ok(Some(breach)) => Ok(breach),
         Ok(None) => unreachable!(),
         Err(error) => Err(error),
     }

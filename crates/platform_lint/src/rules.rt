@@ -1,12 +1,15 @@
 //! The rule on platforms that a document breaks, where each of its parts has its form.
 
-ghost use Rattle.std.specs.Prelude.{◌≡◌, ◌<◌, ◌≤◌, IfOk, IfSome, None, Ok};
+ghost use Rattle.std.specs.Prelude.{◌≡◌, ◌++◌, ◌<◌, ◌≤◌, IfOk, IfSome, None, Ok, map};
 ghost use Rattle.toml.specs.View.{table_view};
 ghost use Rattle.enclave_table.specs.Platform.{Layout};
+ghost use Rattle.enclave_table.specs.Ranges.{EachApart, device_range};
+ghost use Rattle.enclave_table.specs.declared.platform.PlatformFault.TheVariants.{Overlap};
 ghost use Rattle.platform_file.specs.Document.{Builds, Tells};
-ghost use Rattle.platform_lint.specs.Breaches.{BreaksRule, HasForm, IsBreach};
+ghost use Rattle.platform_lint.specs.Breaches.{BreaksRule, HasForm, IsBreach, IsBroken};
 
 use crate::breach::Breach;
+use crate::overlap::{overlap_in, placed_ranges};
 use enclave_table::{Platform, PlatformFault};
 use platform_file::{devices_at, monitor_at, number_or, ram_at};
 use pmp_encoding::Perm;
@@ -21,14 +24,14 @@ fn byte_of(n: u64) -> u8
     if n < 256 { n as u8 } else { 255 }
 }
 
-/// The first rule that a document breaks whose parts have their form.
-pub(crate) fn rule_breach(
+/// The first rule that a document breaks whose parts have their form; of two ranges that have a page in common, both.
+pub(crate) fn rule_breach<'a>(
     alloc: Global,
-    document: &Table,
-) -> Result<Option<PlatformFault>, AllocError>
+    document: &'a Table,
+) -> Result<Option<Breach<'a>>, AllocError>
     requires { HasForm (table_view document.now) }
     ensures some { IfOk result (λ found.
-        IfSome found (λ fault. IsBreach (table_view document.now) (Breach.Rule fault))) }
+        IfSome found (IsBreach (table_view document.now))) }
     ensures none { result ≡ Ok None
         → (platform : Layout) × Tells (table_view document.now) platform }
 {
@@ -47,7 +50,39 @@ pub(crate) fn rule_breach(
     let Some(entries) = number_or(document, "entries", 16) else {
         unreachable!();
     };
-    Ok(broken_rule(monitor, ram.as_slice(), devices.as_slice(), harts, entries))
+    match broken_rule(monitor, ram.as_slice(), devices.as_slice(), harts, entries) {
+        Some(fault) => {
+            let breach = breach_by(alloc, fault, ram.as_slice(), devices.as_slice())?;
+            Ok(Some(breach))
+        }
+        None => Ok(None),
+    }
+}
+
+/// A rule on platforms as what a document breaks: of two ranges that have a page in common, both.
+fn breach_by(
+    alloc: Global,
+    fault: PlatformFault,
+    ram: &[(u64, u64)],
+    devices: &[(u64, u64, Perm)],
+) -> Result<Breach<'static>, AllocError>
+    requires { fault ≡ Overlap → EachApart (ram.now ++ map device_range devices.now) → ⊥ }
+    ensures { IfOk result (IsBroken fault ram.now devices.now) }
+{
+    match fault {
+        PlatformFault::Overlap => {
+            let ranges = placed_ranges(alloc, ram, devices)?;
+            let Some((one, other)) = overlap_in(ranges.as_slice()) else {
+                unreachable!();
+            };
+            Ok(Breach::Overlap(one, other))
+        }
+        PlatformFault::BadRange
+        | PlatformFault::MonitorNotRam
+        | PlatformFault::BadNumber
+        | PlatformFault::BadHarts
+        | PlatformFault::BadEntries => Ok(Breach::Rule(fault)),
+    }
 }
 
 /// The first rule that ranges and numbers break.

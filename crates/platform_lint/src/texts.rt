@@ -1,11 +1,11 @@
 //! The line that says what a platform file breaks.
 
 ghost use Rattle.std.specs.Prelude.{◌≡◌, ◌++◌, OnOk, codes, decimal};
-ghost use Rattle.platform_lint.specs.Texts.{about, breach_text, keys_text, place_text, rule_text, table_text};
+ghost use Rattle.platform_lint.specs.Texts.{about, breach_text, keys_text, place_text, range_text, rule_text, table_text};
 
-use crate::breach::{Breach, Place};
+use crate::breach::{Breach, Place, PlacedRange};
 use enclave_table::PlatformFault;
-use lint_texts::{push, push_number};
+use lint_texts::{push, push_address, push_number};
 use std::alloc::AllocError;
 
 /// What is asked of a range.
@@ -103,6 +103,27 @@ fn push_about(
     push(text, after)
 }
 
+/// Appends a range: its table, its base and its size.
+fn push_range(text: &mut Vec<u8>, range: PlacedRange) -> Result<(), AllocError>
+    ensures { OnOk result (text.new.items ≡ text.old.items ++ range_text range) }
+{
+    push_place(text, range.place)?;
+    push(text, "base ")?;
+    push_address(text, range.bounds.0)?;
+    push(text, ", size ")?;
+    push_address(text, range.bounds.1)
+}
+
+/// Appends that a range has a page in common with another.
+fn push_overlap(text: &mut Vec<u8>, one: PlacedRange, other: PlacedRange) -> Result<(), AllocError>
+    ensures { OnOk result (text.new.items ≡ text.old.items
+        ++ (range_text one ++ (codes " has a page in common with " ++ range_text other))) }
+{
+    push_range(text, one)?;
+    push(text, " has a page in common with ")?;
+    push_range(text, other)
+}
+
 /// Appends what a platform file breaks.
 pub(crate) fn push_breach(text: &mut Vec<u8>, breach: Breach<'_>) -> Result<(), AllocError>
     ensures { OnOk result (text.new.items
@@ -130,6 +151,7 @@ pub(crate) fn push_breach(text: &mut Vec<u8>, breach: Breach<'_>) -> Result<(), 
         Breach::NoPerm(place) => push_said(text, place, PERMS),
         Breach::NoTable(place) => push_said(text, place, table_text(place)),
         Breach::NoTables(key) => push_about(text, Place::File, "", key.name(), ARRAY),
+        Breach::Overlap(one, other) => push_overlap(text, one, other),
         Breach::Rule(fault) => push(text, rule_text(fault)),
     }
 }

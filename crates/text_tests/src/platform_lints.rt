@@ -93,7 +93,7 @@ fn devices_and_numbers_are_named(rt: HostRuntime) -> Result<(), Fail> {
         ),
         (
             b"monitor = { base = 0, size = 4096 }\nram = [{ base = 0, size = 8192 }, { base = 4096, size = 4096 }]\n",
-            "p: two of the ranges of memory and devices have a page in common\n",
+            "p: ram 2: base 0x1000, size 0x1000 has a page in common with ram 1: base 0x0, size 0x2000\n",
         ),
     ] {
         expect_lint(&rt, rt.alloc(), text, false, wanted);

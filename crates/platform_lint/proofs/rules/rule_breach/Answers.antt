@@ -1,11 +1,16 @@
 use Rattle.std.proofs.Common.{ap, sym, ◌∙◌, Some}
 use Rattle.toml.specs.View.{table_view}
 use Rattle.platform_lint.specs.Breaches.{HasForm, rule}
-use Rattle.platform_lint.proofs.Found.{carried}
+use Rattle.platform_lint.proofs.Overlaps.{not_apart}
 use Rattle.platform_lint.proofs.rules.rule_breach.Goals as goal
 
-pub returns-clause-some : goal.returns-clause-some
-returns-clause-some c =
+pub breach_by-requires : goal.breach_by-requires
+breach_by-requires c = λ is each.
+    not_apart _ _ _ _ _ c.in-Some-broken_rule.fault is c.in-Some-broken_rule.ensures.some
+    (rw (c.as_slice-in-Some-broken_rule.ensures.value ∙ sym c.as_slice.ensures.value, c.as_slice-in-Some-broken_rule-2.ensures.value ∙ sym c.as_slice-2.ensures.value) at each)
+
+pub returns-in-Some-broken_rule-clause-some : goal.returns-in-Some-broken_rule-clause-some
+returns-in-Some-broken_rule-clause-some c =
     let form : HasForm (table_view c.args.document.now) = record {
       keys = c.requires.keys;
       monitor = c.in-Some.monitor;
@@ -19,4 +24,5 @@ returns-clause-some c =
       harts_are = sym c.in-Some-number_or.ensures;
       entries_are = sym c.in-Some-number_or-2.ensures;
     } in
-    carried c.broken_rule.result (λ fault broken. rule form fault broken) c.broken_rule.ensures.some
+    rule form c.in-Some-broken_rule.fault _ c.in-Some-broken_rule.ensures.some
+    (rw (c.as_slice-in-Some-broken_rule.ensures.value ∙ sym c.as_slice.ensures.value, c.as_slice-in-Some-broken_rule-2.ensures.value ∙ sym c.as_slice-2.ensures.value) at c.in_ok-breach-in-Some-broken_rule.ensures)
