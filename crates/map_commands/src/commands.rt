@@ -15,14 +15,16 @@ mod verdicts;
 pub use audit::do_audit;
 pub use check::do_check;
 pub use judge::do_judge_as;
-pub use lint::{do_lint, do_lint_listing, lint_as_platform, lint_listing, lint_map};
+pub use lint::{
+    do_lint, do_lint_listing, lint_as_platform, lint_listing, lint_map, names_platform,
+};
 pub use map::do_map;
 pub use plan::{Asked, do_plan, most_entries};
 pub use show::{Table, do_show_as};
 pub use verdicts::verdict;
 
 /// The status of an answer: 0 for a yes, and 1 for a no.
-fn answer_status(yes: bool) -> u8
+pub fn answer_status(yes: bool) -> u8
     ensures { result ≡ answer_status yes }
 {
     if yes { 0 } else { 1 }

@@ -20,6 +20,9 @@ pub const MAP_BYTES: usize = 1 << 20;
 /// How many bytes a listing of registers may have.
 pub const REGISTER_BYTES: usize = 1 << 20;
 
+/// How many bytes a certificate may have.
+pub const CERTIFICATE_BYTES: usize = 1 << 26;
+
 /// The bytes of a file that may have at most `most`.
 #[tactic(auto, using(crate::proofs::Refusals::no_bytes))]
 pub fn bytes_in<'a, R: Source>(

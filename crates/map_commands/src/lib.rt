@@ -19,8 +19,9 @@ mod inputs;
 
 pub use certified_plan::{bank_of, needed_by, plan_and_certify, planned};
 pub use commands::{
-    Asked, Table, do_audit, do_check, do_judge_as, do_lint, do_lint_listing, do_map, do_plan,
-    do_show_as, lint_as_platform, lint_listing, lint_map, most_entries, verdict,
+    Asked, Table, answer_status, do_audit, do_check, do_judge_as, do_lint, do_lint_listing, do_map,
+    do_plan, do_show_as, lint_as_platform, lint_listing, lint_map, most_entries, names_platform,
+    verdict,
 };
 pub use expected::tell_first;
-pub use inputs::{MAP_BYTES, REGISTER_BYTES, bytes_in};
+pub use inputs::{CERTIFICATE_BYTES, MAP_BYTES, REGISTER_BYTES, bytes_in};

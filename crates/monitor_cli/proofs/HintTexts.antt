@@ -8,21 +8,15 @@ use Rattle.hart_sim.specs.declared.machine.Machine.{Machine}
 use Rattle.hart_sim.specs.After.{IsBooted}
 use Rattle.program_tasks.specs.declared.task.Task.{Task}
 use Rattle.program_troubles.specs.declared.trouble.Trouble.{Trouble}
+use Rattle.trace_lint.specs.declared.taker.Taker.TheVariants as takers
 use Rattle.map_commands.specs.Inputs.{IsUnread, Reading}
 use Rattle.map_commands.specs.Lint.{Tells}
 use Rattle.map_commands.specs.Parts.{answer_status}
 use Rattle.map_commands.specs.Lint as lints
-use Rattle.monitor_cli.specs.declared.hints.Form.{Form}
-use Rattle.monitor_cli.specs.declared.hints.Form.TheVariants.{Map, Platform, Listing, Trace}
-use Rattle.monitor_cli.specs.Hints.{AreHints, HasHints, HasRunHints, HasTaskHints, InOrder, TellsHints, boot_hint, cut, hints_in, most_bytes, of_boot, of_second, of_trace, told}
-use Rattle.monitor_cli.specs.Runs.{HasPlatform}
-
--- no file of a form is beyond what can be read
-pub most_fits : (form : Form) → most_bytes form < 2 ^ 32
-most_fits Map = omega arith
-most_fits Platform = omega arith
-most_fits (Listing xlen) = omega arith
-most_fits (Trace harts) = omega arith
+use Rattle.monitor_cli.specs.declared.forms.Form.{Form}
+use Rattle.monitor_cli.specs.declared.forms.Form.TheVariants.{Map, Platform, Listing, Trace}
+use Rattle.monitor_cli.specs.Hints.{AreHints, AreRunHints, HasTaskHints, InOrder, TellsHints, boot_hint, cut, hints_in, of_boot, of_second, told}
+use Rattle.platform_file.specs.Document.{IsPlatformFile}
 
 not_both : (status : ℕ) → status ≡ 1 → status ≡ 0 → ⊥
 not_both status one zero = omega (arith, one, zero)
@@ -54,20 +48,19 @@ pub in_second :
 in_second First Second second text (Ok hints) none has = of_second (text hints) none has
 in_second First Second second text (Err fault) none has = tt
 
--- the hints of a trace, for the harts of a platform that boots
-pub of_traces :
-    {R X E : Type 0} (file name : List ℕ) (first second : Reading R) (platform : Layout) (text : Option X → Option (List ℕ)) (result : Result (Option X) E) → HasPlatform first platform
-    → ((machine : Machine) × IsBooted platform machine)
-    → IfOk result (λ hints. HasHints (Trace platform.harts) name second (text hints)) → IfOk result (λ hints. HasRunHints file name first second (text hints))
-of_traces file name first second platform text (Ok hints) is boots has = of_trace platform boots.0 (text hints) is boots.1 has
-of_traces file name first second platform text (Err fault) is boots has = tt
+-- hints that are one thing are another
+pub carried :
+    {X E : Type 0} (P Q : Option (List ℕ) → Type 0) (text : Option X → Option (List ℕ)) (result : Result (Option X) E) → ((hints : Option (List ℕ)) → P hints → Q hints)
+    → IfOk result (λ hints. P (text hints)) → IfOk result (λ hints. Q (text hints))
+carried P Q text (Ok hints) f has = f (text hints) has
+carried P Q text (Err fault) f has = tt
 
 -- the hint of a platform that does not boot
 pub of_need :
-    {R : Type 0} (file name hint : List ℕ) (first second : Reading R) (platform : Layout) → HasPlatform first platform
-    → ((n : ℕ) × IsBootFault platform (NeedsMoreEntries n) × (hint ≡ boot_hint file platform n)) → IsUnread second → HasRunHints file name first second (Some hint)
-of_need file name hint first second platform is needs unread =
-    subst (λ said. HasRunHints file name first second (Some said)) (sym needs.2) (of_boot platform needs.0 is needs.1 unread)
+    {R : Type 0} (file bytes name hint : List ℕ) (second : Reading R) (platform : Layout) → IsPlatformFile bytes platform
+    → ((n : ℕ) × IsBootFault platform (NeedsMoreEntries n) × (hint ≡ boot_hint file platform n)) → IsUnread second → AreRunHints file bytes name second (Some hint)
+of_need file bytes name hint second platform is needs unread =
+    subst (λ said. AreRunHints file bytes name second (Some said)) (sym needs.2) (of_boot platform needs.0 is needs.1 unread)
 
 -- hints that were written, whole or in part
 pub told_by :

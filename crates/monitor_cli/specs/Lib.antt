@@ -4,5 +4,6 @@ pub mod Hints
 pub mod Needs
 pub mod Programs
 pub mod Runs
+pub mod Sizes
 pub mod Tasks
 pub mod Traces

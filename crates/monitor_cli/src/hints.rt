@@ -5,130 +5,22 @@ ghost use Rattle.enclave_table.specs.Boot.{IsBootFault};
 ghost use Rattle.hart_sim.specs.After.{IsBooted};
 ghost use Rattle.byte_streams.specs.Writings.{writing};
 ghost use Rattle.map_commands.specs.Inputs.{reading};
-ghost use Rattle.map_commands.specs.Lint.{Tells};
-ghost use Rattle.monitor_cli.specs.Hints.{hints_in, most_bytes, AreHints, HasFileHints, HasHints, HasMapHints, HasRunHints, HasTaskHints, InOrder, boot_hint, IsLintAs, TellsHints};
+ghost use Rattle.map_commands.specs.Lint.{names_platform};
+ghost use Rattle.monitor_cli.specs.Hints.{named_kind, AreMapHints, AreRunHints, HasFileHints, HasHints, HasLintHints, HasMapHints, HasRunHints, HasSizeHints, HasTaskHints, InOrder, boot_hint, TellsHints};
 
-use crate::commands::{TRACE_BYTES, lint_as_trace};
-use crate::machine_run::{PLATFORM_BYTES, platform_in};
+use crate::forms::{Form, hints_for, hints_in_order, hints_of, size_hints};
+use crate::machine_run::platform_in;
 use crate::needs::{Bounds, bank_bounds, boot_hint, need_hint, plan_bounds, table_bounds};
-use byte_streams::{Counted, Sink, Source, write_whole};
+use crate::sizes::{FileKind, Had, bytes_or_hint};
+use byte_streams::{Sink, Source, write_whole};
 use enclave_table::{BootFault, Platform};
 use hart_sim::Machine;
-use lint_texts::split_line;
-use map_commands::{
-    MAP_BYTES, REGISTER_BYTES, bytes_in, lint_as_platform, lint_listing, lint_map, needed_by,
-};
+use map_commands::{names_platform, needed_by};
 use program_tasks::{LintKind, Task};
 use program_troubles::Trouble;
 use register_width::Xlen;
 use std::alloc::{AllocError, Global};
-
-/// How many harts a trace may speak of that has no platform.
-const HARTS: u8 = 4;
-
-/// What an input should be.
-#[derive(Clone, Copy, Debug, PartialEq, Eq)]
-enum Form {
-    /// A map.
-    Map,
-    /// A platform.
-    Platform,
-    /// A listing of registers.
-    Listing {
-        /// How many bits the registers have.
-        xlen: Xlen,
-    },
-    /// A trace on so many harts.
-    Trace {
-        /// How many.
-        harts: u8,
-    },
-}
-
-impl Form {
-    /// How many bytes such a file may have.
-    fn most_bytes(self) -> usize
-        ensures { result ≡ most_bytes self }
-    {
-        match self {
-            Form::Map => MAP_BYTES,
-            Form::Platform => PLATFORM_BYTES,
-            Form::Listing { .. } => REGISTER_BYTES,
-            Form::Trace { .. } => TRACE_BYTES,
-        }
-    }
-}
-
-/// Prints what is wrong with bytes that should be of that form.
-fn lint_as<W: Sink>(
-    alloc: Global,
-    form: Form,
-    name: &str,
-    bytes: &[u8],
-    out: &mut W,
-) -> Result<u8, Trouble<'static>>
-    requires { length bytes.now < 2 ^ 64 - 1 }
-    ensures { Tells (IsLintAs form name.now bytes.now)
-        (writing W.contents W.failures W.stalls out.old out.new) result }
-{
-    match form {
-        Form::Map => lint_map(alloc, name, bytes, out),
-        Form::Platform => lint_as_platform(alloc, name, bytes, out),
-        Form::Listing { xlen } => lint_listing(xlen, name, bytes, out),
-        Form::Trace { harts } => lint_as_trace(alloc, name, bytes, harts, out),
-    }
-}
-
-/// The lines of a text, each behind `hint: `.
-fn hints_in(alloc: Global, text: &[u8]) -> Result<Vec<u8>, AllocError>
-    ensures { IfOk result (λ hints. hints.items ≡ hints_in text.now) }
-{
-    let mut hints = Vec::new(alloc);
-    let mut rest = text;
-    while !rest.is_empty() {
-        let (line, behind) = split_line(rest);
-        hints.extend_from_slice(b"hint: ")?;
-        hints.extend_from_slice(line)?;
-        hints.push(b'\n')?;
-        rest = behind;
-    }
-    Ok(hints)
-}
-
-/// The hints for bytes that should be of that form, and none where they are.
-fn hints_for(
-    alloc: Global,
-    form: Form,
-    name: &str,
-    bytes: &[u8],
-) -> Result<Option<Vec<u8>>, Trouble<'static>>
-    requires { length bytes.now < 2 ^ 64 - 1 }
-    ensures { IfOk result (λ hints. AreHints (IsLintAs form name.now bytes.now)
-        (option_map (λ text. text.items) hints)) }
-{
-    let mut held = Counted::new(Vec::new(alloc));
-    let status = lint_as(alloc, form, name, bytes, &mut held)?;
-    if status == 0 {
-        return Ok(None);
-    }
-    let text = held.into_inner();
-    Ok(Some(hints_in(alloc, text.as_slice())?))
-}
-
-/// The hints of an input that should be of that form, and none where it is.
-fn hints_of<'a, R: Source>(
-    alloc: Global,
-    form: Form,
-    name: &'a str,
-    source: &mut R,
-) -> Result<Option<Vec<u8>>, Trouble<'a>>
-    ensures { IfOk result (λ hints. HasHints form name.entry.now
-        (reading R.remaining R.failures source.old source.new)
-        (option_map (λ text. text.items) hints)) }
-{
-    let bytes = bytes_in(alloc, name, source, form.most_bytes())?;
-    hints_for(alloc, form, name, bytes.as_slice())
-}
+use trace_lint::Taker;
 
 /// The hint of a platform that does not boot, and none where it does.
 fn hint_of_boot(
@@ -152,6 +44,32 @@ fn hint_of_boot(
     }
 }
 
+/// The hints of `run` for the bytes of its platform: what is wrong with them; where they are right that it does not boot; and
+/// otherwise those of its trace.
+fn hints_by_platform<'a, R: Source>(
+    alloc: Global,
+    platform: &'a str,
+    trace: &'a str,
+    text: &[u8],
+    second: &mut R,
+) -> Result<Option<Vec<u8>>, Trouble<'a>>
+    requires { length text.now < 2 ^ 64 - 1 }
+    ensures { IfOk result (λ hints. AreRunHints platform.entry.now text.now trace.entry.now
+        (reading R.remaining R.failures second.old second.new)
+        (option_map (λ said. said.items) hints)) }
+{
+    if let Some(hints) = hints_for(alloc, Form::Platform, platform, text)? {
+        return Ok(Some(hints));
+    }
+    let layout = platform_in(alloc, platform, text)?;
+    let harts = layout.harts();
+    if let Some(hint) = hint_of_boot(alloc, platform, layout)? {
+        return Ok(Some(hint));
+    }
+    let taker = Taker::Run { harts };
+    hints_of(alloc, Form::Trace { taker }, trace, second)
+}
+
 /// The hints of `run`: those of its platform; where it is right that it does not boot; and otherwise those of its trace.
 fn hints_of_run<'a, R: Source>(
     alloc: Global,
@@ -161,43 +79,33 @@ fn hints_of_run<'a, R: Source>(
     second: &mut R,
 ) -> Result<Option<Vec<u8>>, Trouble<'a>>
     ensures { let source = reading R.remaining R.failures in
-        IfOk result (λ hints. InOrder
-        (HasHints Form.Platform platform.entry.now (source first.old first.new))
-        (HasRunHints platform.entry.now trace.entry.now (source first.old first.new)
-        (source second.old second.new))
-        (source second.old second.new) (option_map (λ text. text.items) hints)) }
+        IfOk result (λ hints. HasRunHints platform.entry.now trace.entry.now
+        (source first.old first.new) (source second.old second.new)
+        (option_map (λ text. text.items) hints)) }
 {
-    let bytes = bytes_in(alloc, platform, first, PLATFORM_BYTES)?;
-    let text = bytes.as_slice();
-    if let Some(hints) = hints_for(alloc, Form::Platform, platform, text)? {
-        return Ok(Some(hints));
+    match bytes_or_hint(alloc, FileKind::Platform, platform, first)? {
+        Had::Bytes(bytes) => { hints_by_platform(alloc, platform, trace, bytes.as_slice(), second) }
+        Had::Hint(hint) => Ok(Some(hint)),
     }
-    let layout = platform_in(alloc, platform, text)?;
-    let harts = layout.harts();
-    if let Some(hint) = hint_of_boot(alloc, platform, layout)? {
-        return Ok(Some(hint));
-    }
-    hints_of(alloc, Form::Trace { harts }, trace, second)
 }
 
-/// The hints of the first of two inputs that is not what it should be.
-fn hints_in_order<'a, R: Source>(
+/// The hints of a map's bytes: what is wrong with them, or that their map needs more entries than it may.
+fn hints_of_map_text<'a>(
     alloc: Global,
-    one: (Form, &'a str),
-    other: (Form, &'a str),
-    first: &mut R,
-    second: &mut R,
+    name: &'a str,
+    bounds: Bounds,
+    text: &[u8],
 ) -> Result<Option<Vec<u8>>, Trouble<'a>>
-    ensures { let source = reading R.remaining R.failures in
-        IfOk result (λ hints. InOrder
-        (HasHints one.entry.0 one.entry.1.now (source first.old first.new))
-        (HasHints other.entry.0 other.entry.1.now (source second.old second.new))
-        (source second.old second.new) (option_map (λ text. text.items) hints)) }
+    requires { length text.now < 2 ^ 64 - 1 }
+    ensures { IfOk result (λ hints. AreMapHints name.entry.now text.now bounds
+        (option_map (λ said. said.items) hints)) }
 {
-    if let Some(hints) = hints_of(alloc, one.0, one.1, first)? {
+    if let Some(hints) = hints_for(alloc, Form::Map, name, text)? {
         return Ok(Some(hints));
     }
-    hints_of(alloc, other.0, other.1, second)
+    let needed = needed_by(alloc, name, text)?;
+    let hint = need_hint(alloc, name, bounds, needed)?;
+    Ok(hint)
 }
 
 /// The hints of a map: what is wrong with it, or that it needs more entries than it may.
@@ -211,14 +119,10 @@ fn hints_of_map<'a, R: Source>(
         (reading R.remaining R.failures source.old source.new)
         (option_map (λ text. text.items) hints)) }
 {
-    let bytes = bytes_in(alloc, name, source, MAP_BYTES)?;
-    let text = bytes.as_slice();
-    if let Some(hints) = hints_for(alloc, Form::Map, name, text)? {
-        return Ok(Some(hints));
+    match bytes_or_hint(alloc, FileKind::Map, name, source)? {
+        Had::Bytes(bytes) => hints_of_map_text(alloc, name, bounds, bytes.as_slice()),
+        Had::Hint(hint) => Ok(Some(hint)),
     }
-    let needed = needed_by(alloc, name, text)?;
-    let hint = need_hint(alloc, name, bounds, needed)?;
-    Ok(hint)
 }
 
 /// The hints of a file that is a listing of registers of that width, or a map.
@@ -254,13 +158,87 @@ fn hints_of_judge<'a, R: Source>(
     ensures { let source = reading R.remaining R.failures in
         IfOk result (λ hints. InOrder
         (HasFileHints is_listing xlen file.entry.now bounds (source first.old first.new))
-        (HasHints (Form.Trace 4) trace.entry.now (source second.old second.new))
+        (HasHints (Form.Trace Taker.Judge) trace.entry.now (source second.old second.new))
         (source second.old second.new) (option_map (λ text. text.items) hints)) }
 {
     if let Some(hints) = hints_of_file(alloc, is_listing, xlen, file, bounds, first)? {
         return Ok(Some(hints));
     }
-    hints_of(alloc, Form::Trace { harts: HARTS }, trace, second)
+    let taker = Taker::Judge;
+    hints_of(alloc, Form::Trace { taker }, trace, second)
+}
+
+/// The hints of `check`: those of its map, and that its certificate has more bytes than it may.
+fn hints_of_check<'a, R: Source>(
+    alloc: Global,
+    map: &'a str,
+    cert: &'a str,
+    first: &mut R,
+    second: &mut R,
+) -> Result<Option<Vec<u8>>, Trouble<'a>>
+    ensures { let source = reading R.remaining R.failures in
+        IfOk result (λ hints. InOrder
+        (HasHints Form.Map map.entry.now (source first.old first.new))
+        (HasSizeHints FileKind.Certificate cert.entry.now (source second.old second.new))
+        (source second.old second.new) (option_map (λ text. text.items) hints)) }
+{
+    if let Some(hints) = hints_of(alloc, Form::Map, map, first)? {
+        return Ok(Some(hints));
+    }
+    size_hints(alloc, FileKind::Certificate, cert, second)
+}
+
+/// What a file is that `lint` takes by its name.
+fn named_kind(name: &str) -> FileKind
+    ensures { result ≡ named_kind name.now }
+{
+    if names_platform(name) {
+        FileKind::Platform
+    } else {
+        FileKind::Map
+    }
+}
+
+/// The hints of `lint --trace` with a platform: those of the platform, and that the trace has more bytes than it may.
+fn hints_of_traced<'a, R: Source>(
+    alloc: Global,
+    platform: &'a str,
+    file: &'a str,
+    first: &mut R,
+    second: &mut R,
+) -> Result<Option<Vec<u8>>, Trouble<'a>>
+    ensures { let source = reading R.remaining R.failures in
+        IfOk result (λ hints. InOrder
+        (HasHints Form.Platform platform.entry.now (source second.old second.new))
+        (HasSizeHints FileKind.Trace file.entry.now (source first.old first.new))
+        (source first.old first.new) (option_map (λ text. text.items) hints)) }
+{
+    if let Some(hints) = hints_of(alloc, Form::Platform, platform, second)? {
+        return Ok(Some(hints));
+    }
+    size_hints(alloc, FileKind::Trace, file, first)
+}
+
+/// The hints of `lint`, which itself speaks of what is wrong with its file.
+fn hints_of_lint<'a, R: Source>(
+    alloc: Global,
+    kind: LintKind<'a>,
+    file: &'a str,
+    first: &mut R,
+    second: &mut R,
+) -> Result<Option<Vec<u8>>, Trouble<'a>>
+    ensures { let source = reading R.remaining R.failures in
+        IfOk result (λ hints. HasLintHints kind.entry file.entry.now (source first.old first.new)
+        (source second.old second.new) (option_map (λ text. text.items) hints)) }
+{
+    match kind {
+        LintKind::ByName => size_hints(alloc, named_kind(file), file, first),
+        LintKind::Registers => size_hints(alloc, FileKind::Listing, file, first),
+        LintKind::Trace { platform: None } => size_hints(alloc, FileKind::Trace, file, first),
+        LintKind::Trace {
+            platform: Some(platform),
+        } => hints_of_traced(alloc, platform, file, first, second),
+    }
 }
 
 /// The hints of a task.
@@ -291,7 +269,7 @@ fn task_hints<'a, R: Source>(
             let bounds = plan_bounds(limit, begin, at_most, format);
             hints_of_map(alloc, map, bounds, first)
         }
-        Task::Check { map, .. } => hints_of(alloc, Form::Map, map, first),
+        Task::Check { map, cert } => hints_of_check(alloc, map, cert, first, second),
         Task::Judge {
             map,
             trace,
@@ -320,13 +298,7 @@ fn task_hints<'a, R: Source>(
             xlen,
             ..
         } => hints_of_file(alloc, registers, xlen, map, table_bounds(at_most), first),
-        Task::Lint {
-            kind: LintKind::Trace {
-                platform: Some(platform),
-            },
-            ..
-        } => hints_of(alloc, Form::Platform, platform, second),
-        Task::Lint { .. } => Ok(None),
+        Task::Lint { file, kind, .. } => hints_of_lint(alloc, kind, file, first, second),
     }
 }
 

@@ -12,11 +12,13 @@
 #![tactic(auto)]
 
 mod commands;
+mod forms;
 mod held_output;
 mod hints;
 mod machine_run;
 mod needs;
 mod program;
+mod sizes;
 
 pub use held_output::{closed, perform_and_close};
 pub use hints::tell_hints;

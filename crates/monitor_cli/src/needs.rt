@@ -91,13 +91,13 @@ fn words_line(needed: u64, there: u64) -> Line
 }
 
 /// The hint of a file, which ends so.
-fn need_of(alloc: Global, name: &str, end: &Line) -> Result<Vec<u8>, AllocError>
-    ensures { IfOk result (λ hint. hint.items ≡ need_text name.now end.now.items) }
+pub(crate) fn need_of(alloc: Global, name: &str, end: &[u8]) -> Result<Vec<u8>, AllocError>
+    ensures { IfOk result (λ hint. hint.items ≡ need_text name.now end.now) }
 {
     let mut hint = Vec::new(alloc);
     hint.extend_from_slice(b"hint: ")?;
     hint.extend_from_slice(name.as_bytes())?;
-    hint.extend_from_slice(end.as_slice())?;
+    hint.extend_from_slice(end)?;
     Ok(hint)
 }
 
@@ -111,7 +111,11 @@ pub(crate) fn boot_hint(
     ensures { IfOk result (λ hint.
         hint.items ≡ need_text name.now (most_text needed (limit_number limit))) }
 {
-    need_of(alloc, name, &most_line(needed, u64::from(limit.number())))
+    need_of(
+        alloc,
+        name,
+        most_line(needed, u64::from(limit.number())).as_slice(),
+    )
 }
 
 /// The hint of a map that needs so many entries, where configuration words have no room for them.
@@ -126,7 +130,7 @@ fn words_hint(
 {
     match words {
         Some(there) if there < needed => {
-            let hint = need_of(alloc, name, &words_line(needed, there))?;
+            let hint = need_of(alloc, name, words_line(needed, there).as_slice())?;
             Ok(Some(hint))
         }
         _ => Ok(None),
@@ -145,7 +149,7 @@ pub(crate) fn need_hint(
 {
     match bounds.most {
         Some(most) if most < needed => {
-            let hint = need_of(alloc, name, &most_line(needed, most))?;
+            let hint = need_of(alloc, name, most_line(needed, most).as_slice())?;
             Ok(Some(hint))
         }
         _ => words_hint(alloc, name, bounds.words, needed),

@@ -4,14 +4,26 @@ use byte_streams::fakes::PieceSink;
 use std::alloc::Global;
 use std::process::Abort;
 use std::test::Fail;
-use trace_lint::lint_trace;
+use trace_lint::{Taker, lint_trace};
 
-/// That the lint of the file has this answer and these lines, on two harts.
-fn expect_lint(rt: &impl Abort, alloc: Global, bytes: &[u8], is_trace: bool, wanted: &str) {
+/// That the lint of the file has this answer and these lines, for whom it is.
+fn expect_lint_for(
+    rt: &impl Abort,
+    alloc: Global,
+    taker: Taker,
+    bytes: &[u8],
+    is_trace: bool,
+    wanted: &str,
+) {
     let mut out = PieceSink::new(4096, None);
-    let answer = lint_trace(alloc, "t", bytes, 2, &mut out);
+    let answer = lint_trace(alloc, "t", bytes, taker, &mut out);
     assert!(rt; answer == Ok(is_trace));
     assert!(rt; out.written() == wanted.as_bytes());
+}
+
+/// The same for `run` on two harts.
+fn expect_lint(rt: &impl Abort, alloc: Global, bytes: &[u8], is_trace: bool, wanted: &str) {
+    expect_lint_for(rt, alloc, Taker::Run { harts: 2 }, bytes, is_trace, wanted);
 }
 
 #[test]
@@ -102,5 +114,34 @@ fn harts_and_events_are_named(rt: HostRuntime) -> Result<(), Fail> {
     let long = [b'0'; 1024];
     let wanted = "t:1:1024: the line is too long; it has at most 1023 bytes\n";
     expect_lint(&rt, rt.alloc(), long.as_slice(), false, wanted);
+    Ok(())
+}
+
+#[test]
+fn judge_takes_accesses_alone(rt: HostRuntime) -> Result<(), Fail> {
+    for (trace, is_trace, wanted) in [
+        (
+            b"# accesses\nfetch s 4 0x80000000\n\n  load u 8 4096 # a comment\nstore\tu 1 0 0xff".as_slice(),
+            true,
+            "",
+        ),
+        (
+            b"load s 8 0\n  irq\nreg x1 1\necall # none\n",
+            false,
+            "t:2:3: 'irq' is an event of run; judge takes accesses alone\nt:3:1: 'reg' is an event of run; judge takes accesses alone\nt:4:1: 'ecall' is an event of run; judge takes accesses alone\n",
+        ),
+        (
+            b"@0 load s 8 0\n @3 irq\n@4 irq\n@0\n",
+            false,
+            "t:1:1: '@0' names a hart; judge has none\nt:2:2: '@3' names a hart; judge has none\nt:3:1: '@4' is none of the harts; H is below 4\nt:4:3: no event stands after the hart; write fetch, load, store, reg, ecall or irq\n",
+        ),
+        (
+            b"load 8 0\nreg a0 1\n",
+            false,
+            "t:1:6: M '8' is no mode; write s or u\nt:2:5: xN 'a0' is not written so; write x10\n",
+        ),
+    ] {
+        expect_lint_for(&rt, rt.alloc(), Taker::Judge, trace, is_trace, wanted);
+    }
     Ok(())
 }

@@ -1,3 +1,4 @@
+mod Accesses
 mod Complete
 mod EventWords
 mod Found

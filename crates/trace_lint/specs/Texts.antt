@@ -12,7 +12,7 @@ use Rattle.trace_lint.specs.declared.forms.EventKind.TheVariants.{Fetch, Load, S
 use Rattle.trace_lint.specs.declared.forms.Slot.{Slot}
 use Rattle.trace_lint.specs.declared.forms.Slot.TheVariants.{Mode, Size, Address, Value, Register, Argument}
 use Rattle.trace_lint.specs.declared.reason.Reason.{Reason}
-use Rattle.trace_lint.specs.declared.reason.Reason.TheVariants.{LongLine, ByteOrderMark, NoText, NoHart, NoEvent, UnknownEvent, Misfit, Missing, Extra}
+use Rattle.trace_lint.specs.declared.reason.Reason.TheVariants.{LongLine, ByteOrderMark, NoText, NoHart, NoEvent, UnknownEvent, Misfit, Missing, Extra, HartOfRun, EventOfRun}
 use Rattle.trace_lint.specs.Keywords.{keyword, near_kind}
 use Rattle.trace_lint.specs.Registers.{meant_register}
 
@@ -102,6 +102,8 @@ reason_text harts word UnknownEvent = quoted word ++ event_fault word
 reason_text harts word (Misfit slot) = slot_name slot ++ (codes " " ++ (quoted word ++ misfit_fault slot word))
 reason_text harts word (Missing kind slot) = slot_name slot ++ (codes " is wanting; write " ++ form_text kind)
 reason_text harts word (Extra kind) = quoted word ++ extra_fault kind
+reason_text harts word HartOfRun = quoted word ++ codes " names a hart; judge has none"
+reason_text harts word EventOfRun = quoted word ++ codes " is an event of run; judge takes accesses alone"
 
 -- the line that is written: `FILE:LINE:COLUMN: REASON; MEND`
 abbrev pub finding_text : List ℕ → ℕ → ℕ → ℕ → Word → Reason → List ℕ

@@ -23,7 +23,7 @@ pub(crate) fn is_line(raw: &[u8], harts: u8) -> bool
 }
 
 /// Whether a word names a hart.
-fn names_hart(word: &[u8], harts: u8) -> bool
+pub(crate) fn names_hart(word: &[u8], harts: u8) -> bool
     ensures { result ≡ is_some (hart_of harts word.now) }
 {
     match word {

@@ -5,8 +5,8 @@ ghost use Rattle.byte_streams.specs.Writings.{writing, Breaks, TakesAll};
 ghost use Rattle.trace_lint.specs.declared.lint.LintFault as LintFault;
 ghost use Rattle.trace_lint.specs.Lints.{IsLintText, is_trace};
 
-use crate::line_finding::{is_line, line_finding};
 use crate::reason_texts::push_finding;
+use crate::taker::{Taker, finding, harts_of, takes};
 use byte_streams::{Sink, write_whole};
 use lint_texts::split_line;
 use std::alloc::{AllocError, Global};
@@ -25,11 +25,11 @@ fn findings(
     alloc: Global,
     name: &str,
     bytes: &[u8],
-    harts: u8,
+    taker: Taker,
 ) -> Result<(bool, Vec<u8>), AllocError>
     requires { length bytes.now < 2 ^ 64 - 1 }
-    ensures trace { IfOk result (λ found. found.0 ≡ is_trace harts bytes.now) }
-    ensures text { IfOk result (λ found. IsLintText name.now harts bytes.now found.1.items) }
+    ensures trace { IfOk result (λ found. found.0 ≡ is_trace taker bytes.now) }
+    ensures text { IfOk result (λ found. IsLintText name.now taker bytes.now found.1.items) }
 {
     let mut text = Vec::new(alloc);
     let mut is_trace = true;
@@ -38,36 +38,36 @@ fn findings(
     while !rest.is_empty() {
         let (raw, behind) = split_line(rest);
         line += 1;
-        if !is_line(raw, harts) {
+        if !takes(taker, raw) {
             is_trace = false;
-            push_finding(&mut text, name, harts, line, line_finding(raw, harts))?;
+            push_finding(&mut text, name, harts_of(taker), line, finding(taker, raw))?;
         }
         rest = behind;
     }
     Ok((is_trace, text))
 }
 
-/// Writes a line for each line of a file that is none of a trace on so many harts, and nothing where each is one. The answer is
-/// whether each is. Where memory is refused nothing was written.
+/// Writes a line for each line of a file that is not taken, and nothing where each is. The answer is whether each is. Where memory
+/// is refused nothing was written.
 pub fn lint_trace<W: Sink>(
     alloc: Global,
     name: &str,
     bytes: &[u8],
-    harts: u8,
+    taker: Taker,
     out: &mut W,
 ) -> Result<bool, LintFault>
     requires { length bytes.now < 2 ^ 64 - 1 }
-    ensures trace { IfOk result (λ answer. answer ≡ is_trace harts bytes.now) }
+    ensures trace { IfOk result (λ answer. answer ≡ is_trace taker bytes.now) }
     ensures silent { result ≡ Ok true → out.new ≡ out.old }
     ensures written { result ≡ Ok false → (text : List ℕ)
-        × IsLintText name.now harts bytes.now text
+        × IsLintText name.now taker bytes.now text
         × TakesAll text (writing W.contents W.failures W.stalls out.old out.new) }
     ensures untouched { result ≡ Err LintFault.Memory → out.new ≡ out.old }
-    ensures broken { result ≡ Err LintFault.Device → (is_trace harts bytes.now ≡ false)
-        × (text : List ℕ) × IsLintText name.now harts bytes.now text
+    ensures broken { result ≡ Err LintFault.Device → (is_trace taker bytes.now ≡ false)
+        × (text : List ℕ) × IsLintText name.now taker bytes.now text
         × Breaks text (writing W.contents W.failures W.stalls out.old out.new) }
 {
-    let Ok((is_trace, text)) = findings(alloc, name, bytes, harts) else {
+    let Ok((is_trace, text)) = findings(alloc, name, bytes, taker) else {
         return Err(LintFault::Memory);
     };
     if is_trace {

@@ -2,7 +2,7 @@
 
 use crate::forms::{EventKind, Slot};
 
-/// Why a line is none of a trace.
+/// Why a line is not taken.
 #[derive(Clone, Copy, PartialEq, Eq, Debug)]
 pub enum Reason {
     /// The line has more than 1023 bytes.
@@ -23,6 +23,10 @@ pub enum Reason {
     Missing(EventKind, Slot),
     /// The event has no such word any more.
     Extra(EventKind),
+    /// The word names a hart for `run`, and `judge` has none.
+    HartOfRun,
+    /// The word begins an event for `run` that is no access, and `judge` takes accesses alone.
+    EventOfRun,
 }
 
 /// A reason, the word at fault where there is one, and how many bytes of the line stand before it. Of a byte that may not stand

@@ -227,6 +227,14 @@ fn push_reason(text: &mut Vec<u8>, harts: u8, word: &[u8], reason: Reason) -> Re
             push_quoted(text, word)?;
             push(text, extra_fault(kind))
         }
+        Reason::HartOfRun => {
+            push_quoted(text, word)?;
+            push(text, " names a hart; judge has none")
+        }
+        Reason::EventOfRun => {
+            push_quoted(text, word)?;
+            push(text, " is an event of run; judge takes accesses alone")
+        }
     }
 }
 

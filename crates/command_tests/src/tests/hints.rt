@@ -78,6 +78,50 @@ fn the_first_input_at_fault_has_its_hints(rt: HostRuntime) {
 }
 
 #[test]
+fn judge_takes_fewer_lines_than_run(rt: HostRuntime) {
+    let map = b"0x80000000 0x1000 rwx\n";
+    let of_trace =
+        "hint: t:2:1: 'irq' is an event of run; judge takes accesses alone\nhint: t:3:1: '@0' names a hart; judge has none\n";
+    hints(
+        &rt,
+        rt.alloc(),
+        &["pmpmon", "judge", "m", "t"],
+        map,
+        b"load s 8 0\nirq\n@0 load s 8 0\n",
+        of_trace,
+    );
+}
+
+#[test]
+fn a_file_that_is_too_large_has_its_limit(rt: HostRuntime) {
+    let mut large = Vec::new(rt.alloc());
+    let Ok(()) = large.resize((1 << 20) + 1, b'\n') else {
+        return;
+    };
+    let bytes = large.as_slice();
+    let of_map = "hint: m: more than 1048576 bytes; a map has at most 1 MiB\n";
+    let rows: [(&[&str], &str); 5] = [
+        (&["pmpmon", "plan", "m"], of_map),
+        (&["pmpmon", "lint", "m"], of_map),
+        (
+            &["pmpmon", "lint", "m.toml"],
+            "hint: m.toml: more than 1048576 bytes; a platform has at most 1 MiB\n",
+        ),
+        (
+            &["pmpmon", "run", "p", "t"],
+            "hint: p: more than 1048576 bytes; a platform has at most 1 MiB\n",
+        ),
+        (
+            &["pmpmon", "judge", "--registers", "r", "t"],
+            "hint: r: more than 1048576 bytes; a listing of registers has at most 1 MiB\n",
+        ),
+    ];
+    for (words, wanted) in rows {
+        hints(&rt, rt.alloc(), words, bytes, b"", wanted);
+    }
+}
+
+#[test]
 fn a_trace_is_for_the_harts_of_its_platform(rt: HostRuntime) {
     let run = &["pmpmon", "run", "p", "t"];
     let of_trace = "hint: t:2:1: '@2' is none of the harts; H is below 2\n";

@@ -6,13 +6,10 @@ ghost use Rattle.map_commands.specs.Check.{Checks};
 ghost use Rattle.map_commands.specs.Inputs.{reading};
 
 use crate::commands::verdicts::verdict;
-use crate::inputs::{bytes_in, map_in};
+use crate::inputs::{CERTIFICATE_BYTES, bytes_in, map_in};
 use byte_streams::{DeviceFault, Sink, Source, write_whole};
 use program_troubles::Trouble;
 use std::alloc::Global;
-
-/// How many bytes a certificate may have.
-const CERT_BYTES: usize = 64 << 20;
 
 /// Checks a certificate against a map, and answers the status 0 for a yes and 1 for a no.
 pub fn do_check<'a, R: Source, W: Sink>(
@@ -28,7 +25,7 @@ pub fn do_check<'a, R: Source, W: Sink>(
         (writing W.contents W.failures W.stalls out.old out.new) result }
 {
     let map = map_in(alloc, map, first)?;
-    let bytes = bytes_in(alloc, cert, second, CERT_BYTES)?;
+    let bytes = bytes_in(alloc, cert, second, CERTIFICATE_BYTES)?;
     let (line, status) = verdict(&map, bytes.as_slice());
     match write_whole(out, line.as_slice()) {
         Ok(()) => Ok(status),

@@ -18,7 +18,7 @@ use std::alloc::Global;
 use text_lines::{Line, push_decimal, push_text};
 
 /// Whether a file should be a platform by its name, which ends in `.toml`.
-fn names_platform(name: &str) -> bool
+pub fn names_platform(name: &str) -> bool
     ensures { result ≡ names_platform name.now }
 {
     name.as_bytes().ends_with(b".toml")

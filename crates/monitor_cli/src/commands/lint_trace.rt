@@ -1,18 +1,17 @@
 //! `lint --trace`: what is wrong with a trace.
 
-ghost use Rattle.std.specs.Prelude.{◌≡◌, ◌-◌, ◌^◌, ◌<◌, IfErr, IfOk, length};
+ghost use Rattle.std.specs.Prelude.{◌-◌, ◌^◌, ◌<◌, IfErr, IfOk, length};
 ghost use Rattle.byte_streams.specs.Writings.{writing};
 ghost use Rattle.map_commands.specs.Inputs.{reading};
 ghost use Rattle.map_commands.specs.Lint.{Tells};
-ghost use Rattle.map_commands.specs.Parts.{answer_status};
 ghost use Rattle.monitor_cli.specs.Traces.{HasHarts, HasNoHarts, IsTraceLint, LintsTrace};
 
 use crate::machine_run::read_platform;
 use byte_streams::{Sink, Source};
-use map_commands::bytes_in;
+use map_commands::{answer_status, bytes_in};
 use program_troubles::Trouble;
 use std::alloc::Global;
-use trace_lint::{LintFault, lint_trace};
+use trace_lint::{LintFault, Taker, lint_trace};
 
 /// How many bytes a trace may have that is linted.
 pub const TRACE_BYTES: usize = 1 << 30;
@@ -35,26 +34,19 @@ fn harts_in<'a, R: Source>(
     Ok(platform.harts())
 }
 
-/// The status of an answer: 0 for a yes, and 1 for a no.
-fn answer_status(yes: bool) -> u8
-    ensures { result ≡ answer_status yes }
-{
-    if yes { 0 } else { 1 }
-}
-
-/// Prints what is wrong with the bytes of a trace.
+/// Prints what is wrong with the bytes of a trace that should be taken so.
 pub fn lint_as_trace<W: Sink>(
     alloc: Global,
     name: &str,
     bytes: &[u8],
-    harts: u8,
+    taker: Taker,
     out: &mut W,
 ) -> Result<u8, Trouble<'static>>
     requires { length bytes.now < 2 ^ 64 - 1 }
-    ensures { Tells (IsTraceLint name.now harts bytes.now)
+    ensures { Tells (IsTraceLint name.now taker bytes.now)
         (writing W.contents W.failures W.stalls out.old out.new) result }
 {
-    match lint_trace(alloc, name, bytes, harts, out) {
+    match lint_trace(alloc, name, bytes, taker, out) {
         Ok(is_trace) => Ok(answer_status(is_trace)),
         Err(LintFault::Memory) => Err(Trouble::Memory),
         Err(LintFault::Device) => Err(Trouble::Output),
@@ -78,5 +70,5 @@ pub fn do_lint_trace<'a, R: Source, W: Sink>(
 {
     let harts = harts_in(alloc, platform, second)?;
     let bytes = bytes_in(alloc, file, first, TRACE_BYTES)?;
-    lint_as_trace(alloc, file, bytes.as_slice(), harts, out)
+    lint_as_trace(alloc, file, bytes.as_slice(), Taker::Run { harts }, out)
 }

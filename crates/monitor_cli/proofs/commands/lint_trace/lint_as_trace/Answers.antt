@@ -1,6 +1,7 @@
 use Rattle.std.proofs.Common.{◌≡◌, ℕ, [], Bool, true, false, List, Err, Ok, Option, ap, refl, sym}
 use Rattle.byte_streams.specs.Writings.{writing, TakesAll}
 use Rattle.byte_streams.proofs.Writings.{takes_none}
+use Rattle.trace_lint.specs.declared.taker.Taker.{Taker}
 use Rattle.trace_lint.specs.Lints.{IsLintText, is_trace}
 use Rattle.map_commands.specs.Lint as lints
 use Rattle.monitor_cli.specs.Traces.{IsTraceLint}
@@ -8,20 +9,20 @@ use Rattle.monitor_cli.proofs.commands.lint_trace.lint_as_trace.Goals as goal
 
 -- what was written, by the answer
 text :
-    {W : Type 0} (contents : W → Option (List ℕ)) (failures stalls : W → ℕ) (old new : W) (name bytes : List ℕ) (harts : ℕ) (is : Bool)
-    → is ≡ is_trace harts bytes → (is ≡ true → new ≡ old)
-    → (is ≡ false → (text : List ℕ) × IsLintText name harts bytes text × TakesAll text (writing contents failures stalls old new))
-    → (text : List ℕ) × IsTraceLint name harts bytes is text × TakesAll text (writing contents failures stalls old new)
-text contents failures stalls old new name bytes harts true answer silent written =
+    {W : Type 0} (contents : W → Option (List ℕ)) (failures stalls : W → ℕ) (old new : W) (name bytes : List ℕ) (taker : Taker) (is : Bool)
+    → is ≡ is_trace taker bytes → (is ≡ true → new ≡ old)
+    → (is ≡ false → (text : List ℕ) × IsLintText name taker bytes text × TakesAll text (writing contents failures stalls old new))
+    → (text : List ℕ) × IsTraceLint name taker bytes is text × TakesAll text (writing contents failures stalls old new)
+text contents failures stalls old new name bytes taker true answer silent written =
     ([], (sym answer, refl), rw (silent refl) (takes_none contents failures stalls old))
-text contents failures stalls old new name bytes harts false answer silent written =
+text contents failures stalls old new name bytes taker false answer silent written =
     let w = written refl in (w.0, (sym answer, w.1), w.2)
 
 pub returns-in-Ok : goal.returns-in-Ok
 returns-in-Ok g c =
     let said = c.in-Ok.ensures in
     let w =
-    text g.W.Sink.contents g.W.Sink.failures g.W.Sink.stalls c.args.out.now c.lint_trace.new.out c.args.name.now c.args.bytes.now c.args.harts c.in-Ok.is_trace
+    text g.W.Sink.contents g.W.Sink.failures g.W.Sink.stalls c.args.out.now c.lint_trace.new.out c.args.name.now c.args.bytes.now c.args.taker c.in-Ok.is_trace
     said.trace (λ e. said.silent (ap (λ t. Ok t) e)) (λ e. said.written (ap (λ t. Ok t) e)) in
     rw c.answer_status.ensures (lints.Tells.whole c.in-Ok.is_trace w.0 w.1 w.2)
 

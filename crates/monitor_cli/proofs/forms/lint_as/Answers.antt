@@ -1,4 +1,4 @@
-use Rattle.monitor_cli.proofs.hints.lint_as.Goals as goal
+use Rattle.monitor_cli.proofs.forms.lint_as.Goals as goal
 
 pub returns-in-Map : goal.returns-in-Map
 returns-in-Map g c = rw c.in-Map.is c.lint_map.ensures

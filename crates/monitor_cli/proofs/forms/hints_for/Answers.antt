@@ -1,7 +1,7 @@
 use Rattle.std.proofs.Common.{◌∙◌, ap, refl}
 use Rattle.monitor_cli.specs.Hints.{IsLintAs, hints_in}
 use Rattle.monitor_cli.proofs.HintTexts.{held, wrong}
-use Rattle.monitor_cli.proofs.hints.hints_for.Goals as goal
+use Rattle.monitor_cli.proofs.forms.hints_for.Goals as goal
 
 pub returns : goal.returns
 returns c =

@@ -1,6 +1,6 @@
 use Rattle.std.proofs.Common.{ℕ, List, ◌≡◌, ◌++◌, length}
 use Rattle.monitor_cli.specs.Hints.{hints_in}
-use Rattle.monitor_cli.proofs.hints.hints_in.Given as goal
+use Rattle.monitor_cli.proofs.forms.hints_in.Given as goal
 
 abbrev pub decreases-loop-rest : goal.decreases-loop-rest
 decreases-loop-rest l = length l.rest
