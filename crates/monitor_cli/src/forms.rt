@@ -8,7 +8,7 @@ ghost use Rattle.map_commands.specs.Lint.{Tells};
 ghost use Rattle.monitor_cli.specs.Hints.{hints_in, kind_of, AreHints, HasHints, HasSizeHints, InOrder, IsLintAs};
 
 use crate::commands::lint_as_trace;
-use crate::sizes::{FileKind, Had, had};
+use crate::sizes::{FileKind, Had, bytes_or_hint};
 use byte_streams::{Counted, Sink, Source};
 use lint_texts::split_line;
 use map_commands::{lint_as_platform, lint_listing, lint_map};
@@ -117,7 +117,7 @@ pub(crate) fn hints_of<'a, R: Source>(
         (reading R.remaining R.failures source.old source.new)
         (option_map (λ text. text.items) hints)) }
 {
-    match had(alloc, form.kind(), name, source)? {
+    match bytes_or_hint(alloc, form.kind(), name, source)? {
         Had::Bytes(bytes) => hints_for(alloc, form, name, bytes.as_slice()),
         Had::Hint(hint) => Ok(Some(hint)),
     }
@@ -134,7 +134,7 @@ pub(crate) fn size_hints<'a, R: Source>(
         (reading R.remaining R.failures source.old source.new)
         (option_map (λ text. text.items) hints)) }
 {
-    match had(alloc, kind, name, source)? {
+    match bytes_or_hint(alloc, kind, name, source)? {
         Had::Bytes(_) => Ok(None),
         Had::Hint(hint) => Ok(Some(hint)),
     }

@@ -11,7 +11,7 @@ ghost use Rattle.monitor_cli.specs.Hints.{named_kind, AreMapHints, AreRunHints, 
 use crate::forms::{Form, hints_for, hints_in_order, hints_of, size_hints};
 use crate::machine_run::platform_in;
 use crate::needs::{Bounds, bank_bounds, boot_hint, need_hint, plan_bounds, table_bounds};
-use crate::sizes::{FileKind, Had, had};
+use crate::sizes::{FileKind, Had, bytes_or_hint};
 use byte_streams::{Sink, Source, write_whole};
 use enclave_table::{BootFault, Platform};
 use hart_sim::Machine;
@@ -83,10 +83,8 @@ fn hints_of_run<'a, R: Source>(
         (source first.old first.new) (source second.old second.new)
         (option_map (λ text. text.items) hints)) }
 {
-    match had(alloc, FileKind::Platform, platform, first)? {
-        Had::Bytes(bytes) => {
-            hints_by_platform(alloc, platform, trace, bytes.as_slice(), second)
-        }
+    match bytes_or_hint(alloc, FileKind::Platform, platform, first)? {
+        Had::Bytes(bytes) => { hints_by_platform(alloc, platform, trace, bytes.as_slice(), second) }
         Had::Hint(hint) => Ok(Some(hint)),
     }
 }
@@ -121,7 +119,7 @@ fn hints_of_map<'a, R: Source>(
         (reading R.remaining R.failures source.old source.new)
         (option_map (λ text. text.items) hints)) }
 {
-    match had(alloc, FileKind::Map, name, source)? {
+    match bytes_or_hint(alloc, FileKind::Map, name, source)? {
         Had::Bytes(bytes) => hints_of_map_text(alloc, name, bounds, bytes.as_slice()),
         Had::Hint(hint) => Ok(Some(hint)),
     }

@@ -111,7 +111,11 @@ pub(crate) fn boot_hint(
     ensures { IfOk result (λ hint.
         hint.items ≡ need_text name.now (most_text needed (limit_number limit))) }
 {
-    need_of(alloc, name, most_line(needed, u64::from(limit.number())).as_slice())
+    need_of(
+        alloc,
+        name,
+        most_line(needed, u64::from(limit.number())).as_slice(),
+    )
 }
 
 /// The hint of a map that needs so many entries, where configuration words have no room for them.

@@ -79,7 +79,7 @@ fn size_hint(alloc: Global, kind: FileKind, name: &str) -> Result<Vec<u8>, Alloc
 }
 
 /// The bytes of a file of that kind, or the hint that it has more than it may.
-pub(crate) fn had<'a, R: Source>(
+pub(crate) fn bytes_or_hint<'a, R: Source>(
     alloc: Global,
     kind: FileKind,
     name: &'a str,
