@@ -14,7 +14,7 @@ use Rattle.program_tasks.specs.declared.task.Format.TheVariants as formats
 use Rattle.program_troubles.specs.declared.trouble.Trouble.TheVariants.{Memory}
 use Rattle.map_commands.specs.CertifiedPlan.{Placing, IsTooFar, IsUnplanned, IsWithin, NeedsMore, beyond, starved, unreached}
 use Rattle.map_commands.specs.Plan.{most_entries}
-use Rattle.map_commands.specs.Parts.{Stops}
+use Rattle.map_commands.specs.Stops.{Stops}
 
 pub stops :
     {S : Type 0} (does : Meaning S) (refuses : S → List ℕ → Type 0) (starves : S → List ℕ → S → Type 0) (old new : S) (before after held holds : Option (List ℕ)) (fault : RunFault)

@@ -1,4 +1,3 @@
 pub mod Ends
 pub mod Names
 mod PlanCertificates
-pub mod Refusals

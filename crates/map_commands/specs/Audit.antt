@@ -12,9 +12,9 @@ use Rattle.register_audit.specs.Audits.{IsAudit}
 use Rattle.register_text.specs.Listings.{IsFirstUnknown}
 use Rattle.program_troubles.specs.declared.trouble.Trouble.{Trouble}
 use Rattle.program_troubles.specs.declared.trouble.Trouble.TheVariants.{NotUnderstood, Output, Memory}
-use Rattle.map_commands.specs.Inputs.{Reading, IsUnread, HasBytes, HasNoBytes, HasMap, HasNoMap}
+use Rattle.command_inputs.specs.Inputs.{Reading, IsUnread, HasBytes, HasNoBytes, HasMap, HasNoMap}
 use Rattle.map_commands.specs.CertifiedPlan.{IsTooFar}
-use Rattle.map_commands.specs.Parts.{answer_status}
+use Rattle.command_inputs.specs.Statuses.{answer_status}
 
 -- what an audit is made of: the map of the first file, the listing in the second, and how many entries are enough, which the
 -- hart's address registers reach

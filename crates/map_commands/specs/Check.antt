@@ -7,7 +7,7 @@ use Rattle.permission_map.specs.Runs.{view_of_runs}
 use Rattle.program_troubles.specs.declared.trouble.Trouble.{Trouble}
 use Rattle.program_troubles.specs.declared.trouble.Trouble.TheVariants.{Output}
 use Rattle.map_commands.specs.Verdicts.{IsVerdict}
-use Rattle.map_commands.specs.Inputs.{Reading, IsUnread, HasBytes, HasNoBytes, HasMap, HasNoMap}
+use Rattle.command_inputs.specs.Inputs.{Reading, IsUnread, HasBytes, HasNoBytes, HasMap, HasNoMap}
 
 -- `check`: the map is read, then the certificate, and the line of the verdict is written
 pub data Checks {R W : Type 0} (map cert : Bor (List ℕ)) (first second : Reading R) (out : Writing W) : Result ℕ Trouble → Type 0 where

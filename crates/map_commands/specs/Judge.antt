@@ -28,9 +28,9 @@ use Rattle.explained_answers.specs.Deciders.{by_first}
 use Rattle.explained_answers.specs.Explained.{explaining}
 use Rattle.explained_answers.specs.Reasons.{Decides, on_access}
 use Rattle.map_commands.specs.Expected.{IsTold}
-use Rattle.map_commands.specs.Parts.{Stops}
+use Rattle.map_commands.specs.Stops.{Stops}
 use Rattle.program_troubles.specs.Troubles.{run_trouble}
-use Rattle.map_commands.specs.Inputs.{Reading, IsUnread, HasBytes, HasNoBytes, HasMap, HasNoMap}
+use Rattle.command_inputs.specs.Inputs.{Reading, IsUnread, HasBytes, HasNoBytes, HasMap, HasNoMap}
 use Rattle.map_commands.specs.CertifiedPlan.{IsLoaded, IsTooFar}
 
 -- a trace is judged line by line, to its end or until it stops

@@ -2,11 +2,9 @@ pub mod Audit
 pub mod CertifiedPlan
 pub mod Check
 pub mod Expected
-pub mod Inputs
 pub mod Judge
-pub mod Lint
 pub mod Map
-pub mod Parts
 pub mod Plan
 pub mod Show
+pub mod Stops
 pub mod Verdicts

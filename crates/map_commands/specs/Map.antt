@@ -8,8 +8,8 @@ use Rattle.register_text.specs.declared.listing.Listing.{Listing}
 use Rattle.register_text.specs.Listings.{IsFirstUnknown, listed}
 use Rattle.program_troubles.specs.declared.trouble.Trouble.{Trouble}
 use Rattle.program_troubles.specs.declared.trouble.Trouble.TheVariants.{NotUnderstood, TooManyRanges, Output, Memory}
-use Rattle.map_commands.specs.Inputs.{Reading, HasBytes, HasNoBytes}
-use Rattle.map_commands.specs.Parts.{answer_status}
+use Rattle.command_inputs.specs.Inputs.{Reading, HasBytes, HasNoBytes}
+use Rattle.command_inputs.specs.Statuses.{answer_status}
 
 -- `map`: the listing of registers is read, and the map that they mean is printed, or why there is none. That it would have too
 -- many ranges is a rule of its own

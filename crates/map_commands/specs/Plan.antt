@@ -17,7 +17,7 @@ use Rattle.program_tasks.specs.declared.task.Format.{Format}
 use Rattle.program_tasks.specs.declared.task.Format.TheVariants as formats
 use Rattle.program_troubles.specs.declared.trouble.Trouble.{Trouble}
 use Rattle.program_troubles.specs.declared.trouble.Trouble.TheVariants.{Output, Memory}
-use Rattle.map_commands.specs.Inputs.{Reading, HasMap, HasNoMap}
+use Rattle.command_inputs.specs.Inputs.{Reading, HasMap, HasNoMap}
 use Rattle.map_commands.specs.CertifiedPlan.{Placing, IsCertified, IsPlanned, BreaksCertificate, NeedsMore, IsTooFar}
 
 -- how many entries a plan may have, where there is a bound: what was asked for, and for C and assembly as many as the hart has

@@ -19,9 +19,9 @@ use Rattle.program_tasks.specs.declared.task.TableFormat.{TableFormat}
 use Rattle.program_tasks.specs.declared.task.TableFormat.TheVariants as tables
 use Rattle.program_troubles.specs.declared.trouble.Trouble.{Trouble}
 use Rattle.program_troubles.specs.declared.trouble.Trouble.TheVariants.{NotUnderstood, Output, Memory}
-use Rattle.map_commands.specs.Inputs.{Reading, HasBytes, HasNoBytes, HasMap, HasNoMap}
+use Rattle.command_inputs.specs.Inputs.{Reading, HasBytes, HasNoBytes, HasMap, HasNoMap}
 use Rattle.map_commands.specs.CertifiedPlan.{IsPlanned, NeedsMore, IsTooFar}
-use Rattle.map_commands.specs.Parts.{answer_status}
+use Rattle.command_inputs.specs.Statuses.{answer_status}
 
 -- the table of a map as text, and after it what each line of its file costs, where that is asked for
 abbrev pub IsText : Bool → List ℕ → View → List Entry → Limit → List ℕ → Type 0

@@ -15,8 +15,8 @@ ghost use Rattle.byte_streams.specs.Writings.{writing, TakesAll};
 ghost use Rattle.register_width.specs.Widths.{AreReached};
 ghost use Rattle.map_commands.specs.CertifiedPlan.{placing, AreNeeded, IsBeyond, IsCertified, IsLoaded, IsNotPlaced, IsPlanned, IsTooFar, IsUnloaded, IsUnplanned, IsWithin, NeedsMore};
 
-use crate::inputs::map_by;
 use byte_streams::DeviceFault;
+use command_inputs::map_by;
 use entry_planner::{Plan, plan_map};
 use permission_map::{Memory, PermissionMap};
 use plan_certificate::send_map;

@@ -1,4 +1,2 @@
 pub mod Ends
-pub mod HintTexts
 pub mod Live
-pub mod Refusals

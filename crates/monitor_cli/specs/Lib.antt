@@ -1,9 +1,5 @@
 pub use Rattle.trace_judge.specs.Answers
 pub mod HeldOutput
-pub mod Hints
-pub mod Needs
 pub mod Programs
 pub mod Runs
-pub mod Sizes
 pub mod Tasks
-pub mod Traces

@@ -13,14 +13,14 @@ use Rattle.program_troubles.specs.Troubles.{status_of, trouble_text}
 use Rattle.map_commands.specs.Audit.{Audits}
 use Rattle.map_commands.specs.CertifiedPlan.{Placing}
 use Rattle.map_commands.specs.Check.{Checks}
-use Rattle.map_commands.specs.Inputs.{IsUnread, Reading}
+use Rattle.command_inputs.specs.Inputs.{IsUnread, Reading}
 use Rattle.map_commands.specs.Judge.{JudgesAs}
-use Rattle.map_commands.specs.Lint.{Lints, LintsListing}
+use Rattle.lint_commands.specs.Lint.{Lints, LintsListing}
 use Rattle.map_commands.specs.Map.{Maps}
 use Rattle.map_commands.specs.Plan.{Plans}
 use Rattle.map_commands.specs.Show.{ShowsAs}
 use Rattle.monitor_cli.specs.Runs.{Runs}
-use Rattle.monitor_cli.specs.Traces.{LintsTrace}
+use Rattle.lint_commands.specs.Traces.{LintsTrace}
 
 -- `lint`, by what the file should be; the width is that of the registers of a listing
 abbrev pub LintsAs : {R W : Type 0} → LintKind → Xlen → Bor (List ℕ) → Reading R → Reading R → Writing W → Result ℕ Trouble → Type 0

@@ -21,23 +21,11 @@ use Rattle.program_tasks.specs.declared.task.Answers.TheVariants as answers
 use Rattle.program_troubles.specs.declared.trouble.Trouble.{Trouble}
 use Rattle.program_troubles.specs.declared.trouble.Trouble.TheVariants.{NotAPlatform, Output, Memory}
 use Rattle.program_troubles.specs.Troubles.{boot_trouble, run_trouble}
-use Rattle.map_commands.specs.Inputs.{HasBytes, HasNoBytes, IsUnread, Reading}
+use Rattle.command_inputs.specs.Inputs.{IsUnread, Reading}
+use Rattle.command_inputs.specs.Platforms.{HasNoPlatform, HasPlatform}
 use Rattle.map_commands.specs.Expected.{IsTold}
-use Rattle.map_commands.specs.Parts.{Stops}
+use Rattle.map_commands.specs.Stops.{Stops}
 use Rattle.monitor_cli.specs.Tasks.{AreMeasures}
-use Rattle.platform_file.specs.Document.{IsPlatformFile}
-
--- the bytes of a file are the platform
-pub record HasPlatform {R : Type 0} (source : Reading R) (platform : Layout) : Type 0 where
-  pub bytes : List ℕ
-  pub read : HasBytes (2 ^ 20) source bytes
-  pub is_platform : IsPlatformFile bytes platform
-
--- why the platform of a file could not be had
-pub data HasNoPlatform {R : Type 0} (file : Bor (List ℕ)) (source : Reading R) : Trouble → Type 0 where
-  no_bytes : (trouble : Trouble) → HasNoBytes (2 ^ 20) file source trouble → HasNoPlatform file source trouble
-  no_platform : (bytes : List ℕ) → HasBytes (2 ^ 20) source bytes → ((platform : Layout) → IsPlatformFile bytes platform → ⊥) → HasNoPlatform file source (NotAPlatform file)
-  memory : (bytes : List ℕ) → HasBytes (2 ^ 20) source bytes → HasNoPlatform file source Memory
 
 -- the measurements of a machine's live enclaves were written where they are asked for, and otherwise nothing more
 abbrev pub IsMeasured : Bool → Machine → Option (List ℕ) → Option (List ℕ) → Type 0

@@ -8,7 +8,7 @@ ghost use Rattle.byte_streams.specs.declared.streams.Counted.{Counted};
 ghost use Rattle.std.specs.declared.io.buffered.BufWriter.{BufWriter};
 ghost use Rattle.byte_streams.specs.Writings.{writing};
 ghost use Rattle.map_commands.specs.CertifiedPlan.{placing};
-ghost use Rattle.map_commands.specs.Inputs.{reading};
+ghost use Rattle.command_inputs.specs.Inputs.{reading};
 ghost use Rattle.monitor_cli.specs.Programs.{Ends, Tells};
 ghost use Rattle.program_troubles.specs.declared.trouble.Trouble.TheVariants.{Output};
 

@@ -2,8 +2,7 @@
 //!
 //! For the layer above: [`perform`] does a [`Task`] and answers the program's status: its clause has a rule for each way in
 //! which a command ends, with what was read and written in which order. [`perform_and_close`] does the same on an output that
-//! is held in part until its end. [`tell_hints`] says on standard error what is wrong with the inputs of a task that ended for bad
-//! input. The commands that need no machine, tasks, the program's files, troubles, the texts of maps
+//! is held in part until its end. The commands that need no machine, hints, tasks, the program's files, troubles, the texts of maps
 //! and platforms and the printed lines are crates of their own.
 //!
 //! ```rust
@@ -12,16 +11,11 @@
 #![tactic(auto)]
 
 mod commands;
-mod forms;
 mod held_output;
-mod hints;
 mod machine_run;
-mod needs;
 mod program;
-mod sizes;
 
 pub use held_output::{closed, perform_and_close};
-pub use hints::tell_hints;
 pub use platform_file::{TextFault, platform_of};
 pub use printed_lines::digest_text;
 pub use program::perform;

@@ -1,4 +1,4 @@
-//! The parts of `run`: the platform, the machine that boots on it, and the measurements after its report.
+//! The parts of `run`: the machine that boots on a platform, and the measurements after its report.
 
 ghost use Rattle.std.specs.Prelude.{◌≡◌, ◌-◌, ◌^◌, ◌<◌, ◌≤◌, ◌++◌, ◌⊎◌, ℕ, List, Err, IfErr, IfOk, IfSome, None, true};
 ghost use Rattle.byteorder.specs.Endian.{little_bytes};
@@ -8,63 +8,22 @@ ghost use Rattle.enclave_table.specs.declared.boot.BootFault.{BootFault};
 ghost use Rattle.enclave_table.specs.declared.enclave.Enclave.{Enclave};
 ghost use Rattle.enclave_table.specs.Digests.{AnswersWord};
 ghost use Rattle.enclave_table.specs.Enclaves.{Live};
-ghost use Rattle.enclave_table.specs.Platform.{Layout};
 ghost use Rattle.hart_sim.specs.After.{IsBooted};
 ghost use Rattle.hart_sim.specs.Machines.{kept_of, KeepsBanksRight};
 ghost use Rattle.program_troubles.specs.Troubles.{boot_trouble};
-ghost use Rattle.map_commands.specs.Inputs.{reading};
-ghost use Rattle.monitor_cli.specs.Runs.{HasNoPlatform, HasPlatform, IsMeasured};
+ghost use Rattle.monitor_cli.specs.Runs.{IsMeasured};
 ghost use Rattle.monitor_cli.specs.Tasks.{AreMeasures, IsDigest, IsMeasureText};
-ghost use Rattle.platform_file.specs.Document.{IsPlatformFile};
 
-use byte_streams::{DeviceFault, Sink, Source, write_whole};
+use byte_streams::{DeviceFault, Sink, write_whole};
 use byteorder::{ByteOrder, LittleEndian};
 use enclave_table::{Platform, Table};
 use hart_sim::Machine;
-use map_commands::bytes_in;
-use platform_file::platform_of;
 use printed_lines::measure_line;
 use program_troubles::Trouble;
 use std::alloc::Global;
-use std::str;
-
-/// How many bytes a platform file may have.
-pub const PLATFORM_BYTES: usize = 1 << 20;
 
 /// The most enclaves that are live, and their largest id.
 const ENCLAVES: u64 = 64;
-
-/// The platform that the bytes of a file are.
-pub fn platform_in<'a>(alloc: Global, file: &'a str, bytes: &[u8]) -> Result<Platform, Trouble<'a>>
-    ensures ok { IfOk result (IsPlatformFile bytes.now) }
-    ensures refused { IfErr result (λ trouble.
-        (trouble ≡ Trouble.Memory)
-        ⊎ ((trouble ≡ Trouble.NotAPlatform file.entry)
-        × ((platform : Layout) → IsPlatformFile bytes.now platform → ⊥))) }
-{
-    let Ok(text) = str::from_utf8(bytes) else {
-        return Err(Trouble::NotAPlatform { file });
-    };
-    match platform_of(alloc, text) {
-        Ok(platform) => Ok(platform),
-        Err(fault) => Err(Trouble::of_text(file, fault)),
-    }
-}
-
-/// The platform of a platform file.
-pub fn read_platform<'a, R: Source>(
-    alloc: Global,
-    file: &'a str,
-    source: &mut R,
-) -> Result<Platform, Trouble<'a>>
-    ensures made { IfOk result
-        (HasPlatform (reading R.remaining R.failures source.old source.new)) }
-    ensures refused { IfErr result
-        (HasNoPlatform file.entry (reading R.remaining R.failures source.old source.new)) }
-{
-    let bytes = bytes_in(alloc, file, source, PLATFORM_BYTES)?;
-    platform_in(alloc, file, bytes.as_slice())
-}
 
 /// The machine of a platform.
 pub fn booted<'a>(alloc: Global, platform: Platform) -> Result<Machine, Trouble<'a>>

@@ -3,15 +3,15 @@
 ghost use Rattle.std.specs.Prelude.{◌≡◌};
 ghost use Rattle.byte_streams.specs.Writings.{writing};
 ghost use Rattle.map_commands.specs.CertifiedPlan.{placing};
-ghost use Rattle.map_commands.specs.Inputs.{reading};
+ghost use Rattle.command_inputs.specs.Inputs.{reading};
 ghost use Rattle.monitor_cli.specs.Programs.{Ends, LintsAs, Performs, Tells};
 ghost use Rattle.program_troubles.specs.Troubles.{status_of};
 
-use crate::commands::{do_lint_trace, do_run_as};
+use crate::commands::do_run_as;
 use byte_streams::{Sink, Source};
+use lint_commands::{do_lint, do_lint_listing, do_lint_trace};
 use map_commands::{
-    Asked, Table, do_audit, do_check, do_judge_as, do_lint, do_lint_listing, do_map, do_plan,
-    do_show_as,
+    Asked, Table, do_audit, do_check, do_judge_as, do_map, do_plan, do_show_as,
 };
 use program_files::WholeSink;
 use program_tasks::{LintKind, Task};

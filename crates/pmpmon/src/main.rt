@@ -17,7 +17,8 @@ use byte_streams::Counted;
 use clap::Error;
 use clap::error::ErrorKind;
 use command_line::{command_of, no_certificate, takes_place};
-use monitor_cli::{perform_and_close, tell_hints};
+use input_hints::tell_hints;
+use monitor_cli::perform_and_close;
 use program_files::{
     CertificateFile, Explained, InputToRead, Reason, RetryInterrupted, is_same_file,
     is_same_plain_file,

@@ -3,7 +3,7 @@
 use super::runs::{prints, run};
 use byte_streams::Counted;
 use command_line::command_of;
-use monitor_cli::tell_hints;
+use input_hints::tell_hints;
 use std::alloc::Global;
 use std::process::Abort;
 

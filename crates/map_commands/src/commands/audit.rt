@@ -3,12 +3,11 @@
 ghost use Rattle.std.specs.Prelude.{◌-◌, ◌^◌, ◌<◌};
 ghost use Rattle.byte_streams.specs.Writings.{writing};
 ghost use Rattle.map_commands.specs.Audit.{Audits};
-ghost use Rattle.map_commands.specs.Inputs.{reading};
+ghost use Rattle.command_inputs.specs.Inputs.{reading};
 
 use crate::certified_plan::fewest_in;
-use crate::commands::answer_status;
-use crate::inputs::{REGISTER_BYTES, bytes_in, map_in};
 use byte_streams::{Sink, Source};
+use command_inputs::{REGISTER_BYTES, answer_status, bytes_in, map_in};
 use program_troubles::Trouble;
 use register_audit::{AuditFault, audit};
 use register_width::Xlen;

@@ -3,11 +3,11 @@
 ghost use Rattle.std.specs.Prelude.{◌-◌, ◌^◌, ◌<◌};
 ghost use Rattle.byte_streams.specs.Writings.{writing};
 ghost use Rattle.map_commands.specs.Check.{Checks};
-ghost use Rattle.map_commands.specs.Inputs.{reading};
+ghost use Rattle.command_inputs.specs.Inputs.{reading};
 
 use crate::commands::verdicts::verdict;
-use crate::inputs::{CERTIFICATE_BYTES, bytes_in, map_in};
 use byte_streams::{DeviceFault, Sink, Source, write_whole};
+use command_inputs::{CERTIFICATE_BYTES, bytes_in, map_in};
 use program_troubles::Trouble;
 use std::alloc::Global;
 

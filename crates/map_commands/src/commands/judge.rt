@@ -5,13 +5,13 @@ ghost use Rattle.byte_streams.specs.Writings.{writing};
 ghost use Rattle.trace_judge.specs.Answers.{answered_by};
 ghost use Rattle.explained_answers.specs.Explained.{explaining};
 ghost use Rattle.explained_answers.specs.Reasons.{on_access};
-ghost use Rattle.map_commands.specs.Inputs.{reading};
+ghost use Rattle.command_inputs.specs.Inputs.{reading};
 ghost use Rattle.map_commands.specs.Judge.{Judges, JudgesAs, JudgesByRegisters, JudgesExpecting, JudgesTrace, JudgesTraceAs};
 
 use crate::certified_plan::bank_in;
 use crate::expected::tell_first;
-use crate::inputs::{REGISTER_BYTES, bytes_in, map_in};
 use byte_streams::{DeviceFault, Sink, Source, write_whole};
+use command_inputs::{REGISTER_BYTES, bytes_in, map_in};
 use expected_answers::compare_judged;
 use explained_answers::{Deciders, explain_judged};
 use pmp_encoding::Limit;

@@ -2,14 +2,14 @@
 
 ghost use Rattle.std.specs.Prelude.{◌≡◌, ◌-◌, ◌^◌, ◌<◌, ℕ, List, Option, IfErr, IfOk, length, option_map};
 ghost use Rattle.map_commands.specs.CertifiedPlan.{placing, IsWithin};
-ghost use Rattle.map_commands.specs.Inputs.{reading};
+ghost use Rattle.command_inputs.specs.Inputs.{reading};
 ghost use Rattle.map_commands.specs.Plan.{most_entries, IsPrinted, Plans};
 ghost use Rattle.byte_streams.specs.Writings.{writing, PrintsOne};
 ghost use Rattle.register_width.specs.Widths.{AreReached};
 
 use crate::certified_plan::plan_and_certify;
-use crate::inputs::map_in;
 use byte_streams::{DeviceFault, Sink, Source};
+use command_inputs::map_in;
 use pmp_encoding::{Entry, Limit};
 use printed_lines::{print_plan, room_from};
 use program_files::WholeSink;

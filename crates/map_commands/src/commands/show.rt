@@ -3,13 +3,12 @@
 ghost use Rattle.std.specs.Prelude.{◌-◌, ◌^◌, ◌<◌, IfOk, length};
 ghost use Rattle.byte_streams.specs.Writings.{writing};
 ghost use Rattle.permission_map.specs.Runs.{view_of_runs};
-ghost use Rattle.map_commands.specs.Inputs.{reading};
+ghost use Rattle.command_inputs.specs.Inputs.{reading};
 ghost use Rattle.map_commands.specs.Show.{IsShown, IsText, Shows, ShowsAs, ShowsRegisters};
 
 use crate::certified_plan::planned_near;
-use crate::commands::answer_status;
-use crate::inputs::{MAP_BYTES, REGISTER_BYTES, bytes_in, map_by};
 use byte_streams::{DeviceFault, Sink, Source, write_whole};
+use command_inputs::{MAP_BYTES, REGISTER_BYTES, answer_status, bytes_in, map_by};
 use line_costs::push_line_costs;
 use map_table::table_of;
 use permission_map::{Memory, PermissionMap};

@@ -6,11 +6,12 @@ ghost use Rattle.hart_sim.specs.Machines.{KeepsBanksRight};
 ghost use Rattle.hart_sim.specs.Reports.{DoesLine};
 ghost use Rattle.explained_answers.specs.Explained.{explaining};
 ghost use Rattle.explained_runs.specs.Comments.{on_event};
-ghost use Rattle.map_commands.specs.Inputs.{reading};
+ghost use Rattle.command_inputs.specs.Inputs.{reading};
 ghost use Rattle.monitor_cli.specs.Runs.{Runs, RunsExpecting, RunsTrace, RunsTraceAs};
 
-use crate::machine_run::{booted, measure_where, read_platform};
+use crate::machine_run::{booted, measure_where};
 use byte_streams::{DeviceFault, Sink, Source};
+use command_inputs::read_platform;
 use expected_answers::{Compared, compare_lines};
 use explained_runs::{Ran, explain_run};
 use hart_sim::{Machine, run};

@@ -6,7 +6,7 @@ use Rattle.pmp_encoding.specs.declared.region.Entry.{Entry}
 use Rattle.permission_map.specs.declared.runs.Run.{Run}
 use Rattle.permission_map.specs.Runs.{view_of_runs}
 use Rattle.map_commands.specs.Audit.{IsAudited, audited, no_registers, not_understood}
-use Rattle.map_commands.specs.Inputs.{HasBytes, HasMap, Reading}
+use Rattle.command_inputs.specs.Inputs.{HasBytes, HasMap, Reading}
 use Rattle.map_commands.specs.Audit as audits
 use Rattle.pmp_match.specs.Meaning.{IsFewest}
 use Rattle.map_commands.proofs.commands.audit.do_audit.Goals as goal

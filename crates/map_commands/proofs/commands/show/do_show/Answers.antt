@@ -1,9 +1,9 @@
 use Rattle.std.proofs.Common.{inl, inr, refl}
 use Rattle.std.proofs.lemmas.Result.{err_from_is_err_and}
 use Rattle.map_commands.specs.Show.{shown}
-use Rattle.map_commands.specs.Inputs as inputs
+use Rattle.command_inputs.specs.Inputs as inputs
 use Rattle.map_commands.specs.Show as shows
-use Rattle.map_commands.proofs.Refusals.{map_read, no_map_of}
+use Rattle.command_inputs.proofs.Refusals.{map_read, no_map_of}
 use Rattle.map_commands.proofs.commands.show.do_show.Goals as goal
 
 pub returns-in_err-bytes : goal.returns-in_err-bytes

@@ -1,0 +1,2 @@
+pub mod HintTexts
+pub mod Refusals

@@ -1,0 +1,3 @@
+pub mod Hints
+pub mod Needs
+pub mod Sizes

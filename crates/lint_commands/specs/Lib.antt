@@ -1,0 +1,2 @@
+pub mod Lint
+pub mod Traces
