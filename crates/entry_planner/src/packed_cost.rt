@@ -24,6 +24,7 @@ impl Model for PackedCost {
 
 impl PackedCost {
     /// The cost, packed.
+    #[inline(always)]
     pub fn new(cost: BlockCost) -> PackedCost
         requires { cost.least < 2 ^ 24 }
         ensures { result ≡ cost }
@@ -34,6 +35,7 @@ impl PackedCost {
     }
 
     /// The cost.
+    #[inline(always)]
     pub fn cost(&self) -> BlockCost
         ensures { result ≡ self.now }
     {

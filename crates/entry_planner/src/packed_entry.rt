@@ -29,6 +29,7 @@ impl PackedEntry {
     ghost use Rattle.entry_planner.specs.Placement.{ArePages, IsBlockOf};
 
     /// The entry that gives the 2^log2 pages from `first` on a permission.
+    #[inline(always)]
     pub fn new(first: u64, log2: u32, perm: Perm) -> PackedEntry
         requires { ArePages log2 first }
         ensures { IsBlockOf log2 first perm result }
@@ -39,12 +40,14 @@ impl PackedEntry {
     }
 
     /// The number of its pages, as a power of two.
+    #[inline(always)]
     pub fn log2(&self) -> usize
         ensures { result < 64 }
     {
         (self.number / 8 % 64) as usize
     }
 
+    #[inline(always)]
     fn perm(&self) -> Perm
         ensures { result ≡ self.now.perm }
     {
@@ -59,6 +62,7 @@ impl PackedEntry {
     }
 
     /// The entry.
+    #[inline(always)]
     pub fn entry(&self) -> Entry
         ensures { result ≡ self.now }
     {

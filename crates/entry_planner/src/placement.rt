@@ -83,6 +83,7 @@ fn chosen(perms: HalfPerms, inherited: Perm) -> Perm
 }
 
 /// Adds the entry that gives a block another permission than the inherited one.
+#[inline(always)]
 fn turn(
     pages: Pages,
     inherited: Perm,
