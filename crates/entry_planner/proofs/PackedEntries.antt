@@ -3,7 +3,7 @@ use Rattle.std.proofs.Common.{◌≡◌, ℕ, ◌+◌, ◌*◌, ◌/◌, ◌%◌
 use Rattle.pmp_encoding.specs.declared.perm.Perm.{Perm}
 use Rattle.pmp_encoding.specs.declared.perm.Perm.TheVariants.{NoAccess, Read, ReadWrite, Execute, ReadExecute, ReadWriteExecute}
 use Rattle.std.proofs.Props.{props}
-use Rattle.pmp_encoding.specs.declared.region.Entry.{Entry}
+use Rattle.pmp_encoding.specs.declared.region.Region.{Region}
 use Rattle.pmp_encoding.specs.Block.{IsBlock}
 use Rattle.pmp_encoding.specs.Perms.{bits_of}
 use Rattle.permission_map.specs.Points.{perm_for}
@@ -67,9 +67,6 @@ packed_small first k b pages few =
 block_prop : (n : ℕ) → IsProp (HasBlock n)
 block_prop n = hlevel props
 
--- which proof an entry's region carries makes no difference
-pub entry_same : (n : ℕ) (a b : HasBlock n) (p : Perm) → p ≡ perm_for (n % 8) → record { region = record { base = base_in n; log2 = log2_in n; block = a }; perm = p } ≡ entry_in n b
-entry_same n a b p is =
-    let with_block : HasBlock n → Entry = λ x. record { region = record { base = base_in n; log2 = log2_in n; block = x }; perm = p } in
-    let with_perm : Perm → Entry = λ q. record { region = record { base = base_in n; log2 = log2_in n; block = b }; perm = q } in
-    ap with_block (block_prop n a b) ∙ ap with_perm is
+-- which proof a region carries makes no difference
+pub region_same : (n : ℕ) (a b : HasBlock n) → record { base = base_in n; log2 = log2_in n; block = a } ≡ (entry_in n b).region
+region_same n a b = let with_block : HasBlock n → Region = λ x. record { base = base_in n; log2 = log2_in n; block = x } in ap with_block (block_prop n a b)

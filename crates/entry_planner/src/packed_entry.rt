@@ -3,10 +3,10 @@
 ghost use Rattle.std.specs.Prelude.{◌≡◌, ◌<◌};
 ghost use Rattle.entry_planner.specs.PackedEntries.{HasBlock};
 
-use pmp_encoding::{Entry, Perm, Region};
+use pmp_encoding::{Perm, Region};
 use std::marker::Model;
 
-/// An entry of whole pages, in a third of the room of an [`Entry`]: most of the time of putting entries in order goes by
+/// An entry of whole pages, in a third of the room of an entry: most of the time of putting entries in order goes by
 /// moving them. Contracts see the entry.
 #[derive(Drop)]
 pub struct PackedEntry {
@@ -47,8 +47,9 @@ impl PackedEntry {
         (self.number / 8 % 64) as usize
     }
 
+    /// Its permission.
     #[inline(always)]
-    fn perm(&self) -> Perm
+    pub fn perm(&self) -> Perm
         ensures { result ≡ self.now.perm }
     {
         match self.number % 8 {
@@ -61,18 +62,14 @@ impl PackedEntry {
         }
     }
 
-    /// The entry.
+    /// Its region.
     #[inline(always)]
-    pub fn entry(&self) -> Entry
-        ensures { result ≡ self.now }
+    pub fn region(&self) -> Region
+        ensures { result ≡ self.now.region }
     {
-        let region = Region {
+        Region {
             base: self.number / 512 * 4096,
             log2: (self.number / 8 % 64) as u32 + 12,
-        };
-        Entry {
-            region,
-            perm: self.perm(),
         }
     }
 }
