@@ -30,6 +30,20 @@ ghost use Rattle.certificate_check.specs.Spans.{ReadsAs, Decides, RiseTo, AreCha
 ghost use Rattle.certificate_check.specs.declared.chains.Place.{Place};
 ghost use Rattle.certificate_check.specs.Places.{IsPlace, start_of, ArePlaces};
 
+/// The same span, field by field. As a whole it would be copied with the bytes that no field has, in pieces that lie across
+/// those just written, and the processor would wait for them.
+#[inline(always)]
+fn taken_apart(span: Span) -> Span
+    ensures { result ≡ span }
+{
+    Span {
+        first: span.first,
+        end: span.end,
+        size: span.size,
+        perm: span.perm,
+    }
+}
+
 /// Goes on in the chain of the entries from `from` to before `to`, to the first span that ends after the page.
 fn next_in_chain(entries: &Entries, place: Place, from: usize, to: usize, page: u64) -> Place
     requires inside { to ≤ count_in entries.now }
@@ -44,7 +58,10 @@ fn next_in_chain(entries: &Entries, place: Place, from: usize, to: usize, page: 
         span = entries.span(next);
         next += 1;
     }
-    Place { next, span }
+    Place {
+        next,
+        span: taken_apart(span),
+    }
 }
 
 /// Goes on in one of the chains where the span of its place has ended. (A place is not copied where it stays: that

@@ -65,8 +65,8 @@ least_le_branches (Split lower upper) =
 
 -- so the numbers fit their type
 pub halves_fit :
-    (tree low high : PermTree) (lower upper : BlockCost) → tree ≡ Split low high → splits tree < 2 ^ 32 → lower ≡ block_cost low → upper ≡ block_cost high
-    → lower.least + upper.least + 1 < 2 ^ 32
+    (tree low high : PermTree) (lower upper : BlockCost) → tree ≡ Split low high → splits tree < 2 ^ 24 → lower ≡ block_cost low → upper ≡ block_cost high
+    → lower.least + upper.least + 1 < 2 ^ 24
 halves_fit tree low high lower upper split fit l u =
     let count : splits tree ≡ 1 + (splits low + splits high) = ap splits split in
     let a : lower.least ≡ least_cost low = ap (λ c. c.least) l in
@@ -117,7 +117,7 @@ least_small tree c few is =
 
 -- that of a chain's smallest block, with one more for each larger one
 pub chain_small :
-    (shape tree : PermTree) (chain : Chain) (c : BlockCost) → shape ≡ chained chain tree → splits shape < 2 ^ 32 → c ≡ block_cost tree → c.least + chain.levels < 2 ^ 32
+    (shape tree : PermTree) (chain : Chain) (c : BlockCost) → shape ≡ chained chain tree → splits shape < 2 ^ 24 → c ≡ block_cost tree → c.least + chain.levels < 2 ^ 24
 chain_small shape tree chain c is few own =
     omega (arith, ap (λ x. x.least) own, least_le_branches tree, splits-chained shape tree chain is)
 

@@ -1,5 +1,6 @@
 //! What a block costs: its least number of entries, and under which permissions.
 
+use crate::packed_cost::PackedCost;
 use crate::perm_set::PermSet;
 use pmp_encoding::Perm;
 use prefix_tree::{Chain, Halving};
@@ -88,10 +89,10 @@ fn cost_of_split(together: u32, perms: HalfPerms) -> BlockCost
 fn add_split(
     low: BlockCost,
     high: BlockCost,
-    costs: &mut Vec<BlockCost>,
+    costs: &mut Vec<PackedCost>,
     halves: &mut Vec<HalfPerms>,
 ) -> Result<BlockCost, AllocError>
-    requires { low.least + high.least + 1 < 2 ^ 32 }
+    requires { low.least + high.least + 1 < 2 ^ 24 }
     ensures own { IfOk result (λ cost.
         (lower upper : PermTree) → low ≡ block_cost lower → high ≡ block_cost upper
         → cost ≡ block_cost (Split lower upper)) }
@@ -105,7 +106,7 @@ fn add_split(
 {
     let perms = perms_of_halves(low, high);
     let cost = cost_of_split(low.least + high.least, perms);
-    costs.push(cost)?;
+    costs.push(PackedCost::new(cost))?;
     halves.push(perms)?;
     Ok(cost)
 }
@@ -122,11 +123,11 @@ fn cost_beside(place: u64, before: BlockCost, behind: BlockCost) -> BlockCost
 fn add_chain_costs(
     chain: Chain,
     smallest: BlockCost,
-    costs: &mut Vec<BlockCost>,
+    costs: &mut Vec<PackedCost>,
     halves: &mut Vec<HalfPerms>,
 ) -> Result<BlockCost, AllocError>
     requires chain { IsChain chain }
-    requires small { smallest.least + chain.levels < 2 ^ 32 }
+    requires small { smallest.least + chain.levels < 2 ^ 24 }
     ensures own { IfOk result (λ cost.
         (tree : PermTree) → smallest ≡ block_cost tree → cost ≡ block_cost (chained chain tree)) }
     ensures costs { OnOk result ((tree : PermTree) (first : List BlockCost)
@@ -155,10 +156,10 @@ fn add_chain_costs(
 /// Appends the costs of the split blocks of a block, and their halves' permissions, the last in preorder first.
 pub fn add_costs<H: Halving>(
     block: &H,
-    costs: &mut Vec<BlockCost>,
+    costs: &mut Vec<PackedCost>,
     halves: &mut Vec<HalfPerms>,
 ) -> Result<BlockCost, AllocError>
-    requires { splits (H.shape block.now) < 2 ^ 32 }
+    requires { splits (H.shape block.now) < 2 ^ 24 }
     ensures own { IfOk result (λ cost. cost ≡ block_cost (H.shape block.now)) }
     ensures costs { OnOk result (costs.new.items ≡ costs.old.items
         ++ reverse (costs_in (H.shape block.now))) }

@@ -1,8 +1,9 @@
 //! The pass down the tree: which blocks take an entry.
 
 use crate::costs::HalfPerms;
+use crate::packed_entry::PackedEntry;
 use page_views::pages_of;
-use pmp_encoding::{Entry, Perm, Region};
+use pmp_encoding::Perm;
 use prefix_tree::{Chain, Halving};
 use std::alloc::AllocError;
 
@@ -64,18 +65,6 @@ impl Pages {
             log2: self.log2 - 1,
         }
     }
-
-    /// The region of these pages.
-    fn region(self) -> Region
-        requires { ArePages self.log2 self.first }
-        ensures base { result.base ≡ self.first * 4096 }
-        ensures log2 { result.log2 ≡ self.log2 + 12 }
-    {
-        Region {
-            base: self.first * 4096,
-            log2: self.log2 + 12,
-        }
-    }
 }
 
 /// The permission that the halves of a split block inherit: the first that is best for both, where there is one
@@ -94,19 +83,19 @@ fn chosen(perms: HalfPerms, inherited: Perm) -> Perm
 }
 
 /// Adds the entry that gives a block another permission than the inherited one.
+#[inline(always)]
 fn turn(
     pages: Pages,
     inherited: Perm,
     perm: Perm,
-    entries: &mut Vec<Entry>,
+    entries: &mut Vec<PackedEntry>,
 ) -> Result<(), AllocError>
     requires { ArePages pages.log2 pages.first }
     ensures { OnOk result ((own : List Entry) × (entries.new.items ≡ entries.old.items ++ own)
         × IsOwn pages.log2 pages.first inherited perm own) }
 {
     if perm != inherited {
-        let region = pages.region();
-        entries.push(Entry { region, perm })?;
+        entries.push(PackedEntry::new(pages.first, pages.log2, perm))?;
     }
     Ok(())
 }
@@ -120,7 +109,7 @@ fn place_chain<'a, H: Halving>(
     pages: Pages,
     inherited: Perm,
     halves: &'a [HalfPerms],
-    entries: &mut Vec<Entry>,
+    entries: &mut Vec<PackedEntry>,
 ) -> Result<&'a [HalfPerms], AllocError>
     requires chain { chain.place < 2 ^ chain.levels }
     requires most { chain.levels ≤ 44 }
@@ -174,7 +163,7 @@ pub fn place<'a, H: Halving>(
     pages: Pages,
     inherited: Perm,
     halves: &'a [HalfPerms],
-    entries: &mut Vec<Entry>,
+    entries: &mut Vec<PackedEntry>,
 ) -> Result<&'a [HalfPerms], AllocError>
     requires fits { Fits pages.log2 (H.shape block.now) }
     requires pages { ArePages pages.log2 pages.first }

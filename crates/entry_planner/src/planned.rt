@@ -1,6 +1,6 @@
 //! A plan: the fewest entries of a view, with the costs of its blocks.
 
-use crate::costs::BlockCost;
+use crate::packed_cost::PackedCost;
 use pmp_encoding::{Entry, Perm};
 use std::marker::Model;
 
@@ -10,7 +10,7 @@ use std::marker::Model;
 pub struct Plan {
     entries: Vec<Entry>,
     /// The last in preorder comes first.
-    costs: Vec<BlockCost>,
+    costs: Vec<PackedCost>,
 }
 
 impl Model for Plan {
@@ -29,7 +29,7 @@ ghost use Rattle.entry_planner.specs.Plans.{AreSmall, cost_in};
 
 impl Plan {
     /// A plan of these entries and costs, the last in preorder first.
-    pub(crate) fn new(entries: Vec<Entry>, costs: Vec<BlockCost>) -> Plan
+    pub(crate) fn new(entries: Vec<Entry>, costs: Vec<PackedCost>) -> Plan
         requires { AreSmall (record { entries = entries.items; costs = reverse costs.items }) }
         ensures { result ≡ record { entries = entries.items; costs = reverse costs.items } }
     {
@@ -67,6 +67,6 @@ impl Plan {
         ensures { result ≡ cost_in self.now.costs i perm }
     {
         let last = self.branches() - 1;
-        self.costs[last - i].under(perm)
+        self.costs[last - i].cost().under(perm)
     }
 }

@@ -14,7 +14,7 @@ ghost use Rattle.permission_map.specs.Runs.{view_of_runs};
 ghost use Rattle.prefix_tree.specs.TreeOf.{tree_of};
 
 use crate::costs::{HalfPerms, add_costs};
-use crate::order::put_in_order;
+use crate::order::in_order;
 use crate::placement::{Pages, place};
 use crate::planned::Plan;
 use permission_map::{Memory, PermissionMap};
@@ -34,12 +34,12 @@ fn entries_of<H: Halving>(
     ensures chosen { IfOk result (λ v. AreChosen (H.shape root.now) v.items) }
     ensures order { IfOk result (λ v. AreInOrder v.items) }
 {
-    let mut entries = Vec::with_capacity(alloc, least as usize)?;
+    let mut placed = Vec::with_capacity(alloc, least as usize)?;
     let space = Pages { first: 0, log2: 44 };
-    let _ = place(root, space, Perm::NoAccess, halves.as_slice(), &mut entries)?;
+    let _ = place(root, space, Perm::NoAccess, halves.as_slice(), &mut placed)?;
     // The places that the entries are moved to take memory too.
     drop(halves);
-    put_in_order(&mut entries);
+    let entries = in_order(alloc, placed)?;
     Ok(entries)
 }
 

@@ -12,7 +12,7 @@ use Rattle.entry_planner.specs.Plans.{cost_in, costed}
 use Rattle.certificate_format.specs.declared.costs.SixCosts.{SixCosts}
 use Rattle.certificate_format.specs.Costs.{cost_of, six_of}
 use Rattle.certificate_format.specs.Spelling.{costs_bytes, node_bytes, FitsNode}
-use Rattle.plan_certificate.specs.ChainBytes.{head_bytes, tail_bytes}
+use Rattle.plan_certificate.specs.ChainBytes.{head_bytes, leaves_bytes, tail_bytes}
 
 -- ---- one block
 
@@ -257,3 +257,26 @@ pub no_tails : (n place : ℕ) (behind : Perm) (held all : List ℕ) → n ≤ 0
 no_tails n place behind held all none whole =
     let zero_left : 0 ≡ n = omega arith in
     sym (append-nil held) ∙ ap (λ m. held ++ tail_bytes m place behind) zero_left ∙ whole
+
+-- one leaf more
+pub leaves_more : (n : ℕ) (perm : Perm) → leaves_bytes (n + 1) perm ≡ leaves_bytes n perm ++ node_bytes (Leaf perm)
+leaves_more zero perm = refl
+leaves_more (suc n) perm =
+    let next : suc n + 1 ≡ suc (n + 1) = omega arith in
+    ap (λ m. leaves_bytes m perm) next
+    ∙ ap (λ (x : List ℕ). leaf_bytes perm ++ x) (leaves_more n perm)
+    ∙ sym (append_assoc (leaf_bytes perm) (leaves_bytes n perm) (leaf_bytes perm))
+
+-- one of those that are left is held
+pub leaf_held :
+    (n : ℕ) (perm : Perm) (held new all : List ℕ) → 0 < n → new ≡ held ++ node_bytes (Leaf perm) → held ++ leaves_bytes n perm ≡ all
+    → new ++ leaves_bytes (n - 1) perm ≡ all
+leaf_held zero perm held new all some is whole = absurd (omega (arith, some))
+leaf_held (suc n) perm held new all some is whole =
+    let back : suc n - 1 ≡ n = omega arith in
+    ap (λ m. new ++ leaves_bytes m perm) back
+    ∙ ap (λ (x : List ℕ). x ++ leaves_bytes n perm) is ∙ append_assoc held (leaf_bytes perm) (leaves_bytes n perm) ∙ whole
+
+pub no_leaves : (n : ℕ) (perm : Perm) (held all : List ℕ) → n ≤ 0 → held ++ leaves_bytes n perm ≡ all → held ≡ all
+no_leaves zero perm held all none whole = sym (append-nil held) ∙ whole
+no_leaves (suc n) perm held all none whole = absurd (omega (arith, none))

@@ -17,3 +17,8 @@ head_bytes costs i (suc n) place before =
 abbrev pub tail_bytes : ℕ → ℕ → Perm → List ℕ
 tail_bytes zero place behind = []
 tail_bytes (suc n) place behind = cond (ltb place (2 ^ n)) (node_bytes (Leaf behind) ++ tail_bytes n place behind) (tail_bytes n (place - 2 ^ n) behind)
+
+-- so many leaves of one permission
+abbrev pub leaves_bytes : ℕ → Perm → List ℕ
+leaves_bytes zero perm = []
+leaves_bytes (suc n) perm = node_bytes (Leaf perm) ++ leaves_bytes n perm

@@ -10,7 +10,7 @@ ghost use Rattle.prefix_tree.specs.Trees.{Fits};
 ghost use Rattle.entry_planner.specs.Plans.{cost_in, costed};
 ghost use Rattle.certificate_format.specs.Costs.{cost_of, six_of};
 ghost use Rattle.certificate_format.specs.Spelling.{costs_bytes, header_bytes, version_bytes, node_bytes, FitsNode};
-ghost use Rattle.plan_certificate.specs.ChainBytes.{head_bytes, tail_bytes};
+ghost use Rattle.plan_certificate.specs.ChainBytes.{head_bytes, leaves_bytes, tail_bytes};
 ghost use Rattle.plan_certificate.specs.Pieces.{taken, IsPut, IsCut};
 ghost use Rattle.plan_certificate.specs.Written.{version_for, entry_bytes, certificate_for};
 
@@ -178,8 +178,9 @@ fn put_entries<W: Sink>(
     Ok(())
 }
 
-/// Puts what stands before the node of a chain's smallest block: the branches, and the leaves of the pages before it.
-fn hold_heads(piece: &mut ArrayVec<u8, PIECE>, chain: Chain, plan: &Plan, i: usize)
+/// Puts what stands before the node of a chain's smallest block: the branches, and the leaves of the pages before it. Says
+/// how many leaves stand after it.
+fn hold_heads(piece: &mut ArrayVec<u8, PIECE>, chain: Chain, plan: &Plan, i: usize) -> usize
     requires chain { chain.place < 2 ^ chain.levels }
     requires most { chain.levels ≤ 44 }
     requires room { length piece.old.items + 27 * chain.levels ≤ 32768 }
@@ -189,51 +190,52 @@ fn hold_heads(piece: &mut ArrayVec<u8, PIECE>, chain: Chain, plan: &Plan, i: usi
         ≡ piece.old.items ++ head_bytes plan.now.costs i chain.levels chain.place chain.before }
     ensures fits { (m : ℕ) → i ≤ m → m < i + chain.levels → (perm : Perm)
         → cost_in plan.now.costs m perm < 2 ^ 32 }
+    ensures tails { (behind : Perm)
+        → leaves_bytes result behind ≡ tail_bytes chain.levels chain.place behind }
+    ensures few { result ≤ chain.levels }
 {
     let leaf = [0, chain.before.bits()];
     let bytes = leaf.as_slice();
     let mut rest = chain;
     let mut next = i;
+    let mut behind = 0;
     while rest.levels > 0 {
         let front = front_of(costs_of(plan, next));
         let smaller = rest.smaller();
         hold(piece, front.as_slice());
         if rest.goes_up() {
             hold(piece, bytes);
+        } else {
+            behind += 1;
         }
         next += 1;
         rest = smaller;
     }
+    behind
 }
 
-/// Puts what stands after it: the leaves of the pages after it.
-fn hold_tails(piece: &mut ArrayVec<u8, PIECE>, chain: Chain)
-    requires chain { chain.place < 2 ^ chain.levels }
-    requires most { chain.levels ≤ 44 }
-    requires room { length piece.old.items + 2 * chain.levels ≤ 32768 }
-    ensures { piece.new.items ≡ piece.old.items
-        ++ tail_bytes chain.levels chain.place chain.behind }
+/// Puts so many leaves.
+fn hold_leaves(piece: &mut ArrayVec<u8, PIECE>, count: usize, perm: Perm)
+    requires room { length piece.old.items + 2 * count ≤ 32768 }
+    ensures { piece.new.items ≡ piece.old.items ++ leaves_bytes count perm }
 {
-    let leaf = [0, chain.behind.bits()];
+    let leaf = [0, perm.bits()];
     let bytes = leaf.as_slice();
-    let mut rest = chain;
-    while rest.levels > 0 {
-        if !rest.goes_up() {
-            hold(piece, bytes);
-        }
-        let smaller = rest.smaller();
-        rest = smaller;
+    let mut left = count;
+    while left > 0 {
+        hold(piece, bytes);
+        left -= 1;
     }
 }
 
-/// Puts what stands before the node of a chain's smallest block.
+/// Puts what stands before the node of a chain's smallest block, and says how many leaves stand after it.
 fn put_heads<W: Sink>(
     piece: &mut ArrayVec<u8, PIECE>,
     chain: Chain,
     plan: &Plan,
     i: usize,
     sink: &mut W,
-) -> Result<(), DeviceFault>
+) -> Result<usize, DeviceFault>
     requires chain { IsChain chain }
     requires counted { i + chain.levels ≤ length plan.now.costs }
     requires small { length plan.now.costs < 2 ^ 64 }
@@ -247,34 +249,37 @@ fn put_heads<W: Sink>(
         (taken W.contents W.failures W.stalls sink.new) bytes) }
     ensures fits { OnOk result ((m : ℕ) → i ≤ m → m < i + chain.levels → (perm : Perm)
         → cost_in plan.now.costs m perm < 2 ^ 32) }
+    ensures tails { IfOk result (λ count. (behind : Perm)
+        → leaves_bytes count behind ≡ tail_bytes chain.levels chain.place behind) }
+    ensures few { IfOk result (λ count. count ≤ chain.levels) }
 {
     let Ok(()) = make_room(piece, 27 * chain.levels as usize, sink) else {
         return Err(DeviceFault);
     };
-    hold_heads(piece, chain, plan, i);
-    Ok(())
+    let behind = hold_heads(piece, chain, plan, i);
+    Ok(behind)
 }
 
-/// Puts what stands after it.
+/// Puts what stands after it: so many leaves.
 fn put_tails<W: Sink>(
     piece: &mut ArrayVec<u8, PIECE>,
-    chain: Chain,
+    count: usize,
+    perm: Perm,
     sink: &mut W,
 ) -> Result<(), DeviceFault>
-    requires chain { IsChain chain }
+    requires few { count ≤ 44 }
     ensures put { IfOk result (λ _.
         IsPut piece.old.items piece.new.items (taken W.contents W.failures W.stalls sink.old)
-        (taken W.contents W.failures W.stalls sink.new)
-        (tail_bytes chain.levels chain.place chain.behind)) }
+        (taken W.contents W.failures W.stalls sink.new) (leaves_bytes count perm)) }
     ensures cut { IfErr result (λ _.
         (bytes : List ℕ)
         → IsCut piece.old.items (taken W.contents W.failures W.stalls sink.old)
         (taken W.contents W.failures W.stalls sink.new) bytes) }
 {
-    let Ok(()) = make_room(piece, 2 * chain.levels as usize, sink) else {
+    let Ok(()) = make_room(piece, 2 * count, sink) else {
         return Err(DeviceFault);
     };
-    hold_tails(piece, chain);
+    hold_leaves(piece, count, perm);
     Ok(())
 }
 
@@ -307,14 +312,14 @@ fn put_node<H: Halving, W: Sink>(
         return Ok(i);
     }
     if let Some((chain, smallest)) = block.chain() {
-        let Ok(()) = put_heads(piece, chain, plan, i, sink) else {
+        let Ok(behind) = put_heads(piece, chain, plan, i, sink) else {
             return Err(DeviceFault);
         };
         let inside = i + chain.levels as usize;
         let Ok(next) = put_node(piece, &smallest, plan, inside, sink) else {
             return Err(DeviceFault);
         };
-        let Ok(()) = put_tails(piece, chain, sink) else {
+        let Ok(()) = put_tails(piece, behind, chain.behind, sink) else {
             return Err(DeviceFault);
         };
         return Ok(next);

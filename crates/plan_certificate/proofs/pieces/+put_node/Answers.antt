@@ -100,7 +100,8 @@ returns-in-Some-chain-clause-put g t c =
     let now = taken g.W.Sink.contents g.W.Sink.failures g.W.Sink.stalls in
     subst (λ (b : List ℕ). IsPut c.args.piece.now.items c.put_tails.new.piece.items (now c.args.sink.now) (now c.put_tails.new.sink) b)
     (chain_put c.args.plan.now.costs c.args.i chain _ tree c.in-Some-chain.ensures.1)
-    (put_then _ _ _ _ _ _ _ _ (put_then _ _ _ _ _ _ _ _ c.in-Ok-put_heads.ensures.put c.in-Ok-put_node.ensures.put) c.in-Ok-put_tails.ensures.put)
+    (put_then _ _ _ _ _ _ _ _ (put_then _ _ _ _ _ _ _ _ c.in-Ok-put_heads.ensures.put c.in-Ok-put_node.ensures.put)
+    (subst (λ (b : List ℕ). IsPut c.put_node.new.piece.items c.put_tails.new.piece.items (now c.put_node.new.sink) (now c.put_tails.new.sink) b) (c.in-Ok-put_heads.ensures.tails chain.behind) c.in-Ok-put_tails.ensures.put))
 
 pub returns-in-Some-chain-clause-fits : goal.returns-in-Some-chain-clause-fits
 returns-in-Some-chain-clause-fits g t c = λ k fits.

@@ -1,0 +1,19 @@
+-- An entry of whole pages as one number: three bits of its permission, six of its size in pages, and its first page.
+use Rattle.std.specs.Prelude.{ℕ, ◌+◌, ◌*◌, ◌/◌, ◌%◌}
+use Rattle.pmp_encoding.specs.declared.region.Entry.{Entry}
+use Rattle.pmp_encoding.specs.Block.{IsBlock}
+use Rattle.permission_map.specs.Points.{perm_for}
+
+abbrev pub base_in : ℕ → ℕ
+base_in n = n / 512 * 4096
+
+abbrev pub log2_in : ℕ → ℕ
+log2_in n = n / 8 % 64 + 12
+
+-- the block of pages is one that an entry can have
+abbrev pub HasBlock : ℕ → Type 0
+HasBlock n = IsBlock (base_in n) (log2_in n)
+
+-- the entry
+abbrev pub entry_in : (n : ℕ) → HasBlock n → Entry
+entry_in n block = record { region = record { base = base_in n; log2 = log2_in n; block = block }; perm = perm_for (n % 8) }
