@@ -1,34 +1,26 @@
 -- How the program tells its command line to `clap`, step by step.
-use Rattle.std.specs.Prelude.{◌≡◌, List, [], ◌∷◌, true, false}
-use Rattle.clap.specs.Words.{App, Rule, app_of, with_rule, with_subcommand}
+use Rattle.std.specs.Prelude.{◌≡◌, List, [], ◌∷◌, Option, Some, None, true, false}
+use Rattle.std.specs.Borrow.{Bor}
+use Rattle.clap.specs.Words.{App, Rule, Text, app_of, with_rule, with_subcommand}
 use Rattle.clap.specs.declared.builder.command.Command.{Command}
 use Rattle.clap.specs.declared.builder.command.Command.TheViews.{out-Command}
-use Rattle.command_line.specs.CommandLine.{all_rule, at_most_rule, audit_app, check_app, costs_rule, entries_rule, expect_rule, explain_rule, file_rule, first_rule, format_rule, hints_rule, judge_app, lint_app, map_app, measure_rule, name_rule, plan_app, platform_rule, registers_rule, run_app, show_app, trace_rule, xlen_rule}
+use Rattle.command_line.specs.CommandLine.{audit_app, check_app, file_rule, flag_rule, judge_app, lint_app, map_app, option_rule, plan_app, run_app, show_app}
 use Rattle.command_line.specs.declared.arguments.Argument.{Argument}
-use Rattle.command_line.specs.declared.arguments.Argument.TheVariants.{All, AtMost, Costs, Entries, Expect, Explain, File, First, Format, Hints, MaybeFile, Measure, Name, Platform, Registers, TableFormat, Trace, Xlen}
+use Rattle.command_line.specs.declared.arguments.Argument.TheVariants.{File, Flag, MaybeFile, Value}
 use Rattle.program_tasks.specs.declared.subcommand.Subcommand.{Subcommand}
 use Rattle.program_tasks.specs.declared.subcommand.Subcommand.TheVariants.{Audit, Check, Judge, Lint, Map, Plan, Run, Show}
+
+-- the value that an option has where it is not given, if it has one
+abbrev pub defaults_by : Option (Bor Text) → List Text
+defaults_by None = []
+defaults_by (Some word) = word.now ∷ []
 
 -- the rule of an argument
 abbrev pub rule_by : Argument → Rule
 rule_by (File name help) = file_rule name.now true
 rule_by (MaybeFile name help) = file_rule name.now false
-rule_by Entries = entries_rule
-rule_by AtMost = at_most_rule
-rule_by Format = format_rule
-rule_by Measure = measure_rule
-rule_by Name = name_rule
-rule_by First = first_rule
-rule_by Xlen = xlen_rule
-rule_by (Registers help) = registers_rule
-rule_by Trace = trace_rule
-rule_by Platform = platform_rule
-rule_by All = all_rule
-rule_by Expect = expect_rule
-rule_by Explain = explain_rule
-rule_by Hints = hints_rule
-rule_by TableFormat = format_rule
-rule_by Costs = costs_rule
+rule_by (Flag name help) = flag_rule name.now
+rule_by (Value name value default help) = option_rule name.now (defaults_by default)
 
 -- with the rules of these arguments, in turn
 unfoldable pub with_arguments : App → List Argument → App

@@ -26,6 +26,10 @@ option_rule name defaults = record (new_rule name) {
   defaults = defaults;
 }
 
+-- an option without a value
+abbrev pub flag_rule : Text → Rule
+flag_rule name = record (new_rule name) { long = Some name; action = Some SetTrue }
+
 -- `--entries`, which is 16 where it is not given
 abbrev pub entries_rule : Rule
 entries_rule = option_rule (codes "entries") (codes "16" ∷ [])
@@ -40,7 +44,7 @@ format_rule = option_rule (codes "format") (codes "text" ∷ [])
 
 -- `--measure`, which takes no value
 abbrev pub measure_rule : Rule
-measure_rule = record (new_rule (codes "measure")) { long = Some (codes "measure"); action = Some SetTrue }
+measure_rule = flag_rule (codes "measure")
 
 -- `--name`, which has no value where it is not given
 abbrev pub name_rule : Rule
@@ -56,11 +60,11 @@ xlen_rule = option_rule (codes "xlen") (codes "64" ∷ [])
 
 -- `--registers`, which takes no value
 abbrev pub registers_rule : Rule
-registers_rule = record (new_rule (codes "registers")) { long = Some (codes "registers"); action = Some SetTrue }
+registers_rule = flag_rule (codes "registers")
 
 -- `--trace`, which takes no value
 abbrev pub trace_rule : Rule
-trace_rule = record (new_rule (codes "trace")) { long = Some (codes "trace"); action = Some SetTrue }
+trace_rule = flag_rule (codes "trace")
 
 -- `--platform`, which has no value where it is not given
 abbrev pub platform_rule : Rule
@@ -68,19 +72,19 @@ platform_rule = option_rule (codes "platform") []
 
 -- `--all`, which takes no value
 abbrev pub all_rule : Rule
-all_rule = record (new_rule (codes "all")) { long = Some (codes "all"); action = Some SetTrue }
+all_rule = flag_rule (codes "all")
 
 -- `--expect`, which takes no value
 abbrev pub expect_rule : Rule
-expect_rule = record (new_rule (codes "expect")) { long = Some (codes "expect"); action = Some SetTrue }
+expect_rule = flag_rule (codes "expect")
 
 -- `--explain`, which takes no value
 abbrev pub explain_rule : Rule
-explain_rule = record (new_rule (codes "explain")) { long = Some (codes "explain"); action = Some SetTrue }
+explain_rule = flag_rule (codes "explain")
 
 -- `--costs`, which takes no value
 abbrev pub costs_rule : Rule
-costs_rule = record (new_rule (codes "costs")) { long = Some (codes "costs"); action = Some SetTrue }
+costs_rule = flag_rule (codes "costs")
 
 -- `--hints`, which is auto where it is not given
 abbrev pub hints_rule : Rule

@@ -2,8 +2,8 @@
 
 ghost use Rattle.std.specs.Prelude.{◌≡◌, false};
 ghost use Rattle.clap.specs.Words.{rule_of};
-ghost use Rattle.command_line.specs.CommandLine.{all_rule, at_most_rule, costs_rule, entries_rule, expect_rule, explain_rule, file_rule, first_rule, format_rule, hints_rule, measure_rule, name_rule, platform_rule, registers_rule, trace_rule, xlen_rule};
-ghost use Rattle.command_line.specs.ClapModel.{rule_by};
+ghost use Rattle.command_line.specs.CommandLine.{file_rule, flag_rule, option_rule};
+ghost use Rattle.command_line.specs.ClapModel.{defaults_by, rule_by};
 
 use clap::{Arg, ArgAction};
 use std::alloc::Global;
@@ -15,39 +15,123 @@ pub enum Argument<'a> {
     File(&'a str, &'a str),
     /// Such a file that may be left out.
     MaybeFile(&'a str, &'a str),
-    /// `--entries`, how many entries the register file has.
-    Entries,
-    /// `--at-most`, how many entries a plan may have.
-    AtMost,
-    /// `--format`, how a plan is printed.
-    Format,
-    /// `--measure`, whether measurements are asked for.
-    Measure,
-    /// `--name`, what names in C and assembly begin with.
-    Name,
-    /// `--first`, the entry that a plan begins at.
-    First,
-    /// `--xlen`, how many bits the hart's registers have.
-    Xlen,
-    /// `--registers`, whether a file has registers in place of a map, and what is said of it.
-    Registers(&'a str),
-    /// `--trace`, whether a file has a trace.
-    Trace,
-    /// `--platform`, the platform that a trace is for.
-    Platform,
-    /// `--all`, whether each stretch that differs is asked for.
-    All,
-    /// `--expect`, whether answers are compared with those that a trace says.
-    Expect,
-    /// `--explain`, whether what decided each answer is said behind it.
-    Explain,
-    /// `--hints`, when standard error is told what is wrong with an input.
-    Hints,
-    /// `--format` of a table.
-    TableFormat,
-    /// `--costs`, whether the cost of each line of a map is asked for.
-    Costs,
+    /// An option without a value, by its name and what it asks for.
+    Flag(&'a str, &'a str),
+    /// An option with a value.
+    Value {
+        /// Its name.
+        name: &'a str,
+        /// What its usage calls the value.
+        value: &'a str,
+        /// The value where it is not given.
+        default: Option<&'a str>,
+        /// What it is for.
+        help: &'a str,
+    },
 }
+
+/// How many entries the register file has.
+pub const ENTRIES: Argument<'static> = Argument::Value {
+    name: "entries",
+    value: "16|64",
+    default: Some("16"),
+    help: "How many PMP entries the hart has",
+};
+
+/// How many entries a plan may have.
+pub const AT_MOST: Argument<'static> = Argument::Value {
+    name: "at-most",
+    value: "N",
+    default: None,
+    help: "Refuse a map that needs more than N entries, with status 2",
+};
+
+/// How a plan is printed.
+pub const FORMAT: Argument<'static> = Argument::Value {
+    name: "format",
+    value: "text|c|asm|json",
+    default: Some("text"),
+    help: "How the plan is printed",
+};
+
+/// How a table is printed.
+pub const TABLE_FORMAT: Argument<'static> = Argument::Value {
+    name: "format",
+    value: "text|svg|json",
+    default: Some("text"),
+    help: "How the table of a map is printed",
+};
+
+/// What names in C and assembly begin with.
+pub const NAME: Argument<'static> = Argument::Value {
+    name: "name",
+    value: "NAME",
+    default: None,
+    help: "What the names in C and assembly begin with",
+};
+
+/// The entry that a plan begins at.
+pub const FIRST: Argument<'static> = Argument::Value {
+    name: "first",
+    value: "K",
+    default: None,
+    help: "Begin at entry K, and leave those below it as they are",
+};
+
+/// How many bits the hart's registers have.
+pub const XLEN: Argument<'static> = Argument::Value {
+    name: "xlen",
+    value: "32|64",
+    default: Some("64"),
+    help: "How many bits the hart's registers have",
+};
+
+/// The platform that a trace is for.
+pub const PLATFORM: Argument<'static> = Argument::Value {
+    name: "platform",
+    value: "PLATFORM",
+    default: None,
+    help: "The platform file that tells how many harts the trace is for",
+};
+
+/// When standard error is told what is wrong with an input.
+pub const HINTS: Argument<'static> = Argument::Value {
+    name: "hints",
+    value: "auto|always|never",
+    default: Some("auto"),
+    help: "Say what is wrong with an input, by line and column; auto: on a terminal",
+};
+
+/// Whether measurements are asked for.
+pub const MEASURE: Argument<'static> = Argument::Flag(
+    "measure",
+    "Print the measurement of each live enclave after the report",
+);
+
+/// Whether a file has a trace.
+pub const TRACE: Argument<'static> = Argument::Flag("trace", "Read FILE as a trace");
+
+/// Whether each stretch that differs is asked for.
+pub const ALL: Argument<'static> =
+    Argument::Flag("all", "Print each stretch that differs, not the first alone");
+
+/// Whether answers are compared with those that a trace says.
+pub const EXPECT: Argument<'static> = Argument::Flag(
+    "expect",
+    "Compare each answer with the one that the comment of its line says",
+);
+
+/// Whether what decided each answer is said behind it.
+pub const EXPLAIN: Argument<'static> = Argument::Flag(
+    "explain",
+    "Say behind each answer, as a comment, what decided it",
+);
+
+/// Whether the cost of each line of a map is asked for.
+pub const COSTS: Argument<'static> = Argument::Flag(
+    "costs",
+    "Print after the text how many entries the map needs without each of its lines",
+);
 
 impl<'a> Argument<'a> {
     /// The argument as `clap` takes it.
@@ -58,22 +142,13 @@ impl<'a> Argument<'a> {
         match self {
             Argument::File(name, help) => file_arg(alloc, name, help, true),
             Argument::MaybeFile(name, help) => file_arg(alloc, name, help, false),
-            Argument::Entries => entries_arg(alloc),
-            Argument::AtMost => at_most_arg(alloc),
-            Argument::Format => format_arg(alloc),
-            Argument::Measure => measure_arg(alloc),
-            Argument::Name => name_arg(alloc),
-            Argument::First => first_arg(alloc),
-            Argument::Xlen => xlen_arg(alloc),
-            Argument::Registers(help) => registers_arg(alloc, help),
-            Argument::Trace => trace_arg(alloc),
-            Argument::Platform => platform_arg(alloc),
-            Argument::All => all_arg(alloc),
-            Argument::Expect => expect_arg(alloc),
-            Argument::Explain => explain_arg(alloc),
-            Argument::Hints => hints_arg(alloc),
-            Argument::TableFormat => table_format_arg(alloc),
-            Argument::Costs => costs_arg(alloc),
+            Argument::Flag(name, help) => flag_arg(alloc, name, help),
+            Argument::Value {
+                name,
+                value,
+                default,
+                help,
+            } => value_arg(alloc, name, value, default, help),
         }
     }
 }
@@ -89,192 +164,35 @@ fn file_arg<'a>(alloc: Global, name: &'a str, help: &'a str, is_required: bool) 
         .required(is_required)
 }
 
-/// The option that says how many entries the register file has.
-fn entries_arg<'a>(alloc: Global) -> Arg<'a>
-    ensures rule { rule_of result ≡ entries_rule }
+/// An option without a value.
+fn flag_arg<'a>(alloc: Global, name: &'a str, help: &'a str) -> Arg<'a>
+    ensures rule { rule_of result ≡ flag_rule name.entry.now }
     ensures local { result.global ≡ false }
 {
-    Arg::new(alloc, "entries")
-        .long("entries")
-        .value_name("16|64")
-        .help("How many PMP entries the hart has")
-        .action(ArgAction::Set)
-        .default_value("16")
-}
-
-/// The option that says how many entries a plan may have.
-fn at_most_arg<'a>(alloc: Global) -> Arg<'a>
-    ensures rule { rule_of result ≡ at_most_rule }
-    ensures local { result.global ≡ false }
-{
-    Arg::new(alloc, "at-most")
-        .long("at-most")
-        .value_name("N")
-        .help("Refuse a map that needs more than N entries, with status 2")
-        .action(ArgAction::Set)
-}
-
-/// The option that says how a plan is printed.
-fn format_arg<'a>(alloc: Global) -> Arg<'a>
-    ensures rule { rule_of result ≡ format_rule }
-    ensures local { result.global ≡ false }
-{
-    Arg::new(alloc, "format")
-        .long("format")
-        .value_name("text|c|asm|json")
-        .help("How the plan is printed")
-        .action(ArgAction::Set)
-        .default_value("text")
-}
-
-/// The option that names what C and assembly define.
-fn name_arg<'a>(alloc: Global) -> Arg<'a>
-    ensures rule { rule_of result ≡ name_rule }
-    ensures local { result.global ≡ false }
-{
-    Arg::new(alloc, "name")
-        .long("name")
-        .value_name("NAME")
-        .help("What the names in C and assembly begin with")
-        .action(ArgAction::Set)
-}
-
-/// The flag that asks for measurements.
-fn measure_arg<'a>(alloc: Global) -> Arg<'a>
-    ensures rule { rule_of result ≡ measure_rule }
-    ensures local { result.global ≡ false }
-{
-    Arg::new(alloc, "measure")
-        .long("measure")
-        .help("Print the measurement of each live enclave after the report")
-        .action(ArgAction::SetTrue)
-}
-
-/// The option that says at which entry a plan begins.
-fn first_arg<'a>(alloc: Global) -> Arg<'a>
-    ensures rule { rule_of result ≡ first_rule }
-    ensures local { result.global ≡ false }
-{
-    Arg::new(alloc, "first")
-        .long("first")
-        .value_name("K")
-        .help("Begin at entry K, and leave those below it as they are")
-        .action(ArgAction::Set)
-}
-
-/// The option that says how many bits the hart's registers have.
-fn xlen_arg<'a>(alloc: Global) -> Arg<'a>
-    ensures rule { rule_of result ≡ xlen_rule }
-    ensures local { result.global ≡ false }
-{
-    Arg::new(alloc, "xlen")
-        .long("xlen")
-        .value_name("32|64")
-        .help("How many bits the hart's registers have")
-        .action(ArgAction::Set)
-        .default_value("64")
-}
-
-/// The flag that says that a file has registers.
-fn registers_arg<'a>(alloc: Global, help: &'a str) -> Arg<'a>
-    ensures rule { rule_of result ≡ registers_rule }
-    ensures local { result.global ≡ false }
-{
-    Arg::new(alloc, "registers")
-        .long("registers")
+    Arg::new(alloc, name)
+        .long(name)
         .help(help)
         .action(ArgAction::SetTrue)
 }
 
-/// The flag that says that a file has a trace.
-fn trace_arg<'a>(alloc: Global) -> Arg<'a>
-    ensures rule { rule_of result ≡ trace_rule }
+/// An option with a value, which is the default where the option is not given.
+fn value_arg<'a>(
+    alloc: Global,
+    name: &'a str,
+    value: &'a str,
+    default: Option<&'a str>,
+    help: &'a str,
+) -> Arg<'a>
+    ensures rule { rule_of result ≡ option_rule name.entry.now (defaults_by default.entry) }
     ensures local { result.global ≡ false }
 {
-    Arg::new(alloc, "trace")
-        .long("trace")
-        .help("Read FILE as a trace")
-        .action(ArgAction::SetTrue)
-}
-
-/// The option that names the platform of a trace.
-fn platform_arg<'a>(alloc: Global) -> Arg<'a>
-    ensures rule { rule_of result ≡ platform_rule }
-    ensures local { result.global ≡ false }
-{
-    Arg::new(alloc, "platform")
-        .long("platform")
-        .value_name("PLATFORM")
-        .help("The platform file that tells how many harts the trace is for")
-        .action(ArgAction::Set)
-}
-
-/// The flag that asks for each difference.
-fn all_arg<'a>(alloc: Global) -> Arg<'a>
-    ensures rule { rule_of result ≡ all_rule }
-    ensures local { result.global ≡ false }
-{
-    Arg::new(alloc, "all")
-        .long("all")
-        .help("Print each stretch that differs, not the first alone")
-        .action(ArgAction::SetTrue)
-}
-
-/// The flag that asks for a comparison with the answers that a trace says.
-fn expect_arg<'a>(alloc: Global) -> Arg<'a>
-    ensures rule { rule_of result ≡ expect_rule }
-    ensures local { result.global ≡ false }
-{
-    Arg::new(alloc, "expect")
-        .long("expect")
-        .help("Compare each answer with the one that the comment of its line says")
-        .action(ArgAction::SetTrue)
-}
-
-/// The flag that asks for what decided each answer.
-fn explain_arg<'a>(alloc: Global) -> Arg<'a>
-    ensures rule { rule_of result ≡ explain_rule }
-    ensures local { result.global ≡ false }
-{
-    Arg::new(alloc, "explain")
-        .long("explain")
-        .help("Say behind each answer, as a comment, what decided it")
-        .action(ArgAction::SetTrue)
-}
-
-/// The option that says when hints are told.
-fn hints_arg<'a>(alloc: Global) -> Arg<'a>
-    ensures rule { rule_of result ≡ hints_rule }
-    ensures local { result.global ≡ false }
-{
-    Arg::new(alloc, "hints")
-        .long("hints")
-        .value_name("auto|always|never")
-        .help("Say what is wrong with an input, by line and column; auto: on a terminal")
-        .action(ArgAction::Set)
-        .default_value("auto")
-}
-
-/// The option that says how a table is printed.
-fn table_format_arg<'a>(alloc: Global) -> Arg<'a>
-    ensures rule { rule_of result ≡ format_rule }
-    ensures local { result.global ≡ false }
-{
-    Arg::new(alloc, "format")
-        .long("format")
-        .value_name("text|svg|json")
-        .help("How the table of a map is printed")
-        .action(ArgAction::Set)
-        .default_value("text")
-}
-
-/// The flag that asks for the cost of each line of a map.
-fn costs_arg<'a>(alloc: Global) -> Arg<'a>
-    ensures rule { rule_of result ≡ costs_rule }
-    ensures local { result.global ≡ false }
-{
-    Arg::new(alloc, "costs")
-        .long("costs")
-        .help("Print after the text how many entries the map needs without each of its lines")
-        .action(ArgAction::SetTrue)
+    let option = Arg::new(alloc, name)
+        .long(name)
+        .value_name(value)
+        .help(help)
+        .action(ArgAction::Set);
+    match default {
+        Some(word) => option.default_value(word),
+        None => option,
+    }
 }

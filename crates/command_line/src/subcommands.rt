@@ -5,7 +5,10 @@ ghost use Rattle.clap.specs.Words.{app_of, new_app};
 ghost use Rattle.command_line.specs.CommandLine.{app_named, bare_app, program_app};
 ghost use Rattle.command_line.specs.ClapModel.{app_by, with_arguments, IsCommandOf};
 
-use crate::arguments::Argument;
+use crate::arguments::{
+    ALL, AT_MOST, Argument, COSTS, ENTRIES, EXPECT, EXPLAIN, FIRST, FORMAT, HINTS, MEASURE, NAME,
+    PLATFORM, TABLE_FORMAT, TRACE, XLEN,
+};
 use crate::texts::{
     ABOUT, AUDIT_HELP, CHECK_HELP, EXAMPLE, JUDGE_HELP, LINT_HELP, MAP_HELP, PLAN_HELP, RUN_HELP,
     SHOW_HELP, VERSION,
@@ -65,10 +68,10 @@ fn run_command<'a>(alloc: Global) -> Result<Command<'a>, AllocError>
     let arguments = [
         Argument::File("PLATFORM", "The platform file"),
         Argument::File("TRACE", "The trace of events"),
-        Argument::Measure,
-        Argument::Expect,
-        Argument::Explain,
-        Argument::Hints,
+        MEASURE,
+        EXPECT,
+        EXPLAIN,
+        HINTS,
     ];
     command(alloc, Subcommand::Run.name(), about, RUN_HELP, &arguments)
 }
@@ -80,13 +83,13 @@ fn plan_command<'a>(alloc: Global) -> Result<Command<'a>, AllocError>
     let arguments = [
         Argument::File("MAP", "The map file"),
         Argument::MaybeFile("CERT", "The file to write the certificate to"),
-        Argument::Entries,
-        Argument::AtMost,
-        Argument::Format,
-        Argument::Name,
-        Argument::First,
-        Argument::Xlen,
-        Argument::Hints,
+        ENTRIES,
+        AT_MOST,
+        FORMAT,
+        NAME,
+        FIRST,
+        XLEN,
+        HINTS,
     ];
     command(alloc, Subcommand::Plan.name(), about, PLAN_HELP, &arguments)
 }
@@ -102,12 +105,12 @@ fn judge_command<'a>(alloc: Global) -> Result<Command<'a>, AllocError>
             "The map file, or with --registers the listing of registers",
         ),
         Argument::File("TRACE", "The trace of accesses"),
-        Argument::Entries,
-        Argument::Registers(AS_THEY_STAND),
-        Argument::Expect,
-        Argument::Explain,
-        Argument::Xlen,
-        Argument::Hints,
+        ENTRIES,
+        Argument::Flag("registers", AS_THEY_STAND),
+        EXPECT,
+        EXPLAIN,
+        XLEN,
+        HINTS,
     ];
     command(
         alloc,
@@ -125,7 +128,7 @@ fn check_command<'a>(alloc: Global) -> Result<Command<'a>, AllocError>
     let arguments = [
         Argument::File("MAP", "The map file"),
         Argument::File("CERT", "The certificate"),
-        Argument::Hints,
+        HINTS,
     ];
     command(
         alloc,
@@ -146,13 +149,13 @@ fn show_command<'a>(alloc: Global) -> Result<Command<'a>, AllocError>
             "MAP",
             "The map file, or with --registers the listing of registers",
         ),
-        Argument::Entries,
-        Argument::AtMost,
-        Argument::Registers(AS_THEY_STAND),
-        Argument::Xlen,
-        Argument::TableFormat,
-        Argument::Costs,
-        Argument::Hints,
+        ENTRIES,
+        AT_MOST,
+        Argument::Flag("registers", AS_THEY_STAND),
+        XLEN,
+        TABLE_FORMAT,
+        COSTS,
+        HINTS,
     ];
     command(alloc, Subcommand::Show.name(), about, SHOW_HELP, &arguments)
 }
@@ -164,9 +167,9 @@ fn audit_command<'a>(alloc: Global) -> Result<Command<'a>, AllocError>
     let arguments = [
         Argument::File("MAP", "The map file"),
         Argument::File("REGISTERS", "The listing of the registers"),
-        Argument::All,
-        Argument::Xlen,
-        Argument::Hints,
+        ALL,
+        XLEN,
+        HINTS,
     ];
     command(
         alloc,
@@ -183,8 +186,8 @@ fn map_command<'a>(alloc: Global) -> Result<Command<'a>, AllocError>
     let about = "Print the map that registers mean, where they mean one by whole pages";
     let arguments = [
         Argument::File("REGISTERS", "The listing of the registers"),
-        Argument::Xlen,
-        Argument::Hints,
+        XLEN,
+        HINTS,
     ];
     command(alloc, Subcommand::Map.name(), about, MAP_HELP, &arguments)
 }
@@ -198,11 +201,11 @@ fn lint_command<'a>(alloc: Global) -> Result<Command<'a>, AllocError>
             "FILE",
             "The map file, or the platform file where its name ends in .toml",
         ),
-        Argument::Registers("Read FILE as a listing of registers"),
-        Argument::Trace,
-        Argument::Platform,
-        Argument::Xlen,
-        Argument::Hints,
+        Argument::Flag("registers", "Read FILE as a listing of registers"),
+        TRACE,
+        PLATFORM,
+        XLEN,
+        HINTS,
     ];
     command(alloc, Subcommand::Lint.name(), about, LINT_HELP, &arguments)
 }

@@ -18,8 +18,8 @@ fn shows(rt: &impl Abort, alloc: Global, words: &[&str], format: TableFormat, co
         costs,
     };
     match command_of(alloc, words) {
-        Ok(request) => assert_eq!(rt; request.task, wanted),
-        Err(_) => panic!(rt; "no task, and not {wanted:?}"),
+        Ok(request) => assert!(rt; request.task == wanted, "another task: {words:?}"),
+        Err(_) => panic!(rt; "no task: {words:?}"),
     }
 }
 

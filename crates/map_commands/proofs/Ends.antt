@@ -1,7 +1,6 @@
 -- How runs over lines and plans end.
 use Rattle.std.proofs.Common.{ℕ, ◌-◌, ◌≡◌, ◌≤◌, ◌⊎◌, inl, inr, List, Option, Some, None, Result, Ok, Err, IfErr, arith, refl}
 use Rattle.std.specs.Borrow.{Bor}
-use Rattle.byte_streams.specs.Writings.{IsUnwritten}
 use Rattle.text_lines.specs.declared.fault.RunFault.{RunFault}
 use Rattle.text_lines.specs.declared.fault.RunFault.TheVariants as runs
 use Rattle.text_lines.specs.LineLoop.{Meaning, StopsAt, StopsForMemory, StopsReading, StopsTooLong, StopsWriting}
@@ -12,7 +11,7 @@ use Rattle.pmp_match.specs.Meaning.{View}
 use Rattle.register_width.specs.declared.xlen.Xlen.{Xlen}
 use Rattle.program_tasks.specs.declared.task.Format.TheVariants as formats
 use Rattle.program_troubles.specs.declared.trouble.Trouble.TheVariants.{Memory}
-use Rattle.map_commands.specs.CertifiedPlan.{Placing, IsTooFar, IsUnplanned, IsWithin, NeedsMore, beyond, starved, unreached}
+use Rattle.map_commands.specs.CertifiedPlan.{Placing, IsTooFar, IsUnplanned, IsUntouched, IsWithin, NeedsMore, beyond, starved, unreached}
 use Rattle.map_commands.specs.Plan.{most_entries}
 use Rattle.map_commands.specs.Stops.{Stops}
 
@@ -32,7 +31,7 @@ stops does refuses starves old new before after held holds runs.Memory line long
 
 -- no plan, where there is none within the bound
 pub unplanned :
-    {C X : Type 0} (view : View) (xlen : Xlen) (limit : Limit) (most : Option ℕ) (map : Bor (List ℕ)) (file : Option (Bor (List ℕ))) (cert : Placing C) (result : Result X Trouble) → IsUnwritten cert.sink
+    {C X : Type 0} (view : View) (xlen : Xlen) (limit : Limit) (most : Option ℕ) (map : Bor (List ℕ)) (file : Option (Bor (List ℕ))) (cert : Placing C) (result : Result X Trouble) → IsUntouched cert
     → IfErr result (λ trouble. (trouble ≡ Memory) ⊎ (NeedsMore view most trouble ⊎ IsTooFar view xlen most map trouble))
     → IfErr result (λ trouble. IsUnplanned view xlen limit most map file cert trouble)
 unplanned view xlen limit most map file cert (Ok x) quiet refused = tt

@@ -1,5 +1,5 @@
 -- The plan of a map, the bank that it is loaded into, and its certificate.
-use Rattle.std.specs.Prelude.{◌≡◌, ℕ, ◌<◌, ◌≤◌, List, Option, Some, None, length}
+use Rattle.std.specs.Prelude.{◌≡◌, ℕ, ◌<◌, ◌≤◌, Bool, true, List, Option, Some, None, length}
 use Rattle.std.specs.Borrow.{Bor}
 use Rattle.std.specs.Io.KnownBytes.{Appends}
 use Rattle.byte_streams.specs.Streams.{one_failure_more}
@@ -25,13 +25,29 @@ use Rattle.register_width.specs.Widths.{AreReached}
 use Rattle.program_troubles.specs.declared.trouble.Trouble.{Trouble}
 use Rattle.program_troubles.specs.declared.trouble.Trouble.TheVariants.{TooFar, NeedsEntries, CannotWrite, Memory}
 
--- a sink whose bytes come to stand in a place, over a call, and the bytes that stand there after it, where they are known
+-- a sink whose bytes come to stand in a place, over a call: whether the place is apart from it, and the bytes that stood there
+-- before the call and stand there after it, where they are known
 pub record Placing (C : Type 0) : Type 0 where
   pub sink : Writing C
+  pub is_apart : Bool
+  pub stood : Option (List ℕ)
   pub stands : Option (List ℕ)
 
-abbrev pub placing : {C : Type 0} → (C → Option (List ℕ)) → (C → ℕ) → (C → ℕ) → (C → Option (List ℕ)) → C → C → Placing C
-placing contents failures stalls stands old new = record { sink = writing contents failures stalls old new; stands = stands new }
+abbrev pub placing : {C : Type 0} → (C → Option (List ℕ)) → (C → ℕ) → (C → ℕ) → (C → Option (List ℕ)) → Bool → C → C → Placing C
+placing contents failures stalls stands is_apart old new = record {
+  sink = writing contents failures stalls old new;
+  is_apart = is_apart;
+  stood = stands old;
+  stands = stands new;
+}
+
+-- nothing was written, and what stood in the place stands there
+abbrev pub IsUntouched : {C : Type 0} → Placing C → Type 0
+IsUntouched cert = IsUnwritten cert.sink × (cert.stands ≡ cert.stood)
+
+-- what stood in a place that is apart stands there
+abbrev pub IsKept : {C : Type 0} → Placing C → Type 0
+IsKept cert = cert.is_apart ≡ true → cert.stands ≡ cert.stood
 
 -- the map of a file's bytes needs so many entries
 pub record AreNeeded (bytes : List ℕ) (n : ℕ) : Type 0 where
@@ -57,14 +73,16 @@ pub record IsCertificateOf (view : View) (limit : Limit) (entries : List Entry) 
 
 -- a certificate was written and put in its place where a file for it is named, and otherwise nothing was
 abbrev pub IsCertified : {C : Type 0} → View → Limit → List Entry → Option (Bor (List ℕ)) → Placing C → Type 0
-IsCertified view limit entries None cert = IsUnwritten cert.sink
+IsCertified view limit entries None cert = IsUntouched cert
 IsCertified view limit entries (Some file) cert =
     (bytes : List ℕ) × IsCertificateOf view limit entries bytes × TakesAll bytes cert.sink × (cert.stands ≡ cert.sink.after)
 
--- bytes were not written whole, or they were not put in their place
+-- bytes were not written whole, or they were not put in their place: what stood there stands there
 pub data IsNotPlaced {C : Type 0} (bytes : List ℕ) (cert : Placing C) : Type 0 where
-  not_written : Breaks bytes cert.sink → IsNotPlaced bytes cert
-  not_moved : Appends cert.sink.before cert.sink.after bytes → cert.sink.failed ≡ one_failure_more cert.sink.failures → cert.sink.stalled ≡ cert.sink.stalls → IsNotPlaced bytes cert
+  not_written : Breaks bytes cert.sink → IsKept cert → IsNotPlaced bytes cert
+  not_moved :
+      Appends cert.sink.before cert.sink.after bytes → cert.sink.failed ≡ one_failure_more cert.sink.failures → cert.sink.stalled ≡ cert.sink.stalls → IsKept cert
+      → IsNotPlaced bytes cert
 
 -- as many entries as that are within the bound, or beyond it
 abbrev pub IsWithin : Option ℕ → ℕ → Type 0
@@ -115,7 +133,7 @@ pub data IsUnloaded (view : View) (xlen : Xlen) (limit : Limit) (map : Bor (List
 
 -- why there is no plan with its certificate: memory, too many entries, one that is too far, or the certificate
 pub data IsUnplanned {C : Type 0} (view : View) (xlen : Xlen) (limit : Limit) (most : Option ℕ) (map : Bor (List ℕ)) (file : Option (Bor (List ℕ))) (cert : Placing C) (trouble : Trouble) : Type 0 where
-  starved : trouble ≡ Memory → IsUnwritten cert.sink → IsUnplanned view xlen limit most map file cert trouble
-  beyond : NeedsMore view most trouble → IsUnwritten cert.sink → IsUnplanned view xlen limit most map file cert trouble
-  unreached : IsTooFar view xlen most map trouble → IsUnwritten cert.sink → IsUnplanned view xlen limit most map file cert trouble
+  starved : trouble ≡ Memory → IsUntouched cert → IsUnplanned view xlen limit most map file cert trouble
+  beyond : NeedsMore view most trouble → IsUntouched cert → IsUnplanned view xlen limit most map file cert trouble
+  unreached : IsTooFar view xlen most map trouble → IsUntouched cert → IsUnplanned view xlen limit most map file cert trouble
   uncertified : BreaksCertificate view limit most file cert trouble → IsUnplanned view xlen limit most map file cert trouble

@@ -18,7 +18,7 @@ use Rattle.program_tasks.specs.declared.task.Format.TheVariants as formats
 use Rattle.program_troubles.specs.declared.trouble.Trouble.{Trouble}
 use Rattle.program_troubles.specs.declared.trouble.Trouble.TheVariants.{Output, Memory}
 use Rattle.command_inputs.specs.Inputs.{Reading, HasMap, HasNoMap}
-use Rattle.map_commands.specs.CertifiedPlan.{Placing, IsCertified, IsPlanned, BreaksCertificate, NeedsMore, IsTooFar}
+use Rattle.map_commands.specs.CertifiedPlan.{Placing, IsCertified, IsPlanned, IsUntouched, BreaksCertificate, NeedsMore, IsTooFar}
 
 -- how many entries a plan may have, where there is a bound: what was asked for, and for C and assembly as many as the hart has
 -- from the first on
@@ -42,13 +42,13 @@ pub data Plans {R C W : Type 0} (map : Bor (List ℕ)) (file : Option (Bor (List
       (runs : List Run) (entries : List Entry) (text : List ℕ) → HasMap source runs → IsPlanned (view_of_runs runs) (most_entries limit first at_most format) entries
       → AreReached xlen entries → IsCertified (view_of_runs runs) limit entries file cert → IsPrinted format map.now name xlen limit first entries text → TakesAll text out
       → Plans map file xlen limit at_most format name first source cert out (Ok 0)
-  no_map : (trouble : Trouble) → HasNoMap map source trouble → IsUnwritten cert.sink → IsUnwritten out → Plans map file xlen limit at_most format name first source cert out (Err trouble)
-  no_memory : (runs : List Run) → HasMap source runs → IsUnwritten cert.sink → IsUnwritten out → Plans map file xlen limit at_most format name first source cert out (Err Memory)
+  no_map : (trouble : Trouble) → HasNoMap map source trouble → IsUntouched cert → IsUnwritten out → Plans map file xlen limit at_most format name first source cert out (Err trouble)
+  no_memory : (runs : List Run) → HasMap source runs → IsUntouched cert → IsUnwritten out → Plans map file xlen limit at_most format name first source cert out (Err Memory)
   too_many :
-      (runs : List Run) (trouble : Trouble) → HasMap source runs → NeedsMore (view_of_runs runs) (most_entries limit first at_most format) trouble → IsUnwritten cert.sink → IsUnwritten out
+      (runs : List Run) (trouble : Trouble) → HasMap source runs → NeedsMore (view_of_runs runs) (most_entries limit first at_most format) trouble → IsUntouched cert → IsUnwritten out
       → Plans map file xlen limit at_most format name first source cert out (Err trouble)
   too_far :
-      (runs : List Run) (trouble : Trouble) → HasMap source runs → IsTooFar (view_of_runs runs) xlen (most_entries limit first at_most format) map trouble → IsUnwritten cert.sink → IsUnwritten out
+      (runs : List Run) (trouble : Trouble) → HasMap source runs → IsTooFar (view_of_runs runs) xlen (most_entries limit first at_most format) map trouble → IsUntouched cert → IsUnwritten out
       → Plans map file xlen limit at_most format name first source cert out (Err trouble)
   no_certificate :
       (runs : List Run) (trouble : Trouble) → HasMap source runs → BreaksCertificate (view_of_runs runs) limit (most_entries limit first at_most format) file cert trouble → IsUnwritten out

@@ -156,9 +156,9 @@ fn put<'a, C: WholeSink>(
     ensures broken { IfErr result (λ trouble.
         (trouble ≡ Trouble.CannotWrite file.entry)
         × IsNotPlaced (certificate_for limit plan.now (tree_of (view_of_runs map.now)))
-        (placing C.contents C.failures C.stalls C.stands sink.old sink.new)) }
+        (placing C.contents C.failures C.stalls C.stands C.is_apart sink.old sink.new)) }
 {
-    let Ok(()) = send_map(map, plan, limit, sink) else {
+    let Ok(()) = send_map(map, plan, limit, sink.inner()) else {
         return Err(Trouble::CannotWrite { file });
     };
     match sink.put_in_place() {
@@ -184,10 +184,10 @@ pub fn plan_and_certify<'a, C: WholeSink>(
     ensures small { IfOk result (λ plan. length plan.entries < 2 ^ 32) }
     ensures certified { IfOk result (λ plan.
         IsCertified (view_of_runs map.now) limit plan.entries cert.entry
-        (placing C.contents C.failures C.stalls C.stands sink.old sink.new)) }
+        (placing C.contents C.failures C.stalls C.stands C.is_apart sink.old sink.new)) }
     ensures refused { IfErr result (λ trouble.
         IsUnplanned (view_of_runs map.now) xlen limit most name.entry cert.entry
-        (placing C.contents C.failures C.stalls C.stands sink.old sink.new) trouble) }
+        (placing C.contents C.failures C.stalls C.stands C.is_apart sink.old sink.new) trouble) }
 {
     let Some(file) = cert else {
         return planned_near(alloc, name, map, xlen, most);

@@ -11,7 +11,7 @@ use Rattle.program_tasks.specs.declared.task.Task.TheVariants as tasks
 use Rattle.program_troubles.specs.declared.trouble.Trouble.{Trouble}
 use Rattle.program_troubles.specs.Troubles.{status_of, trouble_text}
 use Rattle.map_commands.specs.Audit.{Audits}
-use Rattle.map_commands.specs.CertifiedPlan.{Placing}
+use Rattle.map_commands.specs.CertifiedPlan.{IsUntouched, Placing}
 use Rattle.map_commands.specs.Check.{Checks}
 use Rattle.command_inputs.specs.Inputs.{IsUnread, Reading}
 use Rattle.map_commands.specs.Judge.{JudgesAs}
@@ -30,14 +30,14 @@ LintsAs (kinds.Trace platform) xlen file first second out done = LintsTrace file
 
 -- what a task comes to: what its command does not use stays as it was
 abbrev pub Performs : {R C W : Type 0} → Task → Reading R → Reading R → Placing C → Writing W → Result ℕ Trouble → Type 0
-Performs (tasks.Run platform trace measure answers) first second cert out done = Runs answers platform trace measure first second out done × IsUnwritten cert.sink
+Performs (tasks.Run platform trace measure answers) first second cert out done = Runs answers platform trace measure first second out done × IsUntouched cert
 Performs (tasks.Plan map file limit at_most format name begin xlen) first second cert out done = Plans map file xlen limit at_most format (option_map (λ s. s.now) name) begin first cert out done × IsUnread second
-Performs (tasks.Judge file trace limit registers answers xlen) first second cert out done = JudgesAs registers answers file trace xlen limit first second out done × IsUnwritten cert.sink
-Performs (tasks.Check map file) first second cert out done = Checks map file first second out done × IsUnwritten cert.sink
-Performs (tasks.Audit map registers all xlen) first second cert out done = Audits map registers xlen all first second out done × IsUnwritten cert.sink
-Performs (tasks.Map registers xlen) first second cert out done = Maps registers xlen first out done × IsUnread second × IsUnwritten cert.sink
-Performs (tasks.Lint file kind xlen) first second cert out done = LintsAs kind xlen file first second out done × IsUnwritten cert.sink
-Performs (tasks.Show map limit at_most registers xlen format costs) first second cert out done = ShowsAs registers map xlen limit at_most format costs first out done × IsUnread second × IsUnwritten cert.sink
+Performs (tasks.Judge file trace limit registers answers xlen) first second cert out done = JudgesAs registers answers file trace xlen limit first second out done × IsUntouched cert
+Performs (tasks.Check map file) first second cert out done = Checks map file first second out done × IsUntouched cert
+Performs (tasks.Audit map registers all xlen) first second cert out done = Audits map registers xlen all first second out done × IsUntouched cert
+Performs (tasks.Map registers xlen) first second cert out done = Maps registers xlen first out done × IsUnread second × IsUntouched cert
+Performs (tasks.Lint file kind xlen) first second cert out done = LintsAs kind xlen file first second out done × IsUntouched cert
+Performs (tasks.Show map limit at_most registers xlen format costs) first second cert out done = ShowsAs registers map xlen limit at_most format costs first out done × IsUnread second × IsUntouched cert
 
 -- what standard error is told: nothing where there is no trouble, otherwise its line, which breaks off only where the device does
 pub data Tells {E : Type 0} (err : Writing E) : Result ℕ Trouble → Type 0 where

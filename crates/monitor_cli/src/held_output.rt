@@ -64,7 +64,7 @@ pub fn perform_and_close<R: Source, C: WholeSink, T: Write + Drop, E: Sink>(
         let telling = writing E.contents E.failures E.stalls in
         (held : Counted (BufWriter T _)) × (told : E) × (ended : ℕ)
         × Ends task.now (source first.old first.new) (source second.old second.new)
-        (placing C.contents C.failures C.stalls C.stands cert.old cert.new)
+        (placing C.contents C.failures C.stalls C.stands C.is_apart cert.old cert.new)
         (writing (held_by T.contents) failures_of stalls_of out held) (telling err.old told) ended
         × IsClosed (held_by T.contents held) (T.contents result.1) (err.new ≡ told)
         (Tells (telling told err.new) (Err Output)) ended result.0 }

@@ -66,7 +66,7 @@ fn run_task<'a, R: Source, C: WholeSink, W: Sink>(
 ) -> Result<u8, Trouble<'a>>
     ensures { let source = reading R.remaining R.failures in
         Performs task.now (source first.old first.new) (source second.old second.new)
-        (placing C.contents C.failures C.stalls C.stands cert.old cert.new)
+        (placing C.contents C.failures C.stalls C.stands C.is_apart cert.old cert.new)
         (writing W.contents W.failures W.stalls out.old out.new) result }
 {
     match task {
@@ -156,7 +156,7 @@ pub fn perform<R: Source, C: WholeSink, W: Sink, E: Sink>(
 ) -> u8
     ensures { let source = reading R.remaining R.failures in
         Ends task.now (source first.old first.new) (source second.old second.new)
-        (placing C.contents C.failures C.stalls C.stands cert.old cert.new)
+        (placing C.contents C.failures C.stalls C.stands C.is_apart cert.old cert.new)
         (writing W.contents W.failures W.stalls out.old out.new)
         (writing E.contents E.failures E.stalls err.old err.new) result }
 {

@@ -1,13 +1,13 @@
 //! The program: the words of its command line, done on real files.
 #![tactic(auto)]
 
-ghost use Rattle.std.specs.Prelude.{◌≡◌, ◌≢◌, ◌≤◌, ◌<◌, ◌⊎◌, IfOk, IfSome, None, true, false};
+ghost use Rattle.std.specs.Prelude.{◌≡◌, ◌≢◌, ◌≤◌, ◌<◌, ◌⊎◌, IfOk, IfSome, None, Some, true, false};
 ghost use Rattle.std.specs.Process.{exit_status};
 ghost use Rattle.clap.specs.Words.{kind_of};
 ghost use Rattle.clap.specs.declared.error.kind.ErrorKind.TheVariants as kind;
 ghost use Rattle.byte_streams.specs.Streams.{failures_of, inner_of};
 ghost use Rattle.program_tasks.specs.Tasks.{input_word};
-ghost use Rattle.task_files.specs.Places.{cert_of, IsAt, IsToStandardOutput, ReadsTwice};
+ghost use Rattle.task_files.specs.Places.{cert_of, first_of, second_of, IsAt, IsAtAgain, IsToStandardOutput, ReadsTwice};
 ghost use Rattle.program_troubles.specs.Troubles.{trouble_status};
 
 mod words;
@@ -152,9 +152,20 @@ fn refused(rt: &HostRuntime, task: &Task<'_>) -> Option<ExitCode>
 /// The status of a task that ended since a device failed.
 const DEVICE_FAILED: u8 = 3;
 
+/// What reads at the places of a task: what it reads first, and after that.
+fn inputs<'a>(rt: &'a HostRuntime, task: &Task<'a>) -> (Input<'a>, Input<'a>)
+    ensures first { IsAt (Some (first_of task.now)) (inner_of result.0).inner }
+    ensures second { IsAt (second_of task.now) (inner_of result.1).inner }
+    ensures failures { (failures_of result.0 ≡ 0) × (failures_of result.1 ≡ 0) }
+    ensures reasons { ((inner_of result.0).reason ≡ None) × ((inner_of result.1).reason ≡ None) }
+{
+    (input(rt, Some(first_of(task))), input(rt, second_of(task)))
+}
+
 /// What reads a second time at that place, where a plain file stands there. A pipe is not there again, and might never come.
 fn input_again<'a>(rt: &'a HostRuntime, place: Option<Place<'a>>) -> Input<'a>
-    ensures { failures_of result ≡ 0 }
+    ensures failures { failures_of result ≡ 0 }
+    ensures place { IsAtAgain place.entry (inner_of result).inner }
 {
     let Some(Place::File(name)) = again(place) else {
         return input(rt, None);
@@ -165,6 +176,17 @@ fn input_again<'a>(rt: &'a HostRuntime, place: Option<Place<'a>>) -> Input<'a>
     }
 }
 
+/// What reads a second time at the places of a task.
+fn inputs_again<'a>(rt: &'a HostRuntime, task: &Task<'a>) -> (Input<'a>, Input<'a>)
+    ensures first { IsAtAgain (Some (first_of task.now)) (inner_of result.0).inner }
+    ensures second { IsAtAgain (second_of task.now) (inner_of result.1).inner }
+{
+    (
+        input_again(rt, Some(first_of(task))),
+        input_again(rt, second_of(task)),
+    )
+}
+
 /// Says what is wrong with the inputs of a task, which are opened anew. Standard input can't be, so
 /// there is nothing to say of it.
 fn hinted(
@@ -173,8 +195,7 @@ fn hinted(
     shown: &Task<'_>,
     err: &mut Counted<RetryInterrupted<Stderr>>,
 ) {
-    let mut first = input_again(rt, Some(first_of(task)));
-    let mut second = input_again(rt, second_of(task));
+    let (mut first, mut second) = inputs_again(rt, task);
     tell_hints(rt.alloc(), shown, &mut first, &mut second, err);
 }
 
@@ -192,8 +213,7 @@ fn say_why(reasons: &[(&str, Option<Reason>)], err: &mut Counted<RetryInterrupte
 /// its first read or write.
 fn done(rt: &HostRuntime, request: &Request<'_>, names: &ShownNames) -> ExitCode {
     let task = &request.task;
-    let mut first = input(rt, Some(first_of(task)));
-    let mut second = input(rt, second_of(task));
+    let (mut first, mut second) = inputs(rt, task);
     let cert = cert_of(task).unwrap_or(NO_FILE);
     let Ok(mut cert) = CertificateFile::new(rt, rt.alloc(), cert) else {
         return stopped(rt, Trouble::Memory);
@@ -238,7 +258,7 @@ fn answered(rt: &HostRuntime, request: &Request<'_>) -> ExitCode
     if reads_twice(task) {
         return faulted(
             rt,
-            command_line::reads_twice(rt.alloc(), subcommand_of(task)),
+            command_line::reads_twice(rt.alloc(), task.subcommand().name()),
         );
     }
     if let Some(code) = refused(rt, task) {
@@ -250,17 +270,16 @@ fn answered(rt: &HostRuntime, request: &Request<'_>) -> ExitCode
     }
 }
 
-/// The subcommand whose usage is told of a task that would read standard input twice.
-fn subcommand_of(task: &Task<'_>) -> &'static str {
-    match task {
-        Task::Run { .. } => "run",
-        Task::Check { .. } => "check",
-        _ => "lint",
-    }
-}
-
 /// Says what is wrong with a command line, in words without control characters where there is memory for them.
-fn refuse(rt: &HostRuntime, words: &[&str], error: &Error) -> ExitCode {
+fn refuse(rt: &HostRuntime, words: &[&str], error: &Error) -> ExitCode
+    ensures memory { kind_of error.now ≡ kind.OutOfMemory → exit_status result ≡ 4 }
+    ensures mistake { kind_of error.now ≢ kind.OutOfMemory
+        → kind_of error.now ≢ kind.DisplayHelp
+        → kind_of error.now ≢ kind.DisplayVersion → exit_status result ≡ 2 }
+    ensures shown { kind_of error.now ≡ kind.DisplayHelp
+        ⊎ kind_of error.now ≡ kind.DisplayVersion
+        → exit_status result ≡ 0 ⊎ exit_status result ≡ 3 }
+{
     let Ok(shown) = shown_words(rt.alloc(), words) else {
         return explained(rt, error);
     };

@@ -2,21 +2,29 @@
 //!
 //! For the layer above: [`read_whole`] answers the bytes of a source of bounded length; a [`FileToRead`] is opened at its
 //! first read, and an [`InputToRead`] is one or standard input; a [`CertificateFile`] is a [`WholeSink`], whose bytes come
-//! to stand in their place all at once. A call that a signal interrupted is tried again ([`RetryInterrupted`]).
+//! to stand in their place all at once: it lends what takes them, a [`PartFile`], and not the place. A [`StreamPlace`] is
+//! such a sink too. A call that a signal interrupted is tried again ([`RetryInterrupted`]).
 //!
 //! ```rust
 //! let bytes = read_whole(rt.alloc(), &mut source, 1 << 20)?;
 //! ```
 #![tactic(auto)]
 
+mod beside;
 mod certificate_file;
 mod devices;
+mod part_file;
 mod reason;
 mod same_file;
+mod stream_place;
 mod whole;
+mod whole_sink;
 
-pub use certificate_file::{CertificateFile, WholeSink};
+pub use certificate_file::CertificateFile;
 pub use devices::{FileToRead, InputToRead, RetryInterrupted};
+pub use part_file::PartFile;
 pub use reason::{Explained, Reason};
 pub use same_file::{is_same_file, is_same_plain_file};
+pub use stream_place::StreamPlace;
 pub use whole::{WholeFault, read_whole};
+pub use whole_sink::WholeSink;

@@ -1,37 +1,18 @@
 -- A plan that begins at no entry of the hart.
-use Rattle.std.proofs.Common.{ℕ, ◌≡◌, ◌≢◌, ◌∙◌, Option, Some, None, IfSome, codes, refl, sym, inl, inr, true, option_map}
+use Rattle.std.proofs.Common.{ℕ, ◌≡◌, ◌≢◌, ◌∙◌, Option, Some, IfSome, codes, sym, inl, inr, true, option_map}
 use Rattle.std.specs.Borrow.{Bor}
 use Rattle.pmp_encoding.specs.declared.limit.Limit.{Limit}
 use Rattle.register_width.specs.declared.xlen.Xlen.{Xlen}
 use Rattle.program_tasks.specs.declared.fault.Fault.{Fault}
 use Rattle.program_tasks.specs.declared.subcommand.Subcommand.TheVariants as subcommands
 use Rattle.program_tasks.specs.declared.task.Format.{Format}
-use Rattle.program_tasks.specs.declared.task.Task.TheVariants.{Run, Plan, Judge, Check, Show, Audit, Map, Lint}
-use Rattle.program_tasks.specs.Faults.{Breaks, IsFirst, Lacks, begins_inside, demands_of}
+use Rattle.program_tasks.specs.Faults.{Breaks, IsFirst, begins_inside, demands_of}
 use Rattle.program_tasks.specs.Subcommands.{Text}
-use Rattle.program_tasks.specs.Tasks.{Counts, NamesNone, format_word, is_identifier, limit_word, width_word}
-use Rattle.program_tasks.proofs.Twice.{differ, given}
-
--- no such plan is sound
-pub begins_nowhere : (value flag : Text → Option Text) → Lacks value flag begins_inside → NamesNone (codes "plan") value flag
-begins_nowhere value flag lacks (Plan map cert limit at_most format name first xlen) e v sound = lacks first limit v.6 v.2 sound.2
-begins_nowhere value flag lacks (Run p t s x) e v sound = differ _ _ _ _ refl e
-begins_nowhere value flag lacks (Judge p t s b x w) e v sound = differ _ _ _ _ refl e
-begins_nowhere value flag lacks (Check p t) e v sound = differ _ _ _ _ refl e
-begins_nowhere value flag lacks (Show p t s b w f k) e v sound = differ _ _ _ _ refl e
-begins_nowhere value flag lacks (Audit p r a w) e v sound = differ _ _ _ _ refl e
-begins_nowhere value flag lacks (Lint p k w) e v sound = differ _ _ _ _ refl e
-begins_nowhere value flag lacks (Map p w) e v sound = differ _ _ _ _ refl e
+use Rattle.program_tasks.specs.Tasks.{Counts, format_word, is_identifier, limit_word, width_word}
+use Rattle.program_tasks.proofs.Refused.{given, named_well}
 
 another_file : (mine other map : Option Text) → mine ≡ other → other ≢ map → mine ≢ map
 another_file mine other map e differs same = differs (sym e ∙ same)
-
-named_well : (value : Option Text) (name : Option (Bor Text)) (word : Text) → value ≡ option_map (λ s. s.now) name → IfSome name (λ s. is_identifier s.now ≡ true) → value ≡ Some word → is_identifier word ≢ true → ⊥
-named_well value None word e well is bad = cc
-named_well value (Some name) word e well is bad = bad (rw (same name.now word (sym e ∙ is)) at well)
-  where
-    same : (x y : Text) → Some x ≡ Some y → x ≡ y
-    same x y e = cc
 
 -- the fault of the last demand of `plan`, where the values meet the others
 pub begins_wrongly :

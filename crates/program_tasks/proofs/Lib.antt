@@ -1,2 +1,4 @@
 pub mod Begins
-pub mod Twice
+pub mod Firsts
+pub mod Refused
+pub mod Passed

@@ -12,7 +12,7 @@ use Rattle.program_tasks.specs.declared.subcommand.Subcommand.{Subcommand}
 use Rattle.program_tasks.specs.declared.subcommand.Subcommand.TheVariants as subcommands
 use Rattle.program_tasks.specs.Hints.{hints_word}
 use Rattle.program_tasks.specs.Subcommands.{Text, subcommand_word}
-use Rattle.program_tasks.specs.Tasks.{BeginsAt, Counts, IsGiven, NamesNone, format_word, table_format_word, input_word, is_identifier, limit_word, width_word}
+use Rattle.program_tasks.specs.Tasks.{BeginsAt, Counts, IsGiven, format_word, table_format_word, input_word, is_identifier, limit_word, width_word}
 
 -- what is said of a value that an option does not take
 abbrev pub value_text : List ℕ → List ℕ → List ℕ
@@ -118,11 +118,6 @@ demands_of subcommands.Show = has (codes "MAP") ∷ has (codes "entries") ∷ na
 demands_of subcommands.Audit = has (codes "MAP") ∷ has (codes "REGISTERS") ∷ reads_once (codes "REGISTERS") ∷ has (codes "xlen") ∷ names_width ∷ []
 demands_of subcommands.Map = has (codes "REGISTERS") ∷ has (codes "xlen") ∷ names_width ∷ []
 demands_of subcommands.Lint = has (codes "FILE") ∷ one_kind ∷ of_trace ∷ has (codes "xlen") ∷ names_width ∷ []
-
--- no sound task is that subcommand with these values, and the fault is that of the first demand that they lack
-pub record RefusesTask (subcommand : Subcommand) (value flag : Text → Option Text) (fault : Fault) : Type 0 where
-  pub none : NamesNone (subcommand_word subcommand) value flag
-  pub first : IsFirst value flag (demands_of subcommand) fault
 
 -- the fault of a subcommand's values: the first demand that they lack tells it, and a word that is no subcommand is a
 -- required argument that is missing

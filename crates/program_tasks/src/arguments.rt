@@ -100,8 +100,6 @@ pub(crate) fn value_in<'a, V: Values<'a>>(given: &V, name: &str) -> Result<&'a s
 pub(crate) fn limit_in<'a, V: Values<'a>>(given: &V) -> Result<Limit, Fault<'a>>
     ensures value { IfOk result (λ limit.
         V.value given.now (codes "entries") ≡ Some (limit_word limit)) }
-    ensures other { IfErr result (λ _.
-        (limit : Limit) → V.value given.now (codes "entries") ≢ Some (limit_word limit)) }
     ensures fault { IfErr result (IsFirst (V.value given.now) (V.flag given.now)
         (has (codes "entries") ∷ names_limit ∷ [])) }
 {
@@ -116,8 +114,6 @@ pub(crate) fn limit_in<'a, V: Values<'a>>(given: &V) -> Result<Limit, Fault<'a>>
 pub(crate) fn format_in<'a, V: Values<'a>>(given: &V) -> Result<Format, Fault<'a>>
     ensures value { IfOk result (λ format.
         V.value given.now (codes "format") ≡ Some (format_word format)) }
-    ensures other { IfErr result (λ _.
-        (format : Format) → V.value given.now (codes "format") ≢ Some (format_word format)) }
     ensures fault { IfErr result (IsFirst (V.value given.now) (V.flag given.now)
         (has (codes "format") ∷ names_format ∷ [])) }
 {
@@ -132,9 +128,6 @@ pub(crate) fn format_in<'a, V: Values<'a>>(given: &V) -> Result<Format, Fault<'a
 pub(crate) fn table_format_in<'a, V: Values<'a>>(given: &V) -> Result<TableFormat, Fault<'a>>
     ensures value { IfOk result (λ format.
         V.value given.now (codes "format") ≡ Some (table_format_word format)) }
-    ensures other { IfErr result (λ _.
-        (format : TableFormat)
-        → V.value given.now (codes "format") ≢ Some (table_format_word format)) }
     ensures fault { IfErr result (IsFirst (V.value given.now) (V.flag given.now)
         (has (codes "format") ∷ names_table_format ∷ [])) }
 {
@@ -149,8 +142,6 @@ pub(crate) fn table_format_in<'a, V: Values<'a>>(given: &V) -> Result<TableForma
 pub(crate) fn width_in<'a, V: Values<'a>>(given: &V) -> Result<Xlen, Fault<'a>>
     ensures value { IfOk result (λ xlen.
         V.value given.now (codes "xlen") ≡ Some (width_word xlen)) }
-    ensures other { IfErr result (λ _.
-        (xlen : Xlen) → V.value given.now (codes "xlen") ≢ Some (width_word xlen)) }
     ensures fault { IfErr result (IsFirst (V.value given.now) (V.flag given.now)
         (has (codes "xlen") ∷ names_width ∷ [])) }
 {

@@ -12,7 +12,7 @@ use crate::task::Task;
 use crate::tasks::task_of;
 
 /// A task, and when hints are told.
-#[derive(Clone, Copy, Debug, PartialEq, Eq)]
+#[derive(Clone, Copy)]
 pub struct Request<'a> {
     /// What is done.
     pub task: Task<'a>,

@@ -1,6 +1,6 @@
 //! The program's subcommands.
 
-ghost use Rattle.std.specs.Prelude.{◌≡◌, ◌≢◌, IfSome, None};
+ghost use Rattle.std.specs.Prelude.{◌≡◌, ◌≢◌, ◌↔◌, true, IfSome, None};
 ghost use Rattle.program_tasks.specs.declared.subcommand.Subcommand.{Subcommand};
 ghost use Rattle.program_tasks.specs.Subcommands.{subcommand_word, usage_words};
 
@@ -70,35 +70,23 @@ impl Subcommand {
         }
     }
 
+    /// Whether a word names it.
+    fn is_named(self, word: &str) -> bool
+        ensures { (result ≡ true) ↔ (word.now ≡ subcommand_word self) }
+    {
+        word == self.name()
+    }
+
     /// The one that a word names.
     pub fn of(word: &str) -> Option<Subcommand>
         ensures some { IfSome result (λ subcommand. word.now ≡ subcommand_word subcommand) }
         ensures none { result ≡ None → (subcommand : Subcommand)
             → word.now ≢ subcommand_word subcommand }
     {
-        if word == "run" {
-            return Some(Subcommand::Run);
-        }
-        if word == "plan" {
-            return Some(Subcommand::Plan);
-        }
-        if word == "judge" {
-            return Some(Subcommand::Judge);
-        }
-        if word == "check" {
-            return Some(Subcommand::Check);
-        }
-        if word == "show" {
-            return Some(Subcommand::Show);
-        }
-        if word == "audit" {
-            return Some(Subcommand::Audit);
-        }
-        if word == "map" {
-            return Some(Subcommand::Map);
-        }
-        if word == "lint" {
-            return Some(Subcommand::Lint);
+        for subcommand in &SUBCOMMANDS {
+            if subcommand.is_named(word) {
+                return Some(*subcommand);
+            }
         }
         None
     }

@@ -1,5 +1,9 @@
 //! What the program is asked to do.
 
+ghost use Rattle.std.specs.Prelude.{◌≡◌};
+ghost use Rattle.program_tasks.specs.Subcommands.{subcommand_of};
+
+use crate::subcommand::Subcommand;
 use pmp_encoding::Limit;
 use register_width::Xlen;
 
@@ -39,7 +43,7 @@ pub enum Answers {
 }
 
 /// What a file that is linted should be.
-#[derive(Clone, Copy, Debug, PartialEq, Eq)]
+#[derive(Clone, Copy, PartialEq, Eq)]
 pub enum LintKind<'a> {
     /// What its name says: a platform where it ends in `.toml`, otherwise a map.
     ByName,
@@ -53,7 +57,7 @@ pub enum LintKind<'a> {
 }
 
 /// One command of the program. The names of files are the words that were given.
-#[derive(Clone, Copy, Debug, PartialEq, Eq)]
+#[derive(Clone, Copy, PartialEq, Eq)]
 pub enum Task<'a> {
     /// Boot a platform, run a trace on it, and report every answer.
     Run {
@@ -151,4 +155,22 @@ pub enum Task<'a> {
         /// Whether the text of a map's table is followed by how many entries the map needs without each of its lines.
         costs: bool,
     },
+}
+
+impl Task<'_> {
+    /// The subcommand that it is.
+    pub fn subcommand(&self) -> Subcommand
+        ensures { result ≡ subcommand_of self.now }
+    {
+        match self {
+            Task::Run { .. } => Subcommand::Run,
+            Task::Plan { .. } => Subcommand::Plan,
+            Task::Judge { .. } => Subcommand::Judge,
+            Task::Check { .. } => Subcommand::Check,
+            Task::Audit { .. } => Subcommand::Audit,
+            Task::Map { .. } => Subcommand::Map,
+            Task::Lint { .. } => Subcommand::Lint,
+            Task::Show { .. } => Subcommand::Show,
+        }
+    }
 }

@@ -1,9 +1,7 @@
 //! The task that a subcommand with its values is.
 
 ghost use Rattle.std.specs.Prelude.{◌≡◌, ◌≢◌, ◌<◌, ◌↔◌, ◌⊎◌, [], ◌∷◌, IfErr, IfOk, Option, None, Some, codes, true, option_map};
-ghost use Rattle.program_tasks.specs.declared.task.Answers.{Answers};
-ghost use Rattle.program_tasks.specs.declared.task.LintKind.{LintKind};
-ghost use Rattle.program_tasks.specs.Faults.{Breaks, IsFaultOf, IsFirst, RefusesTask};
+ghost use Rattle.program_tasks.specs.Faults.{demands_of, Breaks, IsFaultOf, IsFirst};
 ghost use Rattle.program_tasks.specs.Faults.Demand.{of_trace, one_answer, one_kind};
 ghost use Rattle.program_tasks.specs.Subcommands.{word_of};
 ghost use Rattle.program_tasks.specs.Tasks.{input_word, HasAnswers, HasKind, HasValues, IsOfMap, IsOfText, IsSound, IsTaskOf, NamesNone};
@@ -29,8 +27,8 @@ fn is_input(word: &str) -> bool
 fn run_in<'a, V: Values<'a>>(given: &V) -> Result<Task<'a>, Fault<'a>>
     ensures task { IfOk result (IsTaskOf Subcommand.Run (V.value given.now)
         (V.flag given.now)) }
-    ensures refused { IfErr result (RefusesTask Subcommand.Run (V.value given.now)
-        (V.flag given.now)) }
+    ensures fault { IfErr result (IsFirst (V.value given.now) (V.flag given.now)
+        (demands_of Subcommand.Run)) }
 {
     let platform = value_in(given, "PLATFORM")?;
     let trace = value_in(given, "TRACE")?;
@@ -66,8 +64,8 @@ fn cert_in<'a, V: Values<'a>>(given: &V, map: &'a str) -> Result<Option<&'a str>
 fn plan_in<'a, V: Values<'a>>(given: &V) -> Result<Task<'a>, Fault<'a>>
     ensures task { IfOk result (IsTaskOf Subcommand.Plan (V.value given.now)
         (V.flag given.now)) }
-    ensures refused { IfErr result (RefusesTask Subcommand.Plan (V.value given.now)
-        (V.flag given.now)) }
+    ensures fault { IfErr result (IsFirst (V.value given.now) (V.flag given.now)
+        (demands_of Subcommand.Plan)) }
 {
     let map = value_in(given, "MAP")?;
     let cert = cert_in(given, map)?;
@@ -105,8 +103,6 @@ fn once<'a>(map: &str, other: &str) -> Result<(), Fault<'a>>
 /// What is written of the answers to a trace.
 fn answers_in<'a, V: Values<'a>>(given: &V) -> Result<Answers, Fault<'a>>
     ensures answers { IfOk result (HasAnswers (V.flag given.now)) }
-    ensures none { IfErr result (λ _. (answers : Answers)
-        → ¬ HasAnswers (V.flag given.now) answers) }
     ensures fault { IfErr result (Breaks (V.value given.now) (V.flag given.now) one_answer) }
 {
     let is_compared = given.is_given("expect");
@@ -126,8 +122,8 @@ fn answers_in<'a, V: Values<'a>>(given: &V) -> Result<Answers, Fault<'a>>
 fn judge_in<'a, V: Values<'a>>(given: &V) -> Result<Task<'a>, Fault<'a>>
     ensures task { IfOk result (IsTaskOf Subcommand.Judge (V.value given.now)
         (V.flag given.now)) }
-    ensures refused { IfErr result (RefusesTask Subcommand.Judge (V.value given.now)
-        (V.flag given.now)) }
+    ensures fault { IfErr result (IsFirst (V.value given.now) (V.flag given.now)
+        (demands_of Subcommand.Judge)) }
 {
     let map = value_in(given, "MAP")?;
     let trace = value_in(given, "TRACE")?;
@@ -149,8 +145,8 @@ fn judge_in<'a, V: Values<'a>>(given: &V) -> Result<Task<'a>, Fault<'a>>
 fn check_in<'a, V: Values<'a>>(given: &V) -> Result<Task<'a>, Fault<'a>>
     ensures task { IfOk result (IsTaskOf Subcommand.Check (V.value given.now)
         (V.flag given.now)) }
-    ensures refused { IfErr result (RefusesTask Subcommand.Check (V.value given.now)
-        (V.flag given.now)) }
+    ensures fault { IfErr result (IsFirst (V.value given.now) (V.flag given.now)
+        (demands_of Subcommand.Check)) }
 {
     let map = value_in(given, "MAP")?;
     let cert = value_in(given, "CERT")?;
@@ -185,8 +181,8 @@ fn of_text<'a>(format: TableFormat, registers: bool, costs: bool) -> Result<(), 
 fn show_in<'a, V: Values<'a>>(given: &V) -> Result<Task<'a>, Fault<'a>>
     ensures task { IfOk result (IsTaskOf Subcommand.Show (V.value given.now)
         (V.flag given.now)) }
-    ensures refused { IfErr result (RefusesTask Subcommand.Show (V.value given.now)
-        (V.flag given.now)) }
+    ensures fault { IfErr result (IsFirst (V.value given.now) (V.flag given.now)
+        (demands_of Subcommand.Show)) }
 {
     let map = value_in(given, "MAP")?;
     let limit = limit_in(given)?;
@@ -211,8 +207,8 @@ fn show_in<'a, V: Values<'a>>(given: &V) -> Result<Task<'a>, Fault<'a>>
 fn audit_in<'a, V: Values<'a>>(given: &V) -> Result<Task<'a>, Fault<'a>>
     ensures task { IfOk result (IsTaskOf Subcommand.Audit (V.value given.now)
         (V.flag given.now)) }
-    ensures refused { IfErr result (RefusesTask Subcommand.Audit (V.value given.now)
-        (V.flag given.now)) }
+    ensures fault { IfErr result (IsFirst (V.value given.now) (V.flag given.now)
+        (demands_of Subcommand.Audit)) }
 {
     let map = value_in(given, "MAP")?;
     let registers = value_in(given, "REGISTERS")?;
@@ -230,8 +226,8 @@ fn audit_in<'a, V: Values<'a>>(given: &V) -> Result<Task<'a>, Fault<'a>>
 fn map_in<'a, V: Values<'a>>(given: &V) -> Result<Task<'a>, Fault<'a>>
     ensures task { IfOk result (IsTaskOf Subcommand.Map (V.value given.now)
         (V.flag given.now)) }
-    ensures refused { IfErr result (RefusesTask Subcommand.Map (V.value given.now)
-        (V.flag given.now)) }
+    ensures fault { IfErr result (IsFirst (V.value given.now) (V.flag given.now)
+        (demands_of Subcommand.Map)) }
 {
     let registers = value_in(given, "REGISTERS")?;
     let xlen = width_in(given)?;
@@ -241,8 +237,6 @@ fn map_in<'a, V: Values<'a>>(given: &V) -> Result<Task<'a>, Fault<'a>>
 /// What a file that is linted should be.
 fn kind_in<'a, V: Values<'a>>(given: &V) -> Result<LintKind<'a>, Fault<'a>>
     ensures kind { IfOk result (HasKind (V.value given.now) (V.flag given.now)) }
-    ensures none { IfErr result (λ _. (kind : LintKind)
-        → ¬ HasKind (V.value given.now) (V.flag given.now) kind) }
     ensures fault { IfErr result (IsFirst (V.value given.now) (V.flag given.now)
         (one_kind ∷ of_trace ∷ [])) }
 {
@@ -267,8 +261,8 @@ fn kind_in<'a, V: Values<'a>>(given: &V) -> Result<LintKind<'a>, Fault<'a>>
 fn lint_in<'a, V: Values<'a>>(given: &V) -> Result<Task<'a>, Fault<'a>>
     ensures task { IfOk result (IsTaskOf Subcommand.Lint (V.value given.now)
         (V.flag given.now)) }
-    ensures refused { IfErr result (RefusesTask Subcommand.Lint (V.value given.now)
-        (V.flag given.now)) }
+    ensures fault { IfErr result (IsFirst (V.value given.now) (V.flag given.now)
+        (demands_of Subcommand.Lint)) }
 {
     let file = value_in(given, "FILE")?;
     let kind = kind_in(given)?;
@@ -279,8 +273,8 @@ fn lint_in<'a, V: Values<'a>>(given: &V) -> Result<Task<'a>, Fault<'a>>
 /// The task of a subcommand with its values.
 fn task_in<'a, V: Values<'a>>(subcommand: Subcommand, given: &V) -> Result<Task<'a>, Fault<'a>>
     ensures task { IfOk result (IsTaskOf subcommand (V.value given.now) (V.flag given.now)) }
-    ensures refused { IfErr result (RefusesTask subcommand (V.value given.now)
-        (V.flag given.now)) }
+    ensures fault { IfErr result (IsFirst (V.value given.now) (V.flag given.now)
+        (demands_of subcommand)) }
 {
     match subcommand {
         Subcommand::Run => run_in(given),

@@ -1,27 +1,47 @@
 -- The names of a task's files.
 use Rattle.std.specs.Prelude.{ℕ, List, [], ◌∷◌, Option, Some, None, option_map}
 use Rattle.std.specs.Borrow.{Bor}
+use Rattle.program_tasks.specs.declared.task.Format.TheVariants as formats
 use Rattle.program_tasks.specs.declared.task.LintKind.{LintKind}
 use Rattle.program_tasks.specs.declared.task.LintKind.TheVariants as kinds
 use Rattle.program_tasks.specs.declared.task.Task.{Task}
 use Rattle.program_tasks.specs.declared.task.Task.TheVariants as tasks
 
--- what a file that is linted should be, with this name in place of its platform's
-abbrev pub renamed_kind : Bor (List ℕ) → LintKind → LintKind
-renamed_kind name kinds.ByName = kinds.ByName
-renamed_kind name kinds.Registers = kinds.Registers
-renamed_kind name (kinds.Trace platform) = kinds.Trace (option_map (λ s. name) platform)
+-- a task with this name in place of that of what it reads first; a map whose name is printed as JSON, which escapes it, keeps its own
+abbrev pub with_first : Bor (List ℕ) → Task → Task
+with_first name (tasks.Run platform trace measure answers) = tasks.Run name trace measure answers
+with_first name (tasks.Plan map cert limit at_most formats.Json prefix begin xlen) = tasks.Plan map cert limit at_most formats.Json prefix begin xlen
+with_first name (tasks.Plan map cert limit at_most format prefix begin xlen) = tasks.Plan name cert limit at_most format prefix begin xlen
+with_first name (tasks.Judge map trace limit registers answers xlen) = tasks.Judge name trace limit registers answers xlen
+with_first name (tasks.Check map cert) = tasks.Check name cert
+with_first name (tasks.Audit map registers all xlen) = tasks.Audit name registers all xlen
+with_first name (tasks.Map registers xlen) = tasks.Map name xlen
+with_first name (tasks.Lint file kind xlen) = tasks.Lint name kind xlen
+with_first name (tasks.Show map limit at_most registers xlen format costs) = tasks.Show name limit at_most registers xlen format costs
 
--- a task with this name in place of each name of a file
-abbrev pub renamed : Bor (List ℕ) → Task → Task
-renamed name (tasks.Run platform trace measure answers) = tasks.Run name name measure answers
-renamed name (tasks.Plan map cert limit at_most format prefix begin xlen) = tasks.Plan name (option_map (λ s. name) cert) limit at_most format prefix begin xlen
-renamed name (tasks.Judge map trace limit registers answers xlen) = tasks.Judge name name limit registers answers xlen
-renamed name (tasks.Check map cert) = tasks.Check name name
-renamed name (tasks.Audit map registers all xlen) = tasks.Audit name name all xlen
-renamed name (tasks.Map registers xlen) = tasks.Map name xlen
-renamed name (tasks.Lint file kind xlen) = tasks.Lint name (renamed_kind name kind) xlen
-renamed name (tasks.Show map limit at_most registers xlen format costs) = tasks.Show name limit at_most registers xlen format costs
+-- what a file that is linted should be, with this name in place of its platform's
+abbrev pub with_platform : Bor (List ℕ) → LintKind → LintKind
+with_platform name kinds.ByName = kinds.ByName
+with_platform name kinds.Registers = kinds.Registers
+with_platform name (kinds.Trace platform) = kinds.Trace (option_map (λ s. name) platform)
+
+-- the same of what it reads after that, where it does
+abbrev pub with_second : Bor (List ℕ) → Task → Task
+with_second name (tasks.Run platform trace measure answers) = tasks.Run platform name measure answers
+with_second name (tasks.Judge map trace limit registers answers xlen) = tasks.Judge map name limit registers answers xlen
+with_second name (tasks.Check map cert) = tasks.Check map name
+with_second name (tasks.Audit map registers all xlen) = tasks.Audit map name all xlen
+with_second name (tasks.Lint file kind xlen) = tasks.Lint file (with_platform name kind) xlen
+with_second name task = task
+
+-- the same of the certificate that it writes, where it writes one
+abbrev pub with_cert : Bor (List ℕ) → Task → Task
+with_cert name (tasks.Plan map cert limit at_most format prefix begin xlen) = tasks.Plan map (option_map (λ s. name) cert) limit at_most format prefix begin xlen
+with_cert name task = task
+
+-- a task with these names in place of its own: of what it reads first and after that, and of the certificate
+abbrev pub named : Bor (List ℕ) → Bor (List ℕ) → Bor (List ℕ) → Task → Task
+named first second cert task = with_cert cert (with_second second (with_first first task))
 
 -- the name of a file, where there is one, and otherwise that of none
 abbrev pub name_or_none : Option (Bor (List ℕ)) → List ℕ

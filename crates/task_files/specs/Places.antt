@@ -1,5 +1,5 @@
 -- What a task reads and writes, by name.
-use Rattle.std.specs.Prelude.{◌≡◌, List, [], ℕ, Option, Some, None, bytes_eq, if◌then◌else◌}
+use Rattle.std.specs.Prelude.{◌≡◌, ◌⊎◌, List, [], ℕ, Option, Some, None, bytes_eq, if◌then◌else◌}
 use Rattle.std.specs.Borrow.{Bor}
 use Rattle.program_tasks.specs.Tasks.{input_word}
 use Rattle.program_tasks.specs.declared.task.LintKind.TheVariants as kinds
@@ -59,3 +59,7 @@ abbrev pub again : Option Place → Option Place
 again (Some (File name)) = Some (File name)
 again (Some StandardInput) = None
 again None = None
+
+-- an input reads at a place a second time, or, where no plain file is there, the file of no name
+abbrev pub IsAtAgain : {R S F D : Type 0} → Option Place → InputToRead R S F D → Type 0
+IsAtAgain place input = IsAt (again place) input ⊎ IsAt None input

@@ -3,7 +3,8 @@
 ghost use Rattle.std.specs.Prelude.{◌≡◌, ℕ, List, [], ◌∷◌, IfOk, map};
 ghost use Rattle.std.specs.Borrow.{Bor};
 ghost use Rattle.program_troubles.specs.Shown.{shown};
-ghost use Rattle.task_files.specs.Names.{names_in, renamed, renamed_kind};
+ghost use Rattle.task_files.specs.Names.{named, names_in, with_cert, with_first, with_platform, with_second};
+ghost use Rattle.task_files.specs.Words.{IsTextOf};
 
 use crate::words::text_of;
 use program_tasks::{Format, LintKind, Task};
@@ -51,9 +52,9 @@ pub struct ShownNames {
 
 impl ShownNames {
     ghost use Rattle.std.specs.Prelude.{◌≡◌, ◌∷◌, [], IfOk, map};
-    ghost use Rattle.std.specs.Str.{IsUtf8};
     ghost use Rattle.program_troubles.specs.Shown.{shown};
     ghost use Rattle.task_files.specs.Names.{names_in};
+    ghost use Rattle.task_files.specs.Words.{IsTextOf};
 
     /// Those of a task.
     pub fn of(alloc: Global, task: &Task<'_>) -> Result<ShownNames, AllocError>
@@ -71,33 +72,37 @@ impl ShownNames {
 
     /// That of what is read first.
     pub fn first(&self) -> &str
-        ensures { IsUtf8 self.now.first.items → result.now ≡ self.now.first.items }
+        ensures { IsTextOf self.now.first.items result }
     {
         text_of(self.first.as_slice())
     }
 
     /// That of what is read after that.
     pub fn second(&self) -> &str
-        ensures { IsUtf8 self.now.second.items → result.now ≡ self.now.second.items }
+        ensures { IsTextOf self.now.second.items result }
     {
         text_of(self.second.as_slice())
     }
 
     /// That of the certificate that is written.
     pub fn cert(&self) -> &str
-        ensures { IsUtf8 self.now.cert.items → result.now ≡ self.now.cert.items }
+        ensures { IsTextOf self.now.cert.items result }
     {
         text_of(self.cert.as_slice())
     }
 }
 
-/// Gives what a task reads first another name.
+/// Gives what a task reads first another name. A map whose name is printed as JSON, which escapes it, keeps its own.
 fn name_first<'a>(task: &mut Task<'a>, name: &'a str)
-    ensures { (any : Bor (List ℕ)) → renamed any task.new ≡ renamed any task.old }
+    ensures { task.new ≡ with_first name.entry task.old }
 {
     match task {
         Task::Run { platform, .. } => *platform = name,
         Task::Judge { map, .. } => *map = name,
+        Task::Plan {
+            format: Format::Json,
+            ..
+        } => {}
         Task::Plan { map, .. } => *map = name,
         Task::Check { map, .. } => *map = name,
         Task::Audit { map, .. } => *map = name,
@@ -109,7 +114,7 @@ fn name_first<'a>(task: &mut Task<'a>, name: &'a str)
 
 /// The same of what it reads after that, where it does.
 fn name_second<'a>(task: &mut Task<'a>, name: &'a str)
-    ensures { (any : Bor (List ℕ)) → renamed any task.new ≡ renamed any task.old }
+    ensures { task.new ≡ with_second name.entry task.old }
 {
     match task {
         Task::Run { trace, .. } => *trace = name,
@@ -123,7 +128,7 @@ fn name_second<'a>(task: &mut Task<'a>, name: &'a str)
 
 /// The same of the platform of a trace that is linted, where it has one.
 fn name_platform<'a>(kind: &mut LintKind<'a>, name: &'a str)
-    ensures { (any : Bor (List ℕ)) → renamed_kind any kind.new ≡ renamed_kind any kind.old }
+    ensures { kind.new ≡ with_platform name.entry kind.old }
 {
     if let LintKind::Trace { platform: Some(_) } = kind {
         *kind = LintKind::Trace {
@@ -134,7 +139,7 @@ fn name_platform<'a>(kind: &mut LintKind<'a>, name: &'a str)
 
 /// The same of the certificate that it writes, where it writes one.
 fn name_cert<'a>(task: &mut Task<'a>, name: &'a str)
-    ensures { (any : Bor (List ℕ)) → renamed any task.new ≡ renamed any task.old }
+    ensures { task.new ≡ with_cert name.entry task.old }
 {
     if let Task::Plan { cert, .. } = task {
         if cert.is_some() {
@@ -143,25 +148,14 @@ fn name_cert<'a>(task: &mut Task<'a>, name: &'a str)
     }
 }
 
-/// Whether a task prints the name of its map as JSON, which escapes it.
-fn is_json(task: &Task<'_>) -> bool {
-    matches!(
-        task,
-        Task::Plan {
-            format: Format::Json,
-            ..
-        }
-    )
-}
-
 /// The task with these names in place of its own. In JSON a map has its own name.
 pub fn with_names<'a>(task: &Task<'a>, names: &'a ShownNames) -> Task<'a>
-    ensures { (any : Bor (List ℕ)) → renamed any result ≡ renamed any task.now }
+    ensures { (first second cert : Bor (List ℕ)) × IsTextOf names.now.first.items first
+        × IsTextOf names.now.second.items second × IsTextOf names.now.cert.items cert
+        × (result ≡ named first second cert task.now) }
 {
     let mut named = *task;
-    if !is_json(task) {
-        name_first(&mut named, names.first());
-    }
+    name_first(&mut named, names.first());
     name_second(&mut named, names.second());
     name_cert(&mut named, names.cert());
     named

@@ -1,9 +1,8 @@
 //! Words of a command line, as messages show them.
 
 ghost use Rattle.std.specs.Prelude.{◌≡◌, ◌++◌, IfOk, OnOk, map};
-ghost use Rattle.std.specs.Str.{IsUtf8};
 ghost use Rattle.program_troubles.specs.Shown.{shown};
-ghost use Rattle.task_files.specs.Words.{quoted, quoted_byte};
+ghost use Rattle.task_files.specs.Words.{quoted, quoted_byte, AreTextsOf, IsTextOf};
 
 use program_troubles::{push_escaped, shown};
 use std::alloc::{AllocError, Global};
@@ -24,13 +23,16 @@ pub fn shown_words(alloc: Global, words: &[&str]) -> Result<Vec<Vec<u8>>, AllocE
 
 /// The text of bytes, where they are one.
 pub(crate) fn text_of(bytes: &[u8]) -> &str
-    ensures { IsUtf8 bytes.now → result.now ≡ bytes.now }
+    ensures { IsTextOf bytes.now result }
 {
     from_utf8(bytes).unwrap_or("")
 }
 
 /// Words as texts.
-pub fn texts_of(alloc: Global, words: &[Vec<u8>]) -> Result<Vec<&str>, AllocError> {
+pub fn texts_of(alloc: Global, words: &[Vec<u8>]) -> Result<Vec<&str>, AllocError>
+    ensures { IfOk result (λ texts.
+        AreTextsOf (map (λ word. word.items) words.now) texts.items) }
+{
     let mut texts = Vec::new(alloc);
     for word in words {
         texts.push(text_of(word.as_slice()))?;

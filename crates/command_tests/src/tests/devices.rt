@@ -1,6 +1,6 @@
 //! A command line, run on devices that give and take few bytes at a time, and fail where they are told to.
 
-ghost use Rattle.std.specs.Prelude.{Some, [], if◌then◌else◌};
+ghost use Rattle.std.specs.Prelude.{Some, true, refl};
 ghost use Rattle.byte_streams.specs.Fakes.{written_of};
 
 use byte_streams::fakes::{PieceSink, PieceSource};
@@ -12,11 +12,12 @@ use std::alloc::Global;
 use std::process::Abort;
 
 /// A place, and a sink whose k-th call fails, the one that puts its bytes there among them. Nothing stands in the place until
-/// then, and afterwards what was written.
+/// then.
 #[derive(Drop)]
 struct PlacedSink {
     sink: PieceSink,
-    is_placed: bool,
+    alloc: Global,
+    placed: Vec<u8>,
 }
 
 impl Sink for PlacedSink {
@@ -32,14 +33,40 @@ impl Sink for PlacedSink {
 }
 
 impl WholeSink for PlacedSink {
-    ghost stands = { λ s. if s.is_placed then Some (written_of s.sink) else Some [] };
+    type Inner = PieceSink;
+
+    ghost stands = { λ s. Some s.placed.items };
+
+    ghost is_apart = { true };
+
+    ghost with_inner = { λ s inner. record s { sink = inner } };
+
+    fn inner(&mut self) -> &mut PieceSink {
+        &mut self.sink
+    }
 
     fn put_in_place(&mut self) -> Result<(), DeviceFault> {
         // A write of no bytes is counted, and fails in its turn, as any other.
         self.sink.write(b"")?;
-        self.is_placed = true;
-        Ok(())
+        match Vec::from_slice(self.alloc, self.sink.written()) {
+            Ok(placed) => {
+                self.placed = placed;
+                Ok(())
+            }
+            Err(_) => {
+                self.sink.failures = self.sink.failures.saturating_add(1);
+                Err(DeviceFault)
+            }
+        }
     }
+
+    ghost taken = { λ _ _. refl };
+
+    ghost failed = { λ _ _. refl };
+
+    ghost stalled = { λ _ _. refl };
+
+    ghost apart = { λ _ _ _. refl };
 }
 
 /// How many bytes the inputs give at a time, and which call of each device fails, counted from 1.
@@ -95,7 +122,8 @@ pub fn try_on(
     let mut second = PieceSource::new(second, failing.piece, failing.second);
     let mut cert = PlacedSink {
         sink: PieceSink::new(400, failing.cert),
-        is_placed: false,
+        alloc,
+        placed: Vec::new(alloc),
     };
     let mut out = PieceSink::new(3, failing.out);
     let mut err = PieceSink::new(3, failing.err);
@@ -112,7 +140,7 @@ pub fn try_on(
         status,
         out: Vec::from_slice(alloc, out.written()).expect(rt, "memory"),
         err: Vec::from_slice(alloc, err.written()).expect(rt, "memory"),
-        is_placed: cert.is_placed,
+        is_placed: !cert.placed.is_empty(),
         has_failed: first.failures > 0
             || second.failures > 0
             || cert.sink.failures > 0

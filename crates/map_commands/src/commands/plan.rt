@@ -94,7 +94,7 @@ pub fn do_plan<'a, R: Source, C: WholeSink, W: Sink>(
         asked.entry.at_most asked.entry.format (option_map (λ s. s.now) asked.entry.name)
         asked.entry.first
         (reading R.remaining R.failures source.old source.new)
-        (placing C.contents C.failures C.stalls C.stands certificate.old certificate.new)
+        (placing C.contents C.failures C.stalls C.stands C.is_apart certificate.old certificate.new)
         (writing W.contents W.failures W.stalls out.old out.new) result }
 {
     let Asked {

@@ -9,12 +9,12 @@ use Rattle.map_commands.proofs.Ends.{unplanned}
 use Rattle.map_commands.proofs.certified_plan.plan_and_certify.Goals as goal
 
 pub returns-in_default-clause-refused : goal.returns-in_default-clause-refused
-returns-in_default-clause-refused g c = unplanned _ _ _ _ _ _ _ c.planned_near.result refl c.planned_near.ensures.refused
+returns-in_default-clause-refused g c = unplanned _ _ _ _ _ _ _ c.planned_near.result (refl, refl) c.planned_near.ensures.refused
 
 pub returns-in_err-plan-clause-refused : goal.returns-in_err-plan-clause-refused
 returns-in_err-plan-clause-refused g c =
     let p = err_from_is_err_and c.from_residual.result c.from_residual.ensures.1 in
-    rw p.1 (starved p.2 refl)
+    rw p.1 (starved p.2 (refl, refl))
 
 pub returns-in_err-within-clause-refused : goal.returns-in_err-within-clause-refused
 returns-in_err-within-clause-refused g c =
@@ -25,7 +25,7 @@ returns-in_err-within-clause-refused g c =
       fewest = c.in_ok-plan.ensures.fewest;
       beyond = b.0;
       told = b.1;
-    }) refl)
+    }) (refl, refl))
 
 pub returns-in_err-reached-clause-refused : goal.returns-in_err-reached-clause-refused
 returns-in_err-reached-clause-refused g c =
@@ -37,7 +37,7 @@ returns-in_err-reached-clause-refused g c =
       planned = record { fewest = made.fewest; chosen = made.choice; order = made.order; within = c.in_ok-within.ensures.within };
       far = b.0;
       told = b.1;
-    }) refl)
+    }) (refl, refl))
 
 pub returns-in_err-put-clause-refused : goal.returns-in_err-put-clause-refused
 returns-in_err-put-clause-refused g c =

@@ -1,5 +1,5 @@
 use Rattle.program_tasks.specs.Requests.{IsFaultOfRequest, of_task}
-use Rattle.program_tasks.proofs.Twice.{handed_on}
+use Rattle.program_tasks.proofs.Passed.{handed_on}
 use Rattle.program_tasks.proofs.request.request_of.Goals as goal
 
 pub returns-in_err-task-clause-fault : goal.returns-in_err-task-clause-fault

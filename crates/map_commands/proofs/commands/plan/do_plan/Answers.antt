@@ -8,7 +8,7 @@ use Rattle.map_commands.proofs.commands.plan.do_plan.Goals as goal
 pub returns-in_err-map : goal.returns-in_err-map
 returns-in_err-map g c =
     let p = err_from_is_err_and c.from_residual.result c.from_residual.ensures.1 in
-    rw (p.1, p.2) (plans.Plans.no_map _ c.in_err-map.ensures.refused refl refl)
+    rw (p.1, p.2) (plans.Plans.no_map _ c.in_err-map.ensures.refused (refl, refl) refl)
 
 pub returns-in_err-plan : goal.returns-in_err-plan
 returns-in_err-plan g c =

@@ -1,0 +1,123 @@
+//! The place of a certificate, and the files beside it.
+
+ghost use Rattle.std.specs.Path.{path_buf_bytes};
+ghost use Rattle.std.specs.Prelude.{◌≡◌, ◌+◌, ◌-◌, ◌^◌, ◌<◌, ◌⊎◌, ◌↔◌, None, true, IfErr, IfOk, IfSome, string_bytes};
+ghost use Rattle.program_files.specs.Beside.{part_name, short_part_name, IsNumbered};
+
+use std::alloc::{AllocError, Global};
+use std::fs::{File, Metadata, OpenFile, OpenOptions};
+use std::io::ErrorKind;
+use std::path::{Path, PathBuf};
+use std::rt::Files;
+use std::{fs, io};
+
+/// What a link of that name leads to; nothing where it is no link, or that cannot be told.
+pub(crate) fn led_to<R: Files>(files: &R, alloc: Global, name: &str) -> Option<PathBuf> {
+    let stands = fs::symlink_metadata(files, name).ok()?;
+    if !stands.is_symlink() {
+        return None;
+    }
+    if fs::metadata(files, name).is_ok() {
+        return files.canonicalize(alloc, name).ok();
+    }
+    end_of(files, alloc, name)
+}
+
+/// How many links are followed, as Linux does.
+const MOST_LINKS: u8 = 40;
+
+/// What a link leads to at its end, where nothing need be; nothing where it does not end, or cannot be told.
+fn end_of<R: Files>(files: &R, alloc: Global, name: &str) -> Option<PathBuf> {
+    let mut place = PathBuf::from_str(alloc, name).ok()?;
+    for _ in 0..MOST_LINKS {
+        let Ok(target) = files.read_link(alloc, place.as_path().as_str()) else {
+            return Some(place);
+        };
+        let _ = place.pop();
+        place.push(target.as_path()).ok()?;
+    }
+    None
+}
+
+/// Whether that kind of failure says of a folder that no file can be made in it.
+pub(crate) fn takes_no_file(kind: ErrorKind) -> bool
+    ensures { (result ≡ true) ↔ ((kind ≡ ErrorKind.PermissionDenied)
+        ⊎ (kind ≡ ErrorKind.ReadOnlyFilesystem)) }
+{
+    matches!(
+        kind,
+        ErrorKind::PermissionDenied | ErrorKind::ReadOnlyFilesystem
+    )
+}
+
+/// Lets a new file be read and written by whom the old one may; where that can't be had, it is as any new file.
+pub(crate) fn permit<F: OpenFile>(file: &F, old: Option<Metadata>) {
+    if let Some(old) = old {
+        let _ = file.set_permissions(old.permissions());
+    }
+}
+
+/// What stands there, to be written from its beginning on.
+pub(crate) fn straight<R: Files>(files: &R, place: &str) -> io::Result<R::File> {
+    OpenOptions::new()
+        .write(true)
+        .truncate(true)
+        .open(files, place)
+}
+
+/// The place of a file of that name: what it leads to, and otherwise the name itself.
+pub(crate) fn place_of(
+    alloc: Global,
+    name: &str,
+    led: Option<PathBuf>,
+) -> Result<String, AllocError>
+    ensures led { IfSome led (λ path. IfOk result (λ place.
+        string_bytes place ≡ path_buf_bytes path)) }
+    ensures name { led ≡ None → IfOk result (λ place. string_bytes place ≡ name.now) }
+{
+    match led {
+        Some(path) => Ok(path.into_string()),
+        None => String::from_str(alloc, name),
+    }
+}
+
+/// The name beside a place, with room for a digit after it.
+pub(crate) fn beside_of(alloc: Global, place: &str) -> Result<String, AllocError>
+    ensures { IfOk result (λ name. string_bytes name ≡ part_name place.now) }
+{
+    let mut name = String::with_capacity(alloc, place.len().saturating_add(6))?;
+    name.push_str(place)?;
+    name.push_str(".part")?;
+    Ok(name)
+}
+
+/// A short name in the folder of a place, with room for a digit after it.
+pub(crate) fn short_beside_of(alloc: Global, place: &str) -> Result<String, AllocError>
+    ensures { IfOk result (λ name. string_bytes name ≡ short_part_name place.now) }
+{
+    let path = Path::new(place).with_file_name(alloc, "pmpmon.part")?;
+    let mut name = path.into_string();
+    name.reserve(1)?;
+    Ok(name)
+}
+
+/// A new file under a name with a digit after it, the first that is free.
+pub(crate) fn new_file<R: Files>(files: &R, name: &mut String) -> io::Result<R::File>
+    ensures made { IfOk result (λ _. IsNumbered (string_bytes name.old) (string_bytes name.new)) }
+    ensures stays { IfErr result (λ _. string_bytes name.new ≡ string_bytes name.old) }
+{
+    let len = name.len();
+    for digit in 0..10u8 {
+        name.push(char::from(b'0' + digit))?;
+        match File::create_new(files, name.as_str()) {
+            Ok(file) => return Ok(file),
+            Err(error) => {
+                name.truncate(len);
+                if error.kind() != ErrorKind::AlreadyExists {
+                    return Err(error);
+                }
+            }
+        }
+    }
+    Err(io::Error::from(ErrorKind::AlreadyExists))
+}
