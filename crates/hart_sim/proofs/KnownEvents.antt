@@ -1,5 +1,7 @@
 -- A line says only what may happen.
-use Rattle.std.proofs.Common.{◌≡◌, ◌≢◌, ◌∙◌, ℕ, ◌-◌, ◌<◌, ◌⊎◌, inl, inr, List, [], ◌∷◌, length, Bool, true, false, not, ◌&&◌, ◌==◌, if◌then◌else◌, nat_lt, nat_le, Option, Some, None, option_map, codes, bytes_eq, refl, ap, arith}
+use Rattle.std.proofs.Common.{◌≡◌, ◌≢◌, ◌∙◌, ℕ, ◌-◌, ◌<◌, ◌≤◌, ◌⊎◌, inl, inr, List, [], ◌∷◌, length, Bool, true, false, not, ◌&&◌, ◌==◌, if◌then◌else◌, nat_lt, nat_le, Option, Some, None, option_map, codes, bytes_eq, refl, ap, arith, sym, Result, Ok, Err}
+use Rattle.std.specs.Prelude.{IfOk, IfSome}
+use Rattle.std.specs.Result.{result_ok}
 use Rattle.std.proofs.lemmas.Option.{same_Some}
 use Rattle.std.proofs.lemmas.Bool.{and_parts, ltb-true}
 use Rattle.pmp_match.specs.declared.access.Mode.{Mode}
@@ -10,6 +12,7 @@ use Rattle.pmp_match.specs.declared.access.Access.{Access}
 use Rattle.pmp_match.specs.Kinds.{has_size}
 use Rattle.hart_trace.specs.declared.event.Event.{Event}
 use Rattle.hart_trace.specs.declared.event.Event.TheVariants as events
+use Rattle.text_lines.specs.declared.lexical.NotUnderstood.{NotUnderstood}
 use Rattle.text_lines.specs.Words.{words_of}
 use Rattle.text_lines.specs.Numbers.{numeral_of, number_of}
 use Rattle.hart_trace.specs.Events.{Word, ◌>>=◌, mode_of, sized, access_of, with_no_value, with_value, has_leading_zero, register_of, setting_of, numbers_of, call_of, interrupt_of, event_of, hart_of, on_hart, said_by, meaning_of}
@@ -151,3 +154,19 @@ said_known harts (word ∷ words) hart event some e =
 
 pub line_known : (harts : ℕ) (line : List ℕ) (hart : ℕ) (event : Event) → 0 < harts → meaning_of harts line ≡ Some (Some (hart, event)) → (hart < harts) × IsEvent event
 line_known harts line hart event some e = let words = bound (words_of line) _ (Some (hart, event)) e in said_known harts words.0 hart event some words.2
+
+-- so it is of what a line is understood as
+pub hart_said : (harts : ℕ) (line : List ℕ) (said : Result (Option (ℕ × Event)) NotUnderstood) → 0 < harts → result_ok said ≡ meaning_of harts line → IfOk said (λ s. IfSome s (λ found. found.0 < harts))
+hart_said harts line (Err e) some is = tt
+hart_said harts line (Ok None) some is = tt
+hart_said harts line (Ok (Some found)) some is = (line_known harts line found.0 found.1 some (sym is)).0
+
+pub event_said : (harts : ℕ) (line : List ℕ) (said : Result (Option (ℕ × Event)) NotUnderstood) → 0 < harts → result_ok said ≡ meaning_of harts line → IfOk said (λ s. IfSome s (λ found. IsEvent found.1))
+event_said harts line (Err e) some is = tt
+event_said harts line (Ok None) some is = tt
+event_said harts line (Ok (Some found)) some is = (line_known harts line found.0 found.1 some (sym is)).1
+
+pub few_said : (harts : ℕ) (line : List ℕ) (said : Result (Option (ℕ × Event)) NotUnderstood) → 0 < harts → harts ≤ 4 → result_ok said ≡ meaning_of harts line → IfOk said (λ s. IfSome s (λ found. found.0 < 4))
+few_said harts line (Err e) some few is = tt
+few_said harts line (Ok None) some few is = tt
+few_said harts line (Ok (Some found)) some few is = let known = (line_known harts line found.0 found.1 some (sym is)).0 in omega (arith, known, few)

@@ -3,7 +3,8 @@
 //! A [`Machine`] is booted for a platform, and [`Machine::step`] makes one event happen on one hart: an access by
 //! supervisor or user mode, a setting of a register, a call to the monitor, or the timer's interrupt. An access is judged
 //! by the words that are loaded on the hart, and by nothing else. [`run`] does so for each line of a trace and writes a
-//! line for each reply.
+//! line for each reply. Who does more with a line does it in the same steps: [`Machine::event_in`] is its event,
+//! [`push_reply`] the line of the reply, and [`Machine::called_with`] the call that an event makes.
 //!
 //! For the layer above: each reply and the state after it are a step of the small machine in `specs/Steps`, which has no
 //! PMP entries in it; after boot and after every event the list of each hart that is not marked means what its world may
@@ -45,5 +46,6 @@ pub use laws::{
 };
 pub use machine::Machine;
 pub use reply::Reply;
-pub use text_lines::RunFault;
+pub use report::push_reply;
+pub use text_lines::{NotUnderstood, RunFault};
 pub use trace_run::run;

@@ -1,28 +1,39 @@
 //! A trace that happens to a machine, line by line, each reply written before the next line is read.
 
-ghost use Rattle.std.specs.Prelude.{◌≡◌, ◌≢◌, ℕ, ◌-◌, ◌^◌, ◌<◌, List, Err, IfOk, true, false};
+ghost use Rattle.std.specs.Prelude.{◌≡◌, ℕ, ◌-◌, ◌^◌, ◌<◌, List, Err, IfOk};
 ghost use Rattle.text_lines.specs.LineLoop.{DoesAll, StopsAt, StopsTooLong, StopsReading, StopsWriting, StopsForMemory, CountsReads, CountsWrites};
 ghost use Rattle.enclave_table.specs.Platform.{Layout};
 ghost use Rattle.hart_trace.specs.declared.event.Event.{Event};
 ghost use Rattle.hart_sim.specs.declared.reply.Reply.{Reply};
-ghost use Rattle.hart_sim.specs.declared.reply.Reply.TheVariants.{NoMemory};
 ghost use Rattle.hart_sim.specs.Machines.{KeepsBanksRight};
 ghost use Rattle.hart_sim.specs.After.{After};
 ghost use Rattle.hart_sim.specs.Reports.{DoesLine, RefusesLine, StarvesLine, GoesOn};
 
 use crate::machine::Machine;
-use crate::reply::Reply;
 use crate::report::push_reply;
 use byte_streams::{Sink, Source};
-use hart_trace::parse_line;
-use text_lines::{Interpreter, Line, Refusal, RunFault, interpret_lines};
+use hart_trace::{Event, parse_line};
+use text_lines::{Interpreter, Line, NotUnderstood, Refusal, RunFault, interpret_lines};
 
-/// Whether a reply says that memory was refused.
-fn wants_memory(reply: &Reply) -> bool
-    ensures yes { result ≡ true → reply.now ≡ NoMemory }
-    ensures no { result ≡ false → reply.now ≢ NoMemory }
-{
-    matches!(reply, Reply::NoMemory)
+impl Machine {
+    ghost use Rattle.std.specs.Prelude.{◌≡◌, ◌<◌, IfOk, IfSome};
+    ghost use Rattle.std.specs.Result.{result_ok};
+    ghost use Rattle.hart_trace.specs.Events.{meaning_of};
+    ghost use Rattle.hart_sim.specs.Machines.{state_of};
+    ghost use Rattle.hart_sim.specs.Steps.{IsEvent};
+
+    /// The event that a line says, and its hart, which is one of the machine's; nothing for a line without words.
+    #[inline(always)]
+    pub fn event_in(&self, line: &[u8]) -> Result<Option<(u8, Event)>, NotUnderstood>
+        ensures meaning { result_ok result
+            ≡ meaning_of (state_of self.now).table.layout.harts line.now }
+        ensures hart { IfOk result (λ said. IfSome said (λ found.
+            found.0 < (state_of self.now).table.layout.harts)) }
+        ensures few { IfOk result (λ said. IfSome said (λ found. found.0 < 4)) }
+        ensures event { IfOk result (λ said. IfSome said (λ found. IsEvent found.1)) }
+    {
+        parse_line(line, self.harts())
+    }
 }
 
 impl Interpreter for Machine {
@@ -35,14 +46,14 @@ impl Interpreter for Machine {
     ghost keeps = { KeepsBanksRight };
 
     fn interpret(&mut self, line: &[u8], count: u64, answer: &mut Line) -> Result<bool, Refusal> {
-        let Ok(said) = parse_line(line, self.harts()) else {
+        let Ok(said) = self.event_in(line) else {
             return Err(Refusal::NotUnderstood);
         };
         let Some((hart, event)) = said else {
             return Ok(false);
         };
         let reply = self.step(hart, event);
-        if wants_memory(&reply) {
+        if reply.wants_memory() {
             return Err(Refusal::Memory);
         }
         push_reply(answer, count + 1, &reply);

@@ -1,4 +1,4 @@
-use Rattle.std.proofs.Common.{◌≡◌, ◌+◌, ◌-◌, ◌∙◌, arith, slice_index}
+use Rattle.std.proofs.Common.{◌≡◌, ◌+◌, ◌-◌, arith, slice_index}
 use Rattle.hart_sim.proofs.Bytes.{fits_more, fits_times, number_before, number_none, small_before, small_none}
 use Rattle.hart_sim.proofs.memory.number_of.Goals as goal
 
