@@ -6,7 +6,7 @@ ghost use Rattle.entry_planner.specs.PackedEntries.{HasBlock};
 use pmp_encoding::{Perm, Region};
 use std::marker::Model;
 
-/// An entry of whole pages, in a third of the room of an entry: most of the time of putting entries in order goes by
+/// An entry of whole pages, in eight bytes in place of twenty-four: most of the time of putting entries in order goes by
 /// moving them. Contracts see the entry.
 #[derive(Drop)]
 pub struct PackedEntry {
