@@ -112,8 +112,10 @@ pub const MEASURE: Argument<'static> = Argument::Flag(
 pub const TRACE: Argument<'static> = Argument::Flag("trace", "Read FILE as a trace");
 
 /// Whether each stretch that differs is asked for.
-pub const ALL: Argument<'static> =
-    Argument::Flag("all", "Print each stretch that differs, not the first alone");
+pub const ALL: Argument<'static> = Argument::Flag(
+    "all",
+    "Print each stretch that differs, not the first alone",
+);
 
 /// Whether answers are compared with those that a trace says.
 pub const EXPECT: Argument<'static> = Argument::Flag(
