@@ -6,21 +6,20 @@ ghost use Rattle.lint_texts.specs.Pieces.{address_text};
 
 use arrayvec::ArrayVec;
 use itoa::Buffer;
-pub use lint_texts::append as push;
-use lint_texts::without_zeros;
+use lint_texts::{append, without_zeros};
 use text_lines::{Line, push_hex};
 
 /// A comment that is being written.
 pub type Comment = ArrayVec<u8, 256>;
 
-/// Appends a number in decimal.
-pub fn push_number(comment: &mut Comment, n: u64)
-    requires { array_vec_len comment.old + 20 ≤ 256 }
-    ensures items { comment.new.items ≡ comment.old.items ++ decimal n }
-    ensures len { array_vec_len comment.new ≤ array_vec_len comment.old + 20 }
+/// Appends a number in decimal to a text that has room for it.
+pub fn push_number<const N: usize>(text: &mut ArrayVec<u8, N>, n: u64)
+    requires { array_vec_len text.old + 20 ≤ N }
+    ensures items { text.new.items ≡ text.old.items ++ decimal n }
+    ensures len { array_vec_len text.new ≤ array_vec_len text.old + 20 }
 {
     let mut buffer = Buffer::new();
-    push(comment, buffer.format(n).as_bytes());
+    append(text, buffer.format(n).as_bytes());
 }
 
 /// Appends a number as `0x1000`.
@@ -32,6 +31,6 @@ pub fn push_address(comment: &mut Comment, n: u64)
 {
     let mut digits: Line = ArrayVec::new();
     push_hex(&mut digits, n, 16);
-    push(comment, b"0x");
-    push(comment, without_zeros(digits.as_slice()));
+    append(comment, b"0x");
+    append(comment, without_zeros(digits.as_slice()));
 }

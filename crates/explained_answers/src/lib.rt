@@ -15,7 +15,7 @@ mod explained;
 mod judges;
 mod reasons;
 
-pub use comment::{Comment, push, push_address, push_number};
+pub use comment::{Comment, push_address, push_number};
 pub use deciders::{Decider, Deciders};
 pub use explained::explain;
 pub use judges::explain_judged;

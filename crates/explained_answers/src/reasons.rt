@@ -4,8 +4,9 @@ ghost use Rattle.std.specs.Prelude.{◌≡◌, ◌+◌, ◌^◌, ◌<◌, ◌≤
 ghost use Rattle.arrayvec.specs.ArrayVec.{array_vec_len};
 ghost use Rattle.explained_answers.specs.Reasons.{IsReason, extent_text, has_all, part_text, reason_text};
 
-use crate::comment::{Comment, push, push_address, push_number};
+use crate::comment::{Comment, push_address, push_number};
 use crate::deciders::Deciders;
+use lint_texts::append;
 use page_views::SPACE_SIZE;
 use pmp_encoding::Extent;
 use pmp_match::{Access, is_aligned};
@@ -63,10 +64,10 @@ pub fn push_extent(comment: &mut Comment, extent: &Extent)
     ensures len { array_vec_len comment.new ≤ array_vec_len comment.old + 41 }
 {
     push_address(comment, extent.base);
-    push(comment, b"-");
+    append(comment, b"-");
     push_address(comment, extent.end.saturating_sub(1));
-    push(comment, b" ");
-    push(comment, letters(extent.perm).as_bytes());
+    append(comment, b" ");
+    append(comment, letters(extent.perm).as_bytes());
 }
 
 /// Appends that an entry has only a part of an access, where that is so.
@@ -76,7 +77,7 @@ fn push_part(comment: &mut Comment, is_whole: bool)
     ensures len { array_vec_len comment.new ≤ array_vec_len comment.old + 25 }
 {
     if !is_whole {
-        push(comment, b", which holds only a part");
+        append(comment, b", which holds only a part");
     }
 }
 
@@ -87,17 +88,17 @@ pub fn push_reason(comment: &mut Comment, reason: &Reason)
     ensures len { array_vec_len comment.new ≤ array_vec_len comment.old + 128 }
 {
     match reason {
-        Reason::Misaligned => push(comment, b"misaligned, no entry is asked"),
-        Reason::Outside => push(comment, b"past 2^56, no entry is asked"),
-        Reason::NoEntry => push(comment, b"no entry meets it"),
+        Reason::Misaligned => append(comment, b"misaligned, no entry is asked"),
+        Reason::Outside => append(comment, b"past 2^56, no entry is asked"),
+        Reason::NoEntry => append(comment, b"no entry meets it"),
         Reason::Entry {
             number,
             extent,
             is_whole,
         } => {
-            push(comment, b"entry ");
+            append(comment, b"entry ");
             push_number(comment, *number as u64);
-            push(comment, b": ");
+            append(comment, b": ");
             push_extent(comment, extent);
             push_part(comment, *is_whole);
         }

@@ -1,3 +1,6 @@
 mod ListsMet
-mod Answered
+mod Accounted
 mod Plain
+pub mod Counted
+pub mod Joined
+pub mod Told

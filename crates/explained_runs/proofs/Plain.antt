@@ -2,9 +2,11 @@
 use Rattle.std.proofs.Common.{◌≡◌, ℕ, suc, List, [], ◌∷◌, ◌++◌, length, Option, Some, None, refl, subst, ap}
 use Rattle.text_lines.specs.Lines.{without_return}
 use Rattle.text_lines.specs.LineLoop.{Meaning, Does, none, silent, answer}
+use Rattle.text_lines.proofs.Mapped.{Follows, mapped}
+use Rattle.hart_sim.specs.declared.machine.Machine.{Machine}
 use Rattle.hart_sim.specs.Reports.{DoesLine}
 use Rattle.explained_answers.specs.Explained.{Comments, IsExplained, explained, explaining}
-use Rattle.explained_runs.specs.Comments.{on_event}
+use Rattle.explained_runs.specs.Accounts.{Account, AccountsLine, on_event}
 use Rattle.explained_runs.specs.Plain.{AreExplained, IsRunExplained}
 
 -- one line more
@@ -53,5 +55,18 @@ plain does comments (answer {answers = said} {mid} done line short new told is) 
       explained-snoc p.0 said d.0 told d.2 d.3 p.2,
     )
 
+abbrev inside : Account → Machine
+inside account = account.machine
+
+abbrev always : Account → Type 0
+always account = Unit {0}
+
+-- what a line does to the machine of an account
+follows : Follows always inside AccountsLine DoesLine
+follows s n line None t h d = (tt, d.0)
+follows s n line (Some text) t h d = (tt, (d.0, d.1, d.2, d.3, d.4, d.5, d.6))
+
 pub is_run_explained : IsRunExplained
-is_run_explained old new lines said done = plain DoesLine on_event done
+is_run_explained old new lines said done =
+    let p = plain AccountsLine on_event done in
+    (p.0, (mapped always inside AccountsLine DoesLine follows tt p.1).1, p.2)

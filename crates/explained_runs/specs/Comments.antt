@@ -6,20 +6,16 @@ use Rattle.sbi_decode.specs.declared.calls.Call.{Call}
 use Rattle.sbi_decode.specs.declared.calls.Call.TheVariants as calls
 use Rattle.worlds.specs.declared.world.World.{World}
 use Rattle.worlds.specs.declared.world.World.TheVariants as worlds
-use Rattle.hart_trace.specs.declared.event.Event.{Event}
-use Rattle.hart_trace.specs.Events.{meaning_of}
 use Rattle.hart_trace.specs.Plain.{keyword}
-use Rattle.explained_answers.specs.Explained.{Comments}
 use Rattle.explained_answers.specs.Reasons.{reason_text}
-use Rattle.hart_sim.specs.declared.machine.Machine.{Machine}
-use Rattle.hart_sim.specs.Machines.{state_of}
+use Rattle.enclave_table.specs.Enclaves.{EnclaveTable}
+use Rattle.hart_sim.specs.declared.reply.Reply.{Reply}
 use Rattle.explained_runs.specs.declared.asked.Asked.{Asked}
 use Rattle.explained_runs.specs.declared.asked.Deed.{Deed}
 use Rattle.explained_runs.specs.declared.asked.Deed.TheVariants as deeds
 use Rattle.explained_runs.specs.declared.outcome.Outcome.{Outcome}
 use Rattle.explained_runs.specs.declared.outcome.Outcome.TheVariants as outcomes
-use Rattle.explained_runs.specs.Asked.{IsAsked}
-use Rattle.explained_runs.specs.Outcomes.{came_to}
+use Rattle.explained_runs.specs.Outcomes.{IsOutcome}
 use Rattle.explained_runs.specs.Refusals.{refusal_text}
 
 -- `host`, or `enclave ID`
@@ -59,10 +55,16 @@ call_text (calls.Resume id) = codes "resume " ++ decimal id
 call_text (calls.Exit value) = codes "exit " ++ address_text value
 call_text (calls.Measure id k) = codes "measure " ++ (decimal id ++ (codes ", word " ++ decimal k))
 
+-- how many entries a view needs
+abbrev pub needs_text : List ℕ → ℕ → List ℕ
+needs_text whose n = whose ++ (codes " needs " ++ (decimal n ++ codes " entries"))
+
 -- what a call came to: the id of what it created, or why it was refused
 abbrev pub outcome_text : Call → Outcome → List ℕ
 outcome_text (calls.Create base text_pages data_pages shared_base shared_count entry_offset) (outcomes.Done id) = codes ": id " ++ decimal id
 outcome_text call (outcomes.Refused n) = codes ": refused, " ++ refusal_text call n
+outcome_text call (outcomes.HostNeeds n) = codes ": refused, " ++ needs_text (codes "the host's view") n
+outcome_text call (outcomes.EnclaveNeeds n) = codes ": refused, " ++ needs_text (codes "the enclave's view") n
 outcome_text call (outcomes.Done value) = []
 
 -- a call and what it came to
@@ -70,19 +72,17 @@ abbrev pub asked_text : Option Call → Outcome → List ℕ
 asked_text None outcome = codes "call: not supported"
 asked_text (Some call) outcome = call_text call ++ outcome_text call outcome
 
--- what an event asked and what came of it, by the machine after it: an access with what decided it, and a call with what it came to
--- for the world that made it
-abbrev pub deed_text : Asked → Machine → Deed → List ℕ
-deed_text asked new (deeds.Access a reason) = access_text a ++ (codes ": " ++ reason_text reason)
-deed_text asked new (deeds.Setting n value) = setting_text n value
-deed_text asked new (deeds.Call call) = asked_text call (came_to (state_of new) asked.hart asked.world)
-deed_text asked new deeds.Interrupt = interrupt_text asked.world
+-- what an event asked of a world and what came of it: an access with what decided it, and a call with what it came to
+abbrev pub deed_text : World → Deed → Outcome → List ℕ
+deed_text world (deeds.Access a reason) outcome = access_text a ++ (codes ": " ++ reason_text reason)
+deed_text world (deeds.Setting n value) outcome = setting_text n value
+deed_text world (deeds.Call call) outcome = asked_text call outcome
+deed_text world deeds.Interrupt outcome = interrupt_text world
 
--- the comment on an event that asked this, by the machine after it
-abbrev pub comment_text : Asked → Machine → List ℕ
-comment_text asked new = who_text asked.hart asked.world ++ deed_text asked new asked.deed
+-- the comment on an event that asked this and came to that
+abbrev pub comment_text : Asked → Outcome → List ℕ
+comment_text asked outcome = who_text asked.hart asked.world ++ deed_text asked.world asked.deed outcome
 
--- the comment on the answer to a line: on the event that it says
-abbrev pub on_event : Comments Machine
-on_event = λ old line answer new comment.
-    (hart : ℕ) × (event : Event) × (meaning_of (state_of old).table.layout.harts line ≡ Some (Some (hart, event))) × (asked : Asked) × IsAsked old hart event asked × (comment ≡ comment_text asked new)
+-- the comment on an event that asked this and was answered so, by the table after it
+abbrev pub IsComment : EnclaveTable → Asked → Reply → List ℕ → Type 0
+IsComment table asked reply comment = (outcome : Outcome) × IsOutcome table asked.deed reply outcome × (comment ≡ comment_text asked outcome)

@@ -1,25 +1,54 @@
--- What a call came to, as its caller finds it.
-use Rattle.std.specs.Prelude.{ℕ, ◌-◌, ◌^◌, ◌==◌, Bool, true, false, if◌then◌else◌}
-use Rattle.sbi_decode.specs.Registers.{RegisterFile, x_of}
-use Rattle.worlds.specs.Runners.{runner_of}
-use Rattle.worlds.specs.declared.world.World.{World}
-use Rattle.worlds.specs.declared.world.World.TheVariants.{Host, Enclave}
-use Rattle.hart_sim.specs.States.{State}
+-- What a call came to, by its reply and the table after it.
+use Rattle.std.specs.Prelude.{◌≡◌, ◌⊎◌, ℕ, ◌+◌, ◌<◌, ℤ, pos, negsuc, Option, Some, None}
+use Rattle.pmp_encoding.specs.Limits.{limit_number}
+use Rattle.pmp_match.specs.Meaning.{Needs}
+use Rattle.sbi_decode.specs.declared.calls.Call.TheVariants as calls
+use Rattle.enclave_table.specs.declared.request.Create.{Create}
+use Rattle.enclave_table.specs.Enclaves.{EnclaveTable, with_enclave}
+use Rattle.enclave_table.specs.Needs.{NeedsWithCreated}
+use Rattle.enclave_table.specs.Requests.{parts_of}
+use Rattle.enclave_table.specs.Views.{enclave_view, host_view}
+use Rattle.hart_sim.specs.declared.reply.Reply.{Reply}
+use Rattle.hart_sim.specs.declared.reply.Reply.TheVariants as replies
+use Rattle.explained_runs.specs.declared.asked.Deed.{Deed}
+use Rattle.explained_runs.specs.declared.asked.Deed.TheVariants as deeds
 use Rattle.explained_runs.specs.declared.outcome.Outcome.{Outcome}
-use Rattle.explained_runs.specs.declared.outcome.Outcome.TheVariants.{Done, Refused}
+use Rattle.explained_runs.specs.declared.outcome.Outcome.TheVariants.{Done, Refused, HostNeeds, EnclaveNeeds}
 
--- the same world
-abbrev pub is_same : World → World → Bool
-is_same Host Host = true
-is_same (Enclave id) (Enclave other) = id == other
-is_same _ _ = false
+-- how far a status is below zero, where it is
+abbrev pub below_zero : ℤ → Option ℕ
+below_zero (pos n) = None
+below_zero (negsuc n) = Some (n + 1)
 
--- by what a call left in a0 and a1: the error, which is 0 where it was done and below zero, in two's complement, where it was refused,
--- and the value
-abbrev pub outcome_in : RegisterFile → Outcome
-outcome_in file = if x_of file 10 == 0 then Done (x_of file 11) else Refused (2 ^ 64 - x_of file 10)
+-- by a status and a value: done with the value, or refused by a number
+abbrev pub told_by : Option ℕ → ℕ → Outcome
+told_by None value = Done value
+told_by (Some number) value = Refused number
 
--- what a call on a hart came to that this world made, by the state after it: the world goes on with an error and a value in a0 and a1,
--- or it made way for another one, and the call was done
-abbrev pub came_to : State → ℕ → World → Outcome
-came_to s hart world = if is_same world (s.worlds hart) then outcome_in (s.registers (runner_of hart (s.worlds hart))) else Done 0
+-- what a call came to, by its reply alone
+abbrev pub outcome_in : Reply → Outcome
+outcome_in (replies.Call status value world used) = told_by (below_zero status) value
+outcome_in _ = Done 0
+
+-- the view that would need more entries after a creation than there are, and how many: the host's, or that of the new enclave
+abbrev pub OutgrownByCreate : EnclaveTable → Create → Outcome → Type 0
+OutgrownByCreate table asked (HostNeeds n) = NeedsWithCreated table asked n × (limit_number table.layout.limit < n)
+OutgrownByCreate table asked (EnclaveNeeds n) = Needs (enclave_view (parts_of asked)) n × (limit_number table.layout.limit < n)
+OutgrownByCreate table asked _ = ⊥
+
+-- the same of a destruction, whose one view is the host's
+abbrev pub OutgrownByDestroy : EnclaveTable → ℕ → Outcome → Type 0
+OutgrownByDestroy table id (HostNeeds n) = Needs (host_view (with_enclave table id None)) n × (limit_number table.layout.limit < n)
+OutgrownByDestroy table id _ = ⊥
+
+-- the same of what was asked
+abbrev pub OutgrownBy : EnclaveTable → Deed → Outcome → Type 0
+OutgrownBy table (deeds.Call (Some (calls.Create base text_pages data_pages shared_base shared_count entry_offset))) outcome =
+    OutgrownByCreate table (record { base = base; text_pages = text_pages; data_pages = data_pages; shared_base = shared_base; shared_count = shared_count; entry_offset = entry_offset }) outcome
+OutgrownBy table (deeds.Call (Some (calls.Destroy id))) outcome = OutgrownByDestroy table id outcome
+OutgrownBy table _ outcome = ⊥
+
+-- what came of an event: what its reply says; or where that says too few entries, which leaves the table as it is, the view that needs
+-- more than there are. Where memory is refused for finding that view, it is what the reply says
+abbrev pub IsOutcome : EnclaveTable → Deed → Reply → Outcome → Type 0
+IsOutcome table deed reply outcome = (outcome ≡ outcome_in reply) ⊎ ((outcome_in reply ≡ Refused 108) × OutgrownBy table deed outcome)

@@ -1,10 +1,9 @@
 -- What an explained run has in common with a run.
 use Rattle.std.specs.Prelude.{◌≡◌, ℕ, List, [], ◌∷◌}
 use Rattle.text_lines.specs.LineLoop.{Does}
-use Rattle.hart_sim.specs.declared.machine.Machine.{Machine}
 use Rattle.hart_sim.specs.Reports.{DoesLine}
-use Rattle.explained_answers.specs.Explained.{explained, explaining}
-use Rattle.explained_runs.specs.Comments.{on_event}
+use Rattle.explained_answers.specs.Explained.{explained}
+use Rattle.explained_runs.specs.Accounts.{Account, ExplainsLine}
 
 -- each of these is an answer with a comment behind it
 abbrev pub AreExplained : List (List ℕ) → List (List ℕ) → Type 0
@@ -15,4 +14,4 @@ AreExplained _ _ = ⊥
 -- what lines do in turn whose answers are explained, they do without comments too
 abbrev pub IsRunExplained : Type 0
 IsRunExplained =
-    (old new : Machine) (lines said : List (List ℕ)) → Does (explaining DoesLine on_event) old lines said new → (answers : List (List ℕ)) × Does DoesLine old lines answers new × AreExplained answers said
+    (old new : Account) (lines said : List (List ℕ)) → Does ExplainsLine old lines said new → (answers : List (List ℕ)) × Does DoesLine old.machine lines answers new.machine × AreExplained answers said

@@ -1,21 +1,15 @@
-//! What a line of a trace asks, by the state before it.
+//! What an event asks, by the machine before it.
 
-ghost use Rattle.std.specs.Prelude.{◌≡◌, ℕ, ◌<◌, ◌∷◌, [], IfSome, IsTrue, Some, nat_le};
-ghost use Rattle.std.specs.List.{list_all};
-ghost use Rattle.sbi_decode.specs.Calls.{call_of};
+ghost use Rattle.std.specs.Prelude.{◌≡◌, ◌<◌};
 ghost use Rattle.hart_trace.specs.declared.event.Event.{Event};
-ghost use Rattle.hart_trace.specs.Events.{meaning_of};
-ghost use Rattle.hart_sim.specs.Changes.{with_words};
-ghost use Rattle.hart_sim.specs.Machines.{state_of};
 ghost use Rattle.explained_answers.specs.Reasons.{IsReason};
-ghost use Rattle.explained_runs.specs.declared.asked.Asked.{Asked};
 ghost use Rattle.explained_runs.specs.Asked.{by_met, IsAsked, IsDeed};
 
 use explained_answers::{Reason, reason_of};
-use hart_sim::{Event, Machine, parse_line};
+use hart_sim::{Event, Machine};
 use pmp_encoding::Bank;
 use pmp_match::Access;
-use sbi_decode::{Call, Registers, decode};
+use sbi_decode::Call;
 use worlds::World;
 
 /// What an event asks.
@@ -27,7 +21,7 @@ pub enum Deed {
     Setting(u8, u64),
     /// A call: the monitor's that the registers name, where they name one.
     Call(Option<Call>),
-    /// An interrupt.
+    /// The timer's interrupt.
     Interrupt,
 }
 
@@ -40,37 +34,6 @@ pub struct Asked {
     pub world: World,
     /// What it asks.
     pub deed: Deed,
-}
-
-/// Where the words of a call are put: a7, a6 and a0 to a5.
-const CALL_REGISTERS: [usize; 8] = [17, 16, 10, 11, 12, 13, 14, 15];
-
-/// Puts words into registers, one by one.
-fn put_each(registers: &mut Registers, places: &[usize], words: &[u64])
-    requires { IsTrue (list_all (λ n. nat_le n 31) places.now) }
-    ensures { registers.new ≡ with_words registers.old places.now words.now }
-{
-    let [place, places @ ..] = places else {
-        return;
-    };
-    let [word, words @ ..] = words else {
-        return;
-    };
-    registers.set(*place, *word);
-    put_each(registers, places, words);
-}
-
-/// The call of the monitor that registers name once these words are put there, where they name one.
-fn call_in(registers: &Registers, words: &[u64]) -> Option<Call>
-    ensures { result ≡ call_of (with_words registers.now
-        (17 ∷ (16 ∷ (10 ∷ (11 ∷ (12 ∷ (13 ∷ (14 ∷ (15 ∷ [])))))))) words.now) }
-{
-    let mut named = *registers;
-    put_each(&mut named, &CALL_REGISTERS, words);
-    match decode(&named) {
-        Ok(call) => Some(call),
-        Err(_) => None,
-    }
 }
 
 /// What decides an access on a hart: the list that it meets, which is the host's where the hart is marked.
@@ -94,31 +57,19 @@ fn deed_of(machine: &Machine, hart: u8, event: &Event) -> Deed
     match event {
         Event::Access(access, _) => Deed::Access(*access, reason_on(machine, hart, access)),
         Event::Reg(n, value) => Deed::Setting(*n, *value),
-        Event::Ecall(words) => Deed::Call(call_in(machine.registers(hart), words.as_slice())),
+        Event::Ecall(words) => Deed::Call(machine.called_with(hart, words.as_slice())),
         Event::Irq => Deed::Interrupt,
     }
 }
 
-/// What a line asks of a machine, where it says an event on a hart that the machine has.
-pub(crate) fn asked_by(machine: &Machine, line: &[u8]) -> Option<Asked>
-    ensures asked { (hart : ℕ) (event : Event)
-        → meaning_of (state_of machine.now).table.layout.harts line.now
-        ≡ Some (Some (hart, event))
-        → hart < (state_of machine.now).table.layout.harts
-        → (asked : Asked) × (result ≡ Some asked) × IsAsked machine.now hart event asked }
-    ensures few { IfSome result (λ asked. asked.hart < 4) }
+/// What an event asks on a hart of a machine, before it happens.
+pub fn asked_of(machine: &Machine, hart: u8, event: &Event) -> Asked
+    requires { hart < 4 }
+    ensures { IsAsked machine.now hart event.now result }
 {
-    let harts = machine.harts();
-    let Ok(said) = parse_line(line, harts) else {
-        return None;
-    };
-    let (hart, event) = said?;
-    if hart >= harts {
-        return None;
-    }
-    Some(Asked {
+    Asked {
         hart,
         world: machine.world(hart),
-        deed: deed_of(machine, hart, &event),
-    })
+        deed: deed_of(machine, hart, event),
+    }
 }

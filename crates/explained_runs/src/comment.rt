@@ -1,16 +1,18 @@
 //! The comment on an event: on which hart and in which world it happened, what it asked, and what came of it.
 
-ghost use Rattle.std.specs.Prelude.{◌≡◌, ◌+◌, ◌<◌, ◌≤◌, ◌++◌, length};
+ghost use Rattle.std.specs.Prelude.{◌≡◌, ◌+◌, ◌≤◌, ◌++◌, length};
 ghost use Rattle.arrayvec.specs.ArrayVec.{array_vec_len};
 ghost use Rattle.hart_trace.specs.Plain.{keyword};
-ghost use Rattle.explained_runs.specs.Comments.{access_text, asked_text, call_text, comment_text, deed_text, interrupt_text, outcome_text, pages_text, setting_text, who_text, world_text};
+ghost use Rattle.explained_runs.specs.Comments.{access_text, asked_text, call_text, deed_text, interrupt_text, IsComment, needs_text, outcome_text, pages_text, setting_text, who_text, world_text};
 
 use crate::asked::{Asked, Deed};
-use crate::outcome::{Outcome, came_to};
+use crate::outcome::{Outcome, outcome_of};
 use crate::refusals::refusal_text;
 use arrayvec::ArrayVec;
-use explained_answers::{Comment, push, push_address, push_number, push_reason};
-use hart_sim::Machine;
+use enclave_table::Table;
+use explained_answers::{Comment, push_address, push_number, push_reason};
+use hart_sim::Reply;
+use lint_texts::append;
 use pmp_match::{Access, Kind};
 use sbi_decode::Call;
 use worlds::World;
@@ -22,9 +24,9 @@ fn push_world(comment: &mut Comment, world: World)
     ensures len { array_vec_len comment.new ≤ array_vec_len comment.old + 28 }
 {
     match world {
-        World::Host => push(comment, b"host"),
+        World::Host => append(comment, b"host"),
         World::Enclave(id) => {
-            push(comment, b"enclave ");
+            append(comment, b"enclave ");
             push_number(comment, id);
         }
     }
@@ -36,11 +38,11 @@ fn push_who(comment: &mut Comment, hart: u8, world: World)
     ensures items { comment.new.items ≡ comment.old.items ++ who_text hart world }
     ensures len { array_vec_len comment.new ≤ array_vec_len comment.old + 57 }
 {
-    push(comment, b"hart ");
+    append(comment, b"hart ");
     push_number(comment, u64::from(hart));
-    push(comment, b", ");
+    append(comment, b", ");
     push_world(comment, world);
-    push(comment, b": ");
+    append(comment, b": ");
 }
 
 /// The keyword of a kind of access.
@@ -61,8 +63,8 @@ fn push_access(comment: &mut Comment, access: &Access)
     ensures items { comment.new.items ≡ comment.old.items ++ access_text access.now }
     ensures len { array_vec_len comment.new ≤ array_vec_len comment.old + 24 }
 {
-    push(comment, keyword(access.kind()));
-    push(comment, b" ");
+    append(comment, keyword(access.kind()));
+    append(comment, b" ");
     push_address(comment, access.addr());
 }
 
@@ -73,12 +75,12 @@ fn push_setting(comment: &mut Comment, n: u8, value: u64)
     ensures len { array_vec_len comment.new ≤ array_vec_len comment.old + 42 }
 {
     if n == 0 {
-        push(comment, b"x0 stays 0");
+        append(comment, b"x0 stays 0");
         return;
     }
-    push(comment, b"x");
+    append(comment, b"x");
     push_number(comment, u64::from(n));
-    push(comment, b" = ");
+    append(comment, b" = ");
     push_address(comment, value);
 }
 
@@ -89,8 +91,8 @@ fn push_interrupt(comment: &mut Comment, world: World)
     ensures len { array_vec_len comment.new ≤ array_vec_len comment.old + 18 }
 {
     match world {
-        World::Host => push(comment, b"interrupt"),
-        World::Enclave(_) => push(comment, b"interrupt: stopped"),
+        World::Host => append(comment, b"interrupt"),
+        World::Enclave(_) => append(comment, b"interrupt: stopped"),
     }
 }
 
@@ -102,10 +104,10 @@ fn push_pages(comment: &mut Comment, count: u64)
 {
     push_number(comment, count);
     if count == 1 {
-        push(comment, b" page");
+        append(comment, b" page");
         return;
     }
-    push(comment, b" pages");
+    append(comment, b" pages");
 }
 
 /// Appends the name of a call, and what of its arguments says what it is for.
@@ -121,65 +123,86 @@ fn push_call(comment: &mut Comment, call: &Call)
             data_pages,
             ..
         } => {
-            push(comment, b"create ");
+            append(comment, b"create ");
             push_address(comment, *base);
-            push(comment, b", ");
+            append(comment, b", ");
             push_pages(comment, text_pages.saturating_add(*data_pages));
         }
         Call::Destroy { id } => {
-            push(comment, b"destroy ");
+            append(comment, b"destroy ");
             push_number(comment, *id);
         }
         Call::Run { id } => {
-            push(comment, b"run ");
+            append(comment, b"run ");
             push_number(comment, *id);
         }
-        Call::Stop => push(comment, b"stop"),
+        Call::Stop => append(comment, b"stop"),
         Call::Resume { id } => {
-            push(comment, b"resume ");
+            append(comment, b"resume ");
             push_number(comment, *id);
         }
         Call::Exit { value } => {
-            push(comment, b"exit ");
+            append(comment, b"exit ");
             push_address(comment, *value);
         }
         Call::Measure { id, k } => {
-            push(comment, b"measure ");
+            append(comment, b"measure ");
             push_number(comment, *id);
-            push(comment, b", word ");
+            append(comment, b", word ");
             push_number(comment, *k);
         }
     }
 }
 
+/// Appends `WHOSE view needs N entries`.
+fn push_needs(comment: &mut Comment, whose: &[u8], n: u32)
+    requires whose { length whose.now ≤ 18 }
+    requires room { array_vec_len comment.old + 53 ≤ 256 }
+    ensures items { comment.new.items ≡ comment.old.items ++ needs_text whose.now n }
+    ensures len { array_vec_len comment.new ≤ array_vec_len comment.old + 53 }
+{
+    append(comment, whose);
+    append(comment, b" needs ");
+    push_number(comment, u64::from(n));
+    append(comment, b" entries");
+}
+
 /// Appends what a call came to: the id of what it created, or why it was refused.
 fn push_outcome(comment: &mut Comment, call: &Call, outcome: Outcome)
-    requires { array_vec_len comment.old + 47 ≤ 256 }
+    requires { array_vec_len comment.old + 64 ≤ 256 }
     ensures items { comment.new.items ≡ comment.old.items ++ outcome_text call.now outcome }
-    ensures len { array_vec_len comment.new ≤ array_vec_len comment.old + 47 }
+    ensures len { array_vec_len comment.new ≤ array_vec_len comment.old + 64 }
 {
     match outcome {
         Outcome::Done(value) => {
             if let Call::Create { .. } = call {
-                push(comment, b": id ");
+                append(comment, b": id ");
                 push_number(comment, value);
             }
         }
         Outcome::Refused(number) => {
-            push(comment, b": refused, ");
-            push(comment, refusal_text(call, number));
+            append(comment, b": refused, ");
+            append(comment, refusal_text(call, number));
+        }
+        Outcome::HostNeeds(n) => {
+            append(comment, b": refused, ");
+            push_needs(comment, b"the host's view", n);
+        }
+        Outcome::EnclaveNeeds(n) => {
+            append(comment, b": refused, ");
+            push_needs(comment, b"the enclave's view", n);
         }
     }
 }
 
 /// Appends a call and what it came to.
 fn push_asked(comment: &mut Comment, call: &Option<Call>, outcome: Outcome)
-    requires { array_vec_len comment.old + 102 ≤ 256 }
+    requires { array_vec_len comment.old + 119 ≤ 256 }
     ensures items { comment.new.items ≡ comment.old.items ++ asked_text call.now outcome }
-    ensures len { array_vec_len comment.new ≤ array_vec_len comment.old + 102 }
+    ensures len { array_vec_len comment.new ≤ array_vec_len comment.old + 119 }
 {
     match call {
-        None => push(comment, b"call: not supported"),
+        None => append(comment, b"call: not supported"),
         Some(call) => {
             push_call(comment, call);
             push_outcome(comment, call, outcome);
@@ -187,34 +210,30 @@ fn push_asked(comment: &mut Comment, call: &Option<Call>, outcome: Outcome)
     }
 }
 
-/// Appends what an event asked and what came of it, on a machine to which it happened.
-fn push_deed(comment: &mut Comment, asked: &Asked, machine: &Machine)
-    requires room { array_vec_len comment.old + 154 ≤ 256 }
-    requires few { asked.now.hart < 4 }
-    ensures { comment.new.items
-        ≡ comment.old.items ++ deed_text asked.now machine.now asked.now.deed }
+/// Appends what an event asked of a world, and what came of it.
+fn push_deed(comment: &mut Comment, world: World, deed: &Deed, outcome: Outcome)
+    requires { array_vec_len comment.old + 154 ≤ 256 }
+    ensures { comment.new.items ≡ comment.old.items ++ deed_text world deed.now outcome }
 {
-    match &asked.deed {
+    match deed {
         Deed::Access(access, reason) => {
             push_access(comment, access);
-            push(comment, b": ");
+            append(comment, b": ");
             push_reason(comment, reason);
         }
         Deed::Setting(n, value) => push_setting(comment, *n, *value),
-        Deed::Call(call) => {
-            push_asked(comment, call, came_to(machine, asked.hart, asked.world));
-        }
-        Deed::Interrupt => push_interrupt(comment, asked.world),
+        Deed::Call(call) => push_asked(comment, call, outcome),
+        Deed::Interrupt => push_interrupt(comment, world),
     }
 }
 
-/// The comment on an event that asked this, on a machine to which it happened.
-pub(crate) fn comment_on(asked: &Asked, machine: &Machine) -> Comment
-    requires { asked.now.hart < 4 }
-    ensures { result.items ≡ comment_text asked.now machine.now }
+/// The comment on an event that asked this and was answered so, by the table after it.
+pub(crate) fn comment_on(asked: &Asked, reply: &Reply, table: &Table) -> Comment
+    ensures { IsComment table.now.table asked.now reply.now result.items }
 {
+    let outcome = outcome_of(table, asked, reply);
     let mut comment = ArrayVec::new();
     push_who(&mut comment, asked.hart, asked.world);
-    push_deed(&mut comment, asked, machine);
+    push_deed(&mut comment, asked.world, &asked.deed, outcome);
     comment
 }

@@ -3,51 +3,55 @@
 ghost use Rattle.std.specs.Prelude.{◌≡◌, ℕ, ◌-◌, ◌^◌, Err, IfOk};
 ghost use Rattle.text_lines.specs.LineLoop.{DoesAll, StopsAt, StopsTooLong, StopsReading, StopsWriting, StopsForMemory, CountsReads, CountsWrites};
 ghost use Rattle.hart_sim.specs.Machines.{KeepsBanksRight};
-ghost use Rattle.hart_sim.specs.Reports.{DoesLine, RefusesLine, StarvesLine};
-ghost use Rattle.explained_answers.specs.Explained.{explaining};
-ghost use Rattle.explained_runs.specs.Comments.{on_event};
+ghost use Rattle.explained_runs.specs.Accounts.{ExplainsLine, RefusesAccount, StarvesAccount, opened};
+ghost use Rattle.explained_runs.specs.Tallies.{HasAccount};
 
-use crate::asked::asked_by;
+use crate::asked::asked_of;
 use crate::comment::comment_on;
+use crate::tally::Tally;
 use byte_streams::{Sink, Source};
 use explained_answers::explain;
-use hart_sim::Machine;
+use hart_sim::{Machine, push_reply};
 use text_lines::{Interpreter, Line, Refusal, RunFault, interpret_lines};
 
-/// A machine whose answers are explained.
+/// A machine whose answers are explained, and the tally of what happened to it.
 #[derive(Drop)]
 struct ExplainingMachine {
     machine: Machine,
+    tally: Tally,
 }
 
 impl Interpreter for ExplainingMachine {
     ghost use Rattle.std.specs.Prelude.{◌≡◌};
     ghost use Rattle.hart_sim.specs.Machines.{KeepsBanksRight};
-    ghost use Rattle.hart_sim.specs.Reports.{DoesLine, RefusesLine, StarvesLine};
-    ghost use Rattle.explained_answers.specs.Explained.{explaining};
-    ghost use Rattle.explained_runs.specs.Comments.{on_event};
+    ghost use Rattle.hart_sim.specs.Reports.{RefusesLine, StarvesLine};
+    ghost use Rattle.explained_runs.specs.Tallies.{ExplainsNext};
 
     ghost does = { λ old n line said new.
-        explaining DoesLine on_event old.machine n line said new.machine };
+        ExplainsNext old.machine old.tally n line said new.machine new.tally };
 
     ghost refuses = { λ now line. RefusesLine now.machine line };
 
-    ghost starves = { λ old line new. StarvesLine old.machine line new.machine };
+    ghost starves = { λ old line new.
+        StarvesLine old.machine line new.machine × (new.tally ≡ old.tally) };
 
     ghost keeps = { λ now. KeepsBanksRight now.machine };
 
     fn interpret(&mut self, line: &[u8], count: u64, answer: &mut Line) -> Result<bool, Refusal> {
-        let asked = asked_by(&self.machine, line);
-        let answered = match self.machine.interpret(line, count, answer) {
-            Ok(answered) => answered,
-            Err(refusal) => return Err(refusal),
+        let Ok(said) = self.machine.event_in(line) else {
+            return Err(Refusal::NotUnderstood);
         };
-        if !answered {
+        let Some((hart, event)) = said else {
             return Ok(false);
+        };
+        let asked = asked_of(&self.machine, hart, &event);
+        let reply = self.machine.step(hart, event);
+        if reply.wants_memory() {
+            return Err(Refusal::Memory);
         }
-        if let Some(asked) = asked {
-            explain(answer, &comment_on(&asked, &self.machine));
-        }
+        self.tally.add(&asked, &reply);
+        push_reply(answer, count + 1, &reply);
+        explain(answer, &comment_on(&asked, &reply, self.machine.table()));
         Ok(true)
     }
 }
@@ -57,45 +61,54 @@ impl Interpreter for ExplainingMachine {
 pub struct Ran {
     /// The machine after it.
     pub machine: Machine,
+    /// What happened to it and was answered, counted.
+    pub tally: Tally,
     /// How it ended.
     pub end: Result<(), RunFault>,
 }
 
-/// Runs a trace on a machine as `hart_sim::run` does, and says behind each answer what happened.
+/// Runs a trace on a machine as `hart_sim::run` does, says behind each answer what happened, and counts it. The text that
+/// names how many entries a refused view needs takes memory, and goes without the number where that is refused.
 pub fn explain_run<R: Source, W: Sink>(machine: Machine, source: &mut R, sink: &mut W) -> Ran
     ensures all { KeepsBanksRight machine
-        → IfOk result.end (λ _.
-        DoesAll (explaining DoesLine on_event) machine result.machine (R.remaining source.old)
-        (R.remaining source.new) (W.contents sink.old) (W.contents sink.new)) }
+        → IfOk result.end (λ _. HasAccount result.machine result.tally (λ account.
+        DoesAll ExplainsLine (opened machine) account (R.remaining source.old)
+        (R.remaining source.new) (W.contents sink.old) (W.contents sink.new))) }
     ensures line { KeepsBanksRight machine → (n : ℕ) → result.end ≡ Err (RunFault.Line n)
-        → StopsAt n (explaining DoesLine on_event) RefusesLine machine result.machine
+        → HasAccount result.machine result.tally (λ account.
+        StopsAt n ExplainsLine RefusesAccount (opened machine) account
         (R.remaining source.old) (R.remaining source.new) (W.contents sink.old)
-        (W.contents sink.new) }
+        (W.contents sink.new)) }
     ensures too_long { KeepsBanksRight machine → result.end ≡ Err RunFault.TooLong
-        → StopsTooLong (explaining DoesLine on_event) machine result.machine
-        (R.remaining source.old) (R.remaining source.new) (W.contents sink.old)
-        (W.contents sink.new) }
+        → HasAccount result.machine result.tally (λ account.
+        StopsTooLong ExplainsLine (opened machine) account (R.remaining source.old)
+        (R.remaining source.new) (W.contents sink.old) (W.contents sink.new)) }
     ensures read { KeepsBanksRight machine → result.end ≡ Err RunFault.Read
-        → StopsReading (explaining DoesLine on_event) machine result.machine
-        (R.remaining source.old) (R.remaining source.new) (W.contents sink.old)
-        (W.contents sink.new) }
+        → HasAccount result.machine result.tally (λ account.
+        StopsReading ExplainsLine (opened machine) account (R.remaining source.old)
+        (R.remaining source.new) (W.contents sink.old) (W.contents sink.new)) }
     ensures write { KeepsBanksRight machine → result.end ≡ Err RunFault.Write
-        → StopsWriting (explaining DoesLine on_event) machine result.machine
-        (R.remaining source.old) (R.remaining source.new) (W.contents sink.old)
-        (W.contents sink.new) }
+        → HasAccount result.machine result.tally (λ account.
+        StopsWriting ExplainsLine (opened machine) account (R.remaining source.old)
+        (R.remaining source.new) (W.contents sink.old) (W.contents sink.new)) }
     ensures memory { KeepsBanksRight machine → result.end ≡ Err RunFault.Memory
-        → StopsForMemory (explaining DoesLine on_event) StarvesLine machine result.machine
+        → HasAccount result.machine result.tally (λ account.
+        StopsForMemory ExplainsLine StarvesAccount (opened machine) account
         (R.remaining source.old) (R.remaining source.new) (W.contents sink.old)
-        (W.contents sink.new) }
+        (W.contents sink.new)) }
     ensures kept { KeepsBanksRight machine → KeepsBanksRight result.machine }
     ensures reads { CountsReads result.end (R.failures source.old) (R.failures source.new) }
     ensures writes { CountsWrites result.end (W.failures sink.old)
         (W.failures sink.new) (W.stalls sink.old) (W.stalls sink.new) }
 {
-    let mut lines = ExplainingMachine { machine };
+    let mut lines = ExplainingMachine {
+        machine,
+        tally: Tally::new(),
+    };
     let end = interpret_lines(&mut lines, source, sink);
     Ran {
         machine: lines.machine,
+        tally: lines.tally,
         end,
     }
 }

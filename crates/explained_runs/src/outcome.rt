@@ -1,11 +1,13 @@
-//! What a call came to, as its caller finds it.
+//! What a call came to, by its reply and the table after it.
 
-ghost use Rattle.std.specs.Prelude.{◌≡◌, ◌<◌};
-ghost use Rattle.hart_sim.specs.Machines.{state_of};
-ghost use Rattle.explained_runs.specs.Outcomes.{came_to, is_same, outcome_in};
+ghost use Rattle.std.specs.Prelude.{◌≡◌, IfSome};
+ghost use Rattle.enclave_table.specs.declared.request.Create.{Create};
+ghost use Rattle.explained_runs.specs.Outcomes.{below_zero, IsOutcome, OutgrownBy, OutgrownByCreate, OutgrownByDestroy, outcome_in};
 
-use hart_sim::Machine;
-use sbi_decode::Registers;
+use crate::asked::{Asked, Deed};
+use enclave_table::{Create, Table};
+use hart_sim::Reply;
+use sbi_decode::Call;
 use worlds::World;
 
 /// What a call came to.
@@ -15,37 +17,109 @@ pub enum Outcome {
     Done(u64),
     /// It was refused, with an error so far below zero.
     Refused(u64),
+    /// It was refused for too few entries: the host's view would need so many after it.
+    HostNeeds(u32),
+    /// It was refused for too few entries: the view of the enclave that it makes would need so many.
+    EnclaveNeeds(u32),
 }
 
-/// Whether two worlds are the same.
-fn is_same(world: World, other: World) -> bool
-    ensures { result ≡ is_same world other }
+/// How far below zero a status is.
+pub(crate) fn below_zero(status: i64) -> Option<u64>
+    ensures { result ≡ below_zero status }
 {
-    match (world, other) {
-        (World::Host, World::Host) => true,
-        (World::Enclave(id), World::Enclave(other_id)) => id == other_id,
-        _ => false,
+    if status < 0 {
+        return Some(status.unsigned_abs());
+    }
+    None
+}
+
+/// What a call came to, by its reply alone.
+fn outcome_in(reply: &Reply) -> Outcome
+    ensures { result ≡ outcome_in reply.now }
+{
+    let Reply::Call { status, value, .. } = reply else {
+        return Outcome::Done(0);
+    };
+    match below_zero(*status) {
+        Some(number) => Outcome::Refused(number),
+        None => Outcome::Done(*value),
     }
 }
 
-/// What a call came to, by what it left in a0 and a1.
-fn outcome_in(registers: &Registers) -> Outcome
-    ensures { result ≡ outcome_in registers.now }
+/// The view that would need more entries after a creation than there are, where memory suffices to find it.
+fn outgrown_by_create(table: &Table, world: World, asked: Create) -> Option<Outcome>
+    ensures { IfSome result (OutgrownByCreate table.now.table asked) }
 {
-    let error = registers.get(10);
-    if error == 0 {
-        return Outcome::Done(registers.get(11));
+    let Ok(Some(needs)) = table.needed_by_create(world, asked) else {
+        return None;
+    };
+    let limit = table.limit().number();
+    if needs.host > limit {
+        return Some(Outcome::HostNeeds(needs.host));
     }
-    Outcome::Refused(u64::MAX - error + 1)
+    if needs.own > limit {
+        return Some(Outcome::EnclaveNeeds(needs.own));
+    }
+    None
 }
 
-/// What a call came to that the world on a hart made.
-pub(crate) fn came_to(machine: &Machine, hart: u8, world: World) -> Outcome
-    requires { hart < 4 }
-    ensures { result ≡ came_to (state_of machine.now) hart world }
+/// The same of a destruction.
+fn outgrown_by_destroy(table: &Table, world: World, id: u64) -> Option<Outcome>
+    ensures { IfSome result (OutgrownByDestroy table.now.table id) }
 {
-    if is_same(world, machine.world(hart)) {
-        return outcome_in(machine.registers(hart));
+    let Ok(Some(needed)) = table.needed_by_destroy(world, id) else {
+        return None;
+    };
+    if needed > table.limit().number() {
+        return Some(Outcome::HostNeeds(needed));
     }
-    Outcome::Done(0)
+    None
+}
+
+/// The view for which a call is refused for too few entries, where memory suffices to find it.
+fn outgrown_by(table: &Table, world: World, deed: &Deed) -> Option<Outcome>
+    ensures { IfSome result (OutgrownBy table.now.table deed.now) }
+{
+    match deed {
+        Deed::Call(
+            Some(
+                Call::Create {
+                    base,
+                    text_pages,
+                    data_pages,
+                    shared_base,
+                    shared_count,
+                    entry_offset,
+                },
+            ),
+        ) => outgrown_by_create(
+            table,
+            world,
+            Create {
+                base: *base,
+                text_pages: *text_pages,
+                data_pages: *data_pages,
+                shared_base: *shared_base,
+                shared_count: *shared_count,
+                entry_offset: *entry_offset,
+            },
+        ),
+        Deed::Call(Some(Call::Destroy { id })) => outgrown_by_destroy(table, world, *id),
+        _ => None,
+    }
+}
+
+/// What came of an event that asked this, by its reply and the table after it. It takes memory only where a call is refused
+/// for too few entries.
+pub(crate) fn outcome_of(table: &Table, asked: &Asked, reply: &Reply) -> Outcome
+    ensures { IsOutcome table.now.table asked.now.deed reply.now result }
+{
+    let told = outcome_in(reply);
+    let Outcome::Refused(108) = told else {
+        return told;
+    };
+    match outgrown_by(table, asked.world, &asked.deed) {
+        Some(outcome) => outcome,
+        None => told,
+    }
 }

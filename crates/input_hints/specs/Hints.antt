@@ -121,7 +121,7 @@ HasLintHints (kinds.Trace (Some platform)) name first second hints = InOrder (Ha
 -- entries than it may. A certificate has none but of its size; a trace is for the harts of its platform in `run`, and otherwise for
 -- `judge`
 abbrev pub HasTaskHints : {R : Type 0} → Task → Reading R → Reading R → Option (List ℕ) → Type 0
-HasTaskHints (tasks.Run platform trace measure expect) first second hints = HasRunHints platform.now trace.now first second hints
+HasTaskHints (tasks.Run platform trace measure answers) first second hints = HasRunHints platform.now trace.now first second hints
 HasTaskHints (tasks.Plan map file limit at_most format name begin xlen) first second hints = HasMapHints map.now (plan_bounds limit begin at_most format) first hints × IsUnread second
 HasTaskHints (tasks.Judge map trace limit registers answers xlen) first second hints = InOrder (HasFileHints registers xlen map.now (bank_bounds limit) first) (HasHints (Trace takers.Judge) trace.now second) second hints
 HasTaskHints (tasks.Check map file) first second hints = InOrder (HasHints Map map.now first) (HasSizeHints files.Certificate file.now second) second hints

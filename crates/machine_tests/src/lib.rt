@@ -14,6 +14,8 @@ mod failing_runs;
 #[cfg(test)]
 mod machines;
 #[cfg(test)]
+mod outgrown;
+#[cfg(test)]
 mod runs;
 #[cfg(test)]
 mod served;

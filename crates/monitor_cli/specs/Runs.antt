@@ -11,11 +11,11 @@ use Rattle.enclave_table.specs.Platform.{Layout}
 use Rattle.enclave_table.specs.declared.boot.BootFault.{BootFault}
 use Rattle.hart_sim.specs.declared.machine.Machine.{Machine}
 use Rattle.hart_sim.specs.After.{IsBooted}
-use Rattle.hart_sim.specs.Machines.{kept_of}
+use Rattle.hart_sim.specs.Machines.{kept_of, state_of}
 use Rattle.hart_sim.specs.Reports.{DoesLine, RefusesLine, StarvesLine}
 use Rattle.expected_answers.specs.Comparisons.{ComparesAll}
-use Rattle.explained_answers.specs.Explained.{explaining}
-use Rattle.explained_runs.specs.Comments.{on_event}
+use Rattle.explained_runs.specs.Accounts.{Account, ExplainsLine, RefusesAccount, StarvesAccount, opened}
+use Rattle.explained_runs.specs.Summaries.{summary_text}
 use Rattle.program_tasks.specs.declared.task.Answers.{Answers}
 use Rattle.program_tasks.specs.declared.task.Answers.TheVariants as answers
 use Rattle.program_troubles.specs.declared.trouble.Trouble.{Trouble}
@@ -46,6 +46,29 @@ pub data RunsTrace {R W : Type 0} (does : Meaning Machine) (booted : Machine) (t
       → DoesAll does booted ended second.before second.after out.before report → n ≤ 64 → AreMeasures (kept_of ended).table n text → TakesPart text report out.after
       → second.failed ≡ second.failures → WriteFails out.failures out.failed out.stalls out.stalled → RunsTrace does booted trace measure second out (Err Output)
 
+-- the summary of what happened to a machine, and of the machine after it
+abbrev pub summary_of : Account → List ℕ
+summary_of ended = summary_text ended.happened (state_of ended.machine)
+
+-- a trace happens so and a comment behind each answer says what happened: behind the report stand the measurements, and last the summary
+pub data RunsExplaining {R W : Type 0} (booted : Machine) (trace : Bor (List ℕ)) (measure : Bool) (second : Reading R) (out : Writing W) : Result ℕ Trouble → Type 0 where
+  explained :
+      (ended : Account) (report measured : Option (List ℕ)) → DoesAll ExplainsLine (opened booted) ended second.before second.after out.before report
+      → IsMeasured measure ended.machine report measured → Appends measured out.after (summary_of ended) → second.failed ≡ second.failures → IsWell out
+      → RunsExplaining booted trace measure second out (Ok 0)
+  stopped :
+      (ended : Account) (fault : RunFault) → Stops ExplainsLine RefusesAccount StarvesAccount (opened booted) ended second.before second.after out.before out.after fault
+      → CountsReads (Err fault) second.failures second.failed → CountsWrites (Err fault) out.failures out.failed out.stalls out.stalled
+      → RunsExplaining booted trace measure second out (Err (run_trouble trace fault))
+  not_all_measured :
+      (ended : Account) (report : Option (List ℕ)) (n : ℕ) (text : List ℕ) → measure ≡ true
+      → DoesAll ExplainsLine (opened booted) ended second.before second.after out.before report → n ≤ 64 → AreMeasures (kept_of ended.machine).table n text → TakesPart text report out.after
+      → second.failed ≡ second.failures → WriteFails out.failures out.failed out.stalls out.stalled → RunsExplaining booted trace measure second out (Err Output)
+  not_summed_up :
+      (ended : Account) (report measured : Option (List ℕ)) → DoesAll ExplainsLine (opened booted) ended second.before second.after out.before report
+      → IsMeasured measure ended.machine report measured → TakesPart (summary_of ended) measured out.after
+      → second.failed ≡ second.failures → WriteFails out.failures out.failed out.stalls out.stalled → RunsExplaining booted trace measure second out (Err Output)
+
 -- a trace happens so and its answers are compared with those that its comments say: where one differs, the first that does is told behind
 -- the report and the measurements, and the status is 1
 pub data RunsExpecting {R W : Type 0} (does : Meaning Machine) (booted : Machine) (trace : Bor (List ℕ)) (measure : Bool) (second : Reading R) (out : Writing W) : Result ℕ Trouble → Type 0 where
@@ -66,11 +89,11 @@ pub data RunsExpecting {R W : Type 0} (does : Meaning Machine) (booted : Machine
       → IsMeasured measure ended report measured → TakesPart text measured out.after → second.failed ≡ second.failures → WriteFails out.failures out.failed out.stalls out.stalled
       → RunsExpecting does booted trace measure second out (Err Output)
 
--- a trace happens to a machine; with `--explain` a comment behind each answer says what happened, and with `--expect` the answers are
--- compared
+-- a trace happens to a machine; with `--explain` a comment behind each answer says what happened, and the summary comes last; with
+-- `--expect` the answers are compared
 abbrev pub RunsTraceAs : {R W : Type 0} → Answers → Machine → Bor (List ℕ) → Bool → Reading R → Writing W → Result ℕ Trouble → Type 0
 RunsTraceAs answers.Plain booted trace measure second out done = RunsTrace DoesLine booted trace measure second out done
-RunsTraceAs answers.Explained booted trace measure second out done = RunsTrace (explaining DoesLine on_event) booted trace measure second out done
+RunsTraceAs answers.Explained booted trace measure second out done = RunsExplaining booted trace measure second out done
 RunsTraceAs answers.Compared booted trace measure second out done = RunsExpecting DoesLine booted trace measure second out done
 
 -- `run`: the platform is read and booted, and then the trace happens to its machine

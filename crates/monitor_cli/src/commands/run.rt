@@ -4,16 +4,14 @@ ghost use Rattle.std.specs.Prelude.{◌-◌, ◌^◌, ◌<◌};
 ghost use Rattle.byte_streams.specs.Writings.{writing};
 ghost use Rattle.hart_sim.specs.Machines.{KeepsBanksRight};
 ghost use Rattle.hart_sim.specs.Reports.{DoesLine};
-ghost use Rattle.explained_answers.specs.Explained.{explaining};
-ghost use Rattle.explained_runs.specs.Comments.{on_event};
 ghost use Rattle.command_inputs.specs.Inputs.{reading};
-ghost use Rattle.monitor_cli.specs.Runs.{Runs, RunsExpecting, RunsTrace, RunsTraceAs};
+ghost use Rattle.monitor_cli.specs.Runs.{Runs, RunsExpecting, RunsExplaining, RunsTrace, RunsTraceAs};
 
 use crate::machine_run::{booted, measure_where};
 use byte_streams::{DeviceFault, Sink, Source};
 use command_inputs::read_platform;
 use expected_answers::{Compared, compare_lines};
-use explained_runs::{Ran, explain_run};
+use explained_runs::{Ran, explain_run, print_summary};
 use hart_sim::{Machine, run};
 use map_commands::tell_first;
 use program_tasks::Answers;
@@ -43,7 +41,8 @@ fn run_plainly<'a, R: Source, W: Sink>(
     }
 }
 
-/// Runs a trace on a machine, says behind each answer what happened, and prints the measurements where they are asked for.
+/// Runs a trace on a machine, says behind each answer what happened, prints the measurements where they are asked for, and last
+/// the summary.
 fn run_explaining<'a, R: Source, W: Sink>(
     machine: Machine,
     trace: &'a str,
@@ -52,16 +51,24 @@ fn run_explaining<'a, R: Source, W: Sink>(
     out: &mut W,
 ) -> Result<u8, Trouble<'a>>
     requires kept { KeepsBanksRight machine }
-    ensures { RunsTrace (explaining DoesLine on_event) machine trace.entry measure
+    ensures { RunsExplaining machine trace.entry measure
         (reading R.remaining R.failures second.old second.new)
         (writing W.contents W.failures W.stalls out.old out.new) result }
 {
-    let Ran { machine, end } = explain_run(machine, second, out);
+    let Ran {
+        machine,
+        tally,
+        end,
+    } = explain_run(machine, second, out);
     match end {
         Ok(()) => {}
         Err(fault) => return Err(Trouble::of_run(trace, fault)),
     }
     match measure_where(&machine, measure, out) {
+        Ok(()) => {}
+        Err(DeviceFault) => return Err(Trouble::Output),
+    }
+    match print_summary(&tally, &machine, out) {
         Ok(()) => Ok(0),
         Err(DeviceFault) => Err(Trouble::Output),
     }

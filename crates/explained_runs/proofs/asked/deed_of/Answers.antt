@@ -8,7 +8,7 @@ pub returns-in-Reg : goal.returns-in-Reg
 returns-in-Reg c = rw c.in-Reg.is (setting _ _)
 
 pub returns-in-Ecall : goal.returns-in-Ecall
-returns-in-Ecall c = rw (c.in-Ecall.is, c.call_in.ensures, c.as_slice.ensures.value, c.registers.ensures) (call c.in-Ecall.words)
+returns-in-Ecall c = rw (c.in-Ecall.is, c.called_with.ensures, c.as_slice.ensures.value) (call c.in-Ecall.words)
 
 pub returns-in-Irq : goal.returns-in-Irq
 returns-in-Irq c = rw c.in-Irq.is interrupt

@@ -1,7 +1,34 @@
-use Rattle.explained_runs.proofs.Answered.{explained_where}
+use Rattle.std.proofs.Common.{◌≡◌, ◌≢◌, ◌∙◌, Some, ap, refl, subst, sym}
+use Rattle.hart_sim.specs.After.{Happens}
+use Rattle.hart_sim.specs.declared.reply.Reply.TheVariants.{NoMemory}
+use Rattle.explained_runs.proofs.Accounted.{explained_next}
 use Rattle.explained_runs.proofs.explained_run.ExplainingMachineInterpreter.interpret.Goals as goal
 
-pub returns-in-Some-clause-done : goal.returns-in-Some-clause-done
-returns-in-Some-clause-done c = λ k.
-    explained_where c.args.self.now.machine c.interpret.new.self c.args.count c.args.line.now c.in-Ok.answered c.interpret.new.answer c.explain.new.answer c.asked_by-asked.result c.in-Some.asked c.comment_on.result.items
-    c.if-not-answered.false (c.in-Ok.ensures.done k) c.asked_by-asked.ensures.asked c.in-Some.is c.comment_on.ensures c.explain.ensures
+-- the event that the line says has happened
+pub returns-then-wants_memory-clause-starved : goal.returns-then-wants_memory-clause-starved
+returns-then-wants_memory-clause-starved c = λ is k.
+    let wanted : c.step-reply.result ≡ NoMemory = c.wants_memory.ensures.yes c.if-wants_memory.true in
+    let happens : Happens c.args.self.now.machine c.in-Some.hart c.in-Some.event c.step-reply.result c.step-reply.new.self = record {
+      known = rw c.in-Some.is at c.in-Ok.ensures.hart;
+      possible = rw c.in-Some.is at c.in-Ok.ensures.event;
+      happened = c.step-reply.ensures.step k;
+      judged = c.step-reply.ensures.judged;
+      others = c.step-reply.ensures.others;
+      kept = c.step-reply.ensures.kept k;
+    } in
+    ((c.in-Some.hart, c.in-Some.event, sym c.in-Ok.ensures.meaning ∙ ap Some c.in-Some.is, subst (λ r. Happens c.args.self.now.machine c.in-Some.hart c.in-Some.event r c.step-reply.new.self) wanted happens), refl)
+
+-- and its answer is explained
+pub returns-clause-done : goal.returns-clause-done
+returns-clause-done c = λ k.
+    let answered : c.step-reply.result ≢ NoMemory = c.wants_memory.ensures.no c.if-wants_memory.false in
+    let happens : Happens c.args.self.now.machine c.in-Some.hart c.in-Some.event c.step-reply.result c.step-reply.new.self = record {
+      known = rw c.in-Some.is at c.in-Ok.ensures.hart;
+      possible = rw c.in-Some.is at c.in-Ok.ensures.event;
+      happened = c.step-reply.ensures.step k;
+      judged = c.step-reply.ensures.judged;
+      others = c.step-reply.ensures.others;
+      kept = c.step-reply.ensures.kept k;
+    } in
+    explained_next c.args.self.now.machine c.step-reply.new.self c.args.self.now.tally c.add.new.self c.args.count c.args.line.now c.in-Some.hart c.in-Some.event c.step-reply.result c.asked_of-asked.result c.push_reply.new.line.items c.comment_on.result.items c.explain.new.answer.items c.table.result.now.table
+    (sym c.in-Ok.ensures.meaning ∙ ap Some c.in-Some.is) happens answered c.asked_of-asked.ensures c.add.ensures c.push_reply.ensures c.comment_on.ensures c.table.ensures.state c.explain.ensures
