@@ -9,7 +9,7 @@ use Rattle.text_lines.specs.declared.fault.RunFault.TheVariants as runs
 use Rattle.text_lines.specs.LineLoop.{StopsAt, StopsForMemory, StopsReading, StopsTooLong, StopsWriting}
 use Rattle.hart_sim.specs.declared.machine.Machine.{Machine}
 use Rattle.hart_sim.specs.Machines.{kept_of}
-use Rattle.map_commands.specs.Parts.{Stops}
+use Rattle.map_commands.specs.Stops.{Stops}
 use Rattle.explained_runs.specs.declared.tally.Tally.{Tally}
 use Rattle.explained_runs.specs.Accounts.{ExplainsLine, RefusesAccount, StarvesAccount, opened}
 use Rattle.explained_runs.specs.Tallies.{HasAccount}
