@@ -157,7 +157,8 @@ fn inputs<'a>(rt: &'a HostRuntime, task: &Task<'a>) -> (Input<'a>, Input<'a>)
     ensures first { IsAt (Some (first_of task.now)) (inner_of result.0).inner }
     ensures second { IsAt (second_of task.now) (inner_of result.1).inner }
     ensures failures { (failures_of result.0 ≡ 0) × (failures_of result.1 ≡ 0) }
-    ensures reasons { ((inner_of result.0).reason ≡ None) × ((inner_of result.1).reason ≡ None) }
+    ensures reasons { ((inner_of result.0).reason ≡ None)
+        × ((inner_of result.1).reason ≡ None) }
 {
     (input(rt, Some(first_of(task))), input(rt, second_of(task)))
 }

@@ -1,6 +1,7 @@
 //! The file that a certificate is written to.
 
-ghost use Rattle.std.specs.Prelude.{◌≡◌, None, refl, true, IfOk};
+ghost use Rattle.std.specs.Prelude.{◌≡◌, None, refl, true, string_bytes, IfOk};
+ghost use Rattle.program_files.specs.Beside.{part_name, short_part_name};
 
 use crate::part_file::PartFile;
 use crate::reason::Reason;
@@ -20,6 +21,10 @@ impl<R: Files + Drop> CertificateFile<R> {
     /// The file of that name, which may be there or not. Nothing is made before the first write.
     pub fn new(files: R, alloc: Global, name: &str) -> Result<CertificateFile<R>, AllocError>
         ensures failures { IfOk result (λ file. file.part.failures ≡ 0) }
+        ensures beside { IfOk result (λ file.
+            string_bytes file.part.beside ≡ part_name (string_bytes file.part.place)) }
+        ensures short { IfOk result (λ file.
+            string_bytes file.part.short ≡ short_part_name (string_bytes file.part.place)) }
         ensures reason { IfOk result (λ file. file.part.reason ≡ None) }
     {
         let part = PartFile::new(files, alloc, name)?;

@@ -3,6 +3,7 @@
 use byte_streams::Counted;
 use command_line::command_of;
 use monitor_cli::perform;
+use program_files::StreamPlace;
 use std::alloc::Global;
 use std::process::Abort;
 
@@ -20,7 +21,7 @@ pub fn run(rt: &impl Abort, alloc: Global, words: &[&str], first: &[u8], second:
     let task = command_of(alloc, words).expect(rt, "a command line").task;
     let mut first = Counted::new(first);
     let mut second = Counted::new(second);
-    let mut cert = Counted::new(Vec::new(alloc));
+    let mut cert = StreamPlace::new(Counted::new(Vec::new(alloc)));
     let mut out = Counted::new(Vec::new(alloc));
     let mut err = Counted::new(Vec::new(alloc));
     let status = perform(
@@ -36,7 +37,7 @@ pub fn run(rt: &impl Abort, alloc: Global, words: &[&str], first: &[u8], second:
         status,
         out: out.into_inner(),
         err: err.into_inner(),
-        cert: cert.into_inner(),
+        cert: cert.into_inner().into_inner(),
     }
 }
 
