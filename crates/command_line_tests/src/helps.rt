@@ -41,6 +41,6 @@ fn version_has(alloc: Global, part: &str) -> Result<bool, Fail> {
 fn the_version_names_the_kit(rt: HostRuntime) -> Result<(), Fail> {
     let words = ["pmpmon", "--version"];
     is_no_task(&rt, rt.alloc(), &words, ErrorKind::DisplayVersion);
-    assert!(rt; version_has(rt.alloc(), "rattle-kit-13b logic dac8208d650f15bf")?);
+    assert!(rt; version_has(rt.alloc(), "rattle-kit-13f logic dac8208d650f15bf")?);
     Ok(())
 }
