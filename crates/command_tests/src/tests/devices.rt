@@ -45,6 +45,7 @@ impl WholeSink for PlacedSink {
         &mut self.sink
     }
 
+    #[tactic(auto, unfolding(byte_streams::specs::Streams::one_failure_more))]
     fn put_in_place(&mut self) -> Result<(), DeviceFault> {
         // A write of no bytes is counted, and fails in its turn, as any other.
         self.sink.write(b"")?;
