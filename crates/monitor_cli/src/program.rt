@@ -10,9 +10,7 @@ ghost use Rattle.program_troubles.specs.Troubles.{status_of};
 use crate::commands::do_run_as;
 use byte_streams::{Sink, Source};
 use lint_commands::{do_lint, do_lint_listing, do_lint_trace};
-use map_commands::{
-    Asked, Table, do_audit, do_check, do_judge_as, do_map, do_plan, do_show_as,
-};
+use map_commands::{Asked, Table, do_audit, do_check, do_judge_as, do_map, do_plan, do_show_as};
 use program_files::WholeSink;
 use program_tasks::{LintKind, Task};
 use program_troubles::Trouble;
