@@ -17,7 +17,7 @@ fn shows(rt: &impl Abort, alloc: Global, words: &[&str], format: TableFormat, co
         format,
         costs,
     };
-    match command_of(alloc, words) {
+    match command_of(alloc, &*words) {
         Ok(request) => assert!(rt; request.task == wanted, "another task: {words:?}"),
         Err(_) => panic!(rt; "no task: {words:?}"),
     }
@@ -63,7 +63,7 @@ fn a_table_is_no_c(rt: HostRuntime) {
 
 /// The words are no task, and a fault of the command line.
 fn is_fault(rt: &impl Abort, alloc: Global, words: &[&str]) {
-    match command_of(alloc, words) {
+    match command_of(alloc, &*words) {
         Ok(_) => panic!(rt; "a task"),
         Err(error) => assert!(rt; error.exit_code() == 2),
     }

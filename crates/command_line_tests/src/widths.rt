@@ -8,7 +8,7 @@ use std::process::Abort;
 
 /// The words are this task.
 fn is_task(rt: &impl Abort, alloc: Global, words: &[&str], wanted: Task) {
-    match command_of(alloc, words) {
+    match command_of(alloc, &*words) {
         Ok(request) => assert!(rt; request.task == wanted, "another task: {words:?}"),
         Err(_) => panic!(rt; "no task: {words:?}"),
     }
