@@ -1,0 +1,43 @@
+-- The plan of the map that a source holds, printed.
+use Rattle.std.specs.Prelude.{◌≡◌, ℕ, ◌≤◌, ◌^◌, List, Option, length}
+use Rattle.std.specs.Io.KnownBytes.{Consumes, IsAtEnd}
+use Rattle.byte_streams.specs.Writings.{Breaks, TakesAll, Writing}
+use Rattle.pmp_encoding.specs.declared.limit.Limit.TheVariants.{Sixteen}
+use Rattle.pmp_encoding.specs.declared.region.Entry.{Entry}
+use Rattle.pmp_match.specs.Meaning.{IsFewest}
+use Rattle.permission_map.specs.declared.runs.Run.{Run}
+use Rattle.permission_map.specs.Runs.{view_of_runs}
+use Rattle.prefix_tree.specs.TreeOf.{tree_of}
+use Rattle.entry_planner.specs.Choice.{AreChosen}
+use Rattle.entry_planner.specs.Order.{AreInOrder}
+use Rattle.map_text.specs.MapFile.{Makes}
+use Rattle.printed_lines.specs.Plans.{IsPlanText}
+use Rattle.register_width.specs.declared.xlen.Xlen.TheVariants.{Rv64}
+
+-- the plan of the map that the bytes of a map file make: of the lists of fewest entries the one that is chosen, in its order; a
+-- hart of sixteen entries has room for it
+pub record IsPlanOf (bytes : List ℕ) (entries : List Entry) : Type 0 where
+  pub map : List Run
+  pub makes : Makes bytes map
+  pub fewest : IsFewest (view_of_runs map) entries
+  pub chosen : AreChosen (tree_of (view_of_runs map)) entries
+  pub order : AreInOrder entries
+  pub fits : length entries ≤ 16
+
+-- a source was read to its end, and the text is that of the plan of its map, on a hart of RV64 with sixteen entries
+pub record IsPlanTextOf (before after : Option (List ℕ)) (text : List ℕ) : Type 0 where
+  pub bytes : List ℕ
+  pub read : Consumes before after bytes
+  pub at_end : IsAtEnd after
+  pub few : length bytes ≤ 2 ^ 20
+  pub entries : List Entry
+  pub plan : IsPlanOf bytes entries
+  pub printed : IsPlanText Rv64 Sixteen 0 entries text
+
+-- the plan of a source's map was written whole
+abbrev pub PrintsPlan : {W : Type 0} → Option (List ℕ) → Option (List ℕ) → Writing W → Type 0
+PrintsPlan before after out = (text : List ℕ) × IsPlanTextOf before after text × TakesAll text out
+
+-- a beginning of it was written, not all of it
+abbrev pub BreaksOff : {W : Type 0} → Option (List ℕ) → Option (List ℕ) → Writing W → Type 0
+BreaksOff before after out = (text : List ℕ) × IsPlanTextOf before after text × Breaks text out
