@@ -1,10 +1,10 @@
 //! A map that is built range by range.
 
-ghost use Rattle.std.specs.Prelude.{◌≡◌, ◌≤◌, ◌<◌, ◌+◌, ◌++◌, ◌^◌, ◌↔◌, List, [], length, Err, OnOk, OnErr, IfOk, vec_capacity};
+ghost use Rattle.std.specs.Prelude.{◌≡◌, ◌≤◌, ◌<◌, ◌+◌, ◌++◌, ◌^◌, ◌↔◌, List, [], length, Err, OnOk, OnErr, IfOk, option_to_list, vec_capacity};
 ghost use Rattle.permission_map.specs.declared.runs.Run.{Run};
 ghost use Rattle.permission_map.specs.declared.fault.MapFault as MapFault;
 ghost use Rattle.permission_map.specs.Overwrite.{AreOverwritten, Becomes};
-ghost use Rattle.permission_map.specs.Points.{ArePoints, IsBuilt, next_page, runs_of};
+ghost use Rattle.permission_map.specs.Points.{ArePoints, IsBuilt, next_page, page_of, run_to, runs_of};
 
 use crate::fault::MapFault;
 use crate::map::{Memory, PermissionMap};
@@ -53,18 +53,31 @@ fn next_page(points: &[Point]) -> u64
     }
 }
 
+/// The run from a point up to the first of those behind it, if it has a permission.
+fn run_at(point: Point, behind: &[Point]) -> Option<Run>
+    requires { page_of point ≤ next_page behind.now }
+    ensures { option_to_list result ≡ run_to (next_page behind.now) point }
+{
+    if !point.allows() {
+        return None;
+    }
+    let first = point.page();
+    Some(Run {
+        first,
+        count: next_page(behind) - first,
+        perm: point.perm(),
+    })
+}
+
 /// Appends the runs between the points.
 fn push_runs(points: &[Point], runs: &mut Vec<Run>) -> Result<(), AllocError>
     requires { ArePoints points.now }
     ensures { OnOk result (runs.new.items ≡ runs.old.items ++ runs_of points.now) }
 {
     let mut rest = points;
-    while let [point, behind @ ..] = rest {
-        if point.allows() {
-            let first = point.page();
-            let count = next_page(behind) - first;
-            let perm = point.perm();
-            runs.push(Run { first, count, perm })?;
+    'points: while let Some((point, behind)) = rest.split_first() {
+        if let Some(run) = run_at(*point, behind) {
+            runs.push(run)?;
         }
         rest = behind;
     }
