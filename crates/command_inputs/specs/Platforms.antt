@@ -1,7 +1,7 @@
 -- The platform of a file that a command reads.
 use Rattle.std.specs.Prelude.{ℕ, ◌^◌, List}
 use Rattle.std.specs.Borrow.{Bor}
-use Rattle.enclave_table.specs.Platform.{Layout}
+use Rattle.platforms.specs.Platform.{Layout}
 use Rattle.platform_file.specs.Document.{IsPlatformFile}
 use Rattle.program_troubles.specs.declared.trouble.Trouble.{Trouble}
 use Rattle.program_troubles.specs.declared.trouble.Trouble.TheVariants.{NotAPlatform, Memory}

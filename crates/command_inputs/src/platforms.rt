@@ -1,15 +1,15 @@
 //! The platform of a platform file.
 
 ghost use Rattle.std.specs.Prelude.{◌≡◌, ◌-◌, ◌^◌, ◌<◌, ◌⊎◌, IfErr, IfOk};
-ghost use Rattle.enclave_table.specs.Platform.{Layout};
+ghost use Rattle.platforms.specs.Platform.{Layout};
 ghost use Rattle.platform_file.specs.Document.{IsPlatformFile};
 ghost use Rattle.command_inputs.specs.Inputs.{reading};
 ghost use Rattle.command_inputs.specs.Platforms.{HasNoPlatform, HasPlatform};
 
 use crate::inputs::bytes_in;
 use byte_streams::Source;
-use enclave_table::Platform;
 use platform_file::platform_of;
+use platforms::Platform;
 use program_troubles::Trouble;
 use std::alloc::Global;
 use std::str;

@@ -7,8 +7,8 @@ use Rattle.byte_streams.specs.Writings.{IsUnwritten, IsWell, TakesPart, Writing}
 use Rattle.text_lines.specs.declared.fault.RunFault.{RunFault}
 use Rattle.text_lines.specs.LineLoop.{CountsReads, CountsWrites, DoesAll, Meaning}
 use Rattle.enclave_table.specs.Boot.{IsBootFault}
-use Rattle.enclave_table.specs.Platform.{Layout}
-use Rattle.enclave_table.specs.declared.boot.BootFault.{BootFault}
+use Rattle.platforms.specs.Platform.{Layout}
+use Rattle.platforms.specs.declared.boot_fault.BootFault.{BootFault}
 use Rattle.hart_sim.specs.declared.machine.Machine.{Machine}
 use Rattle.hart_sim.specs.After.{IsBooted}
 use Rattle.hart_sim.specs.Machines.{kept_of, state_of}

@@ -1,6 +1,6 @@
 use Rattle.std.proofs.Common.{ℕ, List, ◌≡◌, ◌⊎◌, Err, ap, inl, inr, refl, sym}
 use Rattle.std.specs.Borrow.{Bor}
-use Rattle.enclave_table.specs.Platform.{Layout}
+use Rattle.platforms.specs.Platform.{Layout}
 use Rattle.platform_file.specs.declared.fault.TextFault.{TextFault}
 use Rattle.platform_file.specs.declared.fault.TextFault.TheVariants as texts
 use Rattle.program_troubles.specs.declared.trouble.Trouble.TheVariants.{NotAPlatform, Memory}
