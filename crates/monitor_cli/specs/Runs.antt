@@ -22,7 +22,7 @@ use Rattle.program_troubles.specs.declared.trouble.Trouble.{Trouble}
 use Rattle.program_troubles.specs.declared.trouble.Trouble.TheVariants.{NotAPlatform, Output, Memory}
 use Rattle.program_troubles.specs.Troubles.{boot_trouble, run_trouble}
 use Rattle.command_inputs.specs.Inputs.{IsUnread, Reading}
-use Rattle.command_inputs.specs.Platforms.{HasNoPlatform, HasPlatform}
+use Rattle.command_inputs.specs.PlatformInputs.{HasNoPlatform, HasPlatform}
 use Rattle.map_commands.specs.Expected.{IsTold}
 use Rattle.map_commands.specs.Stops.{Stops}
 use Rattle.monitor_cli.specs.Tasks.{AreMeasures}

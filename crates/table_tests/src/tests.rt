@@ -5,7 +5,7 @@ ghost use Rattle.std.specs.Prelude.{replicate, ◌<◌, ◌^◌};
 mod anew;
 mod life;
 mod needs;
-mod platforms;
+mod platform_rules;
 mod refusals;
 mod scattered;
 mod views;

@@ -4,7 +4,7 @@ ghost use Rattle.std.specs.Prelude.{◌≡◌, ◌-◌, ◌^◌, ◌<◌, ◌⊎
 ghost use Rattle.platforms.specs.Platform.{Layout};
 ghost use Rattle.platform_file.specs.Document.{IsPlatformFile};
 ghost use Rattle.command_inputs.specs.Inputs.{reading};
-ghost use Rattle.command_inputs.specs.Platforms.{HasNoPlatform, HasPlatform};
+ghost use Rattle.command_inputs.specs.PlatformInputs.{HasNoPlatform, HasPlatform};
 
 use crate::inputs::bytes_in;
 use byte_streams::Source;

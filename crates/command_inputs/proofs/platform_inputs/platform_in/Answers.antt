@@ -6,7 +6,7 @@ use Rattle.platform_file.specs.declared.fault.TextFault.TheVariants as texts
 use Rattle.program_troubles.specs.declared.trouble.Trouble.TheVariants.{NotAPlatform, Memory}
 use Rattle.platform_file.specs.Document.{IsPlatformFile}
 use Rattle.program_troubles.specs.Troubles.{text_trouble}
-use Rattle.command_inputs.proofs.platforms.platform_in.Goals as goal
+use Rattle.command_inputs.proofs.platform_inputs.platform_in.Goals as goal
 
 by_fault : (fault : TextFault) (file : Bor (List ℕ)) (P : Type 0) → (fault ≡ texts.NotAPlatform → P) → (text_trouble file fault ≡ Memory) ⊎ ((text_trouble file fault ≡ NotAPlatform file) × P)
 by_fault texts.NotAPlatform file P p = inr (refl, p refl)

@@ -1,7 +1,7 @@
 use Rattle.std.proofs.lemmas.Result.{err_from_is_err_and}
-use Rattle.command_inputs.specs.Platforms.{no_bytes}
+use Rattle.command_inputs.specs.PlatformInputs.{no_bytes}
 use Rattle.command_inputs.proofs.Refusals.{no_platform}
-use Rattle.command_inputs.proofs.platforms.read_platform.Goals as goal
+use Rattle.command_inputs.proofs.platform_inputs.read_platform.Goals as goal
 
 pub returns-in_err-bytes-clause-refused : goal.returns-in_err-bytes-clause-refused
 returns-in_err-bytes-clause-refused g c =
