@@ -7,7 +7,7 @@ use Rattle.map_text.specs.declared.map_file.MapFileFault.{MapFileFault}
 use Rattle.map_text.specs.declared.map_file.MapFileFault.TheVariants as maps
 use Rattle.map_text.specs.MapFile.{FaultAt, IsUnknown, Makes, MakesFirst, MakesTooMany}
 use Rattle.permission_map.specs.declared.runs.Run.{Run}
-use Rattle.enclave_table.specs.Platform.{Layout}
+use Rattle.platforms.specs.Platform.{Layout}
 use Rattle.platform_file.specs.Document.{IsPlatformFile}
 use Rattle.program_troubles.specs.declared.trouble.Trouble.{Trouble}
 use Rattle.program_troubles.specs.declared.trouble.Trouble.TheVariants.{NotAPlatform, Memory}
@@ -15,8 +15,8 @@ use Rattle.program_files.specs.declared.whole.WholeFault.{WholeFault}
 use Rattle.program_files.specs.declared.whole.WholeFault.TheVariants as whole
 use Rattle.command_inputs.specs.Inputs.{HasBytes, HasMap, HasNoBytes, HasNoMap, IsMapFault, Reading, too_large, cannot_read}
 use Rattle.command_inputs.specs.Inputs as inputs
-use Rattle.command_inputs.specs.Platforms.{HasNoPlatform}
-use Rattle.command_inputs.specs.Platforms as platforms
+use Rattle.command_inputs.specs.PlatformInputs.{HasNoPlatform}
+use Rattle.command_inputs.specs.PlatformInputs as platforms
 use Rattle.program_troubles.specs.Troubles.{map_trouble, whole_trouble}
 
 pub no_bytes :

@@ -1,3 +1,3 @@
 pub mod Inputs
-pub mod Platforms
+pub mod PlatformInputs
 pub mod Statuses

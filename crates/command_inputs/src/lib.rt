@@ -10,9 +10,9 @@
 #![tactic(auto)]
 
 mod inputs;
-mod platforms;
+mod platform_inputs;
 mod statuses;
 
 pub use inputs::{CERTIFICATE_BYTES, MAP_BYTES, REGISTER_BYTES, bytes_in, map_by, map_in};
-pub use platforms::{PLATFORM_BYTES, platform_in, read_platform};
+pub use platform_inputs::{PLATFORM_BYTES, platform_in, read_platform};
 pub use statuses::answer_status;

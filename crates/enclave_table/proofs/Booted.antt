@@ -6,7 +6,7 @@ use Rattle.pmp_encoding.specs.declared.perm.Perm.TheVariants.{NoAccess}
 use Rattle.pmp_encoding.specs.declared.region.Entry.{Entry}
 use Rattle.pmp_match.specs.Meaning.{View}
 use Rattle.permission_map.specs.Views.{SameView}
-use Rattle.enclave_table.specs.Platform.{Layout, IsLayout, platform_perm}
+use Rattle.platforms.specs.Platform.{Layout, IsLayout, platform_perm}
 use Rattle.enclave_table.specs.Enclaves.{enclave_at}
 use Rattle.enclave_table.specs.Views.{host_view}
 use Rattle.enclave_table.proofs.ShortNames.{any_private}
@@ -15,7 +15,7 @@ use Rattle.enclave_table.specs.Tables.{IsKept}
 use Rattle.enclave_table.specs.Boot.{opening}
 use Rattle.enclave_table.specs.declared.enclave.Enclave.{Enclave}
 use Rattle.enclave_table.proofs.Places.{live_place}
-use Rattle.enclave_table.specs.Ranges.{has_page}
+use Rattle.platforms.specs.Ranges.{has_page}
 
 abbrev absent : Option Enclave
 absent = None

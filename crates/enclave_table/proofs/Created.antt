@@ -7,14 +7,15 @@ use Rattle.pmp_encoding.specs.declared.region.Entry.{Entry}
 use Rattle.pmp_match.specs.Meaning.{View}
 use Rattle.permission_map.specs.Views.{SameView, overwritten}
 use Rattle.enclave_table.specs.Enclaves.{EnclaveTable, Live, with_enclave, IsNextId}
-use Rattle.enclave_table.specs.Requests.{parts_of, is_part, ArePartsApart}
+use Rattle.enclave_requests.specs.Requests.{parts_of, is_part, ArePartsApart}
 use Rattle.enclave_table.specs.Views.{host_view, enclave_view}
-use Rattle.enclave_table.specs.Refusals.{AllPass, RefusesBy}
+use Rattle.platforms.specs.CheckLists.{AllPass}
+use Rattle.enclave_table.specs.Refusals.{RefusesBy}
 use Rattle.enclave_table.specs.Checks.{create_checks, IsClear}
 use Rattle.enclave_table.specs.Fewest.{FitsIn, IsWant, IsListOf}
 use Rattle.enclave_table.specs.Create.{fresh, Creates, OutgrowsByCreate}
 use Rattle.enclave_table.specs.Tables.{IsSound}
-use Rattle.enclave_table.specs.declared.request.Create.{Create}
+use Rattle.enclave_requests.specs.declared.request.Create.{Create}
 use Rattle.enclave_table.specs.declared.enclave.Enclave.{Enclave}
 use Rattle.page_views.specs.declared.pages.PageRange.{PageRange}
 use Rattle.enclave_table.specs.declared.refusal.Refusal.{Refusal}

@@ -10,11 +10,11 @@ use Rattle.permission_map.proofs.Counted.{two_more}
 use Rattle.permission_map.proofs.Determined.{determined}
 use Rattle.prefix_tree.specs.RunsOf.{AreRunsOf}
 use Rattle.prefix_tree.proofs.RunsExist.{runs_exist}
-use Rattle.enclave_table.specs.Platform.{device_perm, platform_perm}
-use Rattle.enclave_table.specs.Ranges.{has_page}
-use Rattle.enclave_table.proofs.ShortNames.{is_among}
+use Rattle.platforms.specs.Platform.{device_perm, platform_perm}
+use Rattle.platforms.specs.Ranges.{has_page}
+use Rattle.platforms.proofs.ShortNames.{is_among}
 use Rattle.enclave_table.specs.Enclaves.{EnclaveTable}
-use Rattle.enclave_table.specs.Requests.{is_private}
+use Rattle.enclave_requests.specs.Requests.{is_private}
 use Rattle.enclave_table.specs.Views.{host_view}
 use Rattle.enclave_table.proofs.ShortNames.{any_private}
 use Rattle.enclave_table.specs.Tables.{IsTable}

@@ -1,44 +1,14 @@
--- Ranges set one before the other.
-use Rattle.std.proofs.Common.{ℕ, suc, ◌≡◌, ◌+◌, ◌/◌, ◌<◌, ◌∙◌, sym, ap, refl, Bool, true, false, ◌||◌, cond, List, ◌∷◌, length, get_or, drop, Option, None, Some, drop-cons, add-one}
+-- Private pages hidden one enclave after the other.
+use Rattle.std.proofs.Common.{ℕ, ◌≡◌, ◌+◌, ◌/◌, ◌<◌, ◌∙◌, sym, ap, refl, Bool, true, false, ◌||◌, cond, List, length, get_or, drop, Option, None, Some}
 use Rattle.std.proofs.lemmas.List.{get_or_default}
 use Rattle.pmp_encoding.specs.declared.perm.Perm.{Perm}
-use Rattle.pmp_encoding.specs.declared.perm.Perm.TheVariants.{NoAccess, ReadWriteExecute}
+use Rattle.pmp_encoding.specs.declared.perm.Perm.TheVariants.{NoAccess}
 use Rattle.pmp_match.specs.Meaning.{View}
-use Rattle.permission_map.specs.Runs.{in_range}
 use Rattle.permission_map.specs.Views.{SameView, overwritten}
-use Rattle.enclave_table.specs.Platform.{Layout, device_perm, platform_perm}
-use Rattle.enclave_table.specs.Ranges.{has_page}
-use Rattle.enclave_table.proofs.ShortNames.{is_among}
-use Rattle.enclave_table.specs.Requests.{is_private}
+use Rattle.platforms.proofs.Mapped.{from_place}
+use Rattle.enclave_requests.specs.Requests.{is_private}
 use Rattle.enclave_table.proofs.ShortNames.{any_private}
 use Rattle.enclave_table.specs.declared.enclave.Enclave.{Enclave}
-use Rattle.page_views.specs.declared.pages.PageRange.{PageRange}
-
--- the list from a place on
-pub from_place : {X : Type 0} (xs : List X) (i : ℕ) (x : X) → i < length xs → x ≡ get_or xs i x → drop i xs ≡ x ∷ drop (i + 1) xs
-from_place xs i x inside is = drop-cons xs i x inside ∙ ap (λ y. y ∷ drop (suc i) xs) (sym is) ∙ ap (λ j. x ∷ drop j xs) (sym (add-one i))
-
-pub device_set :
-    (devices : List (ℕ × ℕ × Perm)) (i : ℕ) (d : ℕ × ℕ × Perm) (old new : View) → i < length devices → d ≡ get_or devices i d → SameView old (device_perm (drop (i + 1) devices))
-    → SameView new (overwritten old (d.0 / 4096) (d.1 / 4096) d.2) → SameView new (device_perm (drop i devices))
-device_set devices i d old new inside is before set page small =
-    set page small
-    ∙ ap (λ p. cond (in_range (d.0 / 4096) (d.1 / 4096) page) d.2 p) (before page small)
-    ∙ sym (ap (λ ds. device_perm ds page) (from_place devices i d inside is))
-
-memory_perm : (a b : Bool) (q : Perm) → cond a ReadWriteExecute (cond b ReadWriteExecute q) ≡ cond (a || b) ReadWriteExecute q
-memory_perm true b q = refl
-memory_perm false b q = refl
-
-pub memory_set :
-    (ram : List (ℕ × ℕ)) (i : ℕ) (range : ℕ × ℕ) (first old new : View) → i < length ram → range ≡ get_or ram i range
-    → SameView old (λ page. cond (is_among (drop (i + 1) ram) page) ReadWriteExecute (first page))
-    → SameView new (overwritten old (range.0 / 4096) (range.1 / 4096) ReadWriteExecute) → SameView new (λ page. cond (is_among (drop i ram) page) ReadWriteExecute (first page))
-memory_set ram i range first old new inside is before set page small =
-    set page small
-    ∙ ap (λ p. cond (has_page range page) ReadWriteExecute p) (before page small)
-    ∙ memory_perm (has_page range page) (is_among (drop (i + 1) ram) page) (first page)
-    ∙ sym (ap (λ rs. cond (is_among rs page) ReadWriteExecute (first page)) (from_place ram i range inside is))
 
 hidden_perm : (p m a : Bool) (q : Perm) → cond p NoAccess (cond (m || a) NoAccess q) ≡ cond (m || (p || a)) NoAccess q
 hidden_perm true true a q = refl
@@ -66,15 +36,3 @@ pub none_hidden :
 none_hidden es i monitor allowed old inside is before page small =
     before page small
     ∙ sym (ap (λ s. cond (monitor page || any_private s page) NoAccess (allowed page)) (from_place es i None inside (sym is)))
-
--- the devices set first, then the memory, then nothing on the monitor's pages: that is what the platform allows
-pub platform_view :
-    (layout : Layout) (devices : List (ℕ × ℕ × Perm)) (ram : List (ℕ × ℕ)) (pages : PageRange) (first second third : View) → layout.devices ≡ devices → layout.ram ≡ ram
-    → pages ≡ record { first = layout.monitor.0 / 4096; count = layout.monitor.1 / 4096 } → SameView first (device_perm devices)
-    → SameView second (λ page. cond (is_among ram page) ReadWriteExecute (first page)) → SameView third (overwritten second pages.first pages.count NoAccess)
-    → SameView third (λ page. cond (has_page layout.monitor page) NoAccess (platform_perm layout page))
-platform_view layout devices ram pages first second third devices_are ram_is pages_are on_devices on_ram on_monitor page small =
-    on_monitor page small
-    ∙ ap (λ (r : PageRange). cond (in_range r.first r.count page) NoAccess (second page)) pages_are
-    ∙ ap (λ p. cond (has_page layout.monitor page) NoAccess p)
-    (on_ram page small ∙ ap (λ p. cond (is_among ram page) ReadWriteExecute p) (on_devices page small ∙ sym (ap (λ ds. device_perm ds page) devices_are)) ∙ sym (ap (λ rs. cond (is_among rs page) ReadWriteExecute (device_perm layout.devices page)) ram_is))

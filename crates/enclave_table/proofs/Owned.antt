@@ -3,9 +3,9 @@ use Rattle.std.proofs.Common.{ℕ, ◌≡◌, ◌∙◌, ◌+◌, ◌-◌, ◌<�
 use Rattle.std.proofs.lemmas.Bool.{both_ways, or_left, or_right, or_parts, false_from_ne_true}
 use Rattle.std.proofs.lemmas.Option.{same_Some}
 use Rattle.pmp_encoding.specs.declared.perm.Perm.TheVariants.{NoAccess}
-use Rattle.enclave_table.specs.Platform.{platform_perm}
+use Rattle.platforms.specs.Platform.{platform_perm}
 use Rattle.enclave_table.specs.Enclaves.{EnclaveTable, enclave_at, Live}
-use Rattle.enclave_table.specs.Requests.{is_private, is_shared, is_part}
+use Rattle.enclave_requests.specs.Requests.{is_private, is_shared, is_part}
 use Rattle.enclave_table.specs.Owners.{IsOwner}
 use Rattle.enclave_table.specs.Views.{host_view, host_perm}
 use Rattle.enclave_table.proofs.ShortNames.{any_private, has_private}
@@ -15,7 +15,7 @@ use Rattle.enclave_table.specs.declared.owner.Owner.{Owner}
 use Rattle.enclave_table.specs.declared.owner.Owner.TheVariants.{Monitor, Private, Shared, Host}
 use Rattle.enclave_table.proofs.Places.{at_place, live_place, live_inside}
 use Rattle.enclave_table.proofs.Placed.{any_none}
-use Rattle.enclave_table.specs.Ranges.{has_page}
+use Rattle.platforms.specs.Ranges.{has_page}
 
 part_private : (e : Enclave) (page : ℕ) → is_private e.parts page ≡ true → is_part e.parts page ≡ true
 part_private e page h = or_left (is_private e.parts page) (is_shared e.parts page) h

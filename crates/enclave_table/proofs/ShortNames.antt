@@ -3,14 +3,9 @@ use Rattle.std.specs.Prelude.{ℕ, Bool, List, Option, option_map, unwrap_or, fa
 use Rattle.std.specs.List.{list_any}
 use Rattle.pmp_encoding.specs.declared.perm.Perm.{Perm}
 use Rattle.pmp_encoding.specs.declared.perm.Perm.TheVariants.{NoAccess}
-use Rattle.enclave_table.specs.Ranges.{has_page}
 use Rattle.enclave_table.specs.Views.{enclave_view}
-use Rattle.enclave_table.specs.Requests.{is_private}
+use Rattle.enclave_requests.specs.Requests.{is_private}
 use Rattle.enclave_table.specs.declared.enclave.Enclave.{Enclave}
-
--- whether a page is in one of the ranges
-abbrev pub is_among : List (ℕ × ℕ) → ℕ → Bool
-is_among ranges page = list_any (λ range. has_page range page) ranges
 
 -- whether a page is private to the enclave of a slot, if there is one
 abbrev pub has_private : Option Enclave → ℕ → Bool

@@ -1,17 +1,12 @@
 -- The table at boot.
-use Rattle.std.specs.Prelude.{ℕ, ◌<◌, None, replicate, ⊤}
+use Rattle.std.specs.Prelude.{◌<◌, None, replicate, ⊤}
 use Rattle.pmp_encoding.specs.Limits.{limit_number}
 use Rattle.pmp_match.specs.Meaning.{Needs}
-use Rattle.enclave_table.specs.Platform.{Layout}
+use Rattle.platforms.specs.Platform.{Layout}
 use Rattle.enclave_table.specs.Enclaves.{EnclaveTable}
 use Rattle.enclave_table.specs.Views.{host_view}
-use Rattle.enclave_table.specs.declared.boot.BootFault.{BootFault}
-use Rattle.enclave_table.specs.declared.boot.BootFault.TheVariants.{NeedsMoreEntries, Memory}
-
--- the numbers of the faults
-abbrev pub boot_fault_number : BootFault → ℕ
-boot_fault_number (NeedsMoreEntries n) = 1
-boot_fault_number Memory = 2
+use Rattle.platforms.specs.declared.boot_fault.BootFault.{BootFault}
+use Rattle.platforms.specs.declared.boot_fault.BootFault.TheVariants.{NeedsMoreEntries, Memory}
 
 -- no enclave is live
 abbrev pub opening : Layout → EnclaveTable

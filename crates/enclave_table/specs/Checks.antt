@@ -2,8 +2,8 @@
 use Rattle.std.specs.Prelude.{◌≡◌, ℕ, true, List, false, [], ◌∷◌, ◌≢◌, ◌<◌}
 use Rattle.worlds.specs.declared.world.World.{World}
 use Rattle.worlds.specs.declared.world.World.TheVariants.{Host, Enclave as InEnclave}
-use Rattle.enclave_table.specs.Platform.{is_ram}
-use Rattle.enclave_table.specs.Requests.{is_private, is_shared, is_part, HasCounts, HasPlaces, HasEntry}
+use Rattle.platforms.specs.Platform.{is_ram}
+use Rattle.enclave_requests.specs.Requests.{is_private, is_shared, is_part, HasCounts, HasPlaces, HasEntry}
 use Rattle.enclave_table.specs.Enclaves.{EnclaveTable, Live, IsFree}
 use Rattle.enclave_table.specs.declared.enclave.Enclave.{Enclave}
 use Rattle.enclave_table.specs.declared.enclave.State.{State}
@@ -12,8 +12,8 @@ use Rattle.enclave_table.specs.declared.life.Entering.{Entering}
 use Rattle.enclave_table.specs.declared.life.Entering.TheVariants.{Run, Resume}
 use Rattle.enclave_table.specs.declared.refusal.Refusal.{Refusal}
 use Rattle.enclave_table.specs.declared.refusal.Refusal.TheVariants.{NotHost, NotEnclave, BadCount, BadAddress, BadEntry, NotRam, Overlap, TableFull, BadId, BadState, BadWord}
-use Rattle.enclave_table.specs.declared.request.Create.{Create}
-use Rattle.enclave_table.specs.Ranges.{has_page}
+use Rattle.enclave_requests.specs.declared.request.Create.{Create}
+use Rattle.platforms.specs.Ranges.{has_page}
 
 -- no page is the monitor's or an enclave's, and none is both private and shared
 pub record IsClear (table : EnclaveTable) (parts : Create) : Type 0 where

@@ -3,7 +3,7 @@ use Rattle.std.specs.Prelude.{◌≡◌, ℕ, ◌+◌, ◌/◌, None}
 use Rattle.worlds.specs.declared.world.World.{World}
 use Rattle.enclave_table.specs.Enclaves.{EnclaveTable, Live, with_enclave}
 use Rattle.enclave_table.specs.Views.{host_view}
-use Rattle.enclave_table.specs.Refusals.{AllPass}
+use Rattle.platforms.specs.CheckLists.{AllPass}
 use Rattle.enclave_table.specs.Checks.{host_checks, MayDestroy}
 use Rattle.enclave_table.specs.Fewest.{FitsIn}
 use Rattle.enclave_table.specs.declared.enclave.Enclave.{Enclave}

@@ -1,11 +1,11 @@
 -- Who owns each page.
 use Rattle.std.specs.Prelude.{◌≡◌, ℕ, true, false}
-use Rattle.enclave_table.specs.Requests.{is_private, is_shared, is_part}
+use Rattle.enclave_requests.specs.Requests.{is_private, is_shared, is_part}
 use Rattle.enclave_table.specs.Enclaves.{EnclaveTable, Live}
 use Rattle.enclave_table.specs.declared.enclave.Enclave.{Enclave}
 use Rattle.enclave_table.specs.declared.owner.Owner.{Owner}
 use Rattle.enclave_table.specs.declared.owner.Owner.TheVariants.{Monitor, Private, Shared, Host}
-use Rattle.enclave_table.specs.Ranges.{has_page}
+use Rattle.platforms.specs.Ranges.{has_page}
 
 -- the monitor owns its range, an enclave its text and data, both it and the host what they share, and the host the rest
 abbrev pub IsOwner : EnclaveTable → ℕ → Owner → Type 0

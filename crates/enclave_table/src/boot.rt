@@ -3,37 +3,16 @@
 ghost use Rattle.std.specs.Prelude.{◌≡◌, ◌<◌, None, replicate, length, IfOk, IfErr};
 ghost use Rattle.enclave_table.specs.Fewest.{FitsIn};
 ghost use Rattle.enclave_table.specs.Views.{host_view};
-ghost use Rattle.enclave_table.specs.Boot.{opening, IsBootFault, boot_fault_number};
+ghost use Rattle.enclave_table.specs.Boot.{opening, IsBootFault};
 
 use crate::enclave::Enclave;
 use crate::entry_list::EntryList;
-use crate::platform::Platform;
 use crate::table::Table;
 use entry_planner::plan;
 use permission_map::Memory;
+use platforms::{BootFault, Platform};
 use prefix_tree::build;
 use std::alloc::Global;
-
-/// Why a table is not made of a platform.
-#[derive(Clone, Copy, PartialEq, Eq, Debug)]
-pub enum BootFault {
-    /// The host's view needs that many entries, more than a hart has.
-    NeedsMoreEntries(u64),
-    /// A growth was refused.
-    Memory,
-}
-
-impl BootFault {
-    /// Its number, 1 or 2.
-    pub fn number(self) -> u8
-        ensures { result ≡ boot_fault_number self }
-    {
-        match self {
-            BootFault::NeedsMoreEntries(_) => 1,
-            BootFault::Memory => 2,
-        }
-    }
-}
 
 /// No enclave at any place.
 fn no_enclaves(alloc: Global) -> Result<Vec<Option<Enclave>>, Memory>

@@ -2,17 +2,17 @@
 
 ghost use Rattle.std.specs.Prelude.{◌≡◌, ℕ, ◌<◌, ◌≤◌, ◌↔◌, IsTrue, IfOk, IfErr, true, false};
 ghost use Rattle.enclave_table.specs.Enclaves.{Live, IsNextId};
-ghost use Rattle.enclave_table.specs.Platform.{is_ram};
-ghost use Rattle.enclave_table.specs.Requests.{ArePartsApart, HasCounts, HasPlaces, is_part};
-ghost use Rattle.enclave_table.specs.Refusals.{AllPass, FailsFirst};
+ghost use Rattle.platforms.specs.Platform.{is_ram};
+ghost use Rattle.enclave_requests.specs.Requests.{ArePartsApart, HasCounts, HasPlaces, is_part};
+ghost use Rattle.platforms.specs.CheckLists.{AllPass, FailsFirst};
 ghost use Rattle.enclave_table.specs.Checks.{IsClear, create_checks, host_checks, MayDestroy};
 ghost use Rattle.enclave_table.specs.Tables.{IsSound};
 ghost use Rattle.enclave_table.specs.declared.enclave.Enclave.{Enclave};
 
 use crate::enclave::{Enclave, State};
 use crate::refusal::Refusal;
-use crate::request::Create;
 use crate::table::Table;
+use enclave_requests::Create;
 use worlds::World;
 
 impl Table {

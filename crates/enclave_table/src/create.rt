@@ -2,18 +2,17 @@
 
 ghost use Rattle.std.specs.Prelude.{◌≡◌, ◌<◌, ◌-◌, IfOk, IfErr, OnErr, Some};
 ghost use Rattle.enclave_table.specs.Tables.{IsCurrent};
-ghost use Rattle.enclave_table.specs.Requests.{HasCounts, HasPlaces, parts_of};
-ghost use Rattle.enclave_table.specs.Digests.{measured};
+ghost use Rattle.enclave_requests.specs.Requests.{HasCounts, HasPlaces, parts_of};
+ghost use Rattle.enclave_requests.specs.Digests.{measured};
 ghost use Rattle.enclave_table.specs.Create.{Creates, OutgrowsByCreate};
 ghost use Rattle.enclave_table.specs.Refusals.{RefusesBy};
 ghost use Rattle.enclave_table.specs.Checks.{create_checks};
 
-use crate::digest::{Pages, digest};
 use crate::enclave::{Enclave, State};
 use crate::fewest::enclave_list;
 use crate::refusal::Refusal;
-use crate::request::Create;
 use crate::table::Table;
+use enclave_requests::{Create, Pages, enclave_digest};
 use pmp_encoding::Perm;
 use worlds::World;
 
@@ -25,7 +24,7 @@ impl Table {
         ensures value { result ≡ measured (P.bytes_of pages.now) parts.now }
         ensures kept { self.new ≡ self.old }
     {
-        digest(&mut self.blank, pages, parts)
+        enclave_digest(&mut self.blank, pages, parts)
     }
 
     /// Creates an enclave. Nothing is changed before all that can be refused has been done.

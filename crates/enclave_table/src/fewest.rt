@@ -5,15 +5,15 @@ ghost use Rattle.pmp_encoding.specs.declared.perm.Perm.{Perm};
 ghost use Rattle.pmp_match.specs.Meaning.{IsFewest};
 ghost use Rattle.permission_map.specs.Views.{overwritten};
 ghost use Rattle.prefix_tree.specs.Trees.{TreeMeans, IsCanonical};
-ghost use Rattle.enclave_table.specs.Requests.{HasCounts, HasPlaces};
+ghost use Rattle.enclave_requests.specs.Requests.{HasCounts, HasPlaces};
 ghost use Rattle.enclave_table.specs.Views.{host_view, enclave_view};
 ghost use Rattle.enclave_table.specs.Fewest.{IsListOf, IsWant};
 
 use crate::entry_list::EntryList;
 use crate::planned::{PlannedView, enclave_plan};
 use crate::refusal::Refusal;
-use crate::request::Create;
 use crate::table::Table;
+use enclave_requests::Create;
 use entry_planner::Plan;
 use page_views::PageRange;
 use pmp_encoding::{Limit, Perm};

@@ -3,7 +3,7 @@
 ghost use Rattle.std.specs.Prelude.{◌≡◌, IfOk, OnOk, IfErr, OnErr, Some};
 ghost use Rattle.enclave_table.specs.Tables.{IsCurrent};
 ghost use Rattle.enclave_table.specs.Checks.{host_checks, leave_checks, state_before};
-ghost use Rattle.enclave_table.specs.Refusals.{FailsFirst};
+ghost use Rattle.platforms.specs.CheckLists.{FailsFirst};
 ghost use Rattle.enclave_table.specs.Lives.{state_after, Enters, Leaves};
 
 use crate::enclave::State;

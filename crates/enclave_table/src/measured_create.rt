@@ -3,16 +3,17 @@
 ghost use Rattle.std.specs.Prelude.{◌≡◌, ◌<◌, ◌-◌, ℕ, List, IfOk, IfErr, IfSome, IfNone, OnErr, Some};
 ghost use Rattle.enclave_table.specs.Enclaves.{IsNextId, with_enclave};
 ghost use Rattle.enclave_table.specs.Tables.{IsCurrent};
-ghost use Rattle.enclave_table.specs.Requests.{HasCounts, HasPlaces, parts_of};
+ghost use Rattle.enclave_requests.specs.Requests.{HasCounts, HasPlaces, parts_of};
 ghost use Rattle.enclave_table.specs.Checks.{create_checks};
-ghost use Rattle.enclave_table.specs.Refusals.{AllPass, RefusesBy};
+ghost use Rattle.platforms.specs.CheckLists.{AllPass};
+ghost use Rattle.enclave_table.specs.Refusals.{RefusesBy};
 ghost use Rattle.enclave_table.specs.Create.{Creates, IsMeasured, measured_as, OutgrowsByCreate};
 
 use crate::enclave::{Enclave, State};
 use crate::fewest::enclave_list;
 use crate::refusal::Refusal;
-use crate::request::Create;
 use crate::table::Table;
+use enclave_requests::Create;
 use pmp_encoding::Perm;
 use worlds::World;
 

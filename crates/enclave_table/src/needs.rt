@@ -5,13 +5,13 @@ ghost use Rattle.pmp_match.specs.Meaning.{Needs};
 ghost use Rattle.enclave_table.specs.Checks.{create_checks, host_checks, MayDestroy};
 ghost use Rattle.enclave_table.specs.Enclaves.{with_enclave};
 ghost use Rattle.enclave_table.specs.Needs.{NeedsWithCreated};
-ghost use Rattle.enclave_table.specs.Refusals.{AllPass};
-ghost use Rattle.enclave_table.specs.Requests.{parts_of};
+ghost use Rattle.platforms.specs.CheckLists.{AllPass};
+ghost use Rattle.enclave_requests.specs.Requests.{parts_of};
 ghost use Rattle.enclave_table.specs.Views.{host_view, enclave_view};
 
 use crate::planned::enclave_plan;
-use crate::request::Create;
 use crate::table::Table;
+use enclave_requests::Create;
 use permission_map::Memory;
 use pmp_encoding::Perm;
 use worlds::World;

@@ -3,10 +3,10 @@ use Rattle.std.specs.Prelude.{◌≡◌, ◌⊎◌, ℕ, ◌+◌, ◌<◌, ℤ, 
 use Rattle.pmp_encoding.specs.Limits.{limit_number}
 use Rattle.pmp_match.specs.Meaning.{Needs}
 use Rattle.sbi_decode.specs.declared.calls.Call.TheVariants as calls
-use Rattle.enclave_table.specs.declared.request.Create.{Create}
+use Rattle.enclave_requests.specs.declared.request.Create.{Create}
 use Rattle.enclave_table.specs.Enclaves.{EnclaveTable, with_enclave}
 use Rattle.enclave_table.specs.Needs.{NeedsWithCreated}
-use Rattle.enclave_table.specs.Requests.{parts_of}
+use Rattle.enclave_requests.specs.Requests.{parts_of}
 use Rattle.enclave_table.specs.Views.{enclave_view, host_view}
 use Rattle.hart_sim.specs.declared.reply.Reply.{Reply}
 use Rattle.hart_sim.specs.declared.reply.Reply.TheVariants as replies

@@ -9,7 +9,7 @@ use Rattle.pmp_encoding.specs.declared.region.Entry.{Entry}
 use Rattle.pmp_encoding.specs.Banks.{HasList}
 use Rattle.pmp_encoding.specs.Limits.{limit_number}
 use Rattle.permission_map.specs.Views.{SameView}
-use Rattle.enclave_table.specs.Platform.{IsLayout}
+use Rattle.platforms.specs.Platform.{IsLayout}
 use Rattle.enclave_table.specs.Tables.{Kept}
 use Rattle.enclave_table.proofs.SameViews.{fewest_same}
 use Rattle.monitor_core.proofs.Cases.{both}

@@ -1,7 +1,7 @@
 -- However a run of lines ends, the machine is the one after the events that its first lines say.
 use Rattle.std.proofs.Common.{◌≡◌, ◌⊎◌, ◌∙◌, inl, inr, ℕ, ◌<◌, true, List, [], ◌∷◌, ◌++◌, length, Option, Some, Result, Ok, Err, refl, ap, sym, append_assoc}
 use Rattle.std.specs.Prelude.{IfOk}
-use Rattle.enclave_table.specs.Platform.{Layout}
+use Rattle.platforms.specs.Platform.{Layout}
 use Rattle.hart_trace.specs.declared.event.Event.{Event}
 use Rattle.hart_trace.specs.Events.{meaning_of}
 use Rattle.text_lines.specs.declared.fault.RunFault.{RunFault}

@@ -1,6 +1,6 @@
 -- The headline, by induction over the events.
 use Rattle.std.proofs.Common.{◌≡◌, ◌⊎◌, ◌∙◌, inl, inr, ℕ, ◌<◌, List, [], ◌∷◌, ◌++◌, refl, ap, ap₂, sym, subst, append_assoc}
-use Rattle.enclave_table.specs.Platform.{Layout, IsLayout}
+use Rattle.platforms.specs.Platform.{Layout, IsLayout}
 use Rattle.enclave_table.specs.Tables.{IsTable}
 use Rattle.hart_trace.specs.declared.event.Event.{Event}
 use Rattle.hart_sim.specs.declared.machine.Machine.{Machine}

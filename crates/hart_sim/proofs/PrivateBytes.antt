@@ -11,12 +11,12 @@ use Rattle.pmp_match.specs.Kinds.{holds}
 use Rattle.permission_map.specs.Runs.{in_range}
 use Rattle.enclave_table.proofs.Places.{live_place}
 use Rattle.enclave_table.specs.Enclaves.{EnclaveTable, Live, enclave_at}
-use Rattle.enclave_table.specs.Requests.{is_private, is_shared, is_part}
+use Rattle.enclave_requests.specs.Requests.{is_private, is_shared, is_part}
 use Rattle.enclave_table.specs.Views.{host_view, enclave_view}
 use Rattle.enclave_table.proofs.ShortNames.{any_private, has_private}
-use Rattle.enclave_table.specs.Platform.{platform_perm}
+use Rattle.platforms.specs.Platform.{platform_perm}
 use Rattle.enclave_table.specs.Tables.{IsTable}
-use Rattle.enclave_table.specs.declared.request.Create.{Create}
+use Rattle.enclave_requests.specs.declared.request.Create.{Create}
 use Rattle.enclave_table.specs.declared.enclave.Enclave.{Enclave}
 use Rattle.worlds.specs.declared.world.World.{World}
 use Rattle.worlds.specs.declared.world.World.TheVariants.{Host, Enclave as InEnclave}
@@ -33,7 +33,7 @@ use Rattle.page_views.specs.declared.pages.PageRange.{PageRange}
 use Rattle.hart_sim.proofs.Asked.{awoken, named, asked, lent, is_zeroed}
 use Rattle.hart_sim.specs.Privacy.{StoresTo, KeepsPrivate}
 use Rattle.hart_sim.proofs.Verdicts.{allowed_by, some_held, page_of_byte}
-use Rattle.enclave_table.specs.Ranges.{has_page}
+use Rattle.platforms.specs.Ranges.{has_page}
 
 or_first : (a b : Bool) → a ≡ true → (a || b) ≡ true
 or_first true b e = refl

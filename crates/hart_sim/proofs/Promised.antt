@@ -9,7 +9,7 @@ use Rattle.pmp_match.specs.Accesses.{IsAligned}
 use Rattle.pmp_match.specs.Causes.{access_fault}
 use Rattle.pmp_match.specs.Kinds.{holds}
 use Rattle.enclave_table.specs.Enclaves.{Live, enclave_at}
-use Rattle.enclave_table.specs.Requests.{is_private}
+use Rattle.enclave_requests.specs.Requests.{is_private}
 use Rattle.enclave_table.specs.Tables.{IsTable}
 use Rattle.enclave_table.specs.declared.enclave.Enclave.{Enclave}
 use Rattle.worlds.specs.declared.world.World.TheVariants.{Enclave as InEnclave}

@@ -12,7 +12,7 @@ use Rattle.hart_sim.specs.declared.reply.Reply.TheVariants.{NoMemory}
 use Rattle.hart_sim.specs.Machines.{state_of, bank_on}
 use Rattle.hart_sim.specs.Steps.{Run, still, step}
 use Rattle.hart_sim.specs.Texts.{reply_text, lines_from, report_text}
-use Rattle.enclave_table.specs.Platform.{Layout}
+use Rattle.platforms.specs.Platform.{Layout}
 use Rattle.hart_sim.specs.After.{After, happened, Happens}
 use Rattle.hart_sim.specs.Reports.{DoesLine, none, blank, one, AreAnswered, AreElsewhere, LastOwn, Report, IsReported}
 use Rattle.hart_sim.proofs.Layouts.{layout_stays}

@@ -1,6 +1,6 @@
 -- A machine, after boot made it of a platform and so many events happened to it.
 use Rattle.std.specs.Prelude.{◌≡◌, ◌≢◌, ℕ, ◌<◌, List, [], ◌∷◌, ◌++◌}
-use Rattle.enclave_table.specs.Platform.{Layout, IsLayout}
+use Rattle.platforms.specs.Platform.{Layout, IsLayout}
 use Rattle.hart_trace.specs.declared.event.Event.{Event}
 use Rattle.hart_sim.specs.declared.machine.Machine.{Machine}
 use Rattle.hart_sim.specs.declared.reply.Reply.{Reply}

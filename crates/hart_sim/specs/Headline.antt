@@ -1,7 +1,7 @@
 -- The headline: what holds of a machine after boot and any list of events.
 use Rattle.std.specs.Prelude.{◌≡◌, ℕ, ◌<◌, false, List, Some, ◌∷◌, ◌++◌}
 use Rattle.pmp_encoding.specs.declared.bank.Bank.{Bank}
-use Rattle.enclave_table.specs.Platform.{Layout}
+use Rattle.platforms.specs.Platform.{Layout}
 use Rattle.enclave_table.specs.Tables.{IsTable}
 use Rattle.hart_trace.specs.declared.event.Event.{Event}
 use Rattle.hart_sim.specs.declared.machine.Machine.{Machine}

@@ -6,7 +6,7 @@ use Rattle.pmp_match.specs.declared.access.Access.{Access}
 use Rattle.pmp_match.specs.declared.access.Mode.TheVariants.{Machine}
 use Rattle.pmp_match.specs.declared.cause.Cause.{Cause}
 use Rattle.enclave_table.specs.Enclaves.{Live, enclave_at}
-use Rattle.enclave_table.specs.Requests.{is_private}
+use Rattle.enclave_requests.specs.Requests.{is_private}
 use Rattle.enclave_table.specs.Views.{enclave_view, current_view}
 use Rattle.enclave_table.specs.declared.enclave.Enclave.{Enclave}
 use Rattle.enclave_table.specs.declared.enclave.State.TheVariants.{Running}

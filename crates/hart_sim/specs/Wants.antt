@@ -1,13 +1,14 @@
 -- When a creation or a destruction is refused for want of entries.
 use Rattle.std.specs.Prelude.{◌≡◌, ◌⊎◌, ℕ, None, Some, ◌*◌}
-use Rattle.enclave_table.specs.Requests.{parts_of}
+use Rattle.enclave_requests.specs.Requests.{parts_of}
 use Rattle.enclave_table.specs.Enclaves.{with_enclave}
 use Rattle.enclave_table.specs.Views.{host_view}
-use Rattle.enclave_table.specs.Refusals.{AllPass, refusal_number}
+use Rattle.platforms.specs.CheckLists.{AllPass}
+use Rattle.enclave_table.specs.Refusals.{refusal_number}
 use Rattle.enclave_table.specs.Checks.{create_checks, host_checks, MayDestroy}
 use Rattle.enclave_table.specs.Fewest.{NeedsMore}
 use Rattle.enclave_table.specs.Create.{OutgrowsByCreate}
-use Rattle.enclave_table.specs.declared.request.Create.{Create}
+use Rattle.enclave_requests.specs.declared.request.Create.{Create}
 use Rattle.enclave_table.specs.declared.refusal.Refusal.TheVariants.{NoEntries, NoMemory}
 use Rattle.enclave_table.specs.declared.refusal.Refusal.{Refusal}
 use Rattle.sbi_decode.specs.Calls.{call_of}

@@ -1,6 +1,6 @@
 -- On which hart each enclave runs.
 use Rattle.std.specs.Prelude.{◌≡◌, ℕ, ◌<◌, List, true}
-use Rattle.enclave_table.specs.Platform.{Layout}
+use Rattle.platforms.specs.Platform.{Layout}
 use Rattle.enclave_table.specs.Enclaves.{Live}
 use Rattle.enclave_table.specs.declared.enclave.Enclave.{Enclave}
 use Rattle.enclave_table.specs.declared.enclave.State.TheVariants.{Running}

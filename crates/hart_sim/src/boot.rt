@@ -10,7 +10,7 @@ impl Parts {
     ghost use Rattle.std.specs.Prelude.{◌≡◌, IfOk, IfErr};
     ghost use Rattle.enclave_table.specs.Boot.{IsBootFault, opening as opening_table};
     ghost use Rattle.enclave_table.specs.Fewest.{FitsIn};
-    ghost use Rattle.enclave_table.specs.Platform.{IsLayout};
+    ghost use Rattle.platforms.specs.Platform.{IsLayout};
     ghost use Rattle.enclave_table.specs.Views.{host_view};
     ghost use Rattle.hart_sim.specs.Banks.{AreBanksRight};
     ghost use Rattle.hart_sim.specs.Parts.{AreBanks, state_in, bank_in};

@@ -27,7 +27,7 @@ impl Machine {
     ghost use Rattle.pmp_match.specs.declared.access.Access.{Access};
     ghost use Rattle.enclave_table.specs.Boot.{IsBootFault, opening as opening_table};
     ghost use Rattle.enclave_table.specs.Fewest.{FitsIn};
-    ghost use Rattle.enclave_table.specs.Platform.{Layout, IsLayout};
+    ghost use Rattle.platforms.specs.Platform.{Layout, IsLayout};
     ghost use Rattle.enclave_table.specs.Views.{host_view};
     ghost use Rattle.hart_trace.specs.declared.event.Event.{Event};
     ghost use Rattle.hart_sim.specs.declared.reply.Reply.{Reply};

@@ -3,7 +3,7 @@
 #![tactic(auto)]
 
 ghost use Rattle.std.specs.Prelude.{◌≡◌, ℕ, List, [], ◌∷◌, ◌++◌};
-ghost use Rattle.enclave_table.specs.Platform.{Layout};
+ghost use Rattle.platforms.specs.Platform.{Layout};
 ghost use Rattle.hart_trace.specs.declared.event.Event.{Event};
 ghost use Rattle.hart_sim.specs.After.{After};
 ghost use Rattle.hart_sim.specs.Headline.{Headline};

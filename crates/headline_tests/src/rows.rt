@@ -2,8 +2,9 @@
 
 use crate::life;
 use arrayvec::ArrayVec;
-use enclave_table::{Platform, PlatformFault, World};
+use enclave_table::World;
 use hart_sim::{Machine, Reply};
+use platforms::{Platform, PlatformFault};
 use pmp_encoding::Perm;
 use std::alloc::Global;
 use std::process::Abort;

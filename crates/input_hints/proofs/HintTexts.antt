@@ -2,8 +2,8 @@
 use Rattle.std.proofs.Common.{ℕ, ◌≡◌, ◌≢◌, ◌^◌, ◌<◌, Bool, true, false, List, [], Option, Some, None, Result, Ok, Err, IfOk, arith, refl, subst, sym}
 use Rattle.byte_streams.specs.Writings.{Prints, Writing}
 use Rattle.enclave_table.specs.Boot.{IsBootFault}
-use Rattle.enclave_table.specs.Platform.{Layout}
-use Rattle.enclave_table.specs.declared.boot.BootFault.TheVariants.{NeedsMoreEntries}
+use Rattle.platforms.specs.Platform.{Layout}
+use Rattle.platforms.specs.declared.boot_fault.BootFault.TheVariants.{NeedsMoreEntries}
 use Rattle.hart_sim.specs.declared.machine.Machine.{Machine}
 use Rattle.hart_sim.specs.After.{IsBooted}
 use Rattle.program_tasks.specs.declared.task.Task.{Task}

@@ -4,8 +4,8 @@ use Rattle.byte_streams.specs.Writings.{Breaks, IsUnwritten, TakesAll, Writing}
 use Rattle.text_lines.specs.Lines.{raw_lines}
 use Rattle.pmp_encoding.specs.Limits.{limit_number}
 use Rattle.enclave_table.specs.Boot.{IsBootFault}
-use Rattle.enclave_table.specs.Platform.{Layout}
-use Rattle.enclave_table.specs.declared.boot.BootFault.TheVariants.{NeedsMoreEntries}
+use Rattle.platforms.specs.Platform.{Layout}
+use Rattle.platforms.specs.declared.boot_fault.BootFault.TheVariants.{NeedsMoreEntries}
 use Rattle.hart_sim.specs.declared.machine.Machine.{Machine}
 use Rattle.hart_sim.specs.After.{IsBooted}
 use Rattle.register_width.specs.declared.xlen.Xlen.{Xlen}

@@ -13,10 +13,10 @@ use crate::needs::{Bounds, bank_bounds, boot_hint, need_hint, plan_bounds, table
 use crate::sizes::{FileKind, Had, bytes_or_hint};
 use byte_streams::{Sink, Source, write_whole};
 use command_inputs::platform_in;
-use enclave_table::{BootFault, Platform};
 use hart_sim::Machine;
 use lint_commands::names_platform;
 use map_commands::needed_by;
+use platforms::{BootFault, Platform};
 use program_tasks::{LintKind, Task};
 use program_troubles::Trouble;
 use register_width::Xlen;

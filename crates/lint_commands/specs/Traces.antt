@@ -2,11 +2,11 @@
 use Rattle.std.specs.Prelude.{◌≡◌, ℕ, ◌^◌, Bool, true, false, List, [], Option, Some, None, Result, Err}
 use Rattle.std.specs.Borrow.{Bor}
 use Rattle.byte_streams.specs.Writings.{IsUnwritten, Writing}
-use Rattle.enclave_table.specs.Platform.{Layout}
+use Rattle.platforms.specs.Platform.{Layout}
 use Rattle.program_troubles.specs.declared.trouble.Trouble.{Trouble}
 use Rattle.command_inputs.specs.Inputs.{HasBytes, HasNoBytes, IsUnread, Reading}
 use Rattle.lint_commands.specs.Lint.{Tells}
-use Rattle.command_inputs.specs.Platforms.{HasNoPlatform, HasPlatform}
+use Rattle.command_inputs.specs.PlatformInputs.{HasNoPlatform, HasPlatform}
 use Rattle.trace_lint.specs.declared.taker.Taker.{Taker}
 use Rattle.trace_lint.specs.declared.taker.Taker.TheVariants.{Run}
 use Rattle.trace_lint.specs.Lints.{IsLintText, is_trace}

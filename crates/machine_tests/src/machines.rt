@@ -1,8 +1,8 @@
 //! Machines of the example platform, what runs on them answer, and what they hold.
 
 use byte_streams::fakes::{PieceSink, PieceSource};
-use enclave_table::Platform;
 use hart_sim::{Machine, RunFault, run};
+use platforms::Platform;
 use pmp_encoding::{Bank, Perm};
 use std::alloc::Global;
 use std::process::Abort;

@@ -3,7 +3,7 @@ use Rattle.std.proofs.Common.{ℕ, ◌<◌, inl, inr}
 use Rattle.enclave_table.specs.declared.enclave.Enclave.{Enclave}
 use Rattle.enclave_table.specs.declared.refusal.Refusal.{Refusal}
 use Rattle.enclave_table.specs.Checks.{word_checks}
-use Rattle.enclave_table.specs.Refusals.{FailsFirst}
+use Rattle.platforms.specs.CheckLists.{FailsFirst}
 use Rattle.enclave_table.specs.Enclaves.{EnclaveTable, Live}
 
 -- it is not live, since there are four words

@@ -7,8 +7,8 @@ use Rattle.byte_streams.specs.Writings.{IsUnwritten, IsWell, TakesPart, Writing}
 use Rattle.text_lines.specs.declared.fault.RunFault.{RunFault}
 use Rattle.text_lines.specs.LineLoop.{CountsReads, CountsWrites, DoesAll, Meaning}
 use Rattle.enclave_table.specs.Boot.{IsBootFault}
-use Rattle.enclave_table.specs.Platform.{Layout}
-use Rattle.enclave_table.specs.declared.boot.BootFault.{BootFault}
+use Rattle.platforms.specs.Platform.{Layout}
+use Rattle.platforms.specs.declared.boot_fault.BootFault.{BootFault}
 use Rattle.hart_sim.specs.declared.machine.Machine.{Machine}
 use Rattle.hart_sim.specs.After.{IsBooted}
 use Rattle.hart_sim.specs.Machines.{kept_of, state_of}
@@ -22,7 +22,7 @@ use Rattle.program_troubles.specs.declared.trouble.Trouble.{Trouble}
 use Rattle.program_troubles.specs.declared.trouble.Trouble.TheVariants.{NotAPlatform, Output, Memory}
 use Rattle.program_troubles.specs.Troubles.{boot_trouble, run_trouble}
 use Rattle.command_inputs.specs.Inputs.{IsUnread, Reading}
-use Rattle.command_inputs.specs.Platforms.{HasNoPlatform, HasPlatform}
+use Rattle.command_inputs.specs.PlatformInputs.{HasNoPlatform, HasPlatform}
 use Rattle.map_commands.specs.Expected.{IsTold}
 use Rattle.map_commands.specs.Stops.{Stops}
 use Rattle.monitor_cli.specs.Tasks.{AreMeasures}

@@ -4,7 +4,7 @@ ghost use Rattle.std.specs.Prelude.{◌≡◌, ◌-◌, ◌^◌, ◌<◌, ◌≤
 ghost use Rattle.byteorder.specs.Endian.{little_bytes};
 ghost use Rattle.byte_streams.specs.Writings.{writing, Breaks, IsWell, PrintsOne, TakesAll};
 ghost use Rattle.enclave_table.specs.Boot.{IsBootFault};
-ghost use Rattle.enclave_table.specs.declared.boot.BootFault.{BootFault};
+ghost use Rattle.platforms.specs.declared.boot_fault.BootFault.{BootFault};
 ghost use Rattle.enclave_table.specs.declared.enclave.Enclave.{Enclave};
 ghost use Rattle.enclave_table.specs.Digests.{AnswersWord};
 ghost use Rattle.enclave_table.specs.Enclaves.{Live};
@@ -16,8 +16,9 @@ ghost use Rattle.monitor_cli.specs.Tasks.{AreMeasures, IsDigest, IsMeasureText};
 
 use byte_streams::{DeviceFault, Sink, write_whole};
 use byteorder::{ByteOrder, LittleEndian};
-use enclave_table::{Platform, Table};
+use enclave_table::Table;
 use hart_sim::Machine;
+use platforms::Platform;
 use printed_lines::measure_line;
 use program_troubles::Trouble;
 use std::alloc::Global;

@@ -1,6 +1,6 @@
 -- Which worlds are current, as truth values and as facts.
 use Rattle.std.proofs.Common.{◌≡◌, ◌≢◌, ◌∙◌, ℕ, zero, suc, ◌-◌, ◌≤◌, true, false, replicate, Option, Some, None, slice_index_or, refl, ap, sym, arith}
-use Rattle.enclave_table.specs.Platform.{Layout}
+use Rattle.platforms.specs.Platform.{Layout}
 use Rattle.enclave_table.specs.Enclaves.{EnclaveTable, Live, enclave_at, with_enclave}
 use Rattle.enclave_table.specs.Tables.{IsTable, IsCurrent}
 use Rattle.enclave_table.specs.declared.enclave.Enclave.{Enclave}

@@ -13,7 +13,7 @@ use Rattle.enclave_table.specs.declared.life.Entering.TheVariants.{Run, Resume}
 use Rattle.enclave_table.specs.declared.life.Leaving.{Leaving}
 use Rattle.enclave_table.specs.Checks.{leave_checks, state_before}
 use Rattle.enclave_table.specs.Lives.{Enters, Leaves, Turns, state_after}
-use Rattle.enclave_table.specs.Refusals.{FailsFirst}
+use Rattle.platforms.specs.CheckLists.{FailsFirst}
 use Rattle.enclave_table.specs.Destroy.{Destroys}
 use Rattle.enclave_table.specs.declared.refusal.Refusal.{Refusal}
 use Rattle.page_views.specs.declared.pages.PageRange.{PageRange}

@@ -1,13 +1,13 @@
 -- A call and an interrupt leave the table sound.
 use Rattle.std.proofs.Common.{◌≡◌, inl, inr, ℕ, List, Option, Some, None, refl, sym, subst, ap}
-use Rattle.enclave_table.specs.Platform.{Layout, IsLayout}
+use Rattle.platforms.specs.Platform.{Layout, IsLayout}
 use Rattle.enclave_table.specs.Enclaves.{EnclaveTable, with_enclave}
-use Rattle.enclave_table.specs.Requests.{parts_of}
+use Rattle.enclave_requests.specs.Requests.{parts_of}
 use Rattle.enclave_table.specs.Tables.{IsTable}
 use Rattle.enclave_table.specs.Create.{Creates, fresh}
 use Rattle.enclave_table.specs.Destroy.{Destroys}
 use Rattle.enclave_table.specs.Lives.{Turns}
-use Rattle.enclave_table.specs.declared.request.Create.{Create}
+use Rattle.enclave_requests.specs.declared.request.Create.{Create}
 use Rattle.enclave_table.specs.declared.enclave.State.{State as Stage}
 use Rattle.page_views.specs.declared.pages.PageRange.{PageRange}
 use Rattle.enclave_table.proofs.Created.{sound_from, apart_from}

@@ -5,14 +5,15 @@ use Rattle.pmp_match.specs.Meaning.{View}
 use Rattle.pmp_match.proofs.Meant.{needs_one}
 use Rattle.page_views.specs.declared.pages.PageRange.{PageRange}
 use Rattle.enclave_table.specs.Enclaves.{EnclaveTable, with_enclave}
-use Rattle.enclave_table.specs.Requests.{parts_of, is_private}
+use Rattle.enclave_requests.specs.Requests.{parts_of, is_private}
 use Rattle.enclave_table.specs.Views.{host_view, enclave_view}
-use Rattle.enclave_table.specs.Refusals.{AllPass, FailsFirst, refusal_number, RefusesBy}
+use Rattle.platforms.specs.CheckLists.{AllPass, FailsFirst}
+use Rattle.enclave_table.specs.Refusals.{refusal_number, RefusesBy}
 use Rattle.enclave_table.specs.Checks.{create_checks, host_checks, MayDestroy, leave_checks, word_checks}
 use Rattle.enclave_table.specs.Fewest.{FitsIn, NeedsMore}
 use Rattle.enclave_table.specs.Create.{OutgrowsByCreate, fresh}
 use Rattle.enclave_table.specs.Enclaves.{IsNextId}
-use Rattle.enclave_table.specs.declared.request.Create.{Create}
+use Rattle.enclave_requests.specs.declared.request.Create.{Create}
 use Rattle.enclave_table.specs.declared.refusal.Refusal.{Refusal}
 use Rattle.enclave_table.specs.declared.refusal.Refusal.TheVariants.{NotHost, NotEnclave, BadCount, BadAddress, BadEntry, NotRam, Overlap, TableFull, NoEntries, NoMemory, BadId, BadState, BadWord}
 use Rattle.enclave_table.specs.Tables.{IsTable}

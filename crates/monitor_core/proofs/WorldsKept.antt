@@ -2,15 +2,15 @@
 use Rattle.std.proofs.Common.{◌≡◌, ◌≢◌, ◌∙◌, inl, inr, ℕ, zero, suc, ◌-◌, ◌<◌, ◌≤◌, List, [], ◌∷◌, Bool, true, false, ◌&&◌, ◌||◌, ◌==◌, nat_lt, if◌then◌else◌, Option, Some, None, slice_set, slice_index_or, refl, ap, sym, subst}
 use Rattle.std.proofs.lemmas.Bool.{eq-eqb, eqb-true, both_ways, or_cases, and_parts}
 use Rattle.std.proofs.lemmas.Option.{same_Some}
-use Rattle.enclave_table.specs.Platform.{Layout}
+use Rattle.platforms.specs.Platform.{Layout}
 use Rattle.enclave_table.specs.Enclaves.{EnclaveTable, Live, enclave_at, with_enclave}
-use Rattle.enclave_table.specs.Requests.{parts_of}
+use Rattle.enclave_requests.specs.Requests.{parts_of}
 use Rattle.enclave_table.specs.Tables.{IsCurrent}
 use Rattle.enclave_table.specs.Lives.{Enters, Leaves}
 use Rattle.enclave_table.specs.Create.{fresh}
 use Rattle.enclave_table.specs.Checks.{state_before}
 use Rattle.enclave_table.specs.Lives.{state_after}
-use Rattle.enclave_table.specs.declared.request.Create.{Create}
+use Rattle.enclave_requests.specs.declared.request.Create.{Create}
 use Rattle.enclave_table.specs.declared.enclave.Enclave.{Enclave}
 use Rattle.enclave_table.specs.declared.enclave.State.{State as Stage}
 use Rattle.enclave_table.specs.declared.enclave.State.TheVariants.{Fresh, Running, Stopped, Exited}

@@ -2,12 +2,12 @@
 use Rattle.std.specs.Prelude.{◌≡◌, ◌≢◌, ℕ, ◌+◌, ◌^◌, ◌<◌, ◌≤◌, Bool, true, false}
 use Rattle.page_views.specs.Views.{in_range, SameView}
 use Rattle.page_views.specs.declared.pages.PageRange.{PageRange}
-use Rattle.enclave_table.specs.Platform.{Layout, is_ram}
+use Rattle.platforms.specs.Platform.{Layout, is_ram}
 use Rattle.monitor_core.specs.declared.parts.Parts.{Parts}
 use Rattle.monitor_core.specs.Parts.{HoldsTogether}
 use Rattle.monitor_core.specs.States.{State}
 use Rattle.enclave_table.specs.Views.{current_view}
-use Rattle.enclave_table.specs.Ranges.{has_page}
+use Rattle.platforms.specs.Ranges.{has_page}
 
 -- the hart is one of the platform, and the parts belong together
 pub record IsOn (parts : Parts) (hart : ℕ) : Type 0 where

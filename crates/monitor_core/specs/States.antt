@@ -1,7 +1,7 @@
 -- The state of the monitor. There are no PMP entries in it, and no bytes of memory.
 use Rattle.std.specs.Prelude.{ℕ, Bool, false}
 use Rattle.pmp_encoding.specs.declared.perm.Perm.{Perm}
-use Rattle.enclave_table.specs.Platform.{Layout}
+use Rattle.platforms.specs.Platform.{Layout}
 use Rattle.enclave_table.specs.Enclaves.{EnclaveTable}
 use Rattle.enclave_table.specs.Boot.{opening as opening_table}
 pub use Rattle.enclave_table.specs.Views.{current_view as view_of}

@@ -1,13 +1,14 @@
 -- What a call or an interrupt on a hart may be answered, and the state that it leaves.
 use Rattle.std.specs.Prelude.{◌≡◌, ◌⊎◌, ℕ, ◌+◌, ◌-◌, ◌^◌, pos, List, Option, None, Some}
 use Rattle.enclave_table.specs.Enclaves.{EnclaveTable, Live, with_enclave}
-use Rattle.enclave_table.specs.Refusals.{FailsFirst, refusal_number, RefusesBy}
+use Rattle.platforms.specs.CheckLists.{FailsFirst}
+use Rattle.enclave_table.specs.Refusals.{refusal_number, RefusesBy}
 use Rattle.enclave_table.specs.Create.{Creates, OutgrowsByCreate}
 use Rattle.enclave_table.specs.Destroy.{Destroys}
 use Rattle.enclave_table.specs.Lives.{Enters, Leaves}
 use Rattle.enclave_table.specs.Checks.{host_checks, leave_checks, word_checks, create_checks, MayDestroy, state_before}
 use Rattle.enclave_table.specs.Digests.{AnswersWord}
-use Rattle.enclave_table.specs.declared.request.Create.{Create}
+use Rattle.enclave_requests.specs.declared.request.Create.{Create}
 use Rattle.enclave_table.specs.declared.enclave.Enclave.{Enclave}
 use Rattle.enclave_table.specs.declared.life.Entering.{Entering}
 use Rattle.enclave_table.specs.declared.life.Entering.TheVariants as ways
@@ -23,7 +24,7 @@ use Rattle.monitor_core.specs.States.{State}
 use Rattle.monitor_core.specs.Changes.{in_world, with_registers, answering, marking_others, back_to_host}
 use Rattle.monitor_core.specs.Answers.{below_zero}
 use Rattle.monitor_core.specs.declared.answer.Answer.{Answer}
-use Rattle.enclave_table.specs.Requests.{parts_of}
+use Rattle.enclave_requests.specs.Requests.{parts_of}
 use Rattle.enclave_table.specs.Fewest.{NeedsMore}
 use Rattle.enclave_table.specs.Views.{host_view}
 use Rattle.sbi_decode.specs.Registers.{with_x, zeros}

@@ -1,10 +1,10 @@
 -- When a creation or a destruction is refused for want of entries.
 use Rattle.std.specs.Prelude.{◌⊎◌, Option, None, Some, cond}
 use Rattle.pmp_encoding.specs.declared.perm.Perm.TheVariants.{NoAccess}
-use Rattle.enclave_table.specs.Requests.{parts_of, is_private}
+use Rattle.enclave_requests.specs.Requests.{parts_of, is_private}
 use Rattle.enclave_table.specs.Enclaves.{EnclaveTable, with_enclave}
 use Rattle.enclave_table.specs.Views.{host_view, enclave_view}
-use Rattle.enclave_table.specs.Refusals.{AllPass}
+use Rattle.platforms.specs.CheckLists.{AllPass}
 use Rattle.enclave_table.specs.Checks.{create_checks, host_checks, MayDestroy}
 use Rattle.enclave_table.specs.Fewest.{NeedsMore}
 use Rattle.enclave_table.specs.declared.refusal.Refusal.TheVariants.{NoEntries, NoMemory}

@@ -2,7 +2,8 @@
 
 use crate::parts::Parts;
 use crate::register_sets::RegisterSets;
-use enclave_table::{BootFault, Platform, Table, World};
+use enclave_table::{Table, World};
+use platforms::{BootFault, Platform};
 use std::alloc::Global;
 
 impl Parts {

@@ -4,7 +4,8 @@ use crate::answer::{Onward, Served};
 use crate::call_registers::go_past_call;
 use crate::outcome::Outcome;
 use crate::parts::Parts;
-use enclave_table::{Create, Entering, Pages};
+use enclave_requests::{Create, Pages};
+use enclave_table::Entering;
 use sbi_decode::{Call, Registers, decode};
 
 impl Parts {

@@ -10,7 +10,7 @@ impl Parts {
     ghost use Rattle.std.specs.Prelude.{◌≡◌, ℕ, ◌+◌, ◌<◌, ◌≤◌, false, IfErr, OnOk, OnErr, Some, []};
     ghost use Rattle.enclave_table.specs.Checks.{leave_checks};
     ghost use Rattle.enclave_table.specs.Lives.{Leaves, state_after};
-    ghost use Rattle.enclave_table.specs.Refusals.{FailsFirst};
+    ghost use Rattle.platforms.specs.CheckLists.{FailsFirst};
     ghost use Rattle.enclave_table.specs.declared.enclave.Enclave.{Enclave};
     ghost use Rattle.monitor_core.specs.Changes.{back_to_host};
     ghost use Rattle.monitor_core.specs.Frames.{IsOn, KeepsFrame, LoadsAnew};

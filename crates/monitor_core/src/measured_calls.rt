@@ -4,7 +4,8 @@ use crate::answer::{Answer, Served};
 use crate::call_registers::go_past_call;
 use crate::outcome::Outcome;
 use crate::parts::Parts;
-use enclave_table::{Create, Entering};
+use enclave_requests::Create;
+use enclave_table::Entering;
 use sbi_decode::{Call, Registers, decode};
 
 impl Parts {

@@ -4,7 +4,9 @@ ghost use Rattle.monitor_core.specs.Parts.{HoldsTogether};
 
 use crate::answer::{Onward, Served};
 use crate::parts::Parts;
-use enclave_table::{BootFault, Create, Pages, Platform, Table, World};
+use enclave_requests::{Create, Pages};
+use enclave_table::{Table, World};
+use platforms::{BootFault, Platform};
 use pmp_encoding::Entry;
 use sbi_decode::{Call, Registers, decode};
 use std::alloc::Global;
@@ -18,14 +20,14 @@ pub struct Monitor {
 
 impl Monitor {
     ghost use Rattle.std.specs.Prelude.{◌≡◌, ◌<◌, ◌≤◌, ℕ, List, false, length, IfOk, IfErr, IfSome, IfNone};
-    ghost use Rattle.enclave_table.specs.Requests.{HasCounts, HasPlaces};
-    ghost use Rattle.enclave_table.specs.declared.request.Create.{Create as CreateParts};
+    ghost use Rattle.enclave_requests.specs.Requests.{HasCounts, HasPlaces};
+    ghost use Rattle.enclave_requests.specs.declared.request.Create.{Create as CreateParts};
     ghost use Rattle.monitor_core.specs.Measured.{IsMeasuredFor, Measures, asked_in};
     ghost use Rattle.pmp_encoding.specs.Limits.{limit_number};
     ghost use Rattle.pmp_match.specs.Meaning.{IsFewest, Needs};
     ghost use Rattle.enclave_table.specs.Boot.{IsBootFault, opening as opening_table};
     ghost use Rattle.enclave_table.specs.Fewest.{FitsIn};
-    ghost use Rattle.enclave_table.specs.Platform.{IsLayout};
+    ghost use Rattle.platforms.specs.Platform.{IsLayout};
     ghost use Rattle.enclave_table.specs.Tables.{IsTable};
     ghost use Rattle.enclave_table.specs.Views.{host_view, current_view};
     ghost use Rattle.sbi_decode.specs.Calls.{call_of};

@@ -3,7 +3,7 @@
 use crate::answer::Answer;
 use crate::outcome::Outcome;
 use crate::parts::Parts;
-use enclave_table::{Create, Pages};
+use enclave_requests::{Create, Pages};
 
 impl Parts {
     ghost use Rattle.std.specs.Prelude.{◌≡◌, ◌<◌, Some, []};

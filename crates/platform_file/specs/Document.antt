@@ -6,8 +6,8 @@ use Rattle.toml.specs.Parse.{parse_document}
 use Rattle.pmp_encoding.specs.declared.perm.Perm.{Perm}
 use Rattle.pmp_encoding.specs.Limits.{limit_number}
 use Rattle.pmp_encoding.specs.Perms.{permission_of}
-use Rattle.enclave_table.specs.Platform.{Layout, platform_rules}
-use Rattle.enclave_table.specs.Refusals.{AllPass}
+use Rattle.platforms.specs.Platform.{Layout, platform_rules}
+use Rattle.platforms.specs.CheckLists.{AllPass}
 
 -- no key of a table has another name than these
 abbrev pub is_known : List ℕ → List (List ℕ) → Bool

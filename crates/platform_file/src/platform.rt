@@ -3,13 +3,13 @@
 ghost use Rattle.std.specs.Prelude.{◌≡◌, ◌<◌, Err, IfOk, IfSome, None};
 ghost use Rattle.toml.specs.Parse.{parse_document};
 ghost use Rattle.toml.specs.View.{table_view};
-ghost use Rattle.enclave_table.specs.Platform.{Layout};
+ghost use Rattle.platforms.specs.Platform.{Layout};
 ghost use Rattle.platform_file.specs.Document.{IsPlatformText, Builds, Tells};
 
 use crate::TextFault;
 use crate::document::{has_only, number_or};
 use crate::ranges::{devices_at, monitor_at, ram_at};
-use enclave_table::Platform;
+use platforms::Platform;
 use pmp_encoding::Perm;
 use std::alloc::Global;
 use toml::Table;

@@ -3,9 +3,9 @@ use Rattle.std.proofs.Common.{◌≡◌, ◌∙◌, ℕ, suc, ◌+◌, ◌<◌, 
 use native.Mathlib.Numerals.{unary_clauses}
 use Rattle.std.proofs.lemmas.List.Elements.{All-map}
 use Rattle.pmp_encoding.specs.declared.perm.Perm.{Perm}
-use Rattle.enclave_table.specs.Ranges.{AreRangesApart, EachApart, device_range}
-use Rattle.enclave_table.specs.declared.platform.PlatformFault.{PlatformFault}
-use Rattle.enclave_table.specs.declared.platform.PlatformFault.TheVariants.{BadRange, Overlap, MonitorNotRam, BadNumber, BadHarts, BadEntries}
+use Rattle.platforms.specs.Ranges.{AreRangesApart, EachApart, device_range}
+use Rattle.platforms.specs.declared.platform.PlatformFault.{PlatformFault}
+use Rattle.platforms.specs.declared.platform.PlatformFault.TheVariants.{BadRange, Overlap, MonitorNotRam, BadNumber, BadHarts, BadEntries}
 use Rattle.platform_lint.specs.Breaches.{BreaksRule}
 use Rattle.platform_lint.specs.declared.breach.Place.{Place}
 use Rattle.platform_lint.specs.declared.breach.Place.TheVariants.{Ram, Device}

@@ -2,11 +2,11 @@
 use Rattle.std.specs.Prelude.{◌≡◌, ◌≢◌, ◌⊎◌, ℕ, ◌+◌, ◌-◌, ◌<◌, false, true, List, [], ◌∷◌, Option, Some, None, option_and_then, codes}
 use Rattle.toml.specs.Data.{Data, table, Items, Members, get_item, get_member, at, as_array, as_table}
 use Rattle.pmp_encoding.specs.declared.perm.Perm.{Perm}
-use Rattle.enclave_table.specs.Platform.{platform_rules}
-use Rattle.enclave_table.specs.Ranges.{IsRange}
-use Rattle.enclave_table.specs.Refusals.{FailsFirst}
-use Rattle.enclave_table.specs.declared.platform.PlatformFault.{PlatformFault}
-use Rattle.enclave_table.specs.declared.platform.PlatformFault.TheVariants.{BadHarts, BadEntries, Overlap}
+use Rattle.platforms.specs.Platform.{platform_rules}
+use Rattle.platforms.specs.Ranges.{IsRange}
+use Rattle.platforms.specs.CheckLists.{FailsFirst}
+use Rattle.platforms.specs.declared.platform.PlatformFault.{PlatformFault}
+use Rattle.platforms.specs.declared.platform.PlatformFault.TheVariants.{BadHarts, BadEntries, Overlap}
 use Rattle.platform_file.specs.Document.{is_known, has_only, known, number, number_or, perm_of, range_in, monitor_at, ram_at, devices_at}
 use Rattle.platform_lint.specs.declared.breach.Key.{Key}
 use Rattle.platform_lint.specs.declared.breach.Key.TheVariants as keys

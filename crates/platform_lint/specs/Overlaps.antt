@@ -1,7 +1,7 @@
 -- Two ranges of a platform file that have a page in common.
 use Rattle.std.specs.Prelude.{◌≡◌, ℕ, ◌+◌, List, [], ◌∷◌, ◌++◌, drop, map, slice_get, Some}
 use Rattle.pmp_encoding.specs.declared.perm.Perm.{Perm}
-use Rattle.enclave_table.specs.Ranges.{AreRangesApart, device_range}
+use Rattle.platforms.specs.Ranges.{AreRangesApart, device_range}
 use Rattle.platform_lint.specs.declared.breach.PlacedRange.{PlacedRange}
 use Rattle.platform_lint.specs.declared.breach.Place.{Place}
 use Rattle.platform_lint.specs.declared.breach.Place.TheVariants.{Ram, Device}

@@ -1,7 +1,7 @@
 -- The line that says what a platform file breaks.
 use Rattle.std.specs.Prelude.{ℕ, List, [], ◌++◌, codes, decimal}
-use Rattle.enclave_table.specs.declared.platform.PlatformFault.{PlatformFault}
-use Rattle.enclave_table.specs.declared.platform.PlatformFault.TheVariants.{BadRange, Overlap, MonitorNotRam, BadNumber, BadHarts, BadEntries}
+use Rattle.platforms.specs.declared.platform.PlatformFault.{PlatformFault}
+use Rattle.platforms.specs.declared.platform.PlatformFault.TheVariants.{BadRange, Overlap, MonitorNotRam, BadNumber, BadHarts, BadEntries}
 use Rattle.platform_lint.specs.Breaches.{key_name}
 use Rattle.platform_lint.specs.declared.breach.Place.{Place}
 use Rattle.platform_lint.specs.declared.breach.Place.TheVariants.{File, Monitor, Ram, Device}

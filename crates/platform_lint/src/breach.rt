@@ -3,7 +3,7 @@
 ghost use Rattle.std.specs.Prelude.{◌≡◌};
 ghost use Rattle.platform_lint.specs.Breaches.{key_name};
 
-use enclave_table::PlatformFault;
+use platforms::PlatformFault;
 
 /// A key of a platform file.
 #[derive(Clone, Copy, PartialEq, Eq, Debug)]

@@ -4,7 +4,7 @@ ghost use Rattle.std.specs.Prelude.{◌≡◌, ◌++◌, List, ℕ, Err, IfOk, I
 ghost use Rattle.byte_streams.specs.Writings.{writing, Breaks, TakesAll};
 ghost use Rattle.toml.specs.Errors.{IsWithin};
 ghost use Rattle.toml.specs.View.{table_view};
-ghost use Rattle.enclave_table.specs.Platform.{Layout};
+ghost use Rattle.platforms.specs.Platform.{Layout};
 ghost use Rattle.platform_file.specs.Document.{IsPlatformFile, IsPlatformText, Tells};
 ghost use Rattle.platform_lint.specs.Breaches.{IsBreach};
 ghost use Rattle.platform_lint.specs.Lints.{IsFinding, IsLintLine, IsSyntaxText, no_text_line, position_after};

@@ -2,7 +2,7 @@
 
 ghost use Rattle.std.specs.Prelude.{◌≡◌, ◌+◌, ◌↔◌, ℕ, IfOk, IfSome, IsTrue, None, Some, drop, map, slice_get};
 ghost use Rattle.std.specs.List.{All};
-ghost use Rattle.enclave_table.specs.Ranges.{AreRangesApart, EachApart};
+ghost use Rattle.platforms.specs.Ranges.{AreRangesApart, EachApart};
 ghost use Rattle.platform_lint.specs.Overlaps.{IsOverlap, placed_ranges};
 
 use crate::breach::{Place, PlacedRange};

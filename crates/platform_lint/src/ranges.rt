@@ -2,7 +2,7 @@
 
 ghost use Rattle.std.specs.Prelude.{◌≡◌, ◌↔◌, ℕ, IfSome, IsTrue, None, Some};
 ghost use Rattle.toml.specs.View.{table_view};
-ghost use Rattle.enclave_table.specs.Ranges.{IsRange};
+ghost use Rattle.platforms.specs.Ranges.{IsRange};
 ghost use Rattle.pmp_encoding.specs.declared.perm.Perm.{Perm};
 ghost use Rattle.platform_file.specs.Document.{device_of, number_at, perm_at, range_in, range_of};
 ghost use Rattle.platform_lint.specs.Breaches.{key_name, keys_of, Breaks};

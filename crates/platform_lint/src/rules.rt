@@ -2,16 +2,16 @@
 
 ghost use Rattle.std.specs.Prelude.{◌≡◌, ◌++◌, ◌<◌, ◌≤◌, IfOk, IfSome, None, Ok, map};
 ghost use Rattle.toml.specs.View.{table_view};
-ghost use Rattle.enclave_table.specs.Platform.{Layout};
-ghost use Rattle.enclave_table.specs.Ranges.{EachApart, device_range};
-ghost use Rattle.enclave_table.specs.declared.platform.PlatformFault.TheVariants.{Overlap};
+ghost use Rattle.platforms.specs.Platform.{Layout};
+ghost use Rattle.platforms.specs.Ranges.{EachApart, device_range};
+ghost use Rattle.platforms.specs.declared.platform.PlatformFault.TheVariants.{Overlap};
 ghost use Rattle.platform_file.specs.Document.{Builds, Tells};
 ghost use Rattle.platform_lint.specs.Breaches.{BreaksRule, HasForm, IsBreach, IsBroken};
 
 use crate::breach::Breach;
 use crate::overlap::{overlap_in, placed_ranges};
-use enclave_table::{Platform, PlatformFault};
 use platform_file::{devices_at, monitor_at, number_or, ram_at};
+use platforms::{Platform, PlatformFault};
 use pmp_encoding::Perm;
 use std::alloc::{AllocError, Global};
 use toml::Table;

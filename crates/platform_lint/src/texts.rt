@@ -4,8 +4,8 @@ ghost use Rattle.std.specs.Prelude.{◌≡◌, ◌++◌, OnOk, codes, decimal};
 ghost use Rattle.platform_lint.specs.Texts.{about, breach_text, keys_text, place_text, range_text, rule_text, table_text};
 
 use crate::breach::{Breach, Place, PlacedRange};
-use enclave_table::PlatformFault;
 use lint_texts::{push, push_address, push_number};
+use platforms::PlatformFault;
 use std::alloc::AllocError;
 
 /// What is asked of a range.

@@ -7,8 +7,8 @@ use Rattle.map_text.specs.declared.map_file.MapFileFault.{MapFileFault}
 use Rattle.map_text.specs.declared.map_file.MapFileFault.TheVariants as maps
 use Rattle.platform_file.specs.declared.fault.TextFault.{TextFault}
 use Rattle.platform_file.specs.declared.fault.TextFault.TheVariants as texts
-use Rattle.enclave_table.specs.declared.boot.BootFault.{BootFault}
-use Rattle.enclave_table.specs.declared.boot.BootFault.TheVariants as boots
+use Rattle.platforms.specs.declared.boot_fault.BootFault.{BootFault}
+use Rattle.platforms.specs.declared.boot_fault.BootFault.TheVariants as boots
 use Rattle.program_files.specs.declared.whole.WholeFault.{WholeFault}
 use Rattle.program_files.specs.declared.whole.WholeFault.TheVariants as whole
 use Rattle.program_troubles.specs.declared.trouble.Trouble.{Trouble}

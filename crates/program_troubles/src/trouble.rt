@@ -5,10 +5,10 @@ ghost use Rattle.byte_streams.specs.Writings.{writing, Prints};
 ghost use Rattle.program_troubles.specs.Troubles.{boot_trouble, file_text, joined, map_trouble, run_trouble, text_trouble, trouble_status, trouble_text, whole_trouble};
 
 use byte_streams::{DeviceFault, Sink, write_whole};
-use enclave_table::BootFault;
 use itoa::Buffer;
 use map_text::MapFileFault;
 use platform_file::TextFault;
+use platforms::BootFault;
 use program_files::WholeFault;
 use std::alloc::AllocError;
 use text_lines::RunFault;

@@ -5,12 +5,14 @@ ghost use Rattle.std.specs.Prelude.{replicate, ◌<◌, ◌^◌};
 mod anew;
 mod life;
 mod needs;
-mod platforms;
+mod platform_rules;
 mod refusals;
 mod scattered;
 mod views;
 
-use enclave_table::{Create, Owner, Pages, Platform, Refusal, Table, World};
+use enclave_requests::{Create, Pages};
+use enclave_table::{Owner, Refusal, Table, World};
+use platforms::Platform;
 use pmp_encoding::{Bank, Entry, Perm};
 use std::alloc::Global;
 use std::process::Abort;

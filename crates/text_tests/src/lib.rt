@@ -35,7 +35,7 @@ mod pictures;
 #[cfg(test)]
 mod platform_lints;
 #[cfg(test)]
-mod platforms;
+mod platform_texts;
 #[cfg(test)]
 mod tables;
 #[cfg(test)]

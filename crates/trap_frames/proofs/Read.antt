@@ -3,9 +3,9 @@ use Rattle.std.proofs.Common.{◌≡◌, ◌≤◌, ◌<◌, ◌+◌, ◌/◌, i
 use Rattle.std.specs.Result.{IfOk, IfErr}
 use Rattle.std.specs.Io.KnownBytes.{Consumes}
 use Rattle.std.proofs.Common.{take_all}
-use Rattle.enclave_table.specs.Platform.{Layout, platform_rules}
-use Rattle.enclave_table.specs.Refusals.{AllPass, FailsFirst}
-use Rattle.enclave_table.specs.declared.platform.PlatformFault.{PlatformFault}
+use Rattle.platforms.specs.Platform.{Layout, platform_rules}
+use Rattle.platforms.specs.CheckLists.{AllPass, FailsFirst}
+use Rattle.platforms.specs.declared.platform.PlatformFault.{PlatformFault}
 use Rattle.trap_frames.specs.declared.fault.FrameFault.{FrameFault}
 use Rattle.trap_frames.specs.declared.fault.FrameFault.TheVariants as faults
 use Rattle.trap_frames.specs.declared.end.Refusal.{Refusal}
@@ -14,7 +14,7 @@ use Rattle.trap_frames.specs.Words.{platform_tag, word_at}
 use Rattle.trap_frames.specs.FrameBytes.{Filled}
 use Rattle.trap_frames.specs.PageDigest.{ArePages, Measures, ReadsPage}
 use Rattle.trap_frames.specs.Traps.{CountsWrite}
-use Rattle.enclave_table.specs.declared.request.Create.{Create}
+use Rattle.enclave_requests.specs.declared.request.Create.{Create}
 use Rattle.std.proofs.KnownBytes.{Consumes-trans}
 use Rattle.trap_frames.specs.Platforms.{AreNoRanges, IsNoPlatform, IsPlatformFrame, ReadsPlatform, shape_rules}
 

@@ -1,6 +1,6 @@
 -- The last frame.
 use Rattle.std.specs.Prelude.{ℕ, List, [], ◌∷◌}
-use Rattle.enclave_table.specs.Platform.{platform_fault_number}
+use Rattle.platforms.specs.Platform.{platform_fault_number}
 use Rattle.trap_frames.specs.Words.{bytes_of, end_tag}
 use Rattle.trap_frames.specs.declared.end.Refusal.{Refusal}
 use Rattle.trap_frames.specs.declared.end.Refusal.TheVariants.{NotUnderstood, Platform, NeedsEntries, Memory}

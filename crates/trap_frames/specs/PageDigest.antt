@@ -3,7 +3,7 @@ use Rattle.std.specs.Prelude.{◌≡◌, ◌⊎◌, ℕ, ◌+◌, ◌/◌, ◌<�
 use Rattle.std.specs.Io.KnownBytes.{Appends, Consumes, IsAtEnd}
 use Rattle.measurement.specs.Measured.{digest_of}
 use Rattle.measurement.specs.declared.measured.Layout.{Layout}
-use Rattle.enclave_table.specs.declared.request.Create.{Create}
+use Rattle.enclave_requests.specs.declared.request.Create.{Create}
 use Rattle.trap_frames.specs.Words.{bytes_of, word_at, measure_tag, page_tag}
 use Rattle.trap_frames.specs.FrameBytes.{Breaks}
 use Rattle.trap_frames.specs.declared.fault.FrameFault.{FrameFault}

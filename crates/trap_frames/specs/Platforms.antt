@@ -4,10 +4,10 @@ use Rattle.std.specs.Io.KnownBytes.{Consumes, IsAtEnd}
 use Rattle.pmp_encoding.specs.declared.perm.Perm.{Perm}
 use Rattle.pmp_encoding.specs.Perms.{bits_of}
 use Rattle.pmp_encoding.specs.Limits.{limit_number}
-use Rattle.enclave_table.specs.Platform.{Layout, platform_rules}
-use Rattle.enclave_table.specs.Refusals.{FailsFirst}
-use Rattle.enclave_table.specs.declared.platform.PlatformFault.{PlatformFault}
-use Rattle.enclave_table.specs.declared.platform.PlatformFault.TheVariants.{BadNumber, BadHarts, BadEntries}
+use Rattle.platforms.specs.Platform.{Layout, platform_rules}
+use Rattle.platforms.specs.CheckLists.{FailsFirst}
+use Rattle.platforms.specs.declared.platform.PlatformFault.{PlatformFault}
+use Rattle.platforms.specs.declared.platform.PlatformFault.TheVariants.{BadNumber, BadHarts, BadEntries}
 use Rattle.trap_frames.specs.Words.{word_at, platform_tag}
 use Rattle.trap_frames.specs.FrameBytes.{Breaks}
 use Rattle.trap_frames.specs.declared.fault.FrameFault.{FrameFault}

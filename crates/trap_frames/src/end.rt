@@ -4,7 +4,7 @@ ghost use Rattle.std.specs.Prelude.{◌≡◌};
 ghost use Rattle.trap_frames.specs.Ends.{end_bytes, reason_of, detail_of};
 
 use crate::frame::{ShortBytes, TAG_END, three_words};
-use enclave_table::PlatformFault;
+use platforms::PlatformFault;
 
 /// Why nothing more is served.
 #[derive(Clone, Copy, Debug, PartialEq, Eq)]

@@ -10,7 +10,7 @@ use crate::fault::FrameFault;
 use crate::frame::{ShortBytes, TAG_MEASURE, TAG_PAGE, three_words, word};
 use crate::frame_bytes::read_whole;
 use byte_streams::{Sink, Source, write_whole};
-use enclave_table::Create;
+use enclave_requests::Create;
 use measurement::{Layout, Measure};
 
 /// The bytes of the frame of a page: its tag, its number, and its own bytes.

@@ -3,8 +3,8 @@
 ghost use Rattle.std.specs.Prelude.{◌≡◌, ◌≤◌, ◌<◌, ◌+◌, ◌*◌, ◌⊎◌, IfOk, IfErr, IfSome, IfNone, Some, ℕ};
 ghost use Rattle.pmp_encoding.specs.Perms.{bits_of};
 ghost use Rattle.pmp_encoding.specs.declared.perm.Perm.{Perm as PermOf};
-ghost use Rattle.enclave_table.specs.Platform.{Layout, IsLayout, platform_rules};
-ghost use Rattle.enclave_table.specs.Refusals.{AllPass};
+ghost use Rattle.platforms.specs.Platform.{Layout, IsLayout, platform_rules};
+ghost use Rattle.platforms.specs.CheckLists.{AllPass};
 ghost use Rattle.byte_streams.specs.Streams.{CountsFailure};
 ghost use Rattle.trap_frames.specs.Words.{word_at};
 ghost use Rattle.trap_frames.specs.Traps.{CountsRead};
@@ -16,7 +16,7 @@ use crate::frame::{TAG_PLATFORM, word};
 use crate::frame_bytes::read_whole;
 use arrayvec::ArrayVec;
 use byte_streams::Source;
-use enclave_table::{Platform, PlatformFault};
+use platforms::{Platform, PlatformFault};
 use pmp_encoding::Perm;
 
 /// The bytes of its frame: its tag, six numbers, and room for 32 ranges of memory and 32 devices.

@@ -2,7 +2,7 @@
 use Rattle.std.proofs.Common.{◌≡◌, ◌∙◌, ◌+◌, inl, inr, ℕ, Bool, List, [], ◌++◌, length, Option, None, Result, Ok, Err, ap, sym, subst, refl, append_assoc, append-nil}
 use Rattle.std.specs.Io.KnownBytes.{Appends, Consumes}
 use Rattle.std.proofs.KnownBytes.{Appends-trans, Consumes-trans}
-use Rattle.enclave_table.specs.Platform.{Layout}
+use Rattle.platforms.specs.Platform.{Layout}
 use Rattle.monitor_core.specs.declared.monitor.Monitor.{Monitor}
 use Rattle.monitor_core.specs.States.{State, opening}
 use Rattle.control_words.specs.declared.words.ControlWords.{ControlWords}

@@ -5,10 +5,10 @@ use Rattle.std.proofs.lemmas.Bool.{true≢false}
 use Rattle.std.specs.Prelude.{get_or, slice_index_or}
 use Rattle.std.specs.Io.KnownBytes.{Appends, Consumes}
 use Rattle.std.proofs.KnownBytes.{Appends-trans}
-use Rattle.enclave_table.specs.Digests.{measured, pages_from}
+use Rattle.enclave_requests.specs.Digests.{measured, pages_from}
 use Rattle.enclave_table.specs.Enclaves.{EnclaveTable}
-use Rattle.enclave_table.specs.Requests.{parts_of}
-use Rattle.enclave_table.specs.declared.request.Create.{Create}
+use Rattle.enclave_requests.specs.Requests.{parts_of}
+use Rattle.enclave_requests.specs.declared.request.Create.{Create}
 use Rattle.worlds.specs.declared.world.World.{World}
 use Rattle.worlds.specs.declared.world.World.TheVariants.{Host}
 use Rattle.monitor_core.specs.Measured.{IsMeasuredFor, Measures, asked_in}

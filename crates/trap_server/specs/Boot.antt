@@ -1,12 +1,12 @@
 -- How the monitor is booted.
 use Rattle.std.specs.Prelude.{◌≡◌, ◌⊎◌, ◌<◌, ℕ, List, [], length, Option, Result, Ok, Err}
 use Rattle.std.specs.Io.KnownBytes.{Appends, Consumes, IsAtEnd}
-use Rattle.enclave_table.specs.Platform.{Layout}
+use Rattle.platforms.specs.Platform.{Layout}
 use Rattle.monitor_core.specs.declared.monitor.Monitor.{Monitor}
 use Rattle.monitor_core.specs.Monitors.{state_of}
 use Rattle.monitor_core.specs.States.{opening}
 use Rattle.enclave_table.specs.Boot.{IsBootFault}
-use Rattle.enclave_table.specs.declared.boot.BootFault.TheVariants.{NeedsMoreEntries}
+use Rattle.platforms.specs.declared.boot_fault.BootFault.TheVariants.{NeedsMoreEntries}
 use Rattle.trap_frames.specs.Platforms.{IsNoPlatform, IsPlatformFrame}
 use Rattle.trap_frames.specs.declared.end.Refusal.{Refusal}
 use Rattle.trap_frames.specs.declared.end.Refusal.TheVariants.{NotUnderstood, Platform, NeedsEntries, Memory}

@@ -1,7 +1,7 @@
 -- A run of the loop.
 use Rattle.std.specs.Prelude.{◌≡◌, ◌⊎◌, ℕ, ◌+◌, ◌-◌, ◌^◌, Bool, false, nat_lt, List, [], ◌∷◌, ◌++◌, length, Option, None}
 use Rattle.std.specs.Io.KnownBytes.{Appends, Consumes}
-use Rattle.enclave_table.specs.Platform.{Layout}
+use Rattle.platforms.specs.Platform.{Layout}
 use Rattle.monitor_core.specs.States.{State, opening}
 use Rattle.control_words.specs.declared.words.ControlWords.{ControlWords}
 use Rattle.control_words.specs.Given.{keeping}

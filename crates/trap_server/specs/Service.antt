@@ -1,8 +1,8 @@
 -- How a trap is served.
 use Rattle.std.specs.Prelude.{◌≡◌, ◌⊎◌, ℕ, ◌+◌, ◌/◌, List, [], Option, None}
 use Rattle.page_views.specs.declared.pages.PageRange.{PageRange}
-use Rattle.enclave_table.specs.Digests.{pages_from}
-use Rattle.enclave_table.specs.declared.request.Create.{Create}
+use Rattle.enclave_requests.specs.Digests.{pages_from}
+use Rattle.enclave_requests.specs.declared.request.Create.{Create}
 use Rattle.sbi_decode.specs.Calls.{call_of}
 use Rattle.monitor_core.specs.declared.answer.Answer.{Answer}
 use Rattle.monitor_core.specs.States.{State}

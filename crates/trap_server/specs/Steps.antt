@@ -9,7 +9,7 @@ use Rattle.trap_server.specs.declared.fault.ServeFault.{ServeFault}
 use Rattle.trap_server.specs.Answered.{AreAwake}
 use Rattle.trap_server.specs.declared.fault.ServeFault.TheVariants as faults
 use Rattle.trap_server.specs.Ends.{LastIs}
-use Rattle.enclave_table.specs.declared.request.Create.{Create}
+use Rattle.enclave_requests.specs.declared.request.Create.{Create}
 use Rattle.trap_frames.specs.PageDigest.{StopsAtPage}
 use Rattle.trap_frames.specs.declared.trap.Event.TheVariants.{Call}
 use Rattle.trap_frames.specs.declared.end.Refusal.TheVariants.{NotUnderstood}

@@ -12,8 +12,8 @@ use crate::fault::{ServeFault, end, refuse};
 use crate::service::{NOTHING, serve_trap, write_answer};
 use byte_streams::{Sink, Source};
 use control_words::HostWords;
-use enclave_table::{BootFault, Platform};
 use monitor_core::Monitor;
+use platforms::{BootFault, Platform};
 use std::alloc::Global;
 use trap_frames::{Refusal, read_platform, read_trap};
 

@@ -1,5 +1,5 @@
 use Rattle.std.proofs.Common.{ℕ, ◌<◌, get_or}
-use Rattle.enclave_table.specs.Ranges.{AreRangesApart}
+use Rattle.platforms.specs.Ranges.{AreRangesApart}
 use Rattle.platform_lint.specs.declared.breach.PlacedRange.{PlacedRange}
 use Rattle.platform_lint.proofs.overlap.first_meeting.Given as goal
 

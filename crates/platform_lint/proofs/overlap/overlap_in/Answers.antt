@@ -1,7 +1,7 @@
 use Rattle.std.proofs.Common.{◌+◌, All, arith, drop, refl}
 use Rattle.std.proofs.lemmas.Option.{slice_get-get_or}
-use Rattle.enclave_table.specs.Ranges.{AreRangesApart}
-use Rattle.enclave_table.proofs.Apart.{one_more, rest_is}
+use Rattle.platforms.specs.Ranges.{AreRangesApart}
+use Rattle.platforms.proofs.Apart.{one_more, rest_is}
 use Rattle.platform_lint.specs.declared.breach.PlacedRange.{PlacedRange}
 use Rattle.platform_lint.proofs.Overlaps.{each_apart}
 use Rattle.platform_lint.proofs.overlap.overlap_in.Goals as goal

@@ -1,5 +1,5 @@
 use Rattle.std.proofs.Common.{◌≡◌, ◌++◌, ◌+◌, drop, map}
-use Rattle.enclave_table.specs.Ranges.{device_range}
+use Rattle.platforms.specs.Ranges.{device_range}
 use Rattle.platform_lint.specs.declared.breach.Place.TheVariants.{Ram, Device}
 use Rattle.platform_lint.specs.Overlaps.{placed_from, placed_ranges}
 use Rattle.platform_lint.proofs.overlap.placed_ranges.Given as goal

@@ -1,5 +1,5 @@
 use Rattle.std.proofs.Common.{◌∙◌, ap, map, refl, subst}
-use Rattle.enclave_table.specs.Ranges.{EachApart}
+use Rattle.platforms.specs.Ranges.{EachApart}
 use Rattle.platform_lint.proofs.Overlaps.{bounds_are, bounds_of}
 use Rattle.platform_lint.proofs.rules.breach_by.Goals as goal
 

@@ -1,5 +1,5 @@
 use Rattle.std.proofs.Common.{inl, inr, rules}
-use Rattle.enclave_table.specs.Platform.{platform_rules}
+use Rattle.platforms.specs.Platform.{platform_rules}
 use Rattle.trap_frames.specs.Platforms.{shape_rules}
 use Rattle.trap_frames.proofs.Read.{fails_after}
 use Rattle.trap_frames.proofs.platform_frame.platform_in.Goals as goal

@@ -1,6 +1,6 @@
 use Rattle.std.proofs.Common.{◌≡◌, ℕ, List, Option, length, subst}
 use Rattle.enclave_table.specs.Boot.{IsBootFault}
-use Rattle.enclave_table.specs.declared.boot.BootFault.TheVariants.{NeedsMoreEntries}
+use Rattle.platforms.specs.declared.boot_fault.BootFault.TheVariants.{NeedsMoreEntries}
 use Rattle.trap_frames.specs.Platforms.{IsPlatformFrame}
 use Rattle.trap_frames.specs.declared.end.Refusal.TheVariants as refusals
 use Rattle.trap_server.specs.Boot.{StopsAtFirst}

@@ -5,7 +5,7 @@ use Rattle.trap_server.specs.Ends.{fault_of}
 use Rattle.trap_server.specs.declared.fault.ServeFault.TheVariants as faults
 use Rattle.trap_server.proofs.Looped.{first_stops, refuses_first}
 use Rattle.trap_server.proofs.Served.{ends_why, first_writes, frame_reads, read_at}
-use Rattle.enclave_table.specs.Platform.{Layout}
+use Rattle.platforms.specs.Platform.{Layout}
 use Rattle.trap_frames.specs.declared.end.Refusal.{Refusal}
 use Rattle.trap_frames.specs.declared.end.Refusal.TheVariants as refusals
 use Rattle.trap_server.proofs.trap_loop.platform_in.Goals as goal

@@ -3,10 +3,10 @@ use Rattle.std.proofs.lemmas.List.{at_drop_all}
 use Rattle.pmp_encoding.specs.declared.perm.Perm.TheVariants.{NoAccess}
 use Rattle.permission_map.specs.Runs.{view_of_runs}
 use Rattle.permission_map.specs.Views.{SameView}
-use Rattle.enclave_table.specs.Platform.{Layout, platform_perm}
+use Rattle.platforms.specs.Platform.{Layout, platform_perm}
 use Rattle.enclave_table.proofs.ShortNames.{any_private}
 use Rattle.enclave_table.proofs.table.Table.host_view.Goals as goal
-use Rattle.enclave_table.specs.Ranges.{has_page}
+use Rattle.platforms.specs.Ranges.{has_page}
 
 or_none : (b : Bool) → (b || false) ≡ b
 or_none true = refl

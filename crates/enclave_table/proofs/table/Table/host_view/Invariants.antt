@@ -2,10 +2,10 @@ use Rattle.std.proofs.Common.{◌≤◌, ◌+◌, ◌*◌, length, drop, cond, �
 use Rattle.pmp_encoding.specs.declared.perm.Perm.TheVariants.{NoAccess}
 use Rattle.permission_map.specs.Runs.{view_of_runs}
 use Rattle.permission_map.specs.Views.{SameView}
-use Rattle.enclave_table.specs.Platform.{platform_perm}
+use Rattle.platforms.specs.Platform.{platform_perm}
 use Rattle.enclave_table.proofs.ShortNames.{any_private}
 use Rattle.enclave_table.proofs.table.Table.host_view.Given as goal
-use Rattle.enclave_table.specs.Ranges.{has_page}
+use Rattle.platforms.specs.Ranges.{has_page}
 
 abbrev pub invariant-loop-id : goal.invariant-loop-id
 invariant-loop-id l = record {

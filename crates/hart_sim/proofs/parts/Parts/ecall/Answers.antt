@@ -1,7 +1,7 @@
 use Rattle.std.proofs.Common.{◌≡◌, ◌∙◌, ◌+◌, ◌^◌, ◌≤◌, Option, None, Some, slice_get, ap, ap₂, sym, subst, ◌∷◌, [], ◌*◌}
 use Rattle.std.specs.Prelude.{IfSome}
 use Rattle.page_views.specs.declared.pages.PageRange.{PageRange}
-use Rattle.enclave_table.specs.Platform.{Layout}
+use Rattle.platforms.specs.Platform.{Layout}
 use Rattle.sbi_decode.specs.Calls.{call_of}
 use Rattle.monitor_core.specs.Monitors.{state_of, kept_of}
 use Rattle.monitor_core.specs.Changes.{past_call, with_running}

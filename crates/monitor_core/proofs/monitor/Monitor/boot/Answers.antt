@@ -1,5 +1,5 @@
 use Rattle.std.proofs.Common.{subst, ap}
-use Rattle.enclave_table.specs.Platform.{IsLayout}
+use Rattle.platforms.specs.Platform.{IsLayout}
 use Rattle.monitor_core.specs.Monitors.{state_of}
 use Rattle.monitor_core.proofs.monitor.Monitor.boot.Goals as goal
 

@@ -1,7 +1,8 @@
 use Rattle.std.proofs.Common.{◌∙◌, inl, inr, refl, ap, sym, subst, ◌==◌, if◌then◌else◌, ℕ, ◌≡◌}
 use Rattle.enclave_table.specs.Checks.{host_checks, state_before}
 use Rattle.enclave_table.specs.Lives.{Enters}
-use Rattle.enclave_table.specs.Refusals.{FailsFirst, refusal_number}
+use Rattle.platforms.specs.CheckLists.{FailsFirst}
+use Rattle.enclave_table.specs.Refusals.{refusal_number}
 use Rattle.worlds.specs.declared.world.World.TheVariants.{Enclave as InEnclave}
 use Rattle.monitor_core.specs.Changes.{in_world}
 use Rattle.monitor_core.specs.Parts.{state_in, world_in}

@@ -1,0 +1,19 @@
+use Rattle.std.proofs.Common.{ℕ, List, ◌≡◌, ◌⊎◌, Err, ap, inl, inr, refl, sym}
+use Rattle.std.specs.Borrow.{Bor}
+use Rattle.platforms.specs.Platform.{Layout}
+use Rattle.platform_file.specs.declared.fault.TextFault.{TextFault}
+use Rattle.platform_file.specs.declared.fault.TextFault.TheVariants as texts
+use Rattle.program_troubles.specs.declared.trouble.Trouble.TheVariants.{NotAPlatform, Memory}
+use Rattle.platform_file.specs.Document.{IsPlatformFile}
+use Rattle.program_troubles.specs.Troubles.{text_trouble}
+use Rattle.command_inputs.proofs.platform_inputs.platform_in.Goals as goal
+
+by_fault : (fault : TextFault) (file : Bor (List ℕ)) (P : Type 0) → (fault ≡ texts.NotAPlatform → P) → (text_trouble file fault ≡ Memory) ⊎ ((text_trouble file fault ≡ NotAPlatform file) × P)
+by_fault texts.NotAPlatform file P p = inr (refl, p refl)
+by_fault texts.Memory file P p = inl refl
+
+pub returns-in-Err-clause-refused : goal.returns-in-Err-clause-refused
+returns-in-Err-clause-refused c =
+    rw c.of_text.ensures
+    (by_fault c.in-Err.fault c.args.file ((platform : Layout) → IsPlatformFile c.args.bytes.now platform → ⊥)
+    (λ e platform said. c.in-Err.ensures.refused (ap (λ f. Err f) e) platform (rw (sym c.in-Ok.ensures.cases.0) at said.platform_text)))

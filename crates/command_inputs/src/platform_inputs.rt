@@ -1,0 +1,50 @@
+//! The platform of a platform file.
+
+ghost use Rattle.std.specs.Prelude.{◌≡◌, ◌-◌, ◌^◌, ◌<◌, ◌⊎◌, IfErr, IfOk};
+ghost use Rattle.platforms.specs.Platform.{Layout};
+ghost use Rattle.platform_file.specs.Document.{IsPlatformFile};
+ghost use Rattle.command_inputs.specs.Inputs.{reading};
+ghost use Rattle.command_inputs.specs.PlatformInputs.{HasNoPlatform, HasPlatform};
+
+use crate::inputs::bytes_in;
+use byte_streams::Source;
+use platform_file::platform_of;
+use platforms::Platform;
+use program_troubles::Trouble;
+use std::alloc::Global;
+use std::str;
+
+/// How many bytes a platform file may have.
+pub const PLATFORM_BYTES: usize = 1 << 20;
+
+/// The platform that the bytes of a file are.
+pub fn platform_in<'a>(alloc: Global, file: &'a str, bytes: &[u8]) -> Result<Platform, Trouble<'a>>
+    ensures ok { IfOk result (IsPlatformFile bytes.now) }
+    ensures refused { IfErr result (λ trouble.
+        (trouble ≡ Trouble.Memory)
+        ⊎ ((trouble ≡ Trouble.NotAPlatform file.entry)
+        × ((platform : Layout) → IsPlatformFile bytes.now platform → ⊥))) }
+{
+    let Ok(text) = str::from_utf8(bytes) else {
+        return Err(Trouble::NotAPlatform { file });
+    };
+    match platform_of(alloc, text) {
+        Ok(platform) => Ok(platform),
+        Err(fault) => Err(Trouble::of_text(file, fault)),
+    }
+}
+
+/// The platform of a platform file.
+pub fn read_platform<'a, R: Source>(
+    alloc: Global,
+    file: &'a str,
+    source: &mut R,
+) -> Result<Platform, Trouble<'a>>
+    ensures made { IfOk result
+        (HasPlatform (reading R.remaining R.failures source.old source.new)) }
+    ensures refused { IfErr result
+        (HasNoPlatform file.entry (reading R.remaining R.failures source.old source.new)) }
+{
+    let bytes = bytes_in(alloc, file, source, PLATFORM_BYTES)?;
+    platform_in(alloc, file, bytes.as_slice())
+}

@@ -1,0 +1,4 @@
+pub mod ShortNames
+pub mod Apart
+pub mod Among
+pub mod Mapped

@@ -1,0 +1,4 @@
+pub mod CheckLists
+pub mod Ranges
+pub mod Platform
+pub mod BootFaults

@@ -1,0 +1,210 @@
+//! A platform: where memory, devices and the monitor are.
+
+ghost use Rattle.std.specs.Prelude.{◌≡◌, ◌≢◌, ◌<◌, ◌≤◌, ◌+◌, ◌/◌, ◌^◌, ◌↔◌, IsTrue, IfOk, IfErr, length};
+ghost use Rattle.std.specs.List.{All};
+ghost use Rattle.pmp_encoding.specs.declared.limit.Limit.TheVariants.{Sixteen};
+ghost use Rattle.pmp_encoding.specs.Limits.{limit_number};
+ghost use Rattle.platforms.specs.Platform.{IsLayout, Layout, platform_fault_number, platform_rules};
+ghost use Rattle.platforms.specs.CheckLists.{AllPass, FailsFirst};
+ghost use Rattle.platforms.specs.Ranges.{AreAmong, IsRange, device_range};
+
+use crate::ranges::{all_ranges, are_among, devices_on_ranges, each_apart, is_range};
+use arrayvec::ArrayVec;
+use page_views::{PAGE_SIZE, PageRange};
+use pmp_encoding::{Limit, Perm};
+use std::marker::Model;
+
+/// The most ranges of memory, and the most devices.
+const MOST: usize = 32;
+
+/// Why ranges or numbers are no platform: the least fault that applies.
+#[derive(Clone, Copy, PartialEq, Eq, Debug)]
+pub enum PlatformFault {
+    /// A base or a size is no multiple of 4096, a size is zero, or a range ends above 2^56.
+    BadRange = 1,
+    /// Two of the memory and device ranges have a page in common.
+    Overlap = 2,
+    /// A page of the monitor is not memory.
+    MonitorNotRam = 3,
+    /// There is no range of memory, or more than 32, or more than 32 devices.
+    BadNumber = 4,
+    /// Not one to four harts.
+    BadHarts = 5,
+    /// Neither sixteen nor sixty-four entries.
+    BadEntries = 6,
+}
+
+impl PlatformFault {
+    /// Its number, from 1 to 6.
+    pub fn number(self) -> u8
+        ensures { result ≡ platform_fault_number self }
+    {
+        self as u8
+    }
+}
+
+/// Where memory, devices and the monitor are, how many harts there are and how many PMP entries each has. It takes no
+/// memory. Contracts see it as its `Layout`.
+#[derive(Drop)]
+pub struct Platform {
+    monitor: (u64, u64),
+    pub(crate) ram: ArrayVec<(u64, u64), 32>,
+    pub(crate) devices: ArrayVec<(u64, u64, Perm), 32>,
+    pub(crate) harts: u8,
+    limit: Limit,
+}
+
+impl Model for Platform {
+    ghost use Rattle.platforms.specs.Platform.{Layout, IsLayout};
+
+    ghost Value = { Layout };
+
+    ghost view = { λ p. record { monitor = p.monitor; ram = p.ram.items; devices = p.devices.items; harts = p.harts; limit = p.limit } };
+
+    ghost invariant = { λ p. IsLayout (record { monitor = p.monitor; ram = p.ram.items; devices = p.devices.items; harts = p.harts; limit = p.limit }) };
+}
+
+/// Whether each range is of whole pages, at least one, below 2^56.
+fn are_ranges(monitor: (u64, u64), ram: &[(u64, u64)], devices: &[(u64, u64, Perm)]) -> bool
+    ensures { IsTrue result ↔ (IsRange monitor × All IsRange ram.now
+        × All (λ device. IsRange (device_range device)) devices.now) }
+{
+    is_range(monitor) && all_ranges(ram) && devices_on_ranges(devices)
+}
+
+/// Whether there is memory, and no list is too long.
+fn are_few(ram: &[(u64, u64)], devices: &[(u64, u64, Perm)]) -> bool
+    ensures { IsTrue result ↔ ((0 < length ram.now) × (length ram.now ≤ 32)
+        × (length devices.now ≤ 32)) }
+{
+    !ram.is_empty() && ram.len() <= MOST && devices.len() <= MOST
+}
+
+/// The items, kept.
+fn kept<T: Copy + Default>(items: &[T]) -> ArrayVec<T, 32>
+    requires { length items.now ≤ 32 }
+    ensures { result.items ≡ items.now }
+{
+    let mut kept = ArrayVec::new();
+    let Ok(()) = kept.try_extend_from_slice(items) else {
+        unreachable!();
+    };
+    kept
+}
+
+impl Platform {
+    /// Does nothing: a proof that needs what is true of every platform cites it by this call.
+    pub fn cite_invariant(&self)
+        ensures { IsLayout self.now }
+    {
+        let _harts = self.harts;
+    }
+
+    /// The platform with the monitor in that range, and memory and devices in these: each is its base and its size, in
+    /// bytes, and a device has a permission. It has one hart of sixteen entries.
+    ///
+    /// Refused with the least of the faults [`PlatformFault::BadRange`] to [`PlatformFault::BadNumber`] that applies.
+    pub fn new(
+        monitor: (u64, u64),
+        ram: &[(u64, u64)],
+        devices: &[(u64, u64, Perm)],
+    ) -> Result<Platform, PlatformFault>
+        ensures rules { IfOk result (λ p. AllPass (platform_rules monitor ram.now devices.now)) }
+        ensures value { IfOk result (λ p.
+            p ≡ record {
+              monitor = monitor;
+              ram = ram.now;
+              devices = devices.now;
+              harts = 1;
+              limit = Sixteen;
+            }) }
+        ensures fault { IfErr result (λ f.
+            FailsFirst (platform_rules monitor ram.now devices.now) f) }
+    {
+        if !are_ranges(monitor, ram, devices) {
+            return Err(PlatformFault::BadRange);
+        }
+        if !each_apart(ram, devices) {
+            return Err(PlatformFault::Overlap);
+        }
+        if !are_among(ram, monitor.0 / PAGE_SIZE, monitor.1 / PAGE_SIZE) {
+            return Err(PlatformFault::MonitorNotRam);
+        }
+        if !are_few(ram, devices) {
+            return Err(PlatformFault::BadNumber);
+        }
+        Ok(Platform {
+            monitor,
+            ram: kept(ram),
+            devices: kept(devices),
+            harts: 1,
+            limit: Limit::Sixteen,
+        })
+    }
+
+    /// The same platform with that many harts, one to four.
+    pub fn with_harts(self, harts: u8) -> Result<Platform, PlatformFault>
+        ensures value { IfOk result (λ p. (0 < harts) × (harts ≤ 4)
+            × (p ≡ record self { harts = harts })) }
+        ensures fault { IfErr result (λ f. (f ≡ PlatformFault.BadHarts)
+            × ((0 < harts) → 4 < harts)) }
+    {
+        if harts == 0 || harts > 4 {
+            return Err(PlatformFault::BadHarts);
+        }
+        let mut platform = self;
+        platform.harts = harts;
+        Ok(platform)
+    }
+
+    /// The same platform with that many PMP entries to a hart, 16 or 64.
+    pub fn with_entries(self, entries: u8) -> Result<Platform, PlatformFault>
+        ensures value { IfOk result (λ p.
+            (limit_number p.limit ≡ entries) × (p ≡ record self { limit = p.limit })) }
+        ensures fault { IfErr result (λ f. (f ≡ PlatformFault.BadEntries) × (entries ≢ 16)
+            × (entries ≢ 64)) }
+    {
+        let Some(limit) = Limit::of(u32::from(entries)) else {
+            return Err(PlatformFault::BadEntries);
+        };
+        let mut platform = self;
+        platform.limit = limit;
+        Ok(platform)
+    }
+
+    /// How many harts there are.
+    pub fn harts(&self) -> u8
+        ensures value { result ≡ self.now.harts }
+        ensures some { 0 < self.now.harts }
+        ensures most { self.now.harts ≤ 4 }
+    {
+        self.harts
+    }
+
+    /// How many PMP entries each hart has.
+    pub fn limit(&self) -> Limit
+        ensures { result ≡ self.now.limit }
+    {
+        self.limit
+    }
+
+    /// The pages of the monitor.
+    pub fn monitor_pages(&self) -> PageRange
+        ensures value { result ≡ record {
+          first = self.now.monitor.0 / 4096;
+          count =
+              self.now.monitor.1 / 4096;
+        } }
+        ensures inside { result.first + result.count ≤ 2 ^ 44 }
+    {
+        PageRange::of_bytes(self.monitor.0, self.monitor.1)
+    }
+
+    /// Whether all of the pages are memory.
+    pub fn has_memory(&self, pages: PageRange) -> bool
+        requires { pages.first + pages.count < 2 ^ 64 }
+        ensures { IsTrue result ↔ AreAmong self.now.ram pages.first pages.count }
+    {
+        are_among(self.ram.as_slice(), pages.first, pages.count)
+    }
+}
