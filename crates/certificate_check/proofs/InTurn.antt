@@ -24,7 +24,7 @@ short_entry bytes Read.BadPerm h = absurd h
 short_entry bytes Read.BadLimit h = absurd h
 
 -- one more entry after the others
-spells_append : (a front : List ℕ) (es : List Entry) (e : Entry) → SpellsEntries a es → SpellsEntry front e → SpellsEntries (a ++ front) (es ++ e ∷ [])
+pub spells_append : (a front : List ℕ) (es : List Entry) (e : Entry) → SpellsEntries a es → SpellsEntry front e → SpellsEntries (a ++ front) (es ++ e ∷ [])
 spells_append a front [] e h one = (front, [], ap (λ xs. xs ++ front) h ∙ sym (append-nil front), one, refl)
 spells_append a front (d ∷ es) e (first, rest, split, here, later) one =
     (first, rest ++ front, ap (λ xs. xs ++ front) split ∙ append_assoc first rest front, here, spells_append rest front es e later one)

@@ -17,3 +17,7 @@ pub mod Judged
 pub mod OneNode
 pub mod OneList
 pub mod OneFault
+pub mod Windows
+pub mod Grown
+pub mod Buffered
+pub mod Listing

@@ -163,3 +163,18 @@ pub refused_exactly :
 refused_exactly view bytes (Ok n) right fault = λ refusal. ((λ e. absurd (cc)), λ stands. absurd (right_stands view bytes n refusal right stands))
 refused_exactly view bytes (Err r) right fault =
     λ refusal. ((λ e. let same : r ≡ refusal = cc in subst (λ (x : CheckRefusal). RefusalStands view bytes x) same fault), λ stands. ap (λ x. Err x) (refusal_once view bytes r refusal fault stands))
+
+-- right certificates of the same bytes have one number of entries
+one_number : (view : View) (bytes : List ℕ) (m n : ℕ) → IsRight view bytes m → IsRight view bytes n → m ≡ n
+one_number view bytes m n p q =
+    let a = parts_of view bytes m p in
+    let b = parts_of view bytes n q in
+    let same = same_header a.header b.header a.behind b.behind a.small b.small (sym a.headed ∙ b.headed) in
+    sym a.number ∙ ap (λ (x : Header). x.count) same.0 ∙ b.number
+
+-- such an answer is a yes for right bytes
+pub accepted_exactly :
+    (view : View) (bytes : List ℕ) (result : Result ℕ CheckRefusal) (n : ℕ) → IfOk result (IsRight view bytes) → IfErr result (RefusalStands view bytes) → IsRight view bytes n
+    → result ≡ Ok n
+accepted_exactly view bytes (Ok m) n right fault is = ap (λ k. Ok k) (one_number view bytes m n right is)
+accepted_exactly view bytes (Err r) n right fault is = absurd (right_stands view bytes n r is fault)

@@ -16,7 +16,7 @@ use Rattle.certificate_check.specs.declared.refusal.CheckRefusal.TheVariants.{Co
 use Rattle.certificate_format.specs.declared.costs.SixCosts.{SixCosts}
 use Rattle.page_views.specs.Views.{IsUniform}
 use Rattle.certificate_check.specs.Later.{AgreeFrom}
-use Rattle.certificate_check.specs.Nodes.{IsRightNode, IsAllowed, IsTooLarge, BranchFault, NodeFault, overflow, too_high, IsNodeRead, IsAnswer}
+use Rattle.certificate_check.specs.Nodes.{IsRightNode, IsAllowed, IsTooLarge, BranchFault, NodeFault, overflow, too_high, IsNodeRead}
 
 -- a right split node in its parts
 pub record AreRightHalves (view : View) (half first : ℕ) (costs : Perm → ℕ) (lower upper : BoundTree) : Type 0 where
@@ -116,13 +116,6 @@ branch_fault view k half first bytes rest costs f g lower upper CostTooHigh is s
     subst (λ (x : Perm → ℕ). BranchFault costs (bound_of lower) x CostTooHigh) q (subst (λ (x : Perm → ℕ). BranchFault costs x g CostTooHigh) p fault) in
     too_high half costs lower upper rest is spelled small low high here.0 here.1
 branch_fault view k half first bytes rest costs f g lower upper refusal is spelled small low high p q fault = absurd fault
-
--- the answer to a right branch
-pub answered :
-    (tree : BoundTree) (rest left : List ℕ) (costs : Perm → ℕ) (result : Result SixCosts CheckRefusal) → IsOk result
-    → IfOk result (λ numbers. (p : Perm) → cost_of numbers p ≡ costs p) → ((p : Perm) → costs p ≡ bound_of tree p) → left ≡ rest → IsAnswer tree rest result left
-answered tree rest left costs (Ok numbers) ok known is end = ((λ p. known p ∙ is p), end)
-answered tree rest left costs (Err refusal) ok known is end = absurd (cc)
 
 -- a branch and its halves, one after the other
 pub spelled_in_turn :

@@ -1,5 +1,5 @@
 -- Right certificates for a view, and why bytes are none.
-use Rattle.std.specs.Prelude.{◌≡◌, ◌≢◌, ℕ, ◌^◌, ◌<◌, ◌≤◌, List, [], ◌++◌, length}
+use Rattle.std.specs.Prelude.{◌≡◌, ◌≢◌, ℕ, ◌^◌, ◌<◌, ◌≤◌, List, [], ◌++◌, length, Result, MatchResult}
 use Rattle.pmp_encoding.specs.declared.perm.Perm.TheVariants.{NoAccess}
 use Rattle.pmp_encoding.specs.declared.region.Entry.{Entry}
 use Rattle.pmp_match.specs.Meaning.{View, IsFewest, Means}
@@ -8,7 +8,7 @@ use Rattle.certificate_format.specs.declared.fault.ReadFault.{ReadFault}
 use Rattle.certificate_format.specs.declared.header.Header.{Header}
 use Rattle.certificate_format.specs.declared.header.Version.{Version}
 use Rattle.certificate_format.specs.Faults.{HeaderFault}
-use Rattle.certificate_format.specs.Spelling.{header_bytes, node_bytes, Spells, IsCertificate}
+use Rattle.certificate_format.specs.Spelling.{header_bytes, node_bytes, Spells, SpellsEntries, IsCertificate}
 use Rattle.certificate_check.specs.declared.refusal.CheckRefusal.{CheckRefusal}
 use Rattle.certificate_check.specs.declared.refusal.CheckRefusal.TheVariants.{EntriesTooMany, WrongMeaning, Trailing}
 use Rattle.certificate_check.specs.Refusals.{refusal_of}
@@ -44,6 +44,15 @@ pub record IsReadWhole (view : View) (bytes rest : List ℕ) (entries : List Ent
   pub listed : IsListed behind (node_bytes tree ++ rest) entries
   pub right : IsRightNode view 44 0 tree
 
+-- header and entries of a page at least stand at the front of the bytes, before the rest; the list has the bytes of the entries
+pub record IsBegun (bytes list rest : List ℕ) (header : Header) (entries : List Entry) : Type 0 where
+  pub behind : List ℕ
+  pub headed : bytes ≡ header_bytes header ++ behind
+  pub small : header.count < 2 ^ 32
+  pub counted : length entries ≡ header.count
+  pub listed : IsListed behind rest entries
+  pub spelled : SpellsEntries list entries
+
 -- the fault of a refusal stands in the bytes
 pub data RefusalStands (view : View) (bytes : List ℕ) : CheckRefusal → Type 0 where
   in_header : (fault : ReadFault) → HeaderFault bytes fault → RefusalStands view bytes (refusal_of fault)
@@ -62,3 +71,14 @@ pub data RefusalStands (view : View) (bytes : List ℕ) : CheckRefusal → Type 
   trailing :
       (entries : List Entry) (tree : BoundTree) (rest : List ℕ) → IsReadWhole view bytes rest entries tree → length entries ≤ bound_of tree NoAccess → Means entries view → rest ≢ []
       → RefusalStands view bytes Trailing
+
+-- a header that was read stands at the front of the bytes, which are a right certificate
+pub record IsRightWith (view : View) (bytes : List ℕ) (header : Header) : Type 0 where
+  pub right : IsRight view bytes header.count
+  pub behind : List ℕ
+  pub headed : bytes ≡ header_bytes header ++ behind
+  pub small : header.count < 2 ^ 32
+
+-- what was found of the bytes is so: they are a right certificate with that header, or the fault of that refusal stands in them
+abbrev pub IsJudged : View → List ℕ → Result Header CheckRefusal → Type 0
+IsJudged view bytes found = MatchResult found (IsRightWith view bytes) (RefusalStands view bytes)

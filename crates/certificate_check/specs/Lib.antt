@@ -2,6 +2,7 @@ pub mod Spans
 pub mod Places
 pub mod InOrder
 pub mod Later
+pub mod Windows
 pub mod Refusals
 pub mod Nodes
 pub mod Listed

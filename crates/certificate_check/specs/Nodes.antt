@@ -12,6 +12,7 @@ use Rattle.certificate_format.specs.declared.fault.ReadFault.{ReadFault}
 use Rattle.certificate_check.specs.declared.refusal.CheckRefusal.{CheckRefusal}
 use Rattle.certificate_check.specs.declared.refusal.CheckRefusal.TheVariants.{TooDeep, LeafNotUniform, WrongLeaf, CostTooHigh, CostOverflow}
 use Rattle.certificate_check.specs.Refusals.{refusal_of}
+use Rattle.certificate_check.specs.Later.{AgreeFrom}
 
 -- a sound bound of the 2 ^ k pages from `first` on that a certificate can spell and that has no overflow
 pub record IsRightNode (view : View) (k first : ℕ) (tree : BoundTree) : Type 0 where
@@ -84,6 +85,6 @@ pub record IsNodeRead (view : View) (k first : ℕ) (bytes rest : List ℕ) (num
   pub spelled : bytes ≡ node_bytes tree ++ rest
   pub numbers_of : AreNumbersOf tree numbers
 
--- the answer to a right node at the front of the bytes: its numbers, and the rest is left
-abbrev pub IsAnswer : BoundTree → List ℕ → Result SixCosts CheckRefusal → List ℕ → Type 0
-IsAnswer tree rest answer left = MatchResult answer (λ numbers. AreNumbersOf tree numbers × (left ≡ rest)) (λ _. ⊥)
+-- what the reading of the node at the front of the bytes comes to, for each view that is the known one from its first page on: it is right, or its fault stands there
+abbrev pub ReadsNode : View → ℕ → ℕ → Result SixCosts CheckRefusal → List ℕ → List ℕ → Type 0
+ReadsNode known k first answer left rest = (view : View) → AgreeFrom first known view → MatchResult answer (IsNodeRead view k first left rest) (NodeFault view k first left)

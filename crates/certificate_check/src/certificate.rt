@@ -1,38 +1,64 @@
 //! The check of a certificate: its parts in the order of reading, and the first that is not right.
 
-ghost use Rattle.std.specs.Prelude.{◌≡◌, ◌≤◌, ◌↔◌, ℕ, List, IfOk, IfErr, length};
+ghost use Rattle.std.specs.Prelude.{◌≡◌, ◌≤◌, ◌↔◌, ℕ, List, IfOk, IfErr, MatchResult, length};
 ghost use Rattle.pmp_encoding.specs.declared.region.Entry.{Entry};
 ghost use Rattle.pmp_match.specs.Meaning.{Means};
 ghost use Rattle.permission_map.specs.Runs.{view_of_runs};
-ghost use Rattle.certificate_check.specs.Certificates.{IsRight, HoldsFewest, RefusalStands};
+ghost use Rattle.certificate_check.specs.Certificates.{IsBegun, IsRight, HoldsFewest, RefusalStands};
 ghost use Rattle.certificate_check.specs.declared.refusal.CheckRefusal.{CheckRefusal};
+ghost use Rattle.certificate_check.specs.Spans.{count_in};
+ghost use Rattle.certificate_check.specs.Windows.{place, Reads};
 
+use crate::entries::Entries;
 use crate::entry_list::listed;
 use crate::nodes::root;
 use crate::refusal::CheckRefusal;
 use crate::sweep::means;
-use certificate_format::Reader;
+use crate::window::Window;
+use byte_streams::Source;
+use certificate_format::{Header, Reader};
 use permission_map::PermissionMap;
+
+/// Reads the root after the entries, and answers the first of what is left to look at that is not right.
+pub(crate) fn rest_is_right<R: Source>(
+    map: &PermissionMap,
+    header: &Header,
+    list: &Entries,
+    window: &mut Window,
+    source: &mut R,
+) -> Result<(), CheckRefusal>
+    requires { count_in list.now ≡ header.now.count }
+    ensures { Reads (place R.remaining R.failures window.old source.old)
+        (place R.remaining R.failures window.new source.new)
+        (λ left rest. (bytes : List ℕ) (entries : List Entry)
+        → IsBegun bytes list.now left header.now entries
+        → MatchResult result (λ _. IsRight (view_of_runs map.now) bytes header.now.count)
+        (RefusalStands (view_of_runs map.now) bytes)) }
+{
+    let root = root(window, source, map)?;
+    if header.count > root.no_access {
+        return Err(CheckRefusal::EntriesTooMany);
+    }
+    if !means(list, map) {
+        return Err(CheckRefusal::WrongMeaning);
+    }
+    if !window.is_done(source) {
+        return Err(CheckRefusal::Trailing);
+    }
+    Ok(())
+}
 
 /// Reads the parts in their order, and answers the first that is not right.
 fn read_whole(map: &PermissionMap, bytes: &[u8]) -> Result<u32, CheckRefusal>
     ensures right { IfOk result (IsRight (view_of_runs map.now) bytes.now) }
-    ensures given { (n : ℕ) → IsRight (view_of_runs map.now) bytes.now n → result ≡ Ok n }
     ensures fault { IfErr result (RefusalStands (view_of_runs map.now) bytes.now) }
 {
     let mut reader = Reader::new(bytes);
     let header = reader.header()?;
     let list = listed(&mut reader, header.count)?;
-    let root = root(&mut reader, map)?;
-    if header.count > root.no_access {
-        return Err(CheckRefusal::EntriesTooMany);
-    }
-    if !means(&list, map) {
-        return Err(CheckRefusal::WrongMeaning);
-    }
-    if !reader.rest().is_empty() {
-        return Err(CheckRefusal::Trailing);
-    }
+    let mut window = Window::new(u64::MAX);
+    let mut rest = reader.rest();
+    rest_is_right(map, &header, &list, &mut window, &mut rest)?;
     Ok(header.count)
 }
 

@@ -13,7 +13,7 @@ use certificate_format::Reader;
 use pmp_encoding::decode;
 
 /// Reads the nine bytes of an entry of at least a page.
-fn entry(reader: &mut Reader) -> Result<(), CheckRefusal>
+pub(crate) fn entry(reader: &mut Reader) -> Result<(), CheckRefusal>
     ensures read { OnOk result ((e : Entry) × (front : List ℕ)
         × (reader.old ≡ front ++ reader.new)
         × SpellsEntry front e × (12 ≤ e.region.log2)) }

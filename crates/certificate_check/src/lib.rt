@@ -23,18 +23,26 @@
 #![tactic(auto)]
 
 mod begun;
+mod buffer;
 mod certificate;
 mod chains;
 mod entries;
 mod entry_list;
+mod fault;
 mod keys;
 mod nodes;
 mod numbers;
+mod parts;
 mod piece;
 mod refusal;
 mod runs;
 mod sizes;
+mod source;
+mod stop;
 mod sweep;
+mod window;
 
 pub use certificate::check;
+pub use fault::SourceFault;
 pub use refusal::CheckRefusal;
+pub use source::check_source;

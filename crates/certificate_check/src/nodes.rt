@@ -1,46 +1,41 @@
 //! The reading of the tree of a certificate: each leaf against the map, each branch against its halves.
 
-ghost use Rattle.std.specs.Prelude.{◌≡◌, ℕ, ◌+◌, ◌-◌, ◌<◌, ◌≤◌, ◌^◌, ◌∷◌, ◌++◌, List, IfOk, OnOk, IsOk, IfErr};
+ghost use Rattle.std.specs.Prelude.{◌≡◌, ℕ, ◌+◌, ◌-◌, ◌<◌, ◌≤◌, ◌^◌, ◌∷◌, IfOk, OnOk, IsOk, IfErr, MatchResult};
 ghost use Rattle.pmp_encoding.specs.declared.perm.Perm.{Perm};
-ghost use Rattle.pmp_encoding.specs.Perms.{bits_of};
-ghost use Rattle.pmp_match.specs.Bounds.{BoundTree, Leaf, Branch};
 ghost use Rattle.permission_map.specs.Runs.{view_of_runs};
-ghost use Rattle.certificate_format.specs.Spelling.{node_bytes};
 ghost use Rattle.certificate_format.specs.Costs.{cost_of};
 ghost use Rattle.certificate_check.specs.declared.refusal.CheckRefusal.{CheckRefusal};
-ghost use Rattle.page_views.specs.Views.{View, IsUniform};
 ghost use Rattle.certificate_check.specs.Later.{AgreeFrom};
-ghost use Rattle.certificate_check.specs.Nodes.{IsRightNode, IsAllowed, BranchFault, NodeFault, IsNodeRead, IsAnswer};
+ghost use Rattle.certificate_check.specs.Nodes.{IsAllowed, BranchFault, NodeFault, IsNodeRead, ReadsNode};
+ghost use Rattle.certificate_check.specs.Windows.{place, Reads};
 
 use crate::numbers::{are_too_high, costs_of_leaf, sums_of};
+use crate::parts::{costs, perm, tag};
 use crate::refusal::CheckRefusal;
 use crate::runs::RunsAhead;
-use certificate_format::{Reader, SixCosts, Tag};
+use crate::window::Window;
+use byte_streams::Source;
+use certificate_format::{SixCosts, Tag};
 use page_views::pages_of;
 use permission_map::PermissionMap;
 
 /// Reads what follows the tag of a leaf of the 2^log2 pages from `first` on.
 #[inline(always)]
-fn leaf(
-    reader: &mut Reader,
+fn leaf<R: Source>(
+    window: &mut Window,
+    source: &mut R,
     runs: &mut RunsAhead,
     log2: u32,
     first: u64,
 ) -> Result<SixCosts, CheckRefusal>
     requires depth { log2 ≤ 44 }
     requires inside { first + 2 ^ log2 ≤ 2 ^ 44 }
-    ensures read { (view : View) → AgreeFrom first (view_of_runs runs.old) view
-        → IfOk result (λ numbers.
-        IsNodeRead view log2 first (0 ∷ reader.old) reader.new numbers) }
-    ensures given { (view : View) → AgreeFrom first (view_of_runs runs.old) view
-        → (perm : Perm) (rest : List ℕ)
-        → IsUniform view log2 first perm → reader.old ≡ bits_of perm ∷ rest
-        → IsAnswer (Leaf perm) rest result reader.new }
-    ensures fault { (view : View) → AgreeFrom first (view_of_runs runs.old) view
-        → IfErr result (NodeFault view log2 first (0 ∷ reader.old)) }
+    ensures read { Reads (place R.remaining R.failures window.old source.old)
+        (place R.remaining R.failures window.new source.new)
+        (λ left rest. ReadsNode (view_of_runs runs.old) log2 first result (0 ∷ left) rest) }
     ensures same { OnOk result (AgreeFrom first (view_of_runs runs.new) (view_of_runs runs.old)) }
 {
-    let perm = reader.perm()?;
+    let perm = perm(window, source)?;
     let end = first + pages_of(log2);
     let Some(found) = runs.uniform(first, end) else {
         return Err(CheckRefusal::LeafNotUniform);
@@ -74,33 +69,28 @@ fn branch(costs: &SixCosts, lower: &SixCosts, upper: &SixCosts) -> Result<SixCos
 
 /// Reads what follows the tag of a split block of 2^log2 pages from `first` on, and answers its numbers.
 #[cycle(nodes)]
-fn split(
-    reader: &mut Reader,
+fn split<R: Source>(
+    window: &mut Window,
+    source: &mut R,
     runs: &mut RunsAhead,
     log2: u32,
     first: u64,
 ) -> Result<SixCosts, CheckRefusal>
     requires depth { log2 ≤ 44 }
     requires inside { first + 2 ^ log2 ≤ 2 ^ 44 }
-    ensures read { (view : View) → AgreeFrom first (view_of_runs runs.old) view
-        → IfOk result (λ numbers.
-        IsNodeRead view log2 first (1 ∷ reader.old) reader.new numbers) }
-    ensures given { (view : View) → AgreeFrom first (view_of_runs runs.old) view
-        → (tree : BoundTree) (rest : List ℕ) → IsRightNode view log2 first tree
-        → 1 ∷ reader.old ≡ node_bytes tree ++ rest → IsAnswer tree rest result reader.new }
-    ensures fault { (view : View) → AgreeFrom first (view_of_runs runs.old) view
-        → IfErr result (NodeFault view log2 first (1 ∷ reader.old)) }
-    ensures same { OnOk result (AgreeFrom (first + 2 ^ log2) (view_of_runs runs.new)
-        (view_of_runs runs.old)) }
+    ensures read { Reads (place R.remaining R.failures window.old source.old)
+        (place R.remaining R.failures window.new source.new)
+        (λ left rest. ReadsNode (view_of_runs runs.old) log2 first result (1 ∷ left) rest) }
+    ensures same { OnOk result (AgreeFrom (first + 2 ^ log2) (view_of_runs runs.new) (view_of_runs runs.old)) }
 {
     if log2 == 0 {
         return Err(CheckRefusal::TooDeep);
     }
-    let costs = reader.costs()?;
+    let costs = costs(window, source)?;
     let half = log2 - 1;
     let middle = first + pages_of(half);
-    let lower = node(reader, runs, half, first)?;
-    let upper = node(reader, runs, half, middle)?;
+    let lower = node(window, source, runs, half, first)?;
+    let upper = node(window, source, runs, half, middle)?;
     branch(&costs, &lower, &upper)
 }
 
@@ -108,41 +98,39 @@ fn split(
 /// the block's end. (A leaf, as most halves are, is read where the split block is, without a call.)
 #[inline(always)]
 #[cycle(nodes)]
-fn node(
-    reader: &mut Reader,
+fn node<R: Source>(
+    window: &mut Window,
+    source: &mut R,
     runs: &mut RunsAhead,
     log2: u32,
     first: u64,
 ) -> Result<SixCosts, CheckRefusal>
     requires depth { log2 ≤ 44 }
     requires inside { first + 2 ^ log2 ≤ 2 ^ 44 }
-    ensures read { (view : View) → AgreeFrom first (view_of_runs runs.old) view
-        → IfOk result (λ numbers. IsNodeRead view log2 first reader.old reader.new numbers) }
-    ensures given { (view : View) → AgreeFrom first (view_of_runs runs.old) view
-        → (tree : BoundTree) (rest : List ℕ) → IsRightNode view log2 first tree
-        → reader.old ≡ node_bytes tree ++ rest → IsAnswer tree rest result reader.new }
-    ensures fault { (view : View) → AgreeFrom first (view_of_runs runs.old) view
-        → IfErr result (NodeFault view log2 first reader.old) }
-    ensures same { OnOk result (AgreeFrom (first + 2 ^ log2) (view_of_runs runs.new)
-        (view_of_runs runs.old)) }
+    ensures read { Reads (place R.remaining R.failures window.old source.old)
+        (place R.remaining R.failures window.new source.new)
+        (λ left rest. ReadsNode (view_of_runs runs.old) log2 first result left rest) }
+    ensures same { OnOk result (AgreeFrom (first + 2 ^ log2) (view_of_runs runs.new) (view_of_runs runs.old)) }
 {
-    match reader.tag()? {
-        Tag::Leaf => leaf(reader, runs, log2, first),
-        Tag::Branch => split(reader, runs, log2, first),
+    match tag(window, source)? {
+        Tag::Leaf => leaf(window, source, runs, log2, first),
+        Tag::Branch => split(window, source, runs, log2, first),
     }
 }
 
 /// Reads the root's node, and answers its numbers: how many entries the map needs at least. With the most runs that a
 /// map can have those are fewer than 2^19.
-pub(crate) fn root(reader: &mut Reader, map: &PermissionMap) -> Result<SixCosts, CheckRefusal>
-    ensures read { IfOk result (λ numbers.
-        IsNodeRead (view_of_runs map.now) 44 0 reader.old reader.new numbers) }
-    ensures given { (tree : BoundTree) (rest : List ℕ)
-        → IsRightNode (view_of_runs map.now) 44 0 tree
-        → reader.old ≡ node_bytes tree ++ rest → IsAnswer tree rest result reader.new }
-    ensures fault { IfErr result (NodeFault (view_of_runs map.now) 44 0 reader.old) }
+pub(crate) fn root<R: Source>(
+    window: &mut Window,
+    source: &mut R,
+    map: &PermissionMap,
+) -> Result<SixCosts, CheckRefusal>
+    ensures read { Reads (place R.remaining R.failures window.old source.old)
+        (place R.remaining R.failures window.new source.new)
+        (λ left rest. MatchResult result (IsNodeRead (view_of_runs map.now) 44 0 left rest)
+        (NodeFault (view_of_runs map.now) 44 0 left)) }
     ensures few { IfOk result (λ numbers. numbers.no_access < 2 ^ 19) }
 {
     let mut runs = RunsAhead::of(map);
-    node(reader, &mut runs, 44, 0)
+    node(window, source, &mut runs, 44, 0)
 }

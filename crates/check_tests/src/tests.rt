@@ -1,6 +1,7 @@
 //! What the check of certificates answers, and why.
 
 mod orders;
+mod sources;
 mod ways;
 
 use certificate_check::{CheckRefusal, check};

@@ -1,15 +1,41 @@
 //! `check`: a certificate against a map.
 
-ghost use Rattle.std.specs.Prelude.{◌-◌, ◌^◌, ◌<◌};
+ghost use Rattle.std.specs.Prelude.{ℕ, ◌-◌, ◌^◌, ◌<◌, List, IfErr, IfOk};
 ghost use Rattle.byte_streams.specs.Writings.{writing};
+ghost use Rattle.certificate_check.specs.Certificates.{IsJudged};
 ghost use Rattle.map_commands.specs.Check.{Checks};
-ghost use Rattle.command_inputs.specs.Inputs.{reading};
+ghost use Rattle.command_inputs.specs.Inputs.{reading, HasBytes, HasNoBytes};
+ghost use Rattle.permission_map.specs.Runs.{view_of_runs};
 
 use crate::commands::verdicts::verdict;
 use byte_streams::{DeviceFault, Sink, Source, write_whole};
-use command_inputs::{CERTIFICATE_BYTES, bytes_in, map_in};
+use certificate_check::{CheckRefusal, SourceFault, check_source};
+use certificate_format::Header;
+use command_inputs::{CERTIFICATE_BYTES, map_in};
+use permission_map::PermissionMap;
 use program_troubles::Trouble;
 use std::alloc::Global;
+
+/// What is found of the bytes of a certificate file. They are read to their end, and not held.
+fn found_in<'a, R: Source>(
+    alloc: Global,
+    file: &'a str,
+    map: &PermissionMap,
+    source: &mut R,
+) -> Result<Result<Header, CheckRefusal>, Trouble<'a>>
+    ensures whole { IfOk result (λ found. (bytes : List ℕ)
+        × HasBytes (2 ^ 26) (reading R.remaining R.failures source.old source.new) bytes
+        × IsJudged (view_of_runs map.now) bytes found) }
+    ensures refused { IfErr result
+        (HasNoBytes (2 ^ 26) file.entry (reading R.remaining R.failures source.old source.new)) }
+{
+    match check_source(alloc, map, source, CERTIFICATE_BYTES as u32) {
+        Ok(found) => Ok(found),
+        Err(SourceFault::TooLarge) => Err(Trouble::TooLarge { file }),
+        Err(SourceFault::Read) => Err(Trouble::CannotRead { file }),
+        Err(SourceFault::Memory) => Err(Trouble::Memory),
+    }
+}
 
 /// Checks a certificate against a map, and answers the status 0 for a yes and 1 for a no.
 pub fn do_check<'a, R: Source, W: Sink>(
@@ -25,8 +51,8 @@ pub fn do_check<'a, R: Source, W: Sink>(
         (writing W.contents W.failures W.stalls out.old out.new) result }
 {
     let map = map_in(alloc, map, first)?;
-    let bytes = bytes_in(alloc, cert, second, CERTIFICATE_BYTES)?;
-    let (line, status) = verdict(&map, bytes.as_slice());
+    let found = found_in(alloc, cert, &map, second)?;
+    let (line, status) = verdict(&found);
     match write_whole(out, line.as_slice()) {
         Ok(()) => Ok(status),
         Err(DeviceFault) => Err(Trouble::Output),

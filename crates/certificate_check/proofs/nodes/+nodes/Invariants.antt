@@ -3,7 +3,7 @@ use Rattle.std.proofs.Common.{◌+◌, ◌*◌}
 use Rattle.certificate_check.proofs.nodes.+nodes.Given as goal
 
 abbrev pub decreases-split : goal.decreases-split
-decreases-split l = 2 * l.log2
+decreases-split g l = 2 * l.log2
 
 abbrev pub decreases-node : goal.decreases-node
-decreases-node l = 2 * l.log2 + 1
+decreases-node g l = 2 * l.log2 + 1

@@ -1,0 +1,115 @@
+//! The check of a certificate that a source gives: its entries are held, and its nodes are read through a window.
+
+ghost use Rattle.std.specs.Prelude.{◌≡◌, ◌≢◌, ℕ, ◌<◌, ◌≤◌, ◌^◌, List, IfOk, Some, MatchResult, Ok, Err, length};
+ghost use Rattle.std.specs.Io.KnownBytes.{Consumes, IsAtEnd};
+ghost use Rattle.byte_streams.specs.Streams.{one_failure_more};
+ghost use Rattle.pmp_encoding.specs.declared.region.Entry.{Entry};
+ghost use Rattle.certificate_format.specs.Spelling.{SpellsEntries};
+ghost use Rattle.permission_map.specs.Runs.{view_of_runs};
+ghost use Rattle.certificate_check.specs.Certificates.{IsJudged, IsRightWith, RefusalStands};
+ghost use Rattle.certificate_check.specs.Listed.{IsListed, ListFault};
+ghost use Rattle.certificate_check.specs.Spans.{count_in, AreEntries};
+ghost use Rattle.certificate_check.specs.Windows.{found_of, place, Reads, StandsIn};
+
+use crate::certificate::rest_is_right;
+use crate::entries::Entries;
+use crate::fault::SourceFault;
+use crate::parts::{entry_bytes, header};
+use crate::refusal::CheckRefusal;
+use crate::stop::Stop;
+use crate::window::Window;
+use byte_streams::Source;
+use certificate_format::Header;
+use permission_map::PermissionMap;
+use std::alloc::Global;
+
+/// Reads that many entries of at least a page, and answers their bytes.
+fn entries_from<R: Source>(
+    alloc: Global,
+    window: &mut Window,
+    source: &mut R,
+    count: u32,
+) -> Result<Vec<u8>, Stop>
+    ensures read { Reads (place R.remaining R.failures window.old source.old)
+        (place R.remaining R.failures window.new source.new)
+        (λ left rest. MatchResult result (λ list. (es : List Entry) × IsListed left rest es
+        × (length es ≡ count) × SpellsEntries list.items es) (StandsIn (ListFault left count))) }
+    ensures entries { IfOk result (λ list. AreEntries list.items) }
+    ensures count { IfOk result (λ list. count_in list.items ≡ count) }
+{
+    let mut list = Vec::new(alloc);
+    for _ in 0..count {
+        let nine = entry_bytes(window, source)?;
+        let Ok(()) = list.extend_from_slice(nine.as_slice()) else {
+            return Err(Stop::Memory);
+        };
+    }
+    Ok(list)
+}
+
+/// Reads the parts in their order, and answers the header of a right certificate.
+fn read_parts<R: Source>(
+    alloc: Global,
+    map: &PermissionMap,
+    window: &mut Window,
+    source: &mut R,
+) -> Result<Header, Stop>
+    ensures { Reads (place R.remaining R.failures window.old source.old)
+        (place R.remaining R.failures window.new source.new)
+        (λ left rest. MatchResult result (IsRightWith (view_of_runs map.now) left)
+        (StandsIn (RefusalStands (view_of_runs map.now) left))) }
+{
+    let header = header(window, source)?;
+    let list = entries_from(alloc, window, source, header.count)?;
+    let entries = Entries {
+        bytes: list.as_slice(),
+    };
+    rest_is_right(map, &header, &entries, window, source)?;
+    Ok(header)
+}
+
+/// What was found of the bytes, where memory was not refused.
+fn found_in(parts: Result<Header, Stop>) -> Option<Result<Header, CheckRefusal>>
+    ensures { result ≡ found_of parts }
+{
+    match parts {
+        Ok(header) => Some(Ok(header)),
+        Err(Stop::Refused(refusal)) => Some(Err(refusal)),
+        Err(Stop::Memory) => None,
+    }
+}
+
+/// Checks that the bytes of a source, at most so many, are a right certificate of fewest entries for the map, and answers its
+/// header or the refusal, as [`check`](crate::check) of all the bytes does. They are read to their end. `Read` is answered only
+/// where the source failed in this call, and nothing else where it did.
+///
+/// What is held at a time is the entries, nine bytes each, and a window of fixed size.
+pub fn check_source<R: Source>(
+    alloc: Global,
+    map: &PermissionMap,
+    source: &mut R,
+    most: u32,
+) -> Result<Result<Header, CheckRefusal>, SourceFault>
+    ensures whole { IfOk result (λ found. (bytes : List ℕ)
+        × Consumes (R.remaining source.old) (R.remaining source.new) bytes
+        × IsAtEnd (R.remaining source.new) × (length bytes ≤ most)
+        × IsJudged (view_of_runs map.now) bytes found) }
+    ensures large { result ≡ Err SourceFault.TooLarge
+        → (bytes : List ℕ) × Consumes (R.remaining source.old) (R.remaining source.new) bytes
+        × (most < length bytes) }
+    ensures failed { result ≡ Err SourceFault.Read
+        → R.failures source.new ≡ one_failure_more (R.failures source.old) }
+    ensures well { result ≢ Err SourceFault.Read
+        → R.failures source.new ≡ R.failures source.old }
+{
+    let mut window = Window::new(u64::from(most));
+    let parts = read_parts(alloc, map, &mut window, source);
+    let Some(found) = found_in(parts) else {
+        return Err(window.stopped_by());
+    };
+    window.drain(source);
+    match window.fault() {
+        None => Ok(found),
+        Some(fault) => Err(fault),
+    }
+}

@@ -1,0 +1,36 @@
+//! Why the parts of a certificate that a source gives are not read on.
+
+use crate::refusal::CheckRefusal;
+use certificate_format::ReadFault;
+
+/// Why the parts are not read on.
+#[derive(Clone, Copy, PartialEq, Eq, Debug)]
+pub(crate) enum Stop {
+    /// A part is refused.
+    Refused(CheckRefusal),
+    /// Memory for the entries was refused.
+    Memory,
+}
+
+impl From<CheckRefusal> for Stop {
+    ghost use Rattle.std.specs.Prelude.{◌≡◌};
+    ghost use Rattle.certificate_check.specs.declared.stop.Stop.TheVariants.{Refused};
+
+    ghost from_gives = { λ refusal stop. stop ≡ Refused refusal };
+
+    fn from(refusal: CheckRefusal) -> Stop {
+        Stop::Refused(refusal)
+    }
+}
+
+impl From<ReadFault> for Stop {
+    ghost use Rattle.std.specs.Prelude.{◌≡◌};
+    ghost use Rattle.certificate_check.specs.declared.stop.Stop.TheVariants.{Refused};
+    ghost use Rattle.certificate_check.specs.Refusals.{refusal_of};
+
+    ghost from_gives = { λ fault stop. stop ≡ Refused (refusal_of fault) };
+
+    fn from(fault: ReadFault) -> Stop {
+        Stop::Refused(CheckRefusal::from(fault))
+    }
+}
