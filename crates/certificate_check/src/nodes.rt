@@ -81,7 +81,8 @@ fn split<R: Source>(
     ensures read { Reads (place R.remaining R.failures window.old source.old)
         (place R.remaining R.failures window.new source.new)
         (λ left rest. ReadsNode (view_of_runs runs.old) log2 first result (1 ∷ left) rest) }
-    ensures same { OnOk result (AgreeFrom (first + 2 ^ log2) (view_of_runs runs.new) (view_of_runs runs.old)) }
+    ensures same { OnOk result (AgreeFrom (first + 2 ^ log2) (view_of_runs runs.new)
+        (view_of_runs runs.old)) }
 {
     if log2 == 0 {
         return Err(CheckRefusal::TooDeep);
@@ -110,7 +111,8 @@ fn node<R: Source>(
     ensures read { Reads (place R.remaining R.failures window.old source.old)
         (place R.remaining R.failures window.new source.new)
         (λ left rest. ReadsNode (view_of_runs runs.old) log2 first result left rest) }
-    ensures same { OnOk result (AgreeFrom (first + 2 ^ log2) (view_of_runs runs.new) (view_of_runs runs.old)) }
+    ensures same { OnOk result (AgreeFrom (first + 2 ^ log2) (view_of_runs runs.new)
+        (view_of_runs runs.old)) }
 {
     match tag(window, source)? {
         Tag::Leaf => leaf(window, source, runs, log2, first),

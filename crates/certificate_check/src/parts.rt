@@ -19,8 +19,9 @@ use certificate_format::{Header, ReadFault, Reader, SixCosts, Tag};
 use pmp_encoding::Perm;
 
 fn header_in(bytes: &[u8]) -> Result<(Header, usize), ReadFault>
-    ensures { MatchResult result (λ x. (rest : List ℕ) × (bytes.now ≡ header_bytes x.0 ++ rest)
-        × (x.0.count < 2 ^ 32) × (x.1 + length rest ≡ length bytes.now)) (HeaderFault bytes.now) }
+    ensures { MatchResult result (λ x.
+        (rest : List ℕ) × (bytes.now ≡ header_bytes x.0 ++ rest) × (x.0.count < 2 ^ 32)
+        × (x.1 + length rest ≡ length bytes.now)) (HeaderFault bytes.now) }
 {
     let mut reader = Reader::new(bytes);
     match reader.header() {
@@ -48,8 +49,8 @@ pub(crate) fn header<R: Source>(window: &mut Window, source: &mut R) -> Result<H
 
 #[inline(always)]
 fn tag_in(bytes: &[u8]) -> Result<Tag, ReadFault>
-    ensures { MatchResult result (λ tag. (rest : List ℕ) × (bytes.now ≡ tag_byte tag ∷ rest))
-        (TagFault bytes.now) }
+    ensures { MatchResult result (λ tag.
+        (rest : List ℕ) × (bytes.now ≡ tag_byte tag ∷ rest)) (TagFault bytes.now) }
 {
     let mut reader = Reader::new(bytes);
     reader.tag()
@@ -74,8 +75,8 @@ pub(crate) fn tag<R: Source>(window: &mut Window, source: &mut R) -> Result<Tag,
 
 #[inline(always)]
 fn perm_in(bytes: &[u8]) -> Result<Perm, ReadFault>
-    ensures { MatchResult result (λ perm. (rest : List ℕ) × (bytes.now ≡ bits_of perm ∷ rest))
-        (PermFault bytes.now) }
+    ensures { MatchResult result (λ perm.
+        (rest : List ℕ) × (bytes.now ≡ bits_of perm ∷ rest)) (PermFault bytes.now) }
 {
     let mut reader = Reader::new(bytes);
     reader.perm()

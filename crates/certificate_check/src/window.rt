@@ -125,7 +125,8 @@ impl Window {
         ensures reads { Reads (place R.remaining R.failures self.old source.old)
             (place R.remaining R.failures self.new source.new) Stays }
         ensures open { self.new.inflow ≡ Open → self.old.inflow ≡ Open }
-        ensures more { self.new.inflow ≡ Open → length self.old.buffer < length self.new.buffer }
+        ensures more { self.new.inflow ≡ Open
+            → length self.old.buffer < length self.new.buffer }
         ensures came { self.new.inflow ≡ Open → counted self.old.came 1 ≤ self.new.came }
         ensures few { self.new.inflow ≡ Open → self.new.came ≤ self.new.most }
     {
