@@ -25,7 +25,7 @@ returns-in_default-clause-well g c = λ other.
 pub returns-in-None-clause-whole : goal.returns-in-None-clause-whole
 returns-in-None-clause-whole g c =
     let all = reads_then _ _ _ _ _ (λ left rest. MatchResult c.read_parts-parts.result (IsRightWith (view_of_runs c.args.map.now) left) (StandsIn (RefusalStands (view_of_runs c.args.map.now) left)))
-        c.read_parts-parts.ensures c.drain.ensures.reads (λ left mid rest p q. p)
+    c.read_parts-parts.ensures c.drain.ensures.reads (λ left mid rest p q. p)
     in
     let none : fault_of c.drain.new.self.inflow ≡ None = sym c.fault.ensures ∙ c.in-None.is in
     let whole = whole_from _ _ c.args.most _ all (fresh_at _ _ c.new-window.ensures.buffer c.new-window.ensures.came (c.new-window.ensures.most ∙ c.from.ensures) c.new-window.ensures.inflow) (omega (arith, c.ranges.most)) none c.drain.ensures.closed in
@@ -35,7 +35,7 @@ returns-in-None-clause-whole g c =
 pub returns-in-None-clause-well : goal.returns-in-None-clause-well
 returns-in-None-clause-well g c = λ other.
     let all = reads_then _ _ _ _ _ (λ left rest. MatchResult c.read_parts-parts.result (IsRightWith (view_of_runs c.args.map.now) left) (StandsIn (RefusalStands (view_of_runs c.args.map.now) left)))
-        c.read_parts-parts.ensures c.drain.ensures.reads (λ left mid rest p q. p)
+    c.read_parts-parts.ensures c.drain.ensures.reads (λ left mid rest p q. p)
     in
     let none : fault_of c.drain.new.self.inflow ≡ None = sym c.fault.ensures ∙ c.in-None.is in
     well_from _ _ c.args.most _ all (fresh_at _ _ c.new-window.ensures.buffer c.new-window.ensures.came (c.new-window.ensures.most ∙ c.from.ensures) c.new-window.ensures.inflow) (λ e. let is = sym none ∙ e in cc is)
@@ -43,7 +43,7 @@ returns-in-None-clause-well g c = λ other.
 pub returns-in-Some-fault-clause-large : goal.returns-in-Some-fault-clause-large
 returns-in-Some-fault-clause-large g c = λ e.
     let all = reads_then _ _ _ _ _ (λ left rest. MatchResult c.read_parts-parts.result (IsRightWith (view_of_runs c.args.map.now) left) (StandsIn (RefusalStands (view_of_runs c.args.map.now) left)))
-        c.read_parts-parts.ensures c.drain.ensures.reads (λ left mid rest p q. p)
+    c.read_parts-parts.ensures c.drain.ensures.reads (λ left mid rest p q. p)
     in
     let is : fault_of c.drain.new.self.inflow ≡ Some faults.TooLarge = (let s = c.fault.ensures in let i = c.in-Some-fault.is in cc (s, i, e)) in
     large_from _ _ c.args.most _ all (fresh_at _ _ c.new-window.ensures.buffer c.new-window.ensures.came (c.new-window.ensures.most ∙ c.from.ensures) c.new-window.ensures.inflow) is
@@ -51,7 +51,7 @@ returns-in-Some-fault-clause-large g c = λ e.
 pub returns-in-Some-fault-clause-failed : goal.returns-in-Some-fault-clause-failed
 returns-in-Some-fault-clause-failed g c = λ e.
     let all = reads_then _ _ _ _ _ (λ left rest. MatchResult c.read_parts-parts.result (IsRightWith (view_of_runs c.args.map.now) left) (StandsIn (RefusalStands (view_of_runs c.args.map.now) left)))
-        c.read_parts-parts.ensures c.drain.ensures.reads (λ left mid rest p q. p)
+    c.read_parts-parts.ensures c.drain.ensures.reads (λ left mid rest p q. p)
     in
     let is : fault_of c.drain.new.self.inflow ≡ Some faults.Read = (let s = c.fault.ensures in let i = c.in-Some-fault.is in cc (s, i, e)) in
     failed_from _ _ c.args.most _ all (fresh_at _ _ c.new-window.ensures.buffer c.new-window.ensures.came (c.new-window.ensures.most ∙ c.from.ensures) c.new-window.ensures.inflow) is
@@ -59,6 +59,6 @@ returns-in-Some-fault-clause-failed g c = λ e.
 pub returns-in-Some-fault-clause-well : goal.returns-in-Some-fault-clause-well
 returns-in-Some-fault-clause-well g c = λ other.
     let all = reads_then _ _ _ _ _ (λ left rest. MatchResult c.read_parts-parts.result (IsRightWith (view_of_runs c.args.map.now) left) (StandsIn (RefusalStands (view_of_runs c.args.map.now) left)))
-        c.read_parts-parts.ensures c.drain.ensures.reads (λ left mid rest p q. p)
+    c.read_parts-parts.ensures c.drain.ensures.reads (λ left mid rest p q. p)
     in
     well_from _ _ c.args.most _ all (fresh_at _ _ c.new-window.ensures.buffer c.new-window.ensures.came (c.new-window.ensures.most ∙ c.from.ensures) c.new-window.ensures.inflow) (λ e. other (let s = c.fault.ensures in let i = c.in-Some-fault.is in cc (s, i, e)))

@@ -7,7 +7,7 @@ loop-preserved g c =
     let n = length c.held.result.now in
     let all = c.loop.self.buffer in
     let here = passed _ _ (take n all) (drop n all) (sym (take-append-drop n all))
-        (record { buffer = c.pass.ensures.buffer; came = c.pass.ensures.came; most = c.pass.ensures.most; inflow = c.pass.ensures.inflow; remaining = refl; failures = refl })
+    (record { buffer = c.pass.ensures.buffer; came = c.pass.ensures.came; most = c.pass.ensures.most; inflow = c.pass.ensures.inflow; remaining = refl; failures = refl })
     in
     record {
       reads = reads_thrice _ _ _ _ _ _ _ _ c.loop.invariant.reads here c.read_more.ensures.reads (λ left one two rest p q r. tt);
