@@ -92,8 +92,11 @@ fn a_locked_entry_binds_machine_mode(rt: HostRuntime) {
 #[test]
 fn a_partial_match_denies_every_mode(rt: HostRuntime) {
     let registers = two((0x17, 0x400), (0x1f, ALL));
+    let upper = two((0x17, 0x401), (0x1f, ALL));
     for mode in [Mode::Machine, Mode::Supervisor, Mode::User] {
         let cut = outcome(&registers, mode, Kind::Load, 8, 0x1000);
+        assert!(rt; cut == Some(Err(Cause::LoadFault)));
+        let cut = outcome(&upper, mode, Kind::Load, 8, 0x1000);
         assert!(rt; cut == Some(Err(Cause::LoadFault)));
         assert!(rt; outcome(&registers, mode, Kind::Load, 4, 0x1000) == Some(Ok(())));
         assert!(rt; outcome(&registers, mode, Kind::Load, 8, 0x1008) == Some(Ok(())));
@@ -121,6 +124,8 @@ fn no_entry_leaves_machine_mode_alone(rt: HostRuntime) {
     assert!(rt; past == Some(Err(Cause::LoadFault)));
     let uneven = outcome(&none, Mode::Machine, Kind::Load, 8, 4);
     assert!(rt; uneven == Some(Err(Cause::LoadMisaligned)));
+    let uneven = outcome(&none, Mode::Machine, Kind::Store, 4, 2);
+    assert!(rt; uneven == Some(Err(Cause::StoreMisaligned)));
 }
 
 #[test]
