@@ -9,7 +9,7 @@ use Rattle.worlds.specs.declared.world.World.TheVariants as worlds
 use Rattle.hart_trace.specs.Plain.{keyword}
 use Rattle.explained_answers.specs.Reasons.{reason_text}
 use Rattle.enclave_table.specs.Enclaves.{EnclaveTable}
-use Rattle.hart_sim.specs.declared.reply.Reply.{Reply}
+use Rattle.machine_replies.specs.declared.reply.Reply.{Reply}
 use Rattle.explained_runs.specs.declared.asked.Asked.{Asked}
 use Rattle.explained_runs.specs.declared.asked.Deed.{Deed}
 use Rattle.explained_runs.specs.declared.asked.Deed.TheVariants as deeds

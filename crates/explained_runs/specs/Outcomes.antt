@@ -8,8 +8,8 @@ use Rattle.enclave_table.specs.Enclaves.{EnclaveTable, with_enclave}
 use Rattle.enclave_table.specs.Needs.{NeedsWithCreated}
 use Rattle.enclave_requests.specs.Requests.{parts_of}
 use Rattle.enclave_table.specs.Views.{enclave_view, host_view}
-use Rattle.hart_sim.specs.declared.reply.Reply.{Reply}
-use Rattle.hart_sim.specs.declared.reply.Reply.TheVariants as replies
+use Rattle.machine_replies.specs.declared.reply.Reply.{Reply}
+use Rattle.machine_replies.specs.declared.reply.Reply.TheVariants as replies
 use Rattle.explained_runs.specs.declared.asked.Deed.{Deed}
 use Rattle.explained_runs.specs.declared.asked.Deed.TheVariants as deeds
 use Rattle.explained_runs.specs.declared.outcome.Outcome.{Outcome}

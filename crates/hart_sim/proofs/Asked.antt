@@ -8,11 +8,11 @@ use Rattle.sbi_decode.specs.Calls.{call_of}
 use Rattle.sbi_decode.specs.declared.calls.Call.{Call}
 use Rattle.monitor_core.specs.States.{State as Core}
 use Rattle.monitor_core.specs.Changes.{with_running, without_mark}
-use Rattle.hart_sim.specs.declared.reply.Reply.{Reply}
+use Rattle.machine_replies.specs.declared.reply.Reply.{Reply}
 use Rattle.hart_sim.specs.States.{State, core_of, with_core}
 use Rattle.hart_sim.specs.Changes.{calling}
 use Rattle.hart_sim.specs.Steps.{Accesses, TakesEffect}
-use Rattle.hart_sim.specs.Memory.{bytes_at, in_range}
+use Rattle.machine_memory.specs.Memory.{bytes_at, in_range}
 use Rattle.page_views.specs.declared.pages.PageRange.{PageRange}
 use Rattle.std.specs.Prelude.{unwrap_or, option_map}
 

@@ -1,4 +1,3 @@
-mod Bytes
 mod Verdicts
 mod KnownEvents
 mod Reported
@@ -6,7 +5,6 @@ mod Asked
 mod Alike
 mod Accessed
 mod Equal
-mod Written
 mod Layouts
 mod Awake
 mod PrivateBytes

@@ -15,8 +15,8 @@ use Rattle.enclave_table.specs.declared.enclave.Enclave.{Enclave}
 use Rattle.worlds.specs.declared.world.World.TheVariants.{Enclave as InEnclave}
 use Rattle.hart_trace.specs.declared.event.Event.{Event}
 use Rattle.hart_trace.specs.declared.event.Event.TheVariants as events
-use Rattle.hart_sim.specs.declared.reply.Reply.{Reply}
-use Rattle.hart_sim.specs.declared.reply.Reply.TheVariants as replies
+use Rattle.machine_replies.specs.declared.reply.Reply.{Reply}
+use Rattle.machine_replies.specs.declared.reply.Reply.TheVariants as replies
 use Rattle.hart_sim.specs.States.{State, core_of, view_on}
 use Rattle.hart_sim.specs.Steps.{Step, Accesses, TakesEffect, verdict}
 use Rattle.monitor_core.proofs.Zeroed.{not_lost, lost_call, lost_irq}

@@ -4,7 +4,7 @@ use Rattle.monitor_core.specs.States.{State as Core, opening as opening_core}
 use Rattle.monitor_core.proofs.WorldsKept.{AreWorlds as InCore, call_keeps_worlds, interrupt_keeps_worlds, waking_keeps_worlds, putting_keeps_worlds, opened}
 use Rattle.hart_trace.specs.declared.event.Event.{Event}
 use Rattle.hart_trace.specs.declared.event.Event.TheVariants as events
-use Rattle.hart_sim.specs.declared.reply.Reply.{Reply}
+use Rattle.machine_replies.specs.declared.reply.Reply.{Reply}
 use Rattle.hart_sim.specs.States.{State, core_of, view_on, opening}
 use Rattle.hart_sim.specs.Steps.{Step, Run, still, step, verdict}
 use Rattle.hart_sim.specs.Worlds.{AreWorlds, RunsKeepWorlds}

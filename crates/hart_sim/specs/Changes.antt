@@ -4,7 +4,7 @@ use Rattle.page_views.specs.declared.pages.PageRange.{PageRange}
 pub use Rattle.sbi_decode.specs.Registers.{with_x}
 use Rattle.sbi_decode.specs.Registers.{RegisterFile}
 use Rattle.monitor_core.specs.Changes.{past_call}
-use Rattle.hart_sim.specs.Memory.{in_range, stored}
+use Rattle.machine_memory.specs.Memory.{in_range, stored}
 use Rattle.hart_sim.specs.States.{State}
 use Rattle.worlds.specs.Runners.{runner_of}
 

@@ -10,8 +10,8 @@ use Rattle.monitor_core.specs.Monitors.{kept_of as kept_in}
 use Rattle.hart_trace.specs.declared.event.Event.{Event}
 use Rattle.hart_trace.specs.declared.event.Event.TheVariants as events
 use Rattle.hart_sim.specs.declared.machine.Machine.{Machine}
-use Rattle.hart_sim.specs.declared.reply.Reply.{Reply}
-use Rattle.hart_sim.specs.declared.reply.Reply.TheVariants as replies
+use Rattle.machine_replies.specs.declared.reply.Reply.{Reply}
+use Rattle.machine_replies.specs.declared.reply.Reply.TheVariants as replies
 use Rattle.hart_sim.specs.Banks.{AreBanksRight, MeetsList}
 use Rattle.hart_sim.specs.Parts.{state_in, bank_in}
 use Rattle.hart_sim.specs.States.{State}

@@ -7,8 +7,8 @@ use Rattle.pmp_match.specs.Kinds.{holds}
 use Rattle.enclave_table.specs.Tables.{IsTable}
 use Rattle.hart_trace.specs.declared.event.Event.{Event}
 use Rattle.hart_trace.specs.declared.event.Event.TheVariants as events
-use Rattle.hart_sim.specs.declared.reply.Reply.{Reply}
-use Rattle.hart_sim.specs.declared.reply.Reply.TheVariants as replies
+use Rattle.machine_replies.specs.declared.reply.Reply.{Reply}
+use Rattle.machine_replies.specs.declared.reply.Reply.TheVariants as replies
 use Rattle.hart_sim.specs.States.{State}
 use Rattle.hart_sim.specs.Privacy.{KeepsPrivate, DeniesOthers, ZeroesDestroyed}
 use Rattle.hart_sim.specs.Wants.{RefusesByNeed}

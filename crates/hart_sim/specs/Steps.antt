@@ -16,9 +16,9 @@ use Rattle.monitor_core.specs.Changes.{with_running}
 use Rattle.monitor_core.specs.Steps.{DoesCall, Interrupts}
 use Rattle.hart_trace.specs.declared.event.Event.{Event}
 use Rattle.hart_trace.specs.declared.event.Event.TheVariants as events
-use Rattle.hart_sim.specs.declared.reply.Reply.{Reply}
-use Rattle.hart_sim.specs.declared.reply.Reply.TheVariants as replies
-use Rattle.hart_sim.specs.Memory.{bytes_at, number_of}
+use Rattle.machine_replies.specs.declared.reply.Reply.{Reply}
+use Rattle.machine_replies.specs.declared.reply.Reply.TheVariants as replies
+use Rattle.machine_memory.specs.Memory.{bytes_at, number_of}
 use Rattle.hart_sim.specs.States.{State, core_of, with_core}
 use Rattle.hart_sim.specs.Changes.{with_x, calling, storing, zeroing}
 use Rattle.hart_sim.specs.Replies.{RepliesWith}

@@ -18,12 +18,12 @@ use Rattle.sbi_decode.specs.declared.calls.Call.TheVariants as calls
 use Rattle.monitor_core.specs.Wants.{IsRefusedByNeed}
 use Rattle.hart_trace.specs.declared.event.Event.{Event}
 use Rattle.hart_trace.specs.declared.event.Event.TheVariants as events
-use Rattle.hart_sim.specs.declared.reply.Reply.{Reply}
-use Rattle.hart_sim.specs.declared.reply.Reply.TheVariants as replies
+use Rattle.machine_replies.specs.declared.reply.Reply.{Reply}
+use Rattle.machine_replies.specs.declared.reply.Reply.TheVariants as replies
 use Rattle.hart_sim.specs.States.{State, core_of}
 use Rattle.hart_sim.specs.Changes.{calling}
 use Rattle.hart_sim.specs.Steps.{Serves}
-use Rattle.hart_sim.specs.Memory.{bytes_at}
+use Rattle.machine_memory.specs.Memory.{bytes_at}
 
 -- a call was answered with this refusal
 abbrev pub IsAnsweredBy : Reply → Refusal → Type 0

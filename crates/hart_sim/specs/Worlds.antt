@@ -6,7 +6,7 @@ use Rattle.enclave_table.specs.declared.enclave.Enclave.{Enclave}
 use Rattle.enclave_table.specs.declared.enclave.State.TheVariants.{Running}
 use Rattle.worlds.specs.declared.world.World.TheVariants.{Host, Enclave as InEnclave}
 use Rattle.hart_trace.specs.declared.event.Event.{Event}
-use Rattle.hart_sim.specs.declared.reply.Reply.{Reply}
+use Rattle.machine_replies.specs.declared.reply.Reply.{Reply}
 use Rattle.hart_sim.specs.States.{State, opening}
 use Rattle.hart_sim.specs.Steps.{Run}
 

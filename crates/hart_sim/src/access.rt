@@ -3,9 +3,9 @@
 ghost use Rattle.std.specs.Prelude.{◌≡◌, ◌%◌};
 ghost use Rattle.hart_sim.specs.Effects.{ReachesMemory};
 
-use crate::memory::Memory;
 use crate::parts::Parts;
-use crate::reply::Reply;
+use machine_memory::Memory;
+use machine_replies::Reply;
 use pmp_match::{Access, Kind, judge};
 use std::alloc::Global;
 

@@ -1,7 +1,7 @@
 //! The machine as it is at boot.
 
-use crate::memory::Memory;
 use crate::parts::Parts;
+use machine_memory::Memory;
 use monitor_core::{BootFault, Monitor, Platform};
 use pmp_encoding::Bank;
 use std::alloc::Global;

@@ -2,7 +2,7 @@
 
 use crate::call_registers::put_words;
 use crate::parts::Parts;
-use crate::reply::Reply;
+use machine_replies::Reply;
 use monitor_core::PageRange;
 
 impl Parts {
@@ -16,7 +16,7 @@ impl Parts {
     ghost use Rattle.hart_sim.specs.Parts.{state_in};
     ghost use Rattle.hart_sim.specs.States.{core_of};
     ghost use Rattle.hart_sim.specs.Steps.{Serves, Does};
-    ghost use Rattle.hart_sim.specs.Memory.{bytes_at};
+    ghost use Rattle.machine_memory.specs.Memory.{bytes_at};
 
     /// Makes every byte of some pages zero, where there are any.
     fn zero(&mut self, pages: Option<PageRange>)

@@ -31,10 +31,7 @@ mod call_registers;
 mod ecall;
 mod laws;
 mod machine;
-mod memory;
 mod parts;
-mod reply;
-mod report;
 mod step;
 mod trace_run;
 
@@ -45,7 +42,6 @@ pub use laws::{
     report_law, step_law, worlds_law,
 };
 pub use machine::Machine;
-pub use reply::Reply;
-pub use report::push_reply;
+pub use machine_replies::{Reply, push_reply};
 pub use text_lines::{NotUnderstood, RunFault};
 pub use trace_run::run;

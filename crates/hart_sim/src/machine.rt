@@ -4,8 +4,8 @@ ghost use Rattle.monitor_core.specs.Monitors.{state_of as core_state};
 ghost use Rattle.hart_sim.specs.Parts.{AreBanks};
 
 use crate::parts::Parts;
-use crate::reply::Reply;
 use hart_trace::Event;
+use machine_replies::Reply;
 use monitor_core::{BootFault, Platform, Table, World};
 use pmp_encoding::Bank;
 use sbi_decode::Registers;
@@ -30,7 +30,7 @@ impl Machine {
     ghost use Rattle.platforms.specs.Platform.{Layout, IsLayout};
     ghost use Rattle.enclave_table.specs.Views.{host_view};
     ghost use Rattle.hart_trace.specs.declared.event.Event.{Event};
-    ghost use Rattle.hart_sim.specs.declared.reply.Reply.{Reply};
+    ghost use Rattle.machine_replies.specs.declared.reply.Reply.{Reply};
     ghost use Rattle.hart_sim.specs.Machines.{state_of, kept_of, bank_on, IsJudged, KeepsBanksRight};
     ghost use Rattle.hart_sim.specs.Banks.{MeetsList};
     ghost use Rattle.hart_sim.specs.Privacy.{KeepsPrivate, DeniesOthers, ZeroesDestroyed};

@@ -1,6 +1,6 @@
 //! The parts of the machine: the monitor, memory, and the banks that are loaded.
 
-use crate::memory::Memory;
+use machine_memory::Memory;
 use monitor_core::Monitor;
 use pmp_encoding::Bank;
 use std::alloc::Global;

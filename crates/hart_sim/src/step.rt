@@ -1,8 +1,8 @@
 //! An event on a hart: it loads what it has to, and then the event happens.
 
 use crate::parts::Parts;
-use crate::reply::Reply;
 use hart_trace::Event;
+use machine_replies::Reply;
 
 impl Parts {
     ghost use Rattle.std.specs.Prelude.{◌≡◌, ℕ, ◌<◌, ◌↔◌, List, false, Err, Some};

@@ -4,15 +4,15 @@ ghost use Rattle.std.specs.Prelude.{◌≡◌, ℕ, ◌-◌, ◌^◌, ◌<◌, L
 ghost use Rattle.text_lines.specs.LineLoop.{DoesAll, StopsAt, StopsTooLong, StopsReading, StopsWriting, StopsForMemory, CountsReads, CountsWrites};
 ghost use Rattle.platforms.specs.Platform.{Layout};
 ghost use Rattle.hart_trace.specs.declared.event.Event.{Event};
-ghost use Rattle.hart_sim.specs.declared.reply.Reply.{Reply};
+ghost use Rattle.machine_replies.specs.declared.reply.Reply.{Reply};
 ghost use Rattle.hart_sim.specs.Machines.{KeepsBanksRight};
 ghost use Rattle.hart_sim.specs.After.{After};
 ghost use Rattle.hart_sim.specs.Reports.{DoesLine, RefusesLine, StarvesLine, GoesOn};
 
 use crate::machine::Machine;
-use crate::report::push_reply;
 use byte_streams::{Sink, Source};
 use hart_trace::{Event, parse_line};
+use machine_replies::push_reply;
 use text_lines::{Interpreter, Line, NotUnderstood, Refusal, RunFault, interpret_lines};
 
 impl Machine {

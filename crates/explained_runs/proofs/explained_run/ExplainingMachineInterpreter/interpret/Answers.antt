@@ -1,6 +1,6 @@
 use Rattle.std.proofs.Common.{◌≡◌, ◌≢◌, ◌∙◌, Some, ap, refl, subst, sym}
 use Rattle.hart_sim.specs.After.{Happens}
-use Rattle.hart_sim.specs.declared.reply.Reply.TheVariants.{NoMemory}
+use Rattle.machine_replies.specs.declared.reply.Reply.TheVariants.{NoMemory}
 use Rattle.explained_runs.proofs.Accounted.{explained_next}
 use Rattle.explained_runs.proofs.explained_run.ExplainingMachineInterpreter.interpret.Goals as goal
 

@@ -13,7 +13,7 @@ use Rattle.hart_sim.specs.Parts.{AreBanks, shown, state_in}
 use Rattle.hart_sim.specs.States.{core_of, view_on}
 use Rattle.hart_sim.proofs.Framed.{frame_served}
 use Rattle.hart_sim.proofs.parts.Parts.ecall.Goals as goal
-use Rattle.hart_sim.specs.Memory.{bytes_at}
+use Rattle.machine_memory.specs.Memory.{bytes_at}
 
 -- pages that are to be zero are in the space
 in_space : (layout : Layout) (pages : Option PageRange) → IfSome pages (λ (range : PageRange). ClearsMemory layout range) → IfSome pages (λ (range : PageRange). range.first + range.count ≤ 2 ^ 44)

@@ -7,7 +7,7 @@ use Rattle.hart_sim.specs.Parts.{state_in}
 use Rattle.hart_sim.specs.States.{core_of}
 use Rattle.hart_sim.specs.Steps.{Serves, Does}
 use Rattle.hart_sim.proofs.parts.Parts.happen.Goals as goal
-use Rattle.hart_sim.specs.Memory.{bytes_at}
+use Rattle.machine_memory.specs.Memory.{bytes_at}
 
 pub returns-in-Ecall-clause-step : goal.returns-in-Ecall-clause-step
 returns-in-Ecall-clause-step c = λ right.

@@ -1,6 +1,6 @@
 use Rattle.std.proofs.Common.{◌≡◌, ◌≢◌, ◌∙◌, Some, ap, sym, subst}
 use Rattle.hart_sim.specs.After.{Happens}
-use Rattle.hart_sim.specs.declared.reply.Reply.TheVariants.{NoMemory}
+use Rattle.machine_replies.specs.declared.reply.Reply.TheVariants.{NoMemory}
 use Rattle.hart_sim.proofs.trace_run.MachineInterpreter.interpret.Goals as goal
 
 pub step-reply-requires-clause-hart : goal.step-reply-requires-clause-hart

@@ -1,0 +1,39 @@
+-- Memory: a byte at each address, and the pages that were written.
+use Rattle.std.specs.Prelude.{ℕ, zero, suc, ◌+◌, ◌-◌, ◌*◌, ◌/◌, ◌%◌, Bool, if◌then◌else◌, List, [], ◌∷◌, Option, None, Some, is_some, slice_index}
+use Rattle.std.specs.Ordering.{nat_cmp}
+use Rattle.std.specs.BTreeMap.{get}
+use Rattle.std.specs.declared.boxed.Box.{Box}
+use Rattle.pmp_encoding.specs.Registers.{byte_of}
+pub use Rattle.permission_map.specs.Runs.{in_range}
+use Rattle.machine_memory.specs.declared.memory.Memory.{Memory}
+
+-- `count` bytes from an address on
+unfoldable pub bytes_at : (ℕ → ℕ) → ℕ → ℕ → List ℕ
+bytes_at memory address zero = []
+bytes_at memory address (suc count) = memory address ∷ bytes_at memory (address + 1) count
+
+-- the number that bytes are, the lowest first
+abbrev pub number_of : List ℕ → ℕ
+number_of [] = 0
+number_of (byte ∷ bytes) = byte + 256 * number_of bytes
+
+-- the memory with the lowest bytes of a value put at an address, the lowest first
+abbrev pub stored : (ℕ → ℕ) → ℕ → ℕ → ℕ → ℕ → ℕ
+stored memory address size value a = if in_range address size a then byte_of value (a - address) else memory a
+
+-- the memory with every byte of some pages zero
+abbrev pub zeroed : (ℕ → ℕ) → ℕ → ℕ → ℕ → ℕ
+zeroed memory first count a = if in_range first count (a / 4096) then 0 else memory a
+
+-- a byte of a page, and 0 where there is none
+abbrev pub byte_in : {A : Type 0} → Option (Box (List ℕ) A) → ℕ → ℕ
+byte_in None at = 0
+byte_in (Some page) at = slice_index page.value at
+
+-- the byte at an address
+abbrev pub byte_at : Memory → ℕ → ℕ
+byte_at memory a = byte_in (get nat_cmp memory.pages (a / 4096)) (a % 4096)
+
+-- whether a page was written
+abbrev pub is_written : Memory → ℕ → Bool
+is_written memory page = is_some (get nat_cmp memory.pages page)

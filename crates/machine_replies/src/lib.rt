@@ -1,0 +1,12 @@
+//! What the events of a modelled machine are answered with, and the line of each reply in a report.
+//!
+//! ```text
+//! push_reply(&mut line, 1, &Reply::Done);
+//! ```
+#![tactic(auto)]
+
+mod lines;
+mod reply;
+
+pub use lines::push_reply;
+pub use reply::Reply;
