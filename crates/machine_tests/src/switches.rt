@@ -51,6 +51,16 @@ fn registers_and_bank_are_put_in_place(rt: HostRuntime) {
 }
 
 #[test]
+fn a_hart_loads_each_of_the_entries(rt: HostRuntime) {
+    let entries = [page(&rt, 0x8000_0000), page(&rt, 0x8000_1000)];
+    let mut hart = Hart::new(2, [].as_slice(), Limit::Sixteen);
+    hart.load(entries.as_slice());
+    assert!(rt; hart.bank().cfg0() == 0x1F1F);
+    assert!(rt; hart.bank().addr(0) == 0x2000_01FF);
+    assert!(rt; hart.bank().addr(1) == 0x2000_05FF);
+}
+
+#[test]
 fn each_host_and_each_enclave_has_its_own_registers(rt: HostRuntime) {
     let mut contexts = Contexts::new();
     assert!(rt; contexts.get(3, World::Host) == Registers::new());

@@ -242,6 +242,14 @@ fn ranges_that_cut_an_access(rt: HostRuntime) -> Result<(), Fail> {
 }
 
 #[test]
+fn a_difference_is_told_before_an_access_that_is_cut(rt: HostRuntime) {
+    let read = map_of(&rt, rt.alloc(), [(1, 1, Perm::Read)].as_slice());
+    let listing = "pmpaddr0 0x400\npmpaddr1 0x403\npmpaddr2 0x600\npmpcfg0 0x090900\n";
+    let line = "differs 0x0000000000001800 0x0000000000001fff: map r--, no entry ---\n";
+    expect_audit(&rt, rt.alloc(), &read, 1, listing, false, line);
+}
+
+#[test]
 fn entries_below_a_page_by_what_they_mean(rt: HostRuntime) -> Result<(), Fail> {
     let alloc = rt.alloc();
     let read = map_of(&rt, alloc, [(1, 1, Perm::Read)].as_slice());
