@@ -20,18 +20,6 @@ pub trait Pages {
         ensures { into.new ≡ bytes_of self.now page };
 }
 
-/// What is measured beside the pages.
-fn layout(parts: &Create) -> Layout
-    ensures { result ≡ layout_of parts.now }
-{
-    Layout {
-        text_pages: parts.text_pages,
-        data_pages: parts.data_pages,
-        shared_count: parts.shared_count,
-        entry_offset: parts.entry_offset,
-    }
-}
-
 /// Whether each byte of a page is zero. Each is looked at in any case, so that many can be at once.
 fn is_blank(page: &[u8; 4096]) -> bool
     ensures { result ≡ list_all (λ b. b == 0) page.now }
@@ -75,7 +63,7 @@ fn taken<P: Pages>(pages: &P, parts: &Create) -> [u8; 32]
     requires places { HasPlaces parts.now }
     ensures { result ≡ measured (P.bytes_of pages.now) parts.now }
 {
-    let layout = layout(parts);
+    let layout = parts.layout();
     let range = parts.private_pages();
     let mut measure = Measure::begin(&layout);
     let mut bytes = [0; 4096];
@@ -101,7 +89,7 @@ pub fn enclave_digest<P: Pages>(
     if !are_blank(pages, range.first, range.count) {
         return taken(pages, parts);
     }
-    let layout = layout(parts);
+    let layout = parts.layout();
     if let Some(blank) = last {
         if blank.layout == layout {
             return blank.digest;

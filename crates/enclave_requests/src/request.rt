@@ -2,8 +2,10 @@
 
 ghost use Rattle.std.specs.Prelude.{◌≡◌, ℕ, ◌+◌, ◌*◌, ◌/◌, ◌%◌, ◌^◌, ◌<◌, ◌≤◌, ◌↔◌, IsTrue, true, false};
 ghost use Rattle.page_views.specs.Views.{in_range};
+ghost use Rattle.enclave_requests.specs.Digests.{layout_of};
 ghost use Rattle.enclave_requests.specs.Requests.{parts_of, is_private, is_shared, is_part, ArePartsApart, HasCounts, HasPlaces, HasEntry};
 
+use measurement::Layout;
 use page_views::{PAGE_SIZE, PageRange, SPACE_SIZE};
 
 /// How many pages of text and data, and how many shared pages, an enclave may have.
@@ -74,6 +76,18 @@ impl Create {
         ensures { IsTrue result ↔ HasEntry self.now }
     {
         self.entry_offset % 2 == 0 && self.entry_offset < self.text_pages * PAGE_SIZE
+    }
+
+    /// What is measured of it beside its pages.
+    pub fn layout(&self) -> Layout
+        ensures { result ≡ layout_of self.now }
+    {
+        Layout {
+            text_pages: self.text_pages,
+            data_pages: self.data_pages,
+            shared_count: self.shared_count,
+            entry_offset: self.entry_offset,
+        }
     }
 
     /// Its text and data.

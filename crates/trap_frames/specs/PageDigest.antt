@@ -2,8 +2,8 @@
 use Rattle.std.specs.Prelude.{◌≡◌, ◌⊎◌, ℕ, ◌+◌, ◌/◌, ◌<◌, ◌≤◌, ◌^◌, List, [], ◌∷◌, ◌++◌, length, drop, Option, Result, Ok, Err}
 use Rattle.std.specs.Io.KnownBytes.{Appends, Consumes, IsAtEnd}
 use Rattle.measurement.specs.Measured.{digest_of}
-use Rattle.measurement.specs.declared.measured.Layout.{Layout}
 use Rattle.enclave_requests.specs.declared.request.Create.{Create}
+use Rattle.enclave_requests.specs.Digests.{layout_of}
 use Rattle.trap_frames.specs.Words.{bytes_of, word_at, measure_tag, page_tag}
 use Rattle.trap_frames.specs.FrameBytes.{Breaks}
 use Rattle.trap_frames.specs.declared.fault.FrameFault.{FrameFault}
@@ -13,11 +13,6 @@ use Rattle.trap_frames.specs.declared.fault.FrameFault.TheVariants as faults
 pub record HasParts (parts : Create) : Type 0 where
   pub few : parts.text_pages + parts.data_pages ≤ 1024
   pub inside : parts.base ≤ 2 ^ 56
-
--- what is measured beside the pages
-abbrev pub layout_of : Create → Layout
-layout_of parts =
-    record { text_pages = parts.text_pages; data_pages = parts.data_pages; shared_count = parts.shared_count; entry_offset = parts.entry_offset }
 
 -- the question for pages
 abbrev pub question_bytes : ℕ → ℕ → List ℕ

@@ -4,29 +4,17 @@ ghost use Rattle.std.specs.Prelude.{◌≡◌, ◌+◌, ◌≤◌, ◌<◌, ◌^
 ghost use Rattle.byte_streams.specs.Writings.{writing, Prints};
 ghost use Rattle.trap_frames.specs.Words.{word_at};
 ghost use Rattle.trap_frames.specs.Traps.{CountsRead, CountsWrite};
-ghost use Rattle.trap_frames.specs.PageDigest.{Asks, HasParts, Measures, ReadsPage, layout_of, question_bytes};
+ghost use Rattle.trap_frames.specs.PageDigest.{Asks, HasParts, Measures, ReadsPage, question_bytes};
 
 use crate::fault::FrameFault;
 use crate::frame::{ShortBytes, TAG_MEASURE, TAG_PAGE, three_words, word};
 use crate::frame_bytes::read_whole;
 use byte_streams::{Sink, Source, write_whole};
 use enclave_requests::Create;
-use measurement::{Layout, Measure};
+use measurement::Measure;
 
 /// The bytes of the frame of a page: its tag, its number, and its own bytes.
 const PAGE_BYTES: usize = 4112;
-
-/// What is measured beside the pages.
-fn layout(parts: &Create) -> Layout
-    ensures { result ≡ layout_of parts.now }
-{
-    Layout {
-        text_pages: parts.text_pages,
-        data_pages: parts.data_pages,
-        shared_count: parts.shared_count,
-        entry_offset: parts.entry_offset,
-    }
-}
 
 /// The question for so many pages from one on.
 fn question(first: u64, count: u64) -> ShortBytes
@@ -78,7 +66,7 @@ pub fn digest_of<R: Source, W: Sink>(
     let Ok(()) = write_whole(sink, &question(first, count)) else {
         return Err(FrameFault::Write);
     };
-    let mut measure = Measure::begin(&layout(parts));
+    let mut measure = Measure::begin(&parts.layout());
     let mut bytes = [0; 4096];
     for i in 0..count {
         match read_page(source, first + i, &mut bytes) {

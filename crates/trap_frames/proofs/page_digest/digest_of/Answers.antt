@@ -1,6 +1,6 @@
 use Rattle.std.proofs.Common.{◌≡◌, ◌+◌, [], ◌∷◌, ◌++◌, rules, arith, refl}
 use Rattle.std.proofs.KnownBytes.{Consumes-nil, Consumes-trans}
-use Rattle.trap_frames.specs.PageDigest.{layout_of}
+use Rattle.enclave_requests.specs.Digests.{layout_of}
 use Rattle.trap_frames.specs.PageDigest.{no_page, next_page}
 use Rattle.trap_frames.proofs.Read.{page_stops, page_writes}
 use Rattle.trap_frames.proofs.page_digest.digest_of.Goals as goal

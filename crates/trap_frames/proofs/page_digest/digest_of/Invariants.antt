@@ -1,7 +1,8 @@
 use Rattle.std.proofs.Common.{◌≡◌, ℕ, List}
 use Rattle.std.specs.Io.KnownBytes.{Appends, Consumes}
 use Rattle.measurement.specs.Progress.{HasMeasured}
-use Rattle.trap_frames.specs.PageDigest.{ArePages, layout_of, question_bytes}
+use Rattle.enclave_requests.specs.Digests.{layout_of}
+use Rattle.trap_frames.specs.PageDigest.{ArePages, question_bytes}
 use Rattle.trap_frames.proofs.page_digest.digest_of.Given as goal
 
 abbrev pub invariant-loop-i : goal.invariant-loop-i

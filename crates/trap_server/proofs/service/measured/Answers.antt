@@ -4,7 +4,8 @@ use Rattle.measurement.specs.Measured.{digest_of}
 use Rattle.sbi_decode.specs.Calls.{call_of}
 use Rattle.monitor_core.specs.Monitors.{state_of}
 use Rattle.monitor_core.specs.Measured.{asked_in}
-use Rattle.trap_frames.specs.PageDigest.{ArePages, layout_of, question_bytes}
+use Rattle.enclave_requests.specs.Digests.{layout_of}
+use Rattle.trap_frames.specs.PageDigest.{ArePages, question_bytes}
 use Rattle.trap_server.proofs.Served.{ends_why, frame_reads, frame_writes, measure_stops, measured_for, numbered, numbered_all, pages_length, unmeasured}
 use Rattle.trap_server.specs.Ends.{fault_of}
 use Rattle.trap_server.specs.Steps.{StopsTrap}
