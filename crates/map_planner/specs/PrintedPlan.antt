@@ -1,16 +1,16 @@
 -- The plan of the map that a source holds, printed.
-use Rattle.std.specs.Prelude.{◌≡◌, ℕ, ◌≤◌, ◌^◌, List, Option, length}
+use Rattle.std.specs.Prelude.{ℕ, ◌<◌, ◌≤◌, ◌^◌, List, Option, length}
 use Rattle.std.specs.Io.KnownBytes.{Consumes, IsAtEnd}
 use Rattle.byte_streams.specs.Writings.{Breaks, TakesAll, Writing}
 use Rattle.pmp_encoding.specs.declared.limit.Limit.TheVariants.{Sixteen}
 use Rattle.pmp_encoding.specs.declared.region.Entry.{Entry}
-use Rattle.pmp_match.specs.Meaning.{IsFewest}
+use Rattle.pmp_match.specs.Meaning.{IsFewest, Needs}
 use Rattle.permission_map.specs.declared.runs.Run.{Run}
 use Rattle.permission_map.specs.Runs.{view_of_runs}
 use Rattle.prefix_tree.specs.TreeOf.{tree_of}
 use Rattle.entry_planner.specs.Choice.{AreChosen}
 use Rattle.entry_planner.specs.Order.{AreInOrder}
-use Rattle.map_text.specs.MapFile.{Makes}
+use Rattle.map_text.specs.MapFile.{FaultAt, Makes}
 use Rattle.printed_lines.specs.Plans.{IsPlanText}
 use Rattle.register_width.specs.declared.xlen.Xlen.TheVariants.{Rv64}
 
@@ -24,12 +24,28 @@ pub record IsPlanOf (bytes : List ℕ) (entries : List Entry) : Type 0 where
   pub order : AreInOrder entries
   pub fits : length entries ≤ 16
 
+-- a source was read to its end, at most 1 MiB
+pub record IsRead (before after : Option (List ℕ)) (bytes : List ℕ) : Type 0 where
+  pub consumed : Consumes before after bytes
+  pub at_end : IsAtEnd after
+  pub few : length bytes ≤ 2 ^ 20
+
+-- a source has more than 1 MiB
+abbrev pub IsTooLarge : Option (List ℕ) → Option (List ℕ) → Type 0
+IsTooLarge before after = (bytes : List ℕ) × Consumes before after bytes × (2 ^ 20 < length bytes)
+
+-- the first line at fault of a map file, which was read to its end
+abbrev pub HasFault : Option (List ℕ) → Option (List ℕ) → ℕ → (List Run → Option (Option Run) → Type 0) → Type 0
+HasFault before after n fault = (bytes : List ℕ) × IsRead before after bytes × FaultAt bytes n fault
+
+-- the map that the bytes of a map file make needs more than sixteen entries
+abbrev pub NeedsMore : List ℕ → Type 0
+NeedsMore bytes = (map : List Run) × Makes bytes map × (n : ℕ) × Needs (view_of_runs map) n × (16 < n)
+
 -- a source was read to its end, and the text is that of the plan of its map, on a hart of RV64 with sixteen entries
 pub record IsPlanTextOf (before after : Option (List ℕ)) (text : List ℕ) : Type 0 where
   pub bytes : List ℕ
-  pub read : Consumes before after bytes
-  pub at_end : IsAtEnd after
-  pub few : length bytes ≤ 2 ^ 20
+  pub read : IsRead before after bytes
   pub entries : List Entry
   pub plan : IsPlanOf bytes entries
   pub printed : IsPlanText Rv64 Sixteen 0 entries text

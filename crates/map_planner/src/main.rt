@@ -24,7 +24,7 @@ fn print_plan_of(rt: &HostRuntime, name: &str) -> Result<(), PlanFault> {
     let mut file = Counted::new(FileToRead::new(rt, name));
     let out = RetryInterrupted::new(rt.stdout());
     let Ok(out) = BufWriter::new(rt.alloc(), out) else {
-        return Err(PlanFault::NoPlan);
+        return Err(PlanFault::Memory);
     };
     let mut out = Counted::new(out);
     print_plan_in(rt.alloc(), &mut file, &mut out)?;
@@ -43,10 +43,10 @@ fn main(rt: HostRuntime) -> ExitCode {
     };
     match print_plan_of(&rt, name.as_str()) {
         Ok(()) => ExitCode::SUCCESS,
-        Err(PlanFault::NoPlan) => ExitCode::from(NO_PLAN),
         Err(PlanFault::NotWritten) => {
             let _ = eprintln!(rt; "pmpmon: standard output: cannot write");
             ExitCode::from(NO_OUTPUT)
         }
+        Err(_) => ExitCode::from(NO_PLAN),
     }
 }

@@ -1,15 +1,17 @@
 //! The plan of the map that a source holds, printed.
 
-ghost use Rattle.std.specs.Prelude.{◌≡◌, ◌-◌, ◌^◌, ◌<◌, Err, IfSome, OnOk, length};
+ghost use Rattle.std.specs.Prelude.{◌≡◌, ◌≢◌, ℕ, ◌-◌, ◌^◌, ◌<◌, List, Err, IfErr, IfOk, OnOk, length};
+ghost use Rattle.byte_streams.specs.Streams.{one_failure_more};
 ghost use Rattle.byte_streams.specs.Writings.{writing, IsUnwritten};
-ghost use Rattle.map_planner.specs.PrintedPlan.{BreaksOff, IsPlanOf, PrintsPlan};
+ghost use Rattle.map_text.specs.MapFile.{FaultAt, IsUnknown, MakesFirst, MakesTooMany};
+ghost use Rattle.map_planner.specs.PrintedPlan.{BreaksOff, HasFault, IsPlanOf, IsRead, IsTooLarge, NeedsMore, PrintsPlan};
 
 use byte_streams::{DeviceFault, Sink, Source};
 use entry_planner::{Plan, plan_map};
-use map_text::map_of;
+use map_text::{MapFileFault, map_of};
 use pmp_encoding::Limit;
 use printed_lines::print_plan;
-use program_files::read_whole;
+use program_files::{WholeFault, read_whole};
 use register_width::Xlen;
 use std::alloc::Global;
 
@@ -19,28 +21,43 @@ const MAP_BYTES: usize = 1 << 20;
 /// Why a plan is not printed whole.
 #[derive(Clone, Copy, Debug, PartialEq, Eq)]
 pub enum PlanFault {
-    /// The source could not be read, or is no map of at most 1 MiB, or memory was refused, or the map needs more than sixteen
-    /// entries.
-    NoPlan,
+    /// The source could not be had whole: at most 1 MiB.
+    Source(WholeFault),
+    /// Its bytes make no map.
+    Map(MapFileFault),
+    /// The map needs more than sixteen entries.
+    TooManyEntries,
+    /// Memory was refused.
+    Memory,
     /// The sink failed, or took none of some bytes.
     NotWritten,
 }
 
 /// The plan of the map that the bytes of a map file make, where it has at most sixteen entries.
-fn plan_of(alloc: Global, bytes: &[u8]) -> Option<Plan>
+fn plan_of(alloc: Global, bytes: &[u8]) -> Result<Plan, PlanFault>
     requires { length bytes.now < 2 ^ 64 - 1 }
-    ensures { IfSome result (λ plan. IsPlanOf bytes.now plan.entries) }
+    ensures plan { IfOk result (λ plan. IsPlanOf bytes.now plan.entries) }
+    ensures line { (n : ℕ) → result ≡ Err (PlanFault.Map (MapFileFault.Line n))
+        → FaultAt bytes.now n IsUnknown }
+    ensures many { result ≡ Err (PlanFault.Map MapFileFault.TooManyRanges)
+        → (n : ℕ) × FaultAt bytes.now n MakesTooMany }
+    ensures first { result ≡ Err (PlanFault.Map MapFileFault.Memory)
+        → (n : ℕ) × FaultAt bytes.now n MakesFirst }
+    ensures needs { result ≡ Err PlanFault.TooManyEntries → NeedsMore bytes.now }
+    ensures others { (fault : WholeFault) → result ≢ Err (PlanFault.Source fault) }
+    ensures unwritten { result ≢ Err PlanFault.NotWritten }
 {
-    let Ok(map) = map_of(alloc, bytes) else {
-        return None;
+    let map = match map_of(alloc, bytes) {
+        Ok(map) => map,
+        Err(fault) => return Err(PlanFault::Map(fault)),
     };
     let Ok(plan) = plan_map(alloc, &map) else {
-        return None;
+        return Err(PlanFault::Memory);
     };
     if plan.needed() > 16 {
-        return None;
+        return Err(PlanFault::TooManyEntries);
     }
-    Some(plan)
+    Ok(plan)
 }
 
 /// Prints the plan of the map that a source holds, for a hart of RV64 with sixteen entries. Nothing is printed before the plan is
@@ -52,18 +69,29 @@ pub fn print_plan_in<R: Source, W: Sink>(
 ) -> Result<(), PlanFault>
     ensures printed { OnOk result (PrintsPlan (R.remaining source.old) (R.remaining source.new)
         (writing W.contents W.failures W.stalls out.old out.new)) }
-    ensures none { result ≡ Err PlanFault.NoPlan
-        → IsUnwritten (writing W.contents W.failures W.stalls out.old out.new) }
+    ensures large { result ≡ Err (PlanFault.Source WholeFault.TooLarge)
+        → IsTooLarge (R.remaining source.old) (R.remaining source.new) }
+    ensures failed { result ≡ Err (PlanFault.Source WholeFault.Read)
+        → R.failures source.new ≡ one_failure_more (R.failures source.old) }
+    ensures line { (n : ℕ) → result ≡ Err (PlanFault.Map (MapFileFault.Line n))
+        → HasFault (R.remaining source.old) (R.remaining source.new) n IsUnknown }
+    ensures many { result ≡ Err (PlanFault.Map MapFileFault.TooManyRanges)
+        → (n : ℕ) × HasFault (R.remaining source.old) (R.remaining source.new) n MakesTooMany }
+    ensures first { result ≡ Err (PlanFault.Map MapFileFault.Memory)
+        → (n : ℕ) × HasFault (R.remaining source.old) (R.remaining source.new) n MakesFirst }
+    ensures needs { result ≡ Err PlanFault.TooManyEntries → (bytes : List ℕ)
+        × IsRead (R.remaining source.old) (R.remaining source.new) bytes × NeedsMore bytes }
+    ensures none { IfErr result (λ fault. fault ≢ PlanFault.NotWritten
+        → IsUnwritten (writing W.contents W.failures W.stalls out.old out.new)) }
     ensures broken { result ≡ Err PlanFault.NotWritten
         → BreaksOff (R.remaining source.old) (R.remaining source.new)
         (writing W.contents W.failures W.stalls out.old out.new) }
 {
-    let Ok(bytes) = read_whole(alloc, source, MAP_BYTES) else {
-        return Err(PlanFault::NoPlan);
+    let bytes = match read_whole(alloc, source, MAP_BYTES) {
+        Ok(bytes) => bytes,
+        Err(fault) => return Err(PlanFault::Source(fault)),
     };
-    let Some(plan) = plan_of(alloc, bytes.as_slice()) else {
-        return Err(PlanFault::NoPlan);
-    };
+    let plan = plan_of(alloc, bytes.as_slice())?;
     match print_plan(Xlen::Rv64, plan.entries(), 0, Limit::Sixteen, out) {
         Ok(()) => Ok(()),
         Err(DeviceFault) => Err(PlanFault::NotWritten),
