@@ -5,7 +5,7 @@ ghost use Rattle.std.specs.Prelude.{◌≡◌, ◌≤◌, ◌-◌, ◌^◌, ◌<
 ghost use Rattle.byte_streams.specs.Writings.{writing};
 ghost use Rattle.command_inputs.specs.Inputs.{reading};
 ghost use Rattle.lint_commands.specs.Lint.{Tells};
-ghost use Rattle.input_hints.specs.Hints.{hints_in, kind_of, AreHints, HasHints, HasSizeHints, InOrder, IsLintAs};
+ghost use Rattle.input_hints.specs.Hints.{hints_in, kind_of, AreHints, HasHints, InOrder, IsLintAs};
 
 use crate::sizes::{FileKind, Had, bytes_or_hint};
 use byte_streams::{Counted, Sink, Source};
@@ -118,23 +118,6 @@ pub(crate) fn hints_of<'a, R: Source>(
 {
     match bytes_or_hint(alloc, form.kind(), name, source)? {
         Had::Bytes(bytes) => hints_for(alloc, form, name, bytes.as_slice()),
-        Had::Hint(hint) => Ok(Some(hint)),
-    }
-}
-
-/// The hint of an input that has more bytes than it may, and none where it has not.
-pub(crate) fn size_hints<'a, R: Source>(
-    alloc: Global,
-    kind: FileKind,
-    name: &'a str,
-    source: &mut R,
-) -> Result<Option<Vec<u8>>, Trouble<'a>>
-    ensures { IfOk result (λ hints. HasSizeHints kind name.entry.now
-        (reading R.remaining R.failures source.old source.new)
-        (option_map (λ text. text.items) hints)) }
-{
-    match bytes_or_hint(alloc, kind, name, source)? {
-        Had::Bytes(_) => Ok(None),
         Had::Hint(hint) => Ok(Some(hint)),
     }
 }

@@ -8,9 +8,9 @@ ghost use Rattle.command_inputs.specs.Inputs.{reading};
 ghost use Rattle.lint_commands.specs.Lint.{names_platform};
 ghost use Rattle.input_hints.specs.Hints.{named_kind, AreMapHints, AreRunHints, HasFileHints, HasHints, HasLintHints, HasMapHints, HasRunHints, HasSizeHints, HasTaskHints, InOrder, boot_hint, TellsHints};
 
-use crate::forms::{Form, hints_for, hints_in_order, hints_of, size_hints};
+use crate::forms::{Form, hints_for, hints_in_order, hints_of};
 use crate::needs::{Bounds, bank_bounds, boot_hint, need_hint, plan_bounds, table_bounds};
-use crate::sizes::{FileKind, Had, bytes_or_hint};
+use crate::sizes::{FileKind, Had, bytes_or_hint, size_hints};
 use byte_streams::{Sink, Source, write_whole};
 use command_inputs::platform_in;
 use hart_sim::Machine;

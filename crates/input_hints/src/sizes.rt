@@ -1,13 +1,15 @@
 //! How many bytes a file may have, and the hint of one that has more.
 
-ghost use Rattle.std.specs.Prelude.{◌≡◌, ◌^◌, ◌<◌, ◌≤◌, IfOk, length};
+ghost use Rattle.std.specs.Prelude.{◌≡◌, ◌^◌, ◌<◌, ◌≤◌, IfOk, length, option_map};
 ghost use Rattle.command_inputs.specs.Inputs.{reading};
+ghost use Rattle.input_hints.specs.Hints.{HasSizeHints};
 ghost use Rattle.input_hints.specs.Sizes.{IsHad, most_bytes, size_hint, size_text};
 
 use crate::needs::need_of;
 use byte_streams::Source;
 use command_inputs::{CERTIFICATE_BYTES, MAP_BYTES, PLATFORM_BYTES, REGISTER_BYTES, bytes_in};
 use lint_commands::TRACE_BYTES;
+use program_files::has_more;
 use program_troubles::Trouble;
 use std::alloc::{AllocError, Global};
 
@@ -92,4 +94,24 @@ pub(crate) fn bytes_or_hint<'a, R: Source>(
         Err(Trouble::TooLarge { .. }) => Ok(Had::Hint(size_hint(alloc, kind, name)?)),
         Err(trouble) => Err(trouble),
     }
+}
+
+/// The hint of an input that has more bytes than it may, and none where it has not. They are not held: a trace may have 1 GiB.
+pub(crate) fn size_hints<'a, R: Source>(
+    alloc: Global,
+    kind: FileKind,
+    name: &'a str,
+    source: &mut R,
+) -> Result<Option<Vec<u8>>, Trouble<'a>>
+    ensures { IfOk result (λ hints. HasSizeHints kind name.entry.now
+        (reading R.remaining R.failures source.old source.new)
+        (option_map (λ text. text.items) hints)) }
+{
+    let Ok(is_larger) = has_more(source, kind.most_bytes()) else {
+        return Err(Trouble::CannotRead { file: name });
+    };
+    if !is_larger {
+        return Ok(None);
+    }
+    Ok(Some(size_hint(alloc, kind, name)?))
 }

@@ -1,10 +1,10 @@
 //! A file that is read whole before anything is made of it.
 
-ghost use Rattle.std.specs.Prelude.{◌≡◌, ◌≢◌, ℕ, ◌+◌, ◌-◌, ◌^◌, ◌<◌, ◌≤◌, List, IfOk, Err, length};
+ghost use Rattle.std.specs.Prelude.{◌≡◌, ◌≢◌, ℕ, ◌+◌, ◌-◌, ◌^◌, ◌<◌, ◌≤◌, List, IfOk, Ok, Err, true, false, length};
 ghost use Rattle.std.specs.Io.KnownBytes.{Consumes, IsAtEnd};
-ghost use Rattle.byte_streams.specs.Streams.{one_failure_more};
+ghost use Rattle.byte_streams.specs.Streams.{one_failure_more, CountsFailure};
 
-use byte_streams::Source;
+use byte_streams::{DeviceFault, Source};
 use std::alloc::Global;
 
 /// How many bytes are asked of a source at a time.
@@ -55,4 +55,29 @@ pub fn read_whole<R: Source>(
         };
     }
     Err(WholeFault::TooLarge)
+}
+
+/// Whether a source has more bytes than `most`. They are read and dropped: none takes memory. The source failed in this call where
+/// the device did, and only there.
+pub fn has_more<R: Source>(source: &mut R, most: usize) -> Result<bool, DeviceFault>
+    requires most { most < 2 ^ 32 }
+    ensures more { result ≡ Ok true
+        → (bytes : List ℕ) × Consumes (R.remaining source.old) (R.remaining source.new) bytes
+        × (most < length bytes) }
+    ensures fits { result ≡ Ok false
+        → (bytes : List ℕ) × Consumes (R.remaining source.old) (R.remaining source.new) bytes
+        × IsAtEnd (R.remaining source.new)
+        × (length bytes ≤ most) }
+    ensures failures { CountsFailure result (R.failures source.old) (R.failures source.new) }
+{
+    let mut piece = [0; PIECE];
+    let mut count = 0;
+    while count <= most {
+        let n = source.read(&mut piece)?;
+        if n == 0 {
+            return Ok(false);
+        }
+        count += n;
+    }
+    Ok(true)
 }
