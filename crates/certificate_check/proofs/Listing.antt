@@ -1,8 +1,7 @@
 -- Entries that are read one after the other through a window.
-use Rattle.std.proofs.Common.{◌≡◌, ℕ, ◌<◌, ◌≤◌, List, [], ◌∷◌, ◌++◌, length, length-append, arith, refl, sym, subst, ◌∙◌, ◌+◌}
+use Rattle.std.proofs.Common.{◌≡◌, ℕ, ◌<◌, ◌≤◌, List, [], ◌∷◌, ◌++◌, length, length-append, arith, refl, sym, subst, ◌+◌}
 use Rattle.pmp_encoding.specs.declared.region.Entry.{Entry}
 use Rattle.certificate_format.specs.Spelling.{SpellsEntry, SpellsEntries}
-use Rattle.certificate_check.specs.declared.refusal.CheckRefusal.{CheckRefusal}
 use Rattle.certificate_check.specs.declared.stop.Stop.{Stop}
 use Rattle.certificate_check.specs.declared.stop.Stop.TheVariants.{Refused, Memory}
 use Rattle.certificate_check.specs.Listed.{IsListed, EntryFault, ListFault}

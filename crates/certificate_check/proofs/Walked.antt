@@ -1,6 +1,6 @@
 -- The parts of a right node.
 use Rattle.std.proofs.Common.{◌≡◌, ℕ, zero, suc, ◌+◌, ◌*◌, ◌^◌, ◌<◌, ◌≤◌, List, ◌∷◌, ◌++◌, pow_pos, ◌-◌, ◌≢◌, arith, sym, subst, ap, refl, ◌∙◌, Result, Ok, Err, pow-suc}
-use Rattle.std.specs.Result.{IfErr, IfOk, OnOk, IsOk}
+use Rattle.std.specs.Result.{IfErr, IfOk, OnOk}
 use Rattle.pmp_encoding.specs.declared.perm.Perm.{Perm}
 use Rattle.pmp_encoding.specs.Perms.{bits_of}
 use Rattle.pmp_match.specs.Meaning.{View}

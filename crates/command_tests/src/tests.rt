@@ -12,6 +12,7 @@ mod machine;
 mod maps;
 mod names;
 mod needs;
+mod on_files;
 mod options;
 mod plans;
 mod runs;

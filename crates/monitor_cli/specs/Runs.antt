@@ -1,5 +1,5 @@
 -- What `run` comes to, on the files and streams that are lent for it: a rule for each way in which it ends.
-use Rattle.std.specs.Prelude.{◌≡◌, ℕ, ◌^◌, ◌≤◌, Bool, true, false, List, Option, Some, Result, Ok, Err}
+use Rattle.std.specs.Prelude.{◌≡◌, ℕ, ◌≤◌, Bool, true, false, List, Option, Some, Result, Ok, Err}
 use Rattle.std.specs.Borrow.{Bor}
 use Rattle.std.specs.Io.KnownBytes.{Appends}
 use Rattle.byte_streams.specs.Streams.{WriteFails}
@@ -19,7 +19,7 @@ use Rattle.explained_runs.specs.Summaries.{summary_text}
 use Rattle.program_tasks.specs.declared.task.Answers.{Answers}
 use Rattle.program_tasks.specs.declared.task.Answers.TheVariants as answers
 use Rattle.program_troubles.specs.declared.trouble.Trouble.{Trouble}
-use Rattle.program_troubles.specs.declared.trouble.Trouble.TheVariants.{NotAPlatform, Output, Memory}
+use Rattle.program_troubles.specs.declared.trouble.Trouble.TheVariants.{Output}
 use Rattle.program_troubles.specs.Troubles.{boot_trouble, run_trouble}
 use Rattle.command_inputs.specs.Inputs.{IsUnread, Reading}
 use Rattle.command_inputs.specs.PlatformInputs.{HasNoPlatform, HasPlatform}

@@ -1,11 +1,13 @@
 -- The names of a task's files.
-use Rattle.std.specs.Prelude.{ℕ, List, [], ◌∷◌, Option, Some, None, option_map}
+use Rattle.std.specs.Prelude.{◌≡◌, ℕ, List, [], ◌∷◌, Option, Some, None, option_map}
 use Rattle.std.specs.Borrow.{Bor}
 use Rattle.program_tasks.specs.declared.task.Format.TheVariants as formats
 use Rattle.program_tasks.specs.declared.task.LintKind.{LintKind}
 use Rattle.program_tasks.specs.declared.task.LintKind.TheVariants as kinds
 use Rattle.program_tasks.specs.declared.task.Task.{Task}
 use Rattle.program_tasks.specs.declared.task.Task.TheVariants as tasks
+use Rattle.task_files.specs.declared.names.ShownNames.{ShownNames}
+use Rattle.task_files.specs.Words.{IsTextOf}
 
 -- a task with this name in place of that of what it reads first; a map whose name is printed as JSON, which escapes it, keeps its own
 abbrev pub with_first : Bor (List ℕ) → Task → Task
@@ -59,3 +61,7 @@ names_in (tasks.Map registers xlen) = registers.now ∷ [] ∷ [] ∷ []
 names_in (tasks.Lint file (kinds.Trace platform) xlen) = file.now ∷ name_or_none platform ∷ [] ∷ []
 names_in (tasks.Lint file kind xlen) = file.now ∷ [] ∷ [] ∷ []
 names_in (tasks.Show map limit at_most registers xlen format costs) = map.now ∷ [] ∷ [] ∷ []
+
+-- a task under the names that messages show
+abbrev pub IsUnderNames : ShownNames → Task → Task → Type 0
+IsUnderNames names task shown = (first second cert : Bor (List ℕ)) × IsTextOf names.first.items first × IsTextOf names.second.items second × IsTextOf names.cert.items cert × (shown ≡ named first second cert task)

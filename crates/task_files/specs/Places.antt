@@ -19,11 +19,11 @@ abbrev pub cert_of : Task → Option (Bor (List ℕ))
 cert_of (tasks.Plan map cert limit at_most format name begin xlen) = cert
 cert_of task = None
 
--- an input reads at a place; where there is none, the file of no name, which is not there
-abbrev pub IsAt : {R S F D : Type 0} → Option Place → InputToRead R S F D → Type 0
-IsAt (Some (File name)) input = IsOfFile name input
-IsAt {S = S} (Some StandardInput) input = (stream : S) × IsOfStream stream input
-IsAt None input = (name : Bor (List ℕ)) × (name.now ≡ []) × IsOfFile name input
+-- an input reads at a place, with that standard input; where there is none, the file of no name, which is not there
+abbrev pub IsAt : {R S F D : Type 0} → S → Option Place → InputToRead R S F D → Type 0
+IsAt stdin (Some (File name)) input = IsOfFile name input
+IsAt stdin (Some StandardInput) input = IsOfStream stdin input
+IsAt stdin None input = (name : Bor (List ℕ)) × (name.now ≡ []) × IsOfFile name input
 
 -- what a task reads first
 abbrev pub first_of : Task → Place
@@ -61,5 +61,5 @@ again (Some StandardInput) = None
 again None = None
 
 -- an input reads at a place a second time, or, where no plain file is there, the file of no name
-abbrev pub IsAtAgain : {R S F D : Type 0} → Option Place → InputToRead R S F D → Type 0
-IsAtAgain place input = IsAt (again place) input ⊎ IsAt None input
+abbrev pub IsAtAgain : {R S F D : Type 0} → S → Option Place → InputToRead R S F D → Type 0
+IsAtAgain stdin place input = IsAt stdin (again place) input ⊎ IsAt stdin None input

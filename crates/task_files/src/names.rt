@@ -1,10 +1,7 @@
 //! The names of a task's files, as messages show them.
 
-ghost use Rattle.std.specs.Prelude.{◌≡◌, ℕ, List, [], ◌∷◌, IfOk, map};
-ghost use Rattle.std.specs.Borrow.{Bor};
-ghost use Rattle.program_troubles.specs.Shown.{shown};
-ghost use Rattle.task_files.specs.Names.{named, names_in, with_cert, with_first, with_platform, with_second};
-ghost use Rattle.task_files.specs.Words.{IsTextOf};
+ghost use Rattle.std.specs.Prelude.{◌≡◌, map};
+ghost use Rattle.task_files.specs.Names.{IsUnderNames, names_in, with_cert, with_first, with_platform, with_second};
 
 use crate::words::text_of;
 use program_tasks::{Format, LintKind, Task};
@@ -150,9 +147,7 @@ fn name_cert<'a>(task: &mut Task<'a>, name: &'a str)
 
 /// The task with these names in place of its own. In JSON a map has its own name.
 pub fn with_names<'a>(task: &Task<'a>, names: &'a ShownNames) -> Task<'a>
-    ensures { (first second cert : Bor (List ℕ)) × IsTextOf names.now.first.items first
-        × IsTextOf names.now.second.items second × IsTextOf names.now.cert.items cert
-        × (result ≡ named first second cert task.now) }
+    ensures { IsUnderNames names.now task.now result }
 {
     let mut named = *task;
     name_first(&mut named, names.first());

@@ -1,5 +1,5 @@
 -- Where the root is refused its fault stands behind the entries, and otherwise the first of what is left to look at.
-use Rattle.std.proofs.Common.{◌≡◌, ◌≤◌, ℕ, [], List, length, arith, sym, refl, ◌∙◌}
+use Rattle.std.proofs.Common.{arith}
 use Rattle.pmp_encoding.specs.declared.perm.Perm.TheVariants.{NoAccess}
 use Rattle.permission_map.specs.Runs.{view_of_runs}
 use Rattle.certificate_check.specs.Certificates.{IsRight, RefusalStands, in_root, too_many, another_meaning, trailing}

@@ -1,4 +1,4 @@
-use Rattle.std.proofs.Common.{◌≡◌, ◌+◌, ◌<◌, ◌^◌, ◌∷◌, rules, sym, ap, refl, ◌∙◌}
+use Rattle.std.proofs.Common.{◌≡◌, ◌+◌, ◌∷◌, rules, sym, ap, refl, ◌∙◌}
 use denote.Enum.Bare.{differs_true, differs_false}
 use Rattle.pmp_encoding.specs.contracts.perm.Perm.{the_type}
 use Rattle.pmp_match.specs.Bounds.{Leaf}

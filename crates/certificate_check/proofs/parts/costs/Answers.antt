@@ -1,4 +1,4 @@
-use Rattle.std.proofs.Common.{ℕ, ◌≤◌, List, length, length-append, drop, ap, sym, ◌∙◌, refl, drop_at, arith}
+use Rattle.std.proofs.Common.{length, length-append, drop, ap, sym, ◌∙◌, refl, drop_at, arith}
 use Rattle.certificate_format.specs.Costs.{cost_of}
 use Rattle.certificate_format.specs.Spelling.{costs_bytes}
 use Rattle.certificate_format.proofs.CostBytes.{length-costs_bytes}

@@ -1,4 +1,4 @@
-use Rattle.std.proofs.Common.{ℕ, ◌≡◌, ◌≤◌, List, length, length-append, drop, ap, sym, ◌∙◌, refl, drop_at, arith}
+use Rattle.std.proofs.Common.{◌≡◌, length, length-append, drop, ap, sym, ◌∙◌, refl, drop_at, arith}
 use Rattle.certificate_format.proofs.CostBytes.{length-pair_bytes}
 use Rattle.certificate_check.proofs.Grown.{entry_grows}
 use Rattle.certificate_check.proofs.Windows.{part_read, part_refused}

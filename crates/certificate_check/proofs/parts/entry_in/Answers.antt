@@ -1,5 +1,5 @@
-use Rattle.std.proofs.Common.{ℕ, ◌≡◌, ◌≤◌, ◌+◌, List, ◌++◌, length, take, refl, subst, sym, ap, ◌∙◌, take_at, length-append, arith}
-use Rattle.certificate_format.specs.Spelling.{SpellsEntry, pair_bytes}
+use Rattle.std.proofs.Common.{ℕ, ◌≡◌, List, ◌++◌, length, take, subst, sym, ap, ◌∙◌, take_at, length-append, arith}
+use Rattle.certificate_format.specs.Spelling.{SpellsEntry}
 use Rattle.certificate_format.proofs.CostBytes.{length-pair_bytes}
 use Rattle.certificate_check.specs.Listed.{EntryFault}
 use Rattle.certificate_check.proofs.parts.entry_in.Goals as goal

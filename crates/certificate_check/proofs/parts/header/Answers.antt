@@ -1,4 +1,4 @@
-use Rattle.std.proofs.Common.{ℕ, List, ◌≡◌, ◌+◌, ◌++◌, length, drop, ap, sym, ◌∙◌, refl, drop_at, length-append, arith}
+use Rattle.std.proofs.Common.{◌≡◌, length, drop, ap, sym, ◌∙◌, refl, drop_at, length-append, arith}
 use Rattle.certificate_format.specs.Spelling.{header_bytes}
 use Rattle.certificate_check.proofs.Grown.{header_grows}
 use Rattle.certificate_check.proofs.Windows.{part_read, part_refused}

@@ -1,4 +1,4 @@
-use Rattle.std.proofs.Common.{ℕ, List, [], ◌∷◌, drop, ap, sym, ◌∙◌, refl}
+use Rattle.std.proofs.Common.{[], ◌∷◌, drop, ap, sym, ◌∙◌, refl}
 use Rattle.pmp_encoding.specs.Perms.{bits_of}
 use Rattle.certificate_check.proofs.Grown.{perm_grows}
 use Rattle.certificate_check.proofs.Windows.{part_read, part_refused}

@@ -1,4 +1,4 @@
-use Rattle.std.proofs.Common.{ℕ, List, [], ◌∷◌, drop, ap, sym, ◌∙◌, refl}
+use Rattle.std.proofs.Common.{[], ◌∷◌, drop, ap, sym, ◌∙◌, refl}
 use Rattle.certificate_format.specs.Tags.{tag_byte}
 use Rattle.certificate_check.proofs.Grown.{tag_grows}
 use Rattle.certificate_check.proofs.Windows.{part_read, part_refused}

@@ -1,4 +1,4 @@
-use Rattle.std.proofs.Common.{◌≡◌, ◌≢◌, arith, sym, ap, ◌∙◌, refl, Ok, Err, Some, None}
+use Rattle.std.proofs.Common.{◌≡◌, arith, sym, ap, ◌∙◌, Err, Some, None}
 use Rattle.std.specs.Prelude.{MatchResult}
 use Rattle.permission_map.specs.Runs.{view_of_runs}
 use Rattle.certificate_check.specs.declared.fault.SourceFault.TheVariants as faults

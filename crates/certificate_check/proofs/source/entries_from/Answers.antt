@@ -1,9 +1,9 @@
-use Rattle.std.proofs.Common.{◌≡◌, ◌+◌, ◌++◌, ◌<◌, List, ℕ, length, refl, arith, ap, sym, ◌∙◌}
+use Rattle.std.proofs.Common.{◌≡◌, ◌+◌, ◌++◌, refl, arith, ap, ◌∙◌}
 use Rattle.certificate_check.specs.Listed.{ListFault}
 use Rattle.certificate_check.specs.declared.stop.Stop.TheVariants.{Refused}
 use Rattle.certificate_check.proofs.Entered.{spans_of, reads_listed, count_listed}
-use Rattle.certificate_check.proofs.Listing.{AreHeld, held_none, held_one, stop_after}
-use Rattle.certificate_check.proofs.Windows.{all_here, reads_as, reads_none, reads_then, stopped_match}
+use Rattle.certificate_check.proofs.Listing.{held_one, stop_after}
+use Rattle.certificate_check.proofs.Windows.{all_here, reads_as, reads_then, stopped_match}
 use Rattle.certificate_check.proofs.source.entries_from.Goals as goal
 
 pub returns-in_err-nine-clause-read : goal.returns-in_err-nine-clause-read

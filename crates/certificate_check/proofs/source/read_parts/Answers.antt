@@ -1,4 +1,4 @@
-use Rattle.std.proofs.Common.{List, ℕ, sym, subst, refl}
+use Rattle.std.proofs.Common.{List, ℕ, sym, subst}
 use Rattle.permission_map.specs.Runs.{view_of_runs}
 use Rattle.certificate_format.specs.Spelling.{SpellsEntries}
 use Rattle.certificate_check.specs.Certificates.{IsRightWith, RefusalStands, in_header, in_entries}

@@ -1,4 +1,4 @@
-use Rattle.std.proofs.Common.{◌≡◌, ◌+◌, ◌<◌, ◌≤◌, length, take, drop, take-append-drop, refl, sym, arith, ◌∙◌}
+use Rattle.std.proofs.Common.{length, take, drop, take-append-drop, refl, sym, arith, ◌∙◌}
 use Rattle.certificate_check.proofs.Windows.{count_on, passed, reads_thrice}
 use Rattle.certificate_check.proofs.window.Window.drain.Goals as goal
 

@@ -1,4 +1,4 @@
-use Rattle.std.proofs.Common.{◌≡◌, ◌+◌, ◌≤◌, length, arith}
+use Rattle.std.proofs.Common.{arith}
 use Rattle.certificate_check.proofs.Windows.{reads_none, stays_on}
 use Rattle.certificate_check.proofs.window.Window.fill.Goals as goal
 

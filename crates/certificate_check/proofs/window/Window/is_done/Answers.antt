@@ -1,4 +1,4 @@
-use Rattle.std.proofs.Common.{ℕ, List, length, ap, refl, ◌∙◌, ◌==◌}
+use Rattle.std.proofs.Common.{refl}
 use Rattle.certificate_check.proofs.Windows.{empty_when, part_refused}
 use Rattle.certificate_check.proofs.window.Window.is_done.Goals as goal
 

@@ -1,0 +1,59 @@
+//! Tasks on their files and streams, with what is said behind their ends.
+
+use byte_streams::Counted;
+use command_line::command_of;
+use monitor_cli::{Lent, perform_on_files};
+use std::alloc::Global;
+use std::process::Abort;
+use std::rt::Files;
+use task_files::ShownNames;
+
+/// The command line, with that standard input, ends with this status, prints this and says this.
+fn ends_on_files(
+    rt: &(impl Abort + Files),
+    alloc: Global,
+    words: &[&str],
+    stdin: &[u8],
+    hints: bool,
+    wanted: (u8, &str, &str),
+) {
+    let task = command_of(alloc, words).expect(rt, "a command line").task;
+    let names = ShownNames::of(alloc, &task).expect(rt, "memory");
+    let lent = Lent {
+        alloc,
+        files: rt,
+        stdin,
+    };
+    let mut out = Vec::new(alloc);
+    let mut err = Counted::new(Vec::new(alloc));
+    let done = perform_on_files(&lent, &mut out, &mut err, &task, &names, hints);
+    let status = done.expect(rt, "memory");
+    assert!(rt; out.as_slice() == wanted.1.as_bytes(), "{words:?}");
+    assert!(rt; err.into_inner().as_slice() == wanted.2.as_bytes(), "{words:?}");
+    assert!(rt; status == wanted.0, "{words:?}");
+}
+
+#[test]
+fn inputs_stand_at_their_places(rt: HostRuntime) {
+    let plan = "entries 1\n0 0x1f 0x00000000200001ff\npmpcfg0 0x000000000000001f\npmpcfg2 0x0000000000000000\n";
+    let absent = "no-such-folder/map";
+    let lost = "pmpmon: no-such-folder/map: cannot read\n";
+    let why = "pmpmon: no-such-folder/map: cannot read\nhint: no-such-folder/map: no such file or folder\n";
+    let rows: [(&[&str], bool, (u8, &str, &str)); 4] = [
+        (&["pmpmon", "plan", "-"], true, (0, plan, "")),
+        (&["pmpmon", "plan", absent], true, (3, "", why)),
+        (&["pmpmon", "plan", absent], false, (3, "", lost)),
+        (&["pmpmon", "check", absent, "-"], true, (3, "", why)),
+    ];
+    for (words, hints, wanted) in rows {
+        let map = b"0x80000000 0x1000 rwx\n";
+        ends_on_files(&rt, rt.alloc(), words, map.as_slice(), hints, wanted);
+    }
+}
+
+#[test]
+fn standard_input_has_no_hint_of_its_lines(rt: HostRuntime) {
+    let said = "pmpmon: -: line 1 is not understood\n";
+    let words: &[&str] = &["pmpmon", "plan", "-"];
+    ends_on_files(&rt, rt.alloc(), words, b"what\n", true, (2, "", said));
+}

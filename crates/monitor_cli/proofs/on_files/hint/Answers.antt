@@ -1,0 +1,13 @@
+use Rattle.monitor_cli.proofs.on_files.hint.Goals as goal
+
+pub returns : goal.returns
+returns g c =
+    record {
+      first = c.inputs_again-first.result.0;
+      first_end = c.tell_hints.new.first;
+      second = c.inputs_again-first.result.1;
+      second_end = c.tell_hints.new.second;
+      at_first = c.inputs_again-first.ensures.first;
+      at_second = c.inputs_again-first.ensures.second;
+      hints = c.tell_hints.ensures;
+    }

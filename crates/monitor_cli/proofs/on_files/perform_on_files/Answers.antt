@@ -1,0 +1,43 @@
+use Rattle.std.proofs.Common.{◌∙◌, ap, refl}
+use Rattle.monitor_cli.proofs.OnFiles.{chosen}
+use Rattle.monitor_cli.proofs.on_files.perform_on_files.Goals as goal
+
+pub returns : goal.returns
+returns g c =
+    record {
+      shown = c.with_names-shown.result;
+      first = c.inputs-first.result.0;
+      first_end = c.perform_and_close-status.new.first;
+      second = c.inputs-first.result.1;
+      second_end = c.perform_and_close-status.new.second;
+      cert = c.in_ok-cert.cert;
+      cert_end = c.perform_and_close-status.new.cert;
+      out = c.new-4.result;
+      held = c.perform_and_close-status.ensures.0;
+      stream = c.perform_and_close-status.result.1;
+      told = c.perform_and_close-status.ensures.1;
+      closing = c.perform_and_close-status.new.err;
+      ended = c.perform_and_close-status.ensures.2;
+      why = c.or-why.result;
+      named = c.with_names-shown.ensures;
+      empty = (rw c.new-4.ensures.inner (rw c.in-Ok.ensures.inner (rw c.new-out.ensures.inner c.new-2.ensures)), rw c.new-4.ensures.inner c.in-Ok.ensures.empty);
+      at_first = c.inputs-first.ensures.first;
+      at_second = c.inputs-first.ensures.second;
+      unfailed = (c.inputs-first.ensures.failures.0, c.inputs-first.ensures.failures.1, c.in_ok-cert.ensures.failures, c.new-4.ensures.failures);
+      ends = c.perform_and_close-status.ensures.3;
+      closed = c.perform_and_close-status.ensures.4;
+      why_is = (
+        c.first.result,
+        c.second.result,
+        c.cert.result,
+        _,
+        c.first.ensures,
+        c.second.ensures,
+        c.cert.ensures,
+        refl,
+        chosen
+            _ _ _ _ _ _ _ _ _ _ _ _ _ _ _ _ _ _ _ (c.reason.ensures ∙ ap (λ it. it.reason) c.into_inner.ensures) (c.reason-2.ensures ∙ ap (λ it. it.reason) c.into_inner-2.ensures) c.reason-3.ensures
+            c.reason-4.ensures c.failure.ensures c.failure-2.ensures c.failure-3.ensures c.failure-4.ensures c.or.ensures c.or-2.ensures c.or-why.ensures,
+      );
+      follows = c.follow.ensures;
+    }

@@ -1,0 +1,131 @@
+//! A task done on its files and on the standard streams.
+
+ghost use Rattle.std.specs.Prelude.{◌≡◌, IfOk};
+ghost use Rattle.std.specs.Borrow.{Bor};
+ghost use Rattle.byte_streams.specs.Writings.{writing};
+ghost use Rattle.monitor_cli.specs.OnFiles.{failure_of, input_over, EndsOnFiles, Follows, HintsOnFiles, SaysWhy};
+
+use crate::held_output::perform_and_close;
+use byte_streams::{Counted, Sink};
+use input_hints::tell_hints;
+use program_files::{CertificateFile, Explained, Reason, RetryInterrupted};
+use program_tasks::Task;
+use program_troubles::print_reason;
+use std::alloc::{AllocError, Global};
+use std::io::{BufWriter, Read, Write};
+use std::rt::Files;
+use task_files::{NO_FILE, ShownNames, cert_of, inputs, inputs_again, may_be_hinted, with_names};
+
+/// The status of a task that ended since a device failed.
+const DEVICE_FAILED: u8 = 3;
+
+/// What is lent to a task beside what it writes to: memory, files and standard input.
+#[derive(Clone, Copy)]
+pub struct Lent<'a, R, S> {
+    /// What memory is taken from.
+    pub alloc: Global,
+    /// Where its files are.
+    pub files: &'a R,
+    /// What it reads under the word of standard input.
+    pub stdin: S,
+}
+
+/// Says what is wrong with the inputs of a task, which are opened anew. Standard input can't be, so
+/// there is nothing to say of it.
+fn hint<'a, R: Files, S: Read + Copy, E: Sink>(
+    lent: &Lent<'a, R, S>,
+    task: &Task<'a>,
+    shown: &Task<'_>,
+    err: &mut E,
+)
+    ensures { HintsOnFiles R R.Dir lent.now.stdin (input_over R.File.remaining S.remaining) task.now
+        shown.now (writing E.contents E.failures E.stalls err.old err.new) }
+{
+    let (mut first, mut second) = inputs_again(lent.files, lent.stdin, task);
+    tell_hints(lent.alloc, shown, &mut first, &mut second, err);
+}
+
+/// What has that name, and why it failed, where it did.
+type Failure<'a> = Option<(&'a str, Reason)>;
+
+fn failure(name: &str, reason: Option<Reason>) -> Failure<'_>
+    ensures { result ≡ failure_of name.entry reason }
+{
+    reason.map(|reason| (name, reason))
+}
+
+/// Says why something failed, where it did.
+fn say_why<E: Sink>(failure: Failure<'_>, err: &mut E)
+    ensures { SaysWhy (writing E.contents E.failures E.stalls err.old err.new) failure.entry }
+{
+    if let Some((name, reason)) = failure {
+        let _ = print_reason(name, reason, err);
+    }
+}
+
+/// Says what follows the end of a task of that status, where hints are told: what is wrong with its inputs, or why a device
+/// failed.
+fn follow<'a, R: Files, S: Read + Copy, E: Sink>(
+    lent: &Lent<'a, R, S>,
+    task: &Task<'a>,
+    shown: &Task<'_>,
+    status: u8,
+    hints: bool,
+    why: Failure<'_>,
+    err: &mut E,
+)
+    ensures { let telling = writing E.contents E.failures E.stalls err.old err.new in
+        Follows hints task.now status (err.new ≡ err.old)
+        (HintsOnFiles R R.Dir lent.now.stdin (input_over R.File.remaining S.remaining) task.now shown.now
+        telling)
+        (SaysWhy telling why.entry) }
+{
+    if !hints {
+        return;
+    }
+    if may_be_hinted(task, status) {
+        hint(lent, task, shown, err);
+    } else if status == DEVICE_FAILED {
+        say_why(why, err);
+    }
+}
+
+/// Does a task on its files, whose names messages show without control characters, and answers the program's status. Each file
+/// is opened or made at its first read or write. Where hints are told, what is wrong with the inputs is said behind the trouble,
+/// or why a device failed. Nothing is done where memory is refused before.
+pub fn perform_on_files<'a, R: Files, S: Read + Copy, O: Write + Drop, E: Sink>(
+    lent: &Lent<'a, R, S>,
+    stdout: O,
+    err: &mut E,
+    task: &Task<'a>,
+    names: &'a ShownNames,
+    hints: bool,
+) -> Result<u8, AllocError>
+    ensures { IfOk result (EndsOnFiles R R.Dir (Bor R) lent.now.stdin
+        (input_over R.File.remaining S.remaining) stdout (λ stream. O.contents stream.inner.inner)
+        (writing E.contents E.failures E.stalls) task.now names.now hints err.old err.new) }
+{
+    let (mut first, mut second) = inputs(lent.files, lent.stdin, task);
+    let cert = cert_of(task).unwrap_or(NO_FILE);
+    let mut cert = CertificateFile::new(lent.files, lent.alloc, cert)?;
+    let out = Explained::new(RetryInterrupted::new(stdout));
+    let Ok(out) = BufWriter::new(lent.alloc, out) else {
+        return Err(AllocError);
+    };
+    let shown = with_names(task, names);
+    let (status, out) = perform_and_close(
+        lent.alloc,
+        &shown,
+        &mut first,
+        &mut second,
+        &mut cert,
+        Counted::new(out),
+        err,
+    );
+    let why = failure(names.first(), first.into_inner().reason())
+        .or(failure(names.second(), second.into_inner().reason()))
+        .or(failure(names.cert(), cert.reason()))
+        .or(failure("standard output", out.reason()));
+    follow(lent, task, &shown, status, hints, why, err);
+    Ok(status)
+}
