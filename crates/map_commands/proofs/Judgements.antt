@@ -1,14 +1,11 @@
 -- What was found of a certificate is the verdict on its bytes.
-use Rattle.std.proofs.Common.{◌≡◌, ℕ, ◌<◌, ◌^◌, List, ◌++◌, length, sym, ap, ap₂, subst, ◌∙◌, arith}
+use Rattle.std.proofs.Common.{◌≡◌, ℕ, List, length, sym, ap, ap₂, subst, ◌∙◌}
 use Rattle.pmp_match.specs.Meaning.{View}
 use Rattle.certificate_format.specs.declared.header.Header.{Header}
 use Rattle.certificate_format.specs.declared.header.Version.{Version}
-use Rattle.certificate_format.specs.Spelling.{header_bytes}
 use Rattle.certificate_format.proofs.Headers.{same_header}
-use Rattle.certificate_check.specs.declared.refusal.CheckRefusal.{CheckRefusal}
-use Rattle.certificate_check.specs.Certificates.{IsRight, IsRightWith, RefusalStands}
-use Rattle.certificate_check.proofs.OneFault.{refusal_once, right_stands}
-use Rattle.map_commands.specs.Verdicts.{accepted_by, IsVerdict, yes, no}
+use Rattle.certificate_check.specs.Certificates.{IsRight, IsRightWith}
+use Rattle.map_commands.specs.Verdicts.{accepted_by, IsVerdict, yes}
 
 -- the header of a right certificate is the one that was read
 header_of_right :

@@ -1,9 +1,9 @@
 //! The files of a task: where it reads and writes, and under which names messages show them.
 //!
-//! For the layer above: [`first_of`], [`second_of`] and [`cert_of`] say what a task reads and writes, each at its [`Place`], and
-//! [`reads_twice`] whether that is standard input twice. [`inputs`] are what reads there. [`ShownNames`] are their names without control characters, and
-//! [`with_names`] is the task under these. [`shown_words`] and [`quoted`] show words of a command line the same way.
-//! [`may_be_hinted`] says after which ends of a task something may be said of its inputs.
+//! For the layer above: [`first_of`], [`second_of`] and [`cert_of`] say what a task reads and writes, each at its [`Place`],
+//! and [`reads_twice`] whether that is standard input twice. [`inputs`] are what reads there. [`ShownNames`] are their names
+//! without control characters, and [`with_names`] is the task under these. [`shown_words`] and [`quoted`] show words of a
+//! command line the same way. [`may_be_hinted`] says after which ends of a task something may be said of its inputs.
 //!
 //! ```rust
 //! let names = ShownNames::of(rt.alloc(), &task)?;

@@ -1,4 +1,4 @@
-use Rattle.std.proofs.Common.{ap, inl, inr, length, sym}
+use Rattle.std.proofs.Common.{ap, inr, length, sym}
 use Rattle.std.proofs.lemmas.Result.{err_from_is_err_and}
 use Rattle.map_commands.proofs.certified_plan.fewest_in.Goals as goal
 

@@ -1,4 +1,4 @@
-use Rattle.std.proofs.Common.{inl, inr, refl}
+use Rattle.std.proofs.Common.{refl}
 use Rattle.std.proofs.lemmas.Result.{err_from_is_err_and}
 use Rattle.map_commands.specs.CertifiedPlan.{for_entries, for_memory, for_width}
 use Rattle.map_commands.specs.Judge.{no_bank}

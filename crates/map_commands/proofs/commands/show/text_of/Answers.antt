@@ -1,4 +1,3 @@
-use Rattle.std.proofs.Common.{sym}
 use Rattle.map_commands.proofs.commands.show.text_of.Goals as goal
 
 pub returns-then-costs : goal.returns-then-costs

@@ -1,4 +1,4 @@
-use Rattle.std.proofs.Common.{◌≡◌, ◌∙◌, refl, subst}
+use Rattle.std.proofs.Common.{◌∙◌, refl, subst}
 use Rattle.certificate_check.specs.Certificates.{IsJudged, IsRightWith, RefusalStands}
 use Rattle.certificate_check.proofs.OneFault.{refusal_once, right_stands}
 use Rattle.map_commands.specs.Verdicts.{no}
