@@ -2,23 +2,21 @@
 
 use byte_streams::Counted;
 use command_line::command_of;
-use monitor_cli::{Lent, perform_on_files};
+use monitor_cli::{Lent, Task, perform_on_files};
 use std::alloc::Global;
 use std::process::Abort;
 use std::rt::Files;
 use task_files::ShownNames;
 
-/// The command line, with that standard input, ends with this status, prints this and says this.
-fn ends_on_files(
+/// Does a task on its files, and answers its status, what it printed and what it said.
+fn done(
     rt: &(impl Abort + Files),
     alloc: Global,
-    words: &[&str],
+    task: &Task<'_>,
+    names: &ShownNames,
     stdin: &[u8],
     hints: bool,
-    wanted: (u8, &str, &str),
-) {
-    let task = command_of(alloc, words).expect(rt, "a command line").task;
-    let names = ShownNames::of(alloc, &task).expect(rt, "memory");
+) -> (u8, Vec<u8>, Vec<u8>) {
     let lent = Lent {
         alloc,
         files: rt,
@@ -26,19 +24,34 @@ fn ends_on_files(
     };
     let mut out = Vec::new(alloc);
     let mut err = Counted::new(Vec::new(alloc));
-    let done = perform_on_files(&lent, &mut out, &mut err, &task, &names, hints);
-    let status = done.expect(rt, "memory");
-    assert!(rt; out.as_slice() == wanted.1.as_bytes(), "{words:?}");
-    assert!(rt; err.into_inner().as_slice() == wanted.2.as_bytes(), "{words:?}");
-    assert!(rt; status == wanted.0, "{words:?}");
+    let status = perform_on_files(&lent, &mut out, &mut err, task, names, hints);
+    (status.expect(rt, "memory"), out, err.into_inner())
+}
+
+/// The task, with that standard input, ends with this status, prints this and says this.
+fn ends_on_files(
+    rt: &(impl Abort + Files),
+    alloc: Global,
+    task: &Task<'_>,
+    stdin: &[u8],
+    hints: bool,
+    wanted: (u8, &str, &str),
+) {
+    let names = ShownNames::of(alloc, task).expect(rt, "memory");
+    let (status, out, err) = done(rt, alloc, task, &names, stdin, hints);
+    assert!(rt; out.as_slice() == wanted.1.as_bytes(), "{}", wanted.1);
+    assert!(rt; err.as_slice() == wanted.2.as_bytes(), "{}", wanted.2);
+    assert!(rt; status == wanted.0, "{}", wanted.2);
 }
 
 #[test]
 fn inputs_stand_at_their_places(rt: HostRuntime) {
-    let plan = "entries 1\n0 0x1f 0x00000000200001ff\npmpcfg0 0x000000000000001f\npmpcfg2 0x0000000000000000\n";
+    let plan =
+        "entries 1\n0 0x1f 0x00000000200001ff\npmpcfg0 0x000000000000001f\npmpcfg2 0x0000000000000000\n";
     let absent = "no-such-folder/map";
     let lost = "pmpmon: no-such-folder/map: cannot read\n";
-    let why = "pmpmon: no-such-folder/map: cannot read\nhint: no-such-folder/map: no such file or folder\n";
+    let why =
+        "pmpmon: no-such-folder/map: cannot read\nhint: no-such-folder/map: no such file or folder\n";
     let rows: [(&[&str], bool, (u8, &str, &str)); 4] = [
         (&["pmpmon", "plan", "-"], true, (0, plan, "")),
         (&["pmpmon", "plan", absent], true, (3, "", why)),
@@ -47,13 +60,18 @@ fn inputs_stand_at_their_places(rt: HostRuntime) {
     ];
     for (words, hints, wanted) in rows {
         let map = b"0x80000000 0x1000 rwx\n";
-        ends_on_files(&rt, rt.alloc(), words, map.as_slice(), hints, wanted);
+        let task = command_of(rt.alloc(), words)
+            .expect(&rt, "a command line")
+            .task;
+        ends_on_files(&rt, rt.alloc(), &task, map.as_slice(), hints, wanted);
     }
 }
 
 #[test]
 fn standard_input_has_no_hint_of_its_lines(rt: HostRuntime) {
     let said = "pmpmon: -: line 1 is not understood\n";
-    let words: &[&str] = &["pmpmon", "plan", "-"];
-    ends_on_files(&rt, rt.alloc(), words, b"what\n", true, (2, "", said));
+    let task = command_of(rt.alloc(), &["pmpmon", "plan", "-"])
+        .expect(&rt, "a command line")
+        .task;
+    ends_on_files(&rt, rt.alloc(), &task, b"what\n", true, (2, "", said));
 }
