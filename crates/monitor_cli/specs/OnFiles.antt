@@ -9,22 +9,21 @@ use Rattle.byte_streams.specs.declared.streams.Counted.{Counted}
 use Rattle.byte_streams.specs.Streams.{failures_of, inner_of, stalls_of}
 use Rattle.byte_streams.specs.Writings.{writing, Breaks, IsUnwritten, TakesAll, Writing}
 use Rattle.program_files.specs.declared.certificate_file.CertificateFile.{CertificateFile}
-use Rattle.program_files.specs.declared.devices.InputToRead.{InputToRead}
 use Rattle.program_files.specs.declared.devices.RetryInterrupted.{RetryInterrupted}
 use Rattle.program_files.specs.declared.reason.Explained.{Explained}
 use Rattle.program_files.specs.declared.reason.Reason.{Reason}
 use Rattle.program_files.specs.Inputs.{remaining_of}
 use Rattle.program_tasks.specs.declared.task.Task.{Task}
-use Rattle.program_troubles.specs.declared.trouble.Trouble.TheVariants.{Output}
+use Rattle.program_troubles.specs.declared.trouble.Trouble.TheVariants as troubles
 use Rattle.program_troubles.specs.ReasonHints.{hint_text}
 use Rattle.command_inputs.specs.Inputs.{reading, Reading}
 use Rattle.map_commands.specs.CertifiedPlan.{placing, Placing}
 use Rattle.input_hints.specs.Hints.{TellsHints}
 use Rattle.task_files.specs.Hinted.{may_be_hinted}
+use Rattle.task_files.specs.Inputs.{reader_in, reason_in, AreInputs, AreInputsAgain, Input}
 use Rattle.task_files.specs.Names.{IsUnderNames}
 use Rattle.task_files.specs.Words.{IsTextOf}
 use Rattle.task_files.specs.declared.names.ShownNames.{ShownNames}
-use Rattle.task_files.specs.Places.{first_of, second_of, IsAt, IsAtAgain}
 use Rattle.monitor_cli.specs.HeldOutput.{held_by, IsClosed}
 use Rattle.monitor_cli.specs.Programs.{Ends, Tells}
 
@@ -38,17 +37,27 @@ pub data SaysWhy {E : Type 0} (err : Writing E) : Option (Bor (List ℕ) × Reas
   told : (name : Bor (List ℕ)) (reason : Reason) → TakesAll (hint_text name.now reason) err → SaysWhy err (Some (name, reason))
   cut : (name : Bor (List ℕ)) (reason : Reason) → Breaks (hint_text name.now reason) err → SaysWhy err (Some (name, reason))
 
--- what a task reads from, over a call: its file or stream, and its failures
-abbrev pub input_over : {R S F D : Type 0} → (F → Option (List ℕ)) → (S → Option (List ℕ)) → Counted (Explained (InputToRead R S F D)) → Counted (Explained (InputToRead R S F D)) → Reading (Counted (Explained (InputToRead R S F D)))
-input_over {R = R} {S = S} {F = F} {D = D} file_bytes stream_bytes old new = reading (λ input. remaining_of file_bytes stream_bytes (inner_of {T = Explained (InputToRead R S F D)} input).inner) failures_of old new
+-- what a task reads over a call: its bytes, as far as its file or stream tells them, and its failures
+abbrev pub input_over : {R S F D : Type 0} → (F → Option (List ℕ)) → (S → Option (List ℕ)) → Input R S F D → Input R S F D → Reading (Input R S F D)
+input_over file_bytes stream_bytes old new = reading (λ input. remaining_of file_bytes stream_bytes (reader_in input)) failures_of old new
 
 -- the file of a certificate over a call: its bytes are not known
 abbrev pub certificate_over : {R F D : Type 0} → CertificateFile R F D → CertificateFile R F D → Placing (CertificateFile R F D)
 certificate_over old new = placing (λ file. None) (λ file. file.part.failures) (λ file. file.part.stalls) (λ file. None) true old new
 
--- an output goes to a stream, and holds nothing for it yet
-abbrev pub IsEmptyOver : {O : Type 0} → O → Counted (BufWriter (Explained (RetryInterrupted O)) Global) → Type 0
-IsEmptyOver {O = O} stream out = ((writer_inner (inner_of {T = BufWriter (Explained (RetryInterrupted O)) Global} out)).inner.inner ≡ stream) × (writer_buffer (inner_of {T = BufWriter (Explained (RetryInterrupted O)) Global} out) ≡ [])
+-- what a task prints to: held in part until its end, and why it failed last is kept
+abbrev pub Output : Type 0 → Type 0
+Output O = Counted (BufWriter (Explained (RetryInterrupted O)) Global)
+
+-- what holds the bytes of an output
+abbrev pub buffer_in : {O : Type 0} → Output O → BufWriter (Explained (RetryInterrupted O)) Global
+buffer_in {O = O} out = inner_of {T = BufWriter (Explained (RetryInterrupted O)) Global} out
+
+-- an output goes to a stream, holds nothing for it yet, and has not failed
+pub record IsOpened {O : Type 0} (stream : O) (out : Output O) : Type 0 where
+  pub over : (writer_inner (buffer_in out)).inner.inner ≡ stream
+  pub empty : writer_buffer (buffer_in out) ≡ []
+  pub fresh : (failures_of out ≡ 0) × ((writer_inner (buffer_in out)).reason ≡ None)
 
 -- why the first failed of what a task read first and after that, of its certificate and of its output, under the names that messages show
 abbrev pub IsFirstFailure : ShownNames → Option Reason → Option Reason → Option Reason → Option Reason → Option (Bor (List ℕ) × Reason) → Type 0
@@ -57,13 +66,12 @@ IsFirstFailure names of_first of_second of_cert of_out why =
     × (why ≡ option_or (option_or (option_or (failure_of first of_first) (failure_of second of_second)) (failure_of cert of_cert)) (failure_of out of_out))
 
 -- the hints of a task, on what its places read a second time
-pub record HintsOnFiles (R D : Type 0) {S F E : Type 0} (stdin : S) (source : Counted (Explained (InputToRead R S F D)) → Counted (Explained (InputToRead R S F D)) → Reading (Counted (Explained (InputToRead R S F D)))) (task shown : Task) (err : Writing E) : Type 0 where
-  pub first : Counted (Explained (InputToRead R S F D))
-  pub first_end : Counted (Explained (InputToRead R S F D))
-  pub second : Counted (Explained (InputToRead R S F D))
-  pub second_end : Counted (Explained (InputToRead R S F D))
-  pub at_first : IsAtAgain stdin (Some (first_of task)) (inner_of {T = Explained (InputToRead R S F D)} first).inner
-  pub at_second : IsAtAgain stdin (second_of task) (inner_of {T = Explained (InputToRead R S F D)} second).inner
+pub record HintsOnFiles (R D : Type 0) {S F E : Type 0} (stdin : S) (source : Input R S F D → Input R S F D → Reading (Input R S F D)) (task shown : Task) (err : Writing E) : Type 0 where
+  pub first : Input R S F D
+  pub first_end : Input R S F D
+  pub second : Input R S F D
+  pub second_end : Input R S F D
+  pub inputs : AreInputsAgain stdin task first second
   pub hints : TellsHints shown (source first first_end) (source second second_end) err
 
 -- what follows the end of a task: where hints are told, those of its inputs, or why a device failed, and otherwise nothing
@@ -73,29 +81,30 @@ pub data Follows (hints : Bool) (task : Task) (status : ℕ) (quiet hinted why :
   of_devices : hints ≡ true → may_be_hinted task status ≡ false → status ≡ 3 → why → Follows hints task status quiet hinted why
   nothing : hints ≡ true → may_be_hinted task status ≡ false → status ≢ 3 → quiet → Follows hints task status quiet hinted why
 
--- a task ended on its files with that status. It was done, under the names that messages show, on what its places read, from
--- their beginnings on; then what was held of its output was handed on, and then hints were told
-pub record EndsOnFiles (R D P : Type 0) {S F O E : Type 0} (stdin : S) (source : Counted (Explained (InputToRead R S F D)) → Counted (Explained (InputToRead R S F D)) → Reading (Counted (Explained (InputToRead R S F D)))) (stdout : O) (contents : Explained (RetryInterrupted O) → Option (List ℕ)) (telling : E → E → Writing E) (task : Task) (names : ShownNames) (hints : Bool) (old new : E) (status : ℕ) : Type 0 where
+-- a task ended on its files with that status. It was done, under the names that messages show, on what its places read and on
+-- an output that held nothing yet; then what was held of that was handed on, and then hints were told
+pub record EndsOnFiles (R D P : Type 0) {S F O E : Type 0} (stdin : S) (source : Input R S F D → Input R S F D → Reading (Input R S F D)) (stdout : O) (contents : Explained (RetryInterrupted O) → Option (List ℕ)) (telling : E → E → Writing E) (task : Task) (names : ShownNames) (hints : Bool) (old new : E) (status : ℕ) : Type 0 where
+  -- what it had at its beginning, and what became of it
   pub shown : Task
-  pub first : Counted (Explained (InputToRead R S F D))
-  pub first_end : Counted (Explained (InputToRead R S F D))
-  pub second : Counted (Explained (InputToRead R S F D))
-  pub second_end : Counted (Explained (InputToRead R S F D))
+  pub first : Input R S F D
+  pub first_end : Input R S F D
+  pub second : Input R S F D
+  pub second_end : Input R S F D
   pub cert : CertificateFile P F D
   pub cert_end : CertificateFile P F D
-  pub out : Counted (BufWriter (Explained (RetryInterrupted O)) Global)
-  pub held : Counted (BufWriter (Explained (RetryInterrupted O)) Global)
+  pub out : Output O
+  pub held : Output O
   pub stream : Explained (RetryInterrupted O)
+  -- standard error behind the trouble, and behind the handing on
   pub told : E
   pub closing : E
   pub ended : ℕ
   pub why : Option (Bor (List ℕ) × Reason)
   pub named : IsUnderNames names task shown
-  pub empty : IsEmptyOver stdout out
-  pub at_first : IsAt stdin (Some (first_of task)) (inner_of {T = Explained (InputToRead R S F D)} first).inner
-  pub at_second : IsAt stdin (second_of task) (inner_of {T = Explained (InputToRead R S F D)} second).inner
-  pub unfailed : (failures_of first ≡ 0) × (failures_of second ≡ 0) × (cert.part.failures ≡ 0) × (failures_of out ≡ 0)
+  pub inputs : AreInputs stdin task first second
+  pub fresh : (cert.part.failures ≡ 0) × (cert.part.reason ≡ None)
+  pub opened : IsOpened stdout out
   pub ends : Ends shown (source first first_end) (source second second_end) (certificate_over cert cert_end) (writing (held_by contents) failures_of stalls_of out held) (telling old told) ended
-  pub closed : IsClosed (held_by contents held) (contents stream) (closing ≡ told) (Tells (telling told closing) (Err Output)) ended status
-  pub why_is : IsFirstFailure names (inner_of {T = Explained (InputToRead R S F D)} first_end).reason (inner_of {T = Explained (InputToRead R S F D)} second_end).reason cert_end.part.reason stream.reason why
+  pub closed : IsClosed (held_by contents held) (contents stream) (closing ≡ told) (Tells (telling told closing) (Err troubles.Output)) ended status
+  pub why_is : IsFirstFailure names (reason_in first_end) (reason_in second_end) cert_end.part.reason stream.reason why
   pub follows : Follows hints task status (new ≡ closing) (HintsOnFiles R D stdin source task shown (telling closing new)) (SaysWhy (telling closing new) why)

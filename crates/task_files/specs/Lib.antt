@@ -1,4 +1,5 @@
 pub mod Hinted
+pub mod Inputs
 pub mod Names
 pub mod Places
 pub mod Words

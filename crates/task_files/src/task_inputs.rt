@@ -1,8 +1,8 @@
 //! What reads at the places of a task.
 
-ghost use Rattle.std.specs.Prelude.{◌≡◌, None, Some};
-ghost use Rattle.byte_streams.specs.Streams.{failures_of, inner_of};
-ghost use Rattle.task_files.specs.Places.{first_of, second_of, IsAt, IsAtAgain};
+ghost use Rattle.std.specs.Prelude.{◌≡◌};
+ghost use Rattle.task_files.specs.Inputs.{reader_in, AreInputs, AreInputsAgain, IsFresh};
+ghost use Rattle.task_files.specs.Places.{IsAt, IsAtAgain};
 
 use crate::names::NO_FILE;
 use crate::places::{Place, again, first_of, second_of};
@@ -18,9 +18,8 @@ pub type Input<'a, R, S> = Counted<Explained<InputToRead<'a, R, S>>>;
 
 /// What counts the failures of an input, and keeps why the last one came.
 fn reading<'a, R: Files, S: Read>(input: InputToRead<'a, R, S>) -> Input<'a, R, S>
-    ensures failures { failures_of result ≡ 0 }
-    ensures input { (inner_of result).inner ≡ input.entry }
-    ensures reason { (inner_of result).reason ≡ None }
+    ensures input { reader_in result ≡ input.entry }
+    ensures fresh { IsFresh result }
 {
     Counted::new(Explained::new(input))
 }
@@ -31,9 +30,8 @@ fn input_at<'a, R: Files, S: Read + Copy>(
     stdin: S,
     place: Option<Place<'a>>,
 ) -> Input<'a, R, S>
-    ensures failures { failures_of result ≡ 0 }
-    ensures place { IsAt stdin place.entry (inner_of result).inner }
-    ensures reason { (inner_of result).reason ≡ None }
+    ensures place { IsAt stdin place.entry (reader_in result) }
+    ensures fresh { IsFresh result }
 {
     match place {
         Some(Place::StandardInput) => reading(InputToRead::of_stream(stdin)),
@@ -48,11 +46,7 @@ pub fn inputs<'a, R: Files, S: Read + Copy>(
     stdin: S,
     task: &Task<'a>,
 ) -> (Input<'a, R, S>, Input<'a, R, S>)
-    ensures first { IsAt stdin (Some (first_of task.now)) (inner_of result.0).inner }
-    ensures second { IsAt stdin (second_of task.now) (inner_of result.1).inner }
-    ensures failures { (failures_of result.0 ≡ 0) × (failures_of result.1 ≡ 0) }
-    ensures reasons { ((inner_of result.0).reason ≡ None)
-        × ((inner_of result.1).reason ≡ None) }
+    ensures { AreInputs stdin task.now result.0 result.1 }
 {
     (
         input_at(files, stdin, Some(first_of(task))),
@@ -66,8 +60,8 @@ fn input_again<'a, R: Files, S: Read + Copy>(
     stdin: S,
     place: Option<Place<'a>>,
 ) -> Input<'a, R, S>
-    ensures failures { failures_of result ≡ 0 }
-    ensures place { IsAtAgain stdin place.entry (inner_of result).inner }
+    ensures place { IsAtAgain stdin place.entry (reader_in result) }
+    ensures fresh { IsFresh result }
 {
     let Some(Place::File(name)) = again(place) else {
         return input_at(files, stdin, None);
@@ -84,9 +78,7 @@ pub fn inputs_again<'a, R: Files, S: Read + Copy>(
     stdin: S,
     task: &Task<'a>,
 ) -> (Input<'a, R, S>, Input<'a, R, S>)
-    ensures first { IsAtAgain stdin (Some (first_of task.now)) (inner_of result.0).inner }
-    ensures second { IsAtAgain stdin (second_of task.now) (inner_of result.1).inner }
-    ensures failures { (failures_of result.0 ≡ 0) × (failures_of result.1 ≡ 0) }
+    ensures { AreInputsAgain stdin task.now result.0 result.1 }
 {
     (
         input_again(files, stdin, Some(first_of(task))),

@@ -7,7 +7,6 @@ returns g c =
       first_end = c.tell_hints.new.first;
       second = c.inputs_again-first.result.1;
       second_end = c.tell_hints.new.second;
-      at_first = c.inputs_again-first.ensures.first;
-      at_second = c.inputs_again-first.ensures.second;
+      inputs = c.inputs_again-first.ensures;
       hints = c.tell_hints.ensures;
     }

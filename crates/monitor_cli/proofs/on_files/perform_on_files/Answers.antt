@@ -20,10 +20,13 @@ returns g c =
       ended = c.perform_and_close-status.ensures.2;
       why = c.or-why.result;
       named = c.with_names-shown.ensures;
-      empty = (rw c.new-4.ensures.inner (rw c.in-Ok.ensures.inner (rw c.new-out.ensures.inner c.new-2.ensures)), rw c.new-4.ensures.inner c.in-Ok.ensures.empty);
-      at_first = c.inputs-first.ensures.first;
-      at_second = c.inputs-first.ensures.second;
-      unfailed = (c.inputs-first.ensures.failures.0, c.inputs-first.ensures.failures.1, c.in_ok-cert.ensures.failures, c.new-4.ensures.failures);
+      inputs = c.inputs-first.ensures;
+      fresh = (c.in_ok-cert.ensures.failures, c.in_ok-cert.ensures.reason);
+      opened = record {
+        over = rw c.new-4.ensures.inner (rw c.in-Ok.ensures.inner (rw c.new-out.ensures.inner c.new-2.ensures));
+        empty = rw c.new-4.ensures.inner c.in-Ok.ensures.empty;
+        fresh = (c.new-4.ensures.failures, rw c.new-4.ensures.inner (rw c.in-Ok.ensures.inner c.new-out.ensures.reason));
+      };
       ends = c.perform_and_close-status.ensures.3;
       closed = c.perform_and_close-status.ensures.4;
       why_is = (
