@@ -1,15 +1,16 @@
 //! A task done on its files and on the standard streams.
 
-ghost use Rattle.std.specs.Prelude.{◌≡◌, IfOk};
+ghost use Rattle.std.specs.Prelude.{◌≡◌, IfOk, OnErr};
 ghost use Rattle.std.specs.Borrow.{Bor};
 ghost use Rattle.byte_streams.specs.Writings.{writing};
+ghost use Rattle.program_tasks.specs.Hints.{are_told};
 ghost use Rattle.monitor_cli.specs.OnFiles.{failure_of, input_over, EndsOnFiles, Follows, HintsOnFiles, SaysWhy};
 
 use crate::held_output::perform_and_close;
 use byte_streams::{Counted, Sink};
 use input_hints::tell_hints;
 use program_files::{CertificateFile, Explained, Reason, RetryInterrupted};
-use program_tasks::Task;
+use program_tasks::{Request, Task};
 use program_troubles::print_reason;
 use std::alloc::{AllocError, Global};
 use std::io::{BufWriter, Read, Write};
@@ -90,21 +91,24 @@ fn follow<'a, R: Files, S: Read + Copy, E: Sink>(
     }
 }
 
-/// Does a task on its files, whose names messages show without control characters, and answers the program's status. Each file
-/// is opened or made at its first read or write. Where hints are told, what is wrong with the inputs is said behind the trouble,
-/// or why a device failed. Nothing is done where memory is refused before.
+/// Does what is asked for on the files of its task, whose names messages show without control characters, and answers the
+/// program's status. Each file is opened or made at its first read or write. Where hints are told, what is wrong with the inputs
+/// is said behind the trouble, or why a device failed. Nothing is done where memory is refused before.
 pub fn perform_on_files<'a, R: Files, S: Read + Copy, O: Write + Drop, E: Sink>(
     lent: &Lent<'a, R, S>,
     stdout: O,
     err: &mut E,
-    task: &Task<'a>,
+    request: &Request<'a>,
     names: &'a ShownNames,
-    hints: bool,
+    is_terminal: bool,
 ) -> Result<u8, AllocError>
-    ensures { IfOk result (EndsOnFiles R R.Dir (Bor R) lent.now.stdin
+    ensures ends { IfOk result (EndsOnFiles R R.Dir (Bor R) lent.now.stdin
         (input_over R.File.remaining S.remaining) stdout (λ stream. O.contents stream.inner.inner)
-        (writing E.contents E.failures E.stalls) task.now names.now hints err.old err.new) }
+        (writing E.contents E.failures E.stalls) request.now.task names.now
+        (are_told request.now.hints is_terminal) err.old err.new) }
+    ensures untold { OnErr result (err.new ≡ err.old) }
 {
+    let task = &request.task;
     let (mut first, mut second) = inputs(lent.files, lent.stdin, task);
     let cert = cert_of(task).unwrap_or(NO_FILE);
     let mut cert = CertificateFile::new(lent.files, lent.alloc, cert)?;
@@ -126,6 +130,7 @@ pub fn perform_on_files<'a, R: Files, S: Read + Copy, O: Write + Drop, E: Sink>(
         .or(failure(names.second(), second.into_inner().reason()))
         .or(failure(names.cert(), cert.reason()))
         .or(failure("standard output", out.reason()));
+    let hints = request.hints.are_told(is_terminal);
     follow(lent, task, &shown, status, hints, why, err);
     Ok(status)
 }

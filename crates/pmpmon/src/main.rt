@@ -124,9 +124,9 @@ fn done(rt: &HostRuntime, request: &Request<'_>, names: &ShownNames) -> Result<u
         files: rt,
         stdin: rt.stdin(),
     };
-    let hints = request.hints.are_told(rt.stderr().is_terminal());
     let mut err = standard_error(rt);
-    perform_on_files(&lent, rt.stdout(), &mut err, &request.task, names, hints)
+    let is_terminal = rt.stderr().is_terminal();
+    perform_on_files(&lent, rt.stdout(), &mut err, request, names, is_terminal)
 }
 
 /// Does what is asked for, unless it would read standard input twice or write the certificate over what it reads or prints.

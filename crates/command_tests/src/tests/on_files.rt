@@ -1,21 +1,21 @@
-//! Tasks on their files and streams, with what is said behind their ends.
+//! Requests on their files and streams, with what is said behind their ends.
 
 use byte_streams::Counted;
 use command_line::command_of;
-use monitor_cli::{Lent, Task, perform_on_files};
+use monitor_cli::{Lent, perform_on_files};
+use program_tasks::Request;
 use std::alloc::Global;
 use std::process::Abort;
 use std::rt::Files;
 use task_files::ShownNames;
 
-/// Does a task on its files, and answers its status, what it printed and what it said.
+/// Does what is asked for, where standard error is no terminal, and answers the status, what was printed and what was said.
 fn done(
     rt: &(impl Abort + Files),
     alloc: Global,
-    task: &Task<'_>,
+    request: &Request<'_>,
     names: &ShownNames,
     stdin: &[u8],
-    hints: bool,
 ) -> (u8, Vec<u8>, Vec<u8>) {
     let lent = Lent {
         alloc,
@@ -24,21 +24,21 @@ fn done(
     };
     let mut out = Vec::new(alloc);
     let mut err = Counted::new(Vec::new(alloc));
-    let status = perform_on_files(&lent, &mut out, &mut err, task, names, hints);
+    let status = perform_on_files(&lent, &mut out, &mut err, request, names, false);
     (status.expect(rt, "memory"), out, err.into_inner())
 }
 
-/// The task, with that standard input, ends with this status, prints this and says this.
+/// The command line, with that standard input, ends with this status, prints this and says this.
 fn ends_on_files(
     rt: &(impl Abort + Files),
     alloc: Global,
-    task: &Task<'_>,
+    words: &[&str],
     stdin: &[u8],
-    hints: bool,
     wanted: (u8, &str, &str),
 ) {
-    let names = ShownNames::of(alloc, task).expect(rt, "memory");
-    let (status, out, err) = done(rt, alloc, task, &names, stdin, hints);
+    let request = command_of(alloc, words).expect(rt, "a command line");
+    let names = ShownNames::of(alloc, &request.task).expect(rt, "memory");
+    let (status, out, err) = done(rt, alloc, &request, &names, stdin);
     assert!(rt; out.as_slice() == wanted.1.as_bytes(), "{}", wanted.1);
     assert!(rt; err.as_slice() == wanted.2.as_bytes(), "{}", wanted.2);
     assert!(rt; status == wanted.0, "{}", wanted.2);
@@ -52,26 +52,21 @@ fn inputs_stand_at_their_places(rt: HostRuntime) {
     let lost = "pmpmon: no-such-folder/map: cannot read\n";
     let why =
         "pmpmon: no-such-folder/map: cannot read\nhint: no-such-folder/map: no such file or folder\n";
-    let rows: [(&[&str], bool, (u8, &str, &str)); 4] = [
-        (&["pmpmon", "plan", "-"], true, (0, plan, "")),
-        (&["pmpmon", "plan", absent], true, (3, "", why)),
-        (&["pmpmon", "plan", absent], false, (3, "", lost)),
-        (&["pmpmon", "check", absent, "-"], true, (3, "", why)),
+    let rows: [(&[&str], (u8, &str, &str)); 4] = [
+        (&["pmpmon", "plan", "-", "--hints", "always"], (0, plan, "")),
+        (&["pmpmon", "plan", absent, "--hints", "always"], (3, "", why)),
+        (&["pmpmon", "plan", absent], (3, "", lost)),
+        (&["pmpmon", "check", absent, "-", "--hints", "always"], (3, "", why)),
     ];
-    for (words, hints, wanted) in rows {
+    for (words, wanted) in rows {
         let map = b"0x80000000 0x1000 rwx\n";
-        let task = command_of(rt.alloc(), words)
-            .expect(&rt, "a command line")
-            .task;
-        ends_on_files(&rt, rt.alloc(), &task, map.as_slice(), hints, wanted);
+        ends_on_files(&rt, rt.alloc(), words, map.as_slice(), wanted);
     }
 }
 
 #[test]
 fn standard_input_has_no_hint_of_its_lines(rt: HostRuntime) {
+    let words = ["pmpmon", "plan", "-", "--hints", "always"];
     let said = "pmpmon: -: line 1 is not understood\n";
-    let task = command_of(rt.alloc(), &["pmpmon", "plan", "-"])
-        .expect(&rt, "a command line")
-        .task;
-    ends_on_files(&rt, rt.alloc(), &task, b"what\n", true, (2, "", said));
+    ends_on_files(&rt, rt.alloc(), &words, b"what\n", (2, "", said));
 }

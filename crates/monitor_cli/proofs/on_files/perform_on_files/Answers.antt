@@ -2,8 +2,8 @@ use Rattle.std.proofs.Common.{◌∙◌, ap, refl}
 use Rattle.monitor_cli.proofs.OnFiles.{chosen}
 use Rattle.monitor_cli.proofs.on_files.perform_on_files.Goals as goal
 
-pub returns : goal.returns
-returns g c =
+pub returns-clause-ends : goal.returns-clause-ends
+returns-clause-ends g c =
     record {
       shown = c.with_names-shown.result;
       first = c.inputs-first.result.0;
@@ -42,5 +42,5 @@ returns g c =
             _ _ _ _ _ _ _ _ _ _ _ _ _ _ _ _ _ _ _ (c.reason.ensures ∙ ap (λ it. it.reason) c.into_inner.ensures) (c.reason-2.ensures ∙ ap (λ it. it.reason) c.into_inner-2.ensures) c.reason-3.ensures
             c.reason-4.ensures c.failure.ensures c.failure-2.ensures c.failure-3.ensures c.failure-4.ensures c.or.ensures c.or-2.ensures c.or-why.ensures,
       );
-      follows = c.follow.ensures;
+      follows = rw (← c.are_told-hints.ensures) c.follow.ensures;
     }
