@@ -62,6 +62,11 @@ device_step items bytes n a b perm is p q r =
     map-append words_of_device items ((a, b, perm) ∷ []) ∙ ap (λ xs. xs ++ ((a, b, bits_of perm) ∷ [])) is ∙ ap (λ (d : ℕ × ℕ × ℕ). device_words bytes n ++ (d ∷ [])) same ∙ ap (device_words bytes) e
 
 -- an entry more
+pub cfg_step : (entries : List Entry) (n : ℕ) → cfg_bytes entries n ++ cfg_at entries n ∷ [] ≡ cfg_bytes entries (n + 1)
+cfg_step entries n =
+    let e : suc n ≡ n + 1 = omega arith in
+    ap (cfg_bytes entries) e
+
 pub address_step : (entries : List Entry) (n : ℕ) → address_bytes entries n ++ little_bytes 8 (address_at entries n) ≡ address_bytes entries (n + 1)
 address_step entries n =
     let e : suc n ≡ n + 1 = omega arith in

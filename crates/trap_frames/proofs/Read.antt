@@ -1,5 +1,5 @@
 -- What was read.
-use Rattle.std.proofs.Common.{◌≡◌, ◌≤◌, ◌<◌, ◌+◌, ◌/◌, inl, inr, ℕ, refl, List, [], ◌∷◌, ◌++◌, Ok, Err, Result, Option, length, subst, append_assoc}
+use Rattle.std.proofs.Common.{◌≡◌, ◌≤◌, ◌<◌, ◌+◌, ◌/◌, arith, inl, inr, ℕ, refl, List, [], ◌∷◌, ◌++◌, Ok, Err, Result, Option, length, subst, append_assoc}
 use Rattle.std.specs.Result.{IfOk, IfErr}
 use Rattle.std.specs.Io.KnownBytes.{Consumes}
 use Rattle.std.proofs.Common.{take_all}
@@ -12,7 +12,7 @@ use Rattle.trap_frames.specs.declared.end.Refusal.{Refusal}
 use Rattle.trap_frames.specs.declared.end.Refusal.TheVariants.{NotUnderstood, Platform, NeedsEntries, Memory}
 use Rattle.trap_frames.specs.Words.{platform_tag, word_at}
 use Rattle.trap_frames.specs.FrameBytes.{Filled}
-use Rattle.trap_frames.specs.PageDigest.{ArePages, Measures, ReadsPage}
+use Rattle.trap_frames.specs.PageDigest.{ArePages, IsNoPage, IsPageFrame, Measures, ReadsPage}
 use Rattle.trap_frames.specs.Traps.{CountsWrite}
 use Rattle.enclave_requests.specs.declared.request.Create.{Create}
 use Rattle.std.proofs.KnownBytes.{Consumes-trans}
@@ -35,6 +35,12 @@ fails_after (rule ∷ rules) more fault pass fails = inr (pass.0, fails_after ru
 -- a buffer that was filled left the source whole
 pub whole : (n : ℕ) (buffer : List ℕ) (before after : Option (List ℕ)) → length buffer ≤ n → Filled n buffer before after → Consumes before after buffer
 whole n buffer before after all filled = subst (Consumes before after) (take_all n buffer all) filled.consumed
+
+-- a frame that was read whole and is not that of the page
+pub other_frame :
+    (n page : ℕ) (frame : List ℕ) (before after : Option (List ℕ)) → length frame ≡ 4112 → 4112 ≤ n → Filled n frame before after → ((bytes : List ℕ) → IsPageFrame frame page bytes → ⊥)
+    → (read : List ℕ) × IsNoPage read page after × Consumes before after read
+other_frame n page frame before after size all filled not = (frame, inl (size, not), whole n frame before after (omega (arith, size, all)) filled)
 
 -- a page that was not read ends the measurement
 pub page_stops :
