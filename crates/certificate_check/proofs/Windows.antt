@@ -1,9 +1,9 @@
 -- What is left to be read through a window goes on from place to place.
-use Rattle.std.proofs.Common.{◌≡◌, ◌≢◌, ℕ, ◌+◌, ◌-◌, ◌^◌, ◌<◌, ◌≤◌, ◌⊎◌, ◌↔◌, inl, inr, ⊎_elim, List, [], ◌∷◌, ◌++◌, length, append_assoc, arith, refl, sym, ap, subst, ◌∙◌, Option, Some, None, Result, Ok, Err}
+use Rattle.std.proofs.Common.{◌≡◌, ◌≢◌, ℕ, ◌+◌, ◌-◌, ◌^◌, ◌<◌, ◌≤◌, ◌⊎◌, ◌↔◌, inl, inr, ⊎_elim, List, [], ◌∷◌, ◌++◌, length, append_assoc, length-append, arith, refl, sym, ap, subst, ◌∙◌, Option, Some, None, Result, Ok, Err}
 use Rattle.std.specs.Prelude.{Bool, IsTrue, eqb, MatchResult}
 use Rattle.std.specs.Result.{IfOk, IfErr, IsErrAnd}
 use Rattle.std.specs.Io.KnownBytes.{Consumes, IsAtEnd}
-use Rattle.std.proofs.KnownBytes.{Consumes-nil}
+use Rattle.std.proofs.KnownBytes.{Consumes-nil, Consumes-trans}
 use Rattle.std.proofs.lemmas.List.{append-nil}
 use Rattle.std.proofs.lemmas.Bool.{eqb-true, eq-eqb}
 use Rattle.std.proofs.lemmas.Bool.Decides.{nat_tests}
@@ -57,6 +57,34 @@ stays_on a b c first second = reads_then a b c Stays Stays Stays first second (�
 -- what is left where no more is to come than the window holds
 pub all_here : (at : Place) → AreLeft at.remaining (counted at.window.came 0) at at.window.buffer
 all_here at = record { later = []; held = sym (append-nil at.window.buffer); consumed = Consumes-nil at.remaining; counted = refl; closed = λ e. refl }
+
+-- a window that was open and counts what came is sound: it is still open, or too much came
+pub counts_soundly :
+    (old new : Place) → old.window.inflow ≡ Open → new.failures ≡ old.failures → (new.window.inflow ≡ Open → new.window.came ≤ new.window.most)
+    → (new.window.inflow ≢ Open → (new.window.inflow ≡ TooLarge) × (new.window.most < new.window.came)) → new.window.came < 2 ^ 64 → (failures : ℕ) → IsSound failures old → IsSound failures new
+counts_soundly old new was_open same few many fits failures is =
+    let before : IsSoundAs Open failures old = subst (λ i. IsSoundAs i failures old) was_open is in
+    ⊎_elim (λ e. subst (λ i. IsSoundAs i failures new) (sym e) (same ∙ before.0, few e)) (λ e. let m = many e in subst (λ i. IsSoundAs i failures new) (sym m.0) (same ∙ before.0, m.1, fits)) (open_or new.window.inflow)
+
+-- bytes that came to a window which was open stand behind those that it held, and what is left is the same
+pub came_behind :
+    (old new : Place) (bytes : List ℕ) → old.window.inflow ≡ Open → new.window.buffer ≡ old.window.buffer ++ bytes → Consumes old.remaining new.remaining bytes → new.window.came ≡ counted old.window.came (length bytes)
+    → new.window.most ≡ old.window.most → ((failures : ℕ) → IsSound failures old → IsSound failures new) → Reads old new Stays
+came_behind old new bytes was_open held came counts most sound = record {
+  most = most;
+  sound = sound;
+  left = λ after total rest are. (
+    rest,
+    record {
+      later = bytes ++ are.later;
+      held = are.held ∙ ap (λ xs. xs ++ are.later) held ∙ append_assoc old.window.buffer bytes are.later;
+      consumed = Consumes-trans old.remaining new.remaining after bytes are.later came are.consumed;
+      counted = omega (arith, counts, are.counted, length-append bytes are.later);
+      closed = λ shut. absurd (shut was_open);
+    },
+    refl,
+  );
+}
 
 -- ---- parts that are read
 

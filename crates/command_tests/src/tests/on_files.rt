@@ -54,9 +54,15 @@ fn inputs_stand_at_their_places(rt: HostRuntime) {
         "pmpmon: no-such-folder/map: cannot read\nhint: no-such-folder/map: no such file or folder\n";
     let rows: [(&[&str], (u8, &str, &str)); 4] = [
         (&["pmpmon", "plan", "-", "--hints", "always"], (0, plan, "")),
-        (&["pmpmon", "plan", absent, "--hints", "always"], (3, "", why)),
+        (
+            &["pmpmon", "plan", absent, "--hints", "always"],
+            (3, "", why),
+        ),
         (&["pmpmon", "plan", absent], (3, "", lost)),
-        (&["pmpmon", "check", absent, "-", "--hints", "always"], (3, "", why)),
+        (
+            &["pmpmon", "check", absent, "-", "--hints", "always"],
+            (3, "", why),
+        ),
     ];
     for (words, wanted) in rows {
         let map = b"0x80000000 0x1000 rwx\n";
