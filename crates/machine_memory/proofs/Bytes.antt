@@ -3,11 +3,10 @@ use Rattle.std.proofs.Common.{◌≡◌, ℕ, zero, suc, ◌+◌, ◌-◌, ◌*�
 use Rattle.std.proofs.Math.Nat.{pow-le-pow_right}
 use Rattle.std.proofs.lemmas.List.{get_or-drop, get_or-take}
 use Rattle.std.proofs.lemmas.Grind.{common_steps}
-use Rattle.std.proofs.Common.{length-drop, length-take, Option, Box, replicate, Global}
-use Rattle.std.specs.Ordering.{nat_cmp}
-use Rattle.std.specs.BTreeMap.{get}
+use Rattle.std.proofs.Common.{length-drop, length-take, Option, replicate}
 use Rattle.machine_memory.specs.declared.memory.Memory.{Memory}
-use Rattle.machine_memory.specs.Memory.{bytes_at, number_of, byte_in, byte_at}
+use Rattle.machine_memory.specs.Groups.{byte_in, page_in}
+use Rattle.machine_memory.specs.Memory.{bytes_at, number_of, byte_at}
 
 -- one byte more, in at most eight bytes
 pub fits_more : (len byte number : ℕ) → suc len ≤ 8 → byte ≤ 255 → number < 256 ^ len → byte + 256 * number < 2 ^ 64
@@ -101,12 +100,12 @@ part_of xs at size inside =
     bytes_of_list (slice_index xs) at size (take size (drop at xs)) (omega (arith, length-take size (drop at xs), length-drop at xs)) (λ k low. sym (get_or-take size (drop at xs) k 0 low ∙ get_or-drop at xs k 0))
 
 -- the bytes of a page, by the page
-pub byte_of_page : (memory : Memory) (page : Option (Box (List ℕ) Global)) (address k : ℕ) → get nat_cmp memory.pages (address / 4096) ≡ page → address % 4096 + k < 4096 → byte_at memory (address + k) ≡ byte_in page (address % 4096 + k)
+pub byte_of_page : (memory : Memory) (page : Option (List ℕ)) (address k : ℕ) → page_in memory (address / 4096) ≡ page → address % 4096 + k < 4096 → byte_at memory (address + k) ≡ byte_in page (address % 4096 + k)
 byte_of_page memory page address k found low =
-    ap₂ (λ n m. byte_in (get nat_cmp memory.pages n) m) (place_in_page address k low) (place_of_byte address k low) ∙ ap (λ o. byte_in o (address % 4096 + k)) found
+    ap₂ (λ n m. byte_in (page_in memory n) m) (place_in_page address k low) (place_of_byte address k low) ∙ ap (λ o. byte_in o (address % 4096 + k)) found
 
-pub byte_of_whole : (memory : Memory) (page : Option (Box (List ℕ) Global)) (n k : ℕ) → get nat_cmp memory.pages n ≡ page → k < 4096 → byte_at memory (n * 4096 + k) ≡ byte_in page (0 + k)
+pub byte_of_whole : (memory : Memory) (page : Option (List ℕ)) (n k : ℕ) → page_in memory n ≡ page → k < 4096 → byte_at memory (n * 4096 + k) ≡ byte_in page (0 + k)
 byte_of_whole memory page n k found low =
     let p : (n * 4096 + k) / 4096 ≡ n = omega arith in
     let q : (n * 4096 + k) % 4096 ≡ 0 + k = omega arith in
-    ap₂ (λ i m. byte_in (get nat_cmp memory.pages i) m) p q ∙ ap (λ o. byte_in o (0 + k)) found
+    ap₂ (λ i m. byte_in (page_in memory i) m) p q ∙ ap (λ o. byte_in o (0 + k)) found

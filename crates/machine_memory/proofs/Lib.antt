@@ -1,2 +1,4 @@
 pub mod Bytes
+mod Groups
+mod Stored
 mod Written

@@ -1,11 +1,9 @@
 -- Memory: a byte at each address, and the pages that were written.
-use Rattle.std.specs.Prelude.{ℕ, zero, suc, ◌+◌, ◌-◌, ◌*◌, ◌/◌, ◌%◌, Bool, if◌then◌else◌, List, [], ◌∷◌, Option, None, Some, is_some, slice_index}
-use Rattle.std.specs.Ordering.{nat_cmp}
-use Rattle.std.specs.BTreeMap.{get}
-use Rattle.std.specs.declared.boxed.Box.{Box}
+use Rattle.std.specs.Prelude.{ℕ, zero, suc, ◌+◌, ◌-◌, ◌*◌, ◌/◌, ◌%◌, Bool, if◌then◌else◌, List, [], ◌∷◌, is_some}
 use Rattle.pmp_encoding.specs.Registers.{byte_of}
 pub use Rattle.permission_map.specs.Runs.{in_range}
 use Rattle.machine_memory.specs.declared.memory.Memory.{Memory}
+use Rattle.machine_memory.specs.Groups.{byte_in, page_in}
 
 -- `count` bytes from an address on
 unfoldable pub bytes_at : (ℕ → ℕ) → ℕ → ℕ → List ℕ
@@ -25,15 +23,10 @@ stored memory address size value a = if in_range address size a then byte_of val
 abbrev pub zeroed : (ℕ → ℕ) → ℕ → ℕ → ℕ → ℕ
 zeroed memory first count a = if in_range first count (a / 4096) then 0 else memory a
 
--- a byte of a page, and 0 where there is none
-abbrev pub byte_in : {A : Type 0} → Option (Box (List ℕ) A) → ℕ → ℕ
-byte_in None at = 0
-byte_in (Some page) at = slice_index page.value at
-
 -- the byte at an address
 abbrev pub byte_at : Memory → ℕ → ℕ
-byte_at memory a = byte_in (get nat_cmp memory.pages (a / 4096)) (a % 4096)
+byte_at memory a = byte_in (page_in memory (a / 4096)) (a % 4096)
 
 -- whether a page was written
 abbrev pub is_written : Memory → ℕ → Bool
-is_written memory page = is_some (get nat_cmp memory.pages page)
+is_written memory page = is_some (page_in memory page)

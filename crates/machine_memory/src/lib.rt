@@ -12,5 +12,7 @@
 #![tactic(auto)]
 
 mod memory;
+mod page_bytes;
+mod page_group;
 
 pub use memory::Memory;

@@ -1,10 +1,12 @@
-//! The bytes of the physical address space, kept by pages. A page that was not written has no bytes of its own and
-//! reads as zero.
+//! The bytes of the physical address space, kept by pages, and these by groups of them that lie side by side. A page that was
+//! not written has no bytes of its own and reads as zero.
 
-ghost use Rattle.std.specs.Prelude.{◌≡◌, ℕ, ◌+◌, ◌-◌, ◌*◌, ◌/◌, ◌%◌, ◌^◌, ◌<◌, ◌≤◌, IfOk, OnOk, OnErr, IfSome, None, false, true, ◌==◌, if◌then◌else◌, length, slice_index};
-ghost use Rattle.pmp_encoding.specs.Registers.{byte_of};
+ghost use Rattle.std.specs.Prelude.{◌≡◌, ℕ, ◌+◌, ◌-◌, ◌*◌, ◌/◌, ◌%◌, ◌^◌, ◌<◌, ◌≤◌, OnOk, OnErr, IfSome, None, Some, false, true, ◌==◌, ◌&&◌, if◌then◌else◌};
 ghost use Rattle.machine_memory.specs.Memory.{bytes_at, number_of, in_range, stored, zeroed, byte_at, is_written};
+ghost use Rattle.machine_memory.specs.Groups.{has_group, page_in};
 
+use crate::page_bytes::{clear, copy_page, number_at};
+use crate::page_group::{GROUP, PageGroup, group_of};
 use enclave_requests::Pages;
 use std::alloc::{AllocError, Global};
 use std::collections::BTreeMap;
@@ -12,110 +14,10 @@ use std::collections::BTreeMap;
 /// The bytes of a page.
 const PAGE: u64 = 4096;
 
-/// The little-endian number of bytes of a page, byte by byte from the highest one. Where the size is a constant, it is one load.
-#[inline(always)]
-fn number_of(page: &[u8; 4096], at: usize, size: usize) -> u64
-    requires size { size ≤ 8 }
-    requires inside { at + size ≤ 4096 }
-    ensures { result ≡ number_of (bytes_at (slice_index page.now) at size) }
-{
-    let mut number = 0;
-    let mut left = size;
-    while left > 0 {
-        left -= 1;
-        number = u64::from(page[at + left]) + 256 * number;
-    }
-    number
-}
-
-/// The little-endian number of bytes of a page. The sizes that accesses have are constants here.
-fn number_at(page: &[u8; 4096], at: usize, size: usize) -> u64
-    requires size { size ≤ 8 }
-    requires inside { at + size ≤ 4096 }
-    ensures { result ≡ number_of (bytes_at (slice_index page.now) at size) }
-{
-    match size {
-        1 => number_of(page, at, 1),
-        2 => number_of(page, at, 2),
-        4 => number_of(page, at, 4),
-        8 => number_of(page, at, 8),
-        _ => number_of(page, at, size),
-    }
-}
-
-/// Copies a page.
-fn copy_page(page: &[u8; 4096], into: &mut [u8; 4096])
-    ensures { into.new ≡ bytes_at (slice_index page.now) 0 4096 }
-{
-    into.copy_from_slice(page);
-}
-
-/// Makes a page zero.
-fn clear(into: &mut [u8; 4096])
-    ensures { into.new ≡ bytes_at (λ k. 0) 0 4096 }
-{
-    *into = [0; 4096];
-}
-
-/// Byte `k` of a value, the lowest first.
-fn byte_of(value: u64, k: usize) -> u8
-    requires { k < 8 }
-    ensures { result ≡ byte_of value k }
-{
-    ((value >> (8 * k)) % 256) as u8
-}
-
-/// Puts the lowest bytes of a value into a page, byte by byte from the lowest one. Where the size is a constant, it is one store.
-#[inline(always)]
-fn put_bytes(page: &mut [u8; 4096], at: usize, size: usize, value: u64)
-    requires size { size ≤ 8 }
-    requires inside { at + size ≤ 4096 }
-    ensures { (k : ℕ)
-        → slice_index page.new k ≡
-        (if in_range at size k then byte_of value (k - at) else slice_index page.old k) }
-{
-    for i in 0..size {
-        page[at + i] = byte_of(value, i);
-    }
-}
-
-/// Puts the lowest bytes of a value into a page, the lowest first. The sizes that accesses have are constants here.
-fn put(page: &mut [u8; 4096], at: usize, size: usize, value: u64)
-    requires size { size ≤ 8 }
-    requires inside { at + size ≤ 4096 }
-    ensures { (k : ℕ)
-        → slice_index page.new k ≡
-        (if in_range at size k then byte_of value (k - at) else slice_index page.old k) }
-{
-    match size {
-        1 => put_bytes(page, at, 1, value),
-        2 => put_bytes(page, at, 2, value),
-        4 => put_bytes(page, at, 4, value),
-        8 => put_bytes(page, at, 8, value),
-        _ => put_bytes(page, at, size, value),
-    }
-}
-
-/// A page of its own of zeros but for a value. It stands apart so that a store to a page that is there clears no room for
-/// another.
-#[inline(never)]
-fn page_of(alloc: Global, at: usize, size: usize, value: u64) -> Result<Box<[u8; 4096]>, AllocError>
-    requires size { size ≤ 8 }
-    requires inside { at + size ≤ 4096 }
-    ensures { IfOk result (λ page.
-        (k : ℕ)
-        → slice_index page.value k ≡
-        (if in_range at size k then byte_of value (k - at) else 0)) }
-{
-    let mut page = Box::new(alloc, [0; 4096])?;
-    put(&mut page, at, size, value);
-    Ok(page)
-}
-
-/// The pages that were written, by their numbers.
+/// The groups of the pages that were written, by their numbers.
 #[derive(Drop)]
 pub struct Memory {
-    pages: BTreeMap<u64, Box<[u8; 4096]>>,
+    groups: BTreeMap<u64, Box<PageGroup>>,
 }
 
 impl Memory {
@@ -125,7 +27,19 @@ impl Memory {
         ensures written { (page : ℕ) → is_written result page ≡ false }
     {
         Memory {
-            pages: BTreeMap::new(alloc),
+            groups: BTreeMap::new(alloc),
+        }
+    }
+
+    /// The bytes of a page, where it was written.
+    #[inline(always)]
+    fn page(&self, page: u64) -> Option<&[u8; 4096]>
+        ensures some { IfSome result (λ bytes. page_in self.now page ≡ Some bytes.now) }
+        ensures none { result ≡ None → page_in self.now page ≡ None }
+    {
+        match self.groups.get(&(page / GROUP)) {
+            Some(group) => group.page((page % GROUP) as usize),
+            None => None,
         }
     }
 
@@ -133,7 +47,7 @@ impl Memory {
     pub fn byte(&self, address: u64) -> u8
         ensures { result ≡ byte_at self.now address }
     {
-        match self.pages.get(&(address / PAGE)) {
+        match self.page(address / PAGE) {
             Some(page) => page[(address % PAGE) as usize],
             None => 0,
         }
@@ -145,7 +59,7 @@ impl Memory {
         requires inside { address % 4096 + size ≤ 4096 }
         ensures { result ≡ number_of (bytes_at (byte_at self.now) address size) }
     {
-        match self.pages.get(&(address / PAGE)) {
+        match self.page(address / PAGE) {
             Some(page) => number_at(page, (address % PAGE) as usize, size),
             None => 0,
         }
@@ -172,43 +86,49 @@ impl Memory {
             → is_written self.new page ≡ is_written self.old page) }
         ensures new_page { OnErr result (is_written self.old (address / 4096) ≡ false) }
     {
-        let index = address / PAGE;
+        let page = address / PAGE;
+        let place = (page % GROUP) as usize;
         let at = (address % PAGE) as usize;
-        if let Some(page) = self.pages.get_mut(&index) {
-            put(page, at, size, value);
-            return Ok(());
+        if let Some(group) = self.groups.get_mut(&(page / GROUP)) {
+            return group.store(alloc, place, at, size, value);
         }
-        let page = page_of(alloc, at, size, value)?;
-        self.pages.insert(index, page)?;
+        let group = group_of(alloc, place, at, size, value)?;
+        self.groups.insert(page / GROUP, group)?;
         Ok(())
     }
 
-    /// Makes every byte of a page zero, and the page not written.
-    fn forget_page(&mut self, page: u64)
-        ensures bytes { (a : ℕ) → byte_at self.new a
-            ≡ (if a / 4096 == page then 0 else byte_at self.old a) }
-        ensures written { (q : ℕ) → is_written self.new q
-            ≡ (if q == page then false else is_written self.old q) }
-    {
-        let _ = self.pages.remove(&page);
-    }
-
-    /// The first page from one on and before another that was written.
-    fn first_written(&self, from: u64, end: u64) -> Option<u64>
+    /// The first group from one on and before another that is there.
+    fn first_group(&self, from: u64, end: u64) -> Option<u64>
         requires { from ≤ end }
-        ensures found { IfSome result (λ page.
-            (from ≤ page) × (page < end)
-            × ((q : ℕ) → from ≤ q → q < page → is_written self.now q ≡ false)) }
-        ensures none { result ≡ None → (q : ℕ) → from ≤ q → q < end
-            → is_written self.now q ≡ false }
+        ensures found { IfSome result (λ group.
+            (from ≤ group) × (group < end)
+            × ((other : ℕ) → from ≤ other → other < group → has_group self.now other ≡ false)) }
+        ensures none { result ≡ None → (other : ℕ) → from ≤ other → other < end
+            → has_group self.now other ≡ false }
     {
-        match self.pages.range(from..end).next() {
-            Some((page, _)) => Some(*page),
+        match self.groups.range(from..end).next() {
+            Some((group, _)) => Some(*group),
             None => None,
         }
     }
 
-    /// Makes every byte of some pages zero, and the pages not written. It looks at those alone that were written.
+    /// Makes those pages of a group that lie from one on and before another zero, and not written.
+    fn forget_in(&mut self, group: u64, first: u64, end: u64)
+        requires order { first ≤ end }
+        requires inside { group * 64 < end }
+        ensures { (page : ℕ) → page_in self.new page
+            ≡ (if (page / 64 == group) && in_range first (end - first) page then None
+            else page_in self.old page) }
+    {
+        let base = group * GROUP;
+        let from = first.saturating_sub(base).min(GROUP) as usize;
+        let end = (end - base).min(GROUP) as usize;
+        if let Some(group) = self.groups.get_mut(&group) {
+            group.forget(from, end);
+        }
+    }
+
+    /// Makes every byte of some pages zero, and the pages not written. It looks at those groups alone that are there.
     pub fn forget(&mut self, first: u64, count: u64)
         requires { first + count < 2 ^ 64 }
         ensures bytes { (a : ℕ)
@@ -218,10 +138,10 @@ impl Memory {
             (if in_range first count page then false else is_written self.old page) }
     {
         let end = first + count;
-        let mut from = first;
-        while let Some(page) = self.first_written(from, end) {
-            self.forget_page(page);
-            from = page + 1;
+        let mut from = first / GROUP;
+        while let Some(group) = self.first_group(from, end.div_ceil(GROUP)) {
+            self.forget_in(group, first, end);
+            from = group + 1;
         }
     }
 
@@ -230,7 +150,7 @@ impl Memory {
         requires { page < 2 ^ 44 }
         ensures { into.new ≡ bytes_at (byte_at self.now) (page * 4096) 4096 }
     {
-        match self.pages.get(&page) {
+        match self.page(page) {
             Some(bytes) => copy_page(bytes, into),
             None => clear(into),
         }

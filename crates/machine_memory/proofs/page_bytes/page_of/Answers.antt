@@ -2,7 +2,7 @@ use Rattle.std.proofs.Common.{◌≡◌, ◌∙◌, ◌-◌, if◌then◌else◌
 use Rattle.pmp_encoding.specs.Registers.{byte_of}
 use Rattle.machine_memory.specs.Memory.{in_range}
 use Rattle.machine_memory.proofs.Bytes.{zero_page}
-use Rattle.machine_memory.proofs.memory.page_of.Goals as goal
+use Rattle.machine_memory.proofs.page_bytes.page_of.Goals as goal
 
 pub returns : goal.returns
 returns c = λ k.

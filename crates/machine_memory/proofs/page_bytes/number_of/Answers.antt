@@ -1,6 +1,6 @@
 use Rattle.std.proofs.Common.{◌≡◌, ◌+◌, ◌-◌, arith, slice_index}
 use Rattle.machine_memory.proofs.Bytes.{fits_more, fits_times, number_before, number_none, small_before, small_none}
-use Rattle.machine_memory.proofs.memory.number_of.Goals as goal
+use Rattle.machine_memory.proofs.page_bytes.number_of.Goals as goal
 
 pub loop-left-init : goal.loop-left-init
 loop-left-init c =

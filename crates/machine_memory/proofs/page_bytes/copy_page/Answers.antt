@@ -1,6 +1,6 @@
 use Rattle.std.proofs.Common.{sym, ap, ◌∙◌, ◌≡◌, ◌+◌, arith, slice_index}
 use Rattle.machine_memory.proofs.Bytes.{bytes_of_list}
-use Rattle.machine_memory.proofs.memory.copy_page.Goals as goal
+use Rattle.machine_memory.proofs.page_bytes.copy_page.Goals as goal
 
 pub returns : goal.returns
 returns c =

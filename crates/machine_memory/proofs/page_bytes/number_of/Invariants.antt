@@ -1,6 +1,6 @@
 use Rattle.std.proofs.Common.{◌≡◌, ◌+◌, ◌-◌, ◌^◌, ◌<◌, ◌≤◌, slice_index}
 use Rattle.machine_memory.specs.Memory.{bytes_at, number_of}
-use Rattle.machine_memory.proofs.memory.number_of.Given as goal
+use Rattle.machine_memory.proofs.page_bytes.number_of.Given as goal
 
 abbrev pub invariant-loop-left : goal.invariant-loop-left
 invariant-loop-left l = record {
