@@ -1,5 +1,5 @@
 -- What a call came to, by its reply and the table after it.
-use Rattle.std.specs.Prelude.{◌≡◌, ◌⊎◌, ℕ, ◌+◌, ◌<◌, ℤ, pos, negsuc, Option, Some, None}
+use Rattle.std.specs.Prelude.{◌≡◌, ◌⊎◌, ℕ, ◌+◌, ◌<◌, ◌≤◌, ℤ, pos, negsuc, Option, Some, None}
 use Rattle.pmp_encoding.specs.Limits.{limit_number}
 use Rattle.pmp_match.specs.Meaning.{Needs}
 use Rattle.sbi_decode.specs.declared.calls.Call.TheVariants as calls
@@ -30,10 +30,11 @@ abbrev pub outcome_in : Reply → Outcome
 outcome_in (replies.Call status value world used) = told_by (below_zero status) value
 outcome_in _ = Done 0
 
--- the view that would need more entries after a creation than there are, and how many: the host's, or that of the new enclave
+-- the view that would need more entries after a creation than there are, and how many: the host's, or where that one fits, that of
+-- the new enclave
 abbrev pub OutgrownByCreate : EnclaveTable → Create → Outcome → Type 0
 OutgrownByCreate table asked (HostNeeds n) = NeedsWithCreated table asked n × (limit_number table.layout.limit < n)
-OutgrownByCreate table asked (EnclaveNeeds n) = Needs (enclave_view (parts_of asked)) n × (limit_number table.layout.limit < n)
+OutgrownByCreate table asked (EnclaveNeeds n) = Needs (enclave_view (parts_of asked)) n × (limit_number table.layout.limit < n) × ((m : ℕ) × NeedsWithCreated table asked m × (m ≤ limit_number table.layout.limit))
 OutgrownByCreate table asked _ = ⊥
 
 -- the same of a destruction, whose one view is the host's

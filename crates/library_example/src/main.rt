@@ -1,4 +1,4 @@
-//! The crates as a library, as the README shows it: a map, the fewest entries that mean it, the bank that holds them, and
+//! The crates as a library, as the guide shows it: a map, the fewest entries that mean it, the bank that holds them, and
 //! the judgement of an access by its registers.
 #![tactic(auto)]
 

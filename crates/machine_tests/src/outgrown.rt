@@ -18,10 +18,14 @@ fn ends_with(rt: &impl Abort, alloc: Global, trace: &[u8], last: &[u8]) {
 
 #[test]
 fn a_creation_and_a_destruction_tell_whose_view_needs_how_many(rt: HostRuntime) {
-    let rows: [(&[u8], &[u8]); 3] = [
+    let rows: [(&[u8], &[u8]); 4] = [
         (
             b"ecall 0x08454E43 0 0x80200000 1 0 0 0 0\necall 0x08454E43 0 0x80202000 1 0 0 0 0\necall 0x08454E43 0 0x80204000 1 0 0 0 0\necall 0x08454E43 0 0x80206000 1 0 0 0 0\necall 0x08454E43 0 0x80208000 1 0 0 0 0\necall 0x08454E43 0 0x8020a000 1 0 0 0 0\necall 0x08454E43 0 0x8020c000 1 0 0 0 0\necall 0x08454E43 0 0x8020e000 1 0 0 0 0\necall 0x08454E43 0 0x80210000 1 0 0 0 0\necall 0x08454E43 0 0x80212000 1 0 0 0 0\necall 0x08454E43 0 0x80214000 1 0 0 0 0\necall 0x08454E43 0 0x80216000 1 0 0 0 0\necall 0x08454E43 0 0x80218000 1 0 0 0 0\necall 0x08454E43 0 0x8021a000 1 0 0 0 0\n",
             b"\n14 call -108 0x0000000000000000 0 16 # hart 0, host: create 0x8021a000, 1 page: refused, the host's view needs 17 entries\n",
+        ),
+        (
+            b"ecall 0x08454E43 0 0x80200000 1 0 0 0 0\necall 0x08454E43 0 0x80202000 1 0 0 0 0\necall 0x08454E43 0 0x80204000 1 0 0 0 0\necall 0x08454E43 0 0x80206000 1 0 0 0 0\necall 0x08454E43 0 0x80208000 1 0 0 0 0\necall 0x08454E43 0 0x8020a000 1 0 0 0 0\necall 0x08454E43 0 0x8020c000 1 0 0 0 0\necall 0x08454E43 0 0x8020e000 1 0 0 0 0\necall 0x08454E43 0 0x80210000 1 0 0 0 0\necall 0x08454E43 0 0x80212000 1 0 0 0 0\necall 0x08454E43 0 0x80214000 1 0 0 0 0\necall 0x08454E43 0 0x80216000 1 0 0 0 0\necall 0x08454E43 0 0x80218000 1 0 0 0 0\necall 0x08454E43 0 0x84a5a000 721 303 0x85a29000 201 0\n",
+            b"\n14 call -108 0x0000000000000000 0 16 # hart 0, host: create 0x84a5a000, 1024 pages: refused, the host's view needs 26 entries\n",
         ),
         (
             b"irq\necall 0x08454E43 0 0x84a5a000 721 303 0x85a29000 201 0",

@@ -1,5 +1,5 @@
 -- The certificate of a plan of a view.
-use Rattle.std.proofs.Common.{◌≡◌, ◌*◌, ◌≤◌, length, All, arith, refl}
+use Rattle.std.proofs.Common.{◌≡◌, ◌⊎◌, ℕ, ◌*◌, ◌<◌, ◌≤◌, inl, inr, length, All, Option, None, Some, arith, refl}
 use Rattle.pmp_encoding.specs.declared.limit.Limit.{Limit}
 use Rattle.pmp_encoding.specs.declared.perm.Perm.TheVariants.{NoAccess}
 use Rattle.pmp_match.specs.Bounds.{IsSoundBound, bound_of}
@@ -32,3 +32,7 @@ certificate_is view limit plan branches most bound root pages means =
         count = refl;
       };
     }
+
+-- what is there exactly where no more are than may be
+pub no_more : {T : Type 0} (x : T) (n most : ℕ) → (most < n → Some x ≡ None) → n ≤ most
+no_more x n most none = grind (arith)

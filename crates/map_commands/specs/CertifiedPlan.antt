@@ -57,14 +57,6 @@ pub record AreNeeded (bytes : List ℕ) (n : ℕ) : Type 0 where
   pub fewest : IsFewest (view_of_runs map) entries
   pub count : length entries ≡ n
 
--- the bank has the fewest entries that mean a view, and the hart's address registers reach them
-pub record IsLoaded (view : View) (xlen : Xlen) (limit : Limit) (bank : Bank) : Type 0 where
-  pub entries : List Entry
-  pub fewest : IsFewest view entries
-  pub reached : AreReached xlen entries
-  pub list : HasList bank entries
-  pub registers : IsBankOf bank limit entries
-
 -- the bytes are a right certificate of the entries, for a hart of that limit
 pub record IsCertificateOf (view : View) (limit : Limit) (entries : List Entry) (bytes : List ℕ) : Type 0 where
   pub tree : BoundTree
@@ -100,6 +92,14 @@ pub record IsPlanned (view : View) (most : Option ℕ) (entries : List Entry) : 
   pub order : AreInOrder entries
   pub within : IsWithin most (length entries)
 
+-- the bank has the entries that are planned for a view, and the hart's address registers reach them
+pub record IsLoaded (view : View) (xlen : Xlen) (limit : Limit) (bank : Bank) : Type 0 where
+  pub entries : List Entry
+  pub planned : IsPlanned view (Some (limit_number limit)) entries
+  pub reached : AreReached xlen entries
+  pub list : HasList bank entries
+  pub registers : IsBankOf bank limit entries
+
 -- the certificate of a plan could not be written
 pub record BreaksCertificate {C : Type 0} (view : View) (limit : Limit) (most : Option ℕ) (file : Option (Bor (List ℕ))) (cert : Placing C) (trouble : Trouble) : Type 0 where
   pub name : Bor (List ℕ)
@@ -129,7 +129,7 @@ pub record IsTooFar (view : View) (xlen : Xlen) (most : Option ℕ) (map : Bor (
 pub data IsUnloaded (view : View) (xlen : Xlen) (limit : Limit) (map : Bor (List ℕ)) (trouble : Trouble) : Type 0 where
   for_memory : trouble ≡ Memory → IsUnloaded view xlen limit map trouble
   for_entries : (entries : List Entry) → IsFewest view entries → limit_number limit < length entries → trouble ≡ NeedsEntries (length entries) → IsUnloaded view xlen limit map trouble
-  for_width : IsTooFar view xlen None map trouble → IsUnloaded view xlen limit map trouble
+  for_width : IsTooFar view xlen (Some (limit_number limit)) map trouble → IsUnloaded view xlen limit map trouble
 
 -- why there is no plan with its certificate: memory, too many entries, one that is too far, or the certificate
 pub data IsUnplanned {C : Type 0} (view : View) (xlen : Xlen) (limit : Limit) (most : Option ℕ) (map : Bor (List ℕ)) (file : Option (Bor (List ℕ))) (cert : Placing C) (trouble : Trouble) : Type 0 where

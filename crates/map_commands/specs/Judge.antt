@@ -73,7 +73,7 @@ pub data Judges {R W : Type 0} (answers : Answers) (map trace : Bor (List ℕ)) 
       (runs : List Run) (entries : List Entry) → HasMap first runs → IsFewest (view_of_runs runs) entries → limit_number limit < length entries → IsUnread second → IsUnwritten out
       → Judges answers map trace xlen limit first second out (Err (NeedsEntries (length entries)))
   too_far :
-      (runs : List Run) (trouble : Trouble) → HasMap first runs → IsTooFar (view_of_runs runs) xlen None map trouble → IsUnread second → IsUnwritten out
+      (runs : List Run) (trouble : Trouble) → HasMap first runs → IsTooFar (view_of_runs runs) xlen (Some (limit_number limit)) map trouble → IsUnread second → IsUnwritten out
       → Judges answers map trace xlen limit first second out (Err trouble)
 
 -- `judge --registers`: the listing of registers is read, and then the trace is judged by them line by line; where they judge nothing

@@ -1,8 +1,10 @@
-use Rattle.std.proofs.Common.{refl, sym}
+use Rattle.std.proofs.Common.{Some, refl, sym}
 use Rattle.std.proofs.lemmas.Result.{err_from_is_err_and}
 use Rattle.permission_map.specs.Runs.{view_of_runs}
+use Rattle.pmp_encoding.specs.Limits.{limit_number}
 use Rattle.pmp_match.specs.Meaning.{IsFewest}
-use Rattle.map_commands.specs.CertifiedPlan.{for_entries, for_memory, for_width}
+use Rattle.map_commands.specs.CertifiedPlan.{IsPlanned, for_entries, for_memory, for_width}
+use Rattle.map_commands.proofs.PlanCertificates.{no_more}
 use Rattle.map_commands.proofs.certified_plan.bank_in.Goals as goal
 
 pub returns-in_err-plan-clause-refused : goal.returns-in_err-plan-clause-refused
@@ -17,17 +19,19 @@ returns-in_err-reached-in-Some-clause-refused c =
     let made = c.in_ok-plan.ensures in
     rw (p.1, p.2) (for_width (record {
       entries = c.in_ok-plan.plan.entries;
-      planned = record { fewest = made.fewest; chosen = made.choice; order = made.order; within = tt };
+      planned = record { fewest = made.fewest; chosen = made.choice; order = made.order; within = rw c.entries-entries.ensures at (no_more c.in-Some.bank _ _ c.in-Some.ensures.none.1) };
       far = b.0;
       told = b.1;
     }))
 
 pub returns-in-Some-clause-loaded : goal.returns-in-Some-clause-loaded
 returns-in-Some-clause-loaded c =
-    let fewest : IsFewest (view_of_runs c.args.map.now) c.in_ok-plan.plan.entries = c.in_ok-plan.ensures.fewest in
+    let made = c.in_ok-plan.ensures in
+    let within = rw c.entries-entries.ensures at (no_more c.in-Some.bank _ _ c.in-Some.ensures.none.1) in
+    let planned : IsPlanned (view_of_runs c.args.map.now) (Some (limit_number c.args.limit)) c.in_ok-plan.plan.entries = record { fewest = made.fewest; chosen = made.choice; order = made.order; within = within } in
     record {
       entries = c.entries-entries.result.now;
-      fewest = rw (sym c.entries-entries.ensures) at fewest;
+      planned = rw (sym c.entries-entries.ensures) at planned;
       reached = rw (sym c.entries-entries.ensures) at c.in_ok-reached-in-Some.ensures.reached;
       list = c.in-Some.ensures.list;
       registers = c.in-Some.ensures.registers;
