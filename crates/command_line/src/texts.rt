@@ -10,7 +10,7 @@ pub const ABOUT: &str =
 
 /// What stands after the list of subcommands.
 pub const EXAMPLE: &str =
-    "Example, with a file map.txt that holds the line\n\n  0x80000000 0x1000 rwx\n\n  pmpmon plan map.txt map.pmpc      prints one entry, and writes its certificate\n  pmpmon check map.txt map.pmpc     prints 'accepted 1'\n\nA file that is read can be '-', standard input; the certificate that plan writes cannot.\n\nStatus: 0 done, 1 refused by the checker, by audit, by lint or by --expect, 2 bad input, 3 input or output failed, 4 memory";
+    "Example, with a file map.txt that holds the line\n\n  0x80000000 0x1000 rwx\n\n  pmpmon plan map.txt map.pmpc      prints one entry, and writes its certificate\n  pmpmon check map.txt map.pmpc     prints 'accepted 1'\n\nA file that is read can be '-', standard input; the certificate that plan writes cannot.\n\nStatus: 0 done, 1 the answer is no (check, audit, map, lint, --expect, or registers that mean nothing), 2 bad input, 3 input or output failed, 4 memory";
 
 /// What stands after the options of `run`.
 pub const RUN_HELP: &str =

@@ -39,10 +39,6 @@ frame_still old new hart on table worlds marks kept banks = record {
   lists = λ same. kept;
 }
 
--- nothing happened
-pub frame_same : (old : Parts) (hart : ℕ) → IsOn old hart → KeepsFrame old old hart
-frame_same old hart on = frame_still old old hart on refl (λ i. refl) (λ i. refl) refl refl
-
 -- after something that leaves table and world of the hart, and does not mark it
 pub frame_after : (old mid new : Parts) (hart : ℕ) → (state_in mid).table ≡ (state_in old).table → (state_in mid).worlds hart ≡ (state_in old).worlds hart → kept_of mid.monitor ≡ kept_of old.monitor
     → ((state_in old).marked hart ≡ false → (state_in mid).marked hart ≡ false) → KeepsFrame old mid hart → KeepsFrame mid new hart → KeepsFrame old new hart

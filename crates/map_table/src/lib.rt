@@ -1,8 +1,7 @@
 //! The table of a map as people look at it: its stretches, and which entry decides each.
 //!
-//! For the layer above: [`print_map`] writes the table of a map and its fewest entries, and [`extent_table`] answers that of what
-//! extents give by themselves. [`number_line`] and [`count_line`] are pieces of it
-//! that other forms of it share, and [`table_of`] is the text itself.
+//! For the layer above: [`table_of`] answers the table of a map and its fewest entries, and [`extent_table`] that of what extents
+//! give by themselves. [`number_line`] and [`count_line`] are pieces of it that other forms of it share.
 //!
 //! ```text
 //! from               to                 size    perm by
@@ -20,4 +19,4 @@ mod rows;
 mod table;
 
 pub use rows::{count_line, number_line};
-pub use table::{TableFault, extent_table, print_map, table_of};
+pub use table::{extent_table, table_of};

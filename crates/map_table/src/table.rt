@@ -1,41 +1,17 @@
 //! The whole table.
 
-ghost use Rattle.std.specs.Prelude.{◌≡◌, ◌-◌, ◌^◌, ◌<◌, ◌≤◌, ℕ, All, Err, IfOk, List, OnOk, length, map};
-ghost use Rattle.byte_streams.specs.Writings.{writing, Breaks, TakesAll};
-ghost use Rattle.pmp_encoding.specs.declared.region.Entry.{Entry};
-ghost use Rattle.pmp_match.specs.Meaning.{IsFewest};
+ghost use Rattle.std.specs.Prelude.{◌≡◌, ◌-◌, ◌^◌, ◌<◌, ◌≤◌, All, IfOk, length, map};
 ghost use Rattle.permission_map.specs.Runs.{view_of_runs};
 ghost use Rattle.pmp_registers.specs.Decision.{IsWords};
 ghost use Rattle.map_table.specs.Rows.{as_given};
 ghost use Rattle.map_table.specs.Tables.{IsExtentTable, IsTable};
 
 use crate::rows::{count_line, on_line, push_rest, push_rows};
-use byte_streams::{Sink, write_whole};
 use permission_map::{Memory, PermissionMap};
 use pmp_encoding::{Entry, Limit};
 use pmp_registers::Extent;
-use std::alloc::{AllocError, Global};
+use std::alloc::Global;
 use stretches::{ExtentTree, Stretch, extents_of, stretches, stretches_by_entries};
-
-/// Why a table was not written.
-#[derive(Clone, Copy, PartialEq, Eq, Debug)]
-pub enum TableFault {
-    /// Memory was refused.
-    Memory,
-    /// The device failed, or took none of some bytes.
-    Device,
-}
-
-impl From<AllocError> for TableFault {
-    ghost use Rattle.std.specs.Prelude.{◌≡◌};
-    ghost use Rattle.map_table.specs.declared.table.TableFault.TheVariants.{Memory};
-
-    ghost from_gives = { λ error fault. fault ≡ Memory };
-
-    fn from(_: AllocError) -> TableFault {
-        TableFault::Memory
-    }
-}
 
 const HEAD: &[u8] = b"from               to                 size    perm by\n";
 
@@ -100,29 +76,4 @@ pub fn extent_table(alloc: Global, extents: &[Extent], on: usize) -> Result<Vec<
     let count = on_line(on);
     text.extend_from_slice(count.as_slice())?;
     Ok(text)
-}
-
-/// Writes the table of a map and its fewest entries. Where memory is refused nothing was written; where the device
-/// failed, or took none of some bytes, a beginning of the table was written, not all of it.
-pub fn print_map<W: Sink>(
-    alloc: Global,
-    map: &PermissionMap,
-    entries: &[Entry],
-    limit: Limit,
-    out: &mut W,
-) -> Result<(), TableFault>
-    requires fewest { IsFewest (view_of_runs map.now) entries.now }
-    ensures written { OnOk result ((text : List ℕ)
-        × IsTable (view_of_runs map.now) entries.now limit text
-        × TakesAll text (writing W.contents W.failures W.stalls out.old out.new)) }
-    ensures untouched { result ≡ Err TableFault.Memory → out.new ≡ out.old }
-    ensures broken { result ≡ Err TableFault.Device → (text : List ℕ)
-        × IsTable (view_of_runs map.now) entries.now limit text
-        × Breaks text (writing W.contents W.failures W.stalls out.old out.new) }
-{
-    let text = table_of(alloc, map, entries, limit)?;
-    let Ok(()) = write_whole(out, text.as_slice()) else {
-        return Err(TableFault::Device);
-    };
-    Ok(())
 }

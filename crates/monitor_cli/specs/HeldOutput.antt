@@ -10,8 +10,8 @@ use Rattle.byte_streams.specs.Streams.{inner_of}
 abbrev pub held_by : {T A : Type 0} → (T → Option (List ℕ)) → Counted (BufWriter T A) → Option (List ℕ)
 held_by contents device = writer_contents contents (inner_of device)
 
--- a task of that status ended: the stream has all that was held, or the last of it was refused. That is reported, and is status 3,
--- where no trouble was told before
+-- a task of that status ended: the stream has all that was held, or the last of it was refused, which is reported and is status 3.
+-- Where a trouble was told before, nothing is said of the last of it
 pub data IsClosed (held has : Option (List ℕ)) (quiet told : Type 0) (status : ℕ) : ℕ → Type 0 where
   whole : Keeps held has → quiet → IsClosed held has quiet told status status
   refused : status < 2 → told → IsClosed held has quiet told status 3
