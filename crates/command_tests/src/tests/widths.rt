@@ -6,6 +6,10 @@ const MAP: &[u8] = b"0x80000000 0x1000 rw\n0x300000000 0x1000 r\n";
 
 const FAR: &[u8] = b"0x3fffff000 0x2000 r\n";
 
+/// A map that is too far, and needs one entry more than a hart of sixteen has.
+const FAR_AND_LARGE: &[u8] =
+    b"0x400000000 0x1000 r\n0x2000 0x1000 r\n0x4000 0x1000 r\n0x6000 0x1000 r\n0x8000 0x1000 r\n0xa000 0x1000 r\n0xc000 0x1000 r\n0xe000 0x1000 r\n0x10000 0x1000 r\n0x12000 0x1000 r\n0x14000 0x1000 r\n0x16000 0x1000 r\n0x18000 0x1000 r\n0x1a000 0x1000 r\n0x1c000 0x1000 r\n0x1e000 0x1000 r\n0x20000 0x1000 r\n";
+
 const BOARD: &[u8] =
     b"pmpcfg1 (/32): 0x0000191b\npmpaddr4 (/32): 0x200001ff\npmpaddr5 (/32): 0xc00001ff\n";
 
@@ -67,20 +71,30 @@ fn registers_of_rv32_are_read(rt: HostRuntime) {
 
 #[test]
 fn a_map_is_too_far_for_rv32(rt: HostRuntime) {
-    let rows: [&[&str]; 3] = [
-        &["pmpmon", "show", "m", "--xlen", "32"],
-        &["pmpmon", "judge", "m", "t", "--xlen", "32"],
-        &["pmpmon", "audit", "m", "b", "--xlen", "32"],
-    ];
-    for words in rows {
-        refuses(
-            &rt,
-            rt.alloc(),
-            words,
+    let rows: [(&[&str], &[u8], &str); 4] = [
+        (
+            &["pmpmon", "show", "m", "--xlen", "32"],
             FAR,
-            b"",
             "pmpmon: m: too far: 34 bits\n",
-        );
+        ),
+        (
+            &["pmpmon", "judge", "m", "t", "--xlen", "32"],
+            FAR,
+            "pmpmon: m: too far: 34 bits\n",
+        ),
+        (
+            &["pmpmon", "audit", "m", "b", "--xlen", "32"],
+            FAR,
+            "pmpmon: m: too far: 34 bits\n",
+        ),
+        (
+            &["pmpmon", "judge", "m", "t", "--xlen", "32"],
+            FAR_AND_LARGE,
+            "pmpmon: needs 17 entries\n",
+        ),
+    ];
+    for (words, map, said) in rows {
+        refuses(&rt, rt.alloc(), words, map, b"", said);
     }
 }
 
