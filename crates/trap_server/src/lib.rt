@@ -19,6 +19,8 @@
 mod fault;
 mod laws;
 mod service;
+#[cfg(test)]
+mod tests;
 mod trap_loop;
 
 pub use fault::ServeFault;
