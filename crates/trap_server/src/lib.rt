@@ -18,6 +18,7 @@
 
 mod fault;
 mod laws;
+mod numbers;
 mod service;
 #[cfg(test)]
 mod tests;
@@ -25,5 +26,6 @@ mod trap_loop;
 
 pub use fault::ServeFault;
 pub use laws::words_law;
+pub use numbers::{served_number, served_status};
 pub use trap_frames::Refusal;
 pub use trap_loop::serve_traps;
