@@ -12,17 +12,12 @@
 use byte_streams::Counted;
 use std::alloc::Global;
 use std::io::{Stdin, Stdout};
-use trap_server::{ServeFault, serve_traps};
+use trap_server::{serve_traps, served_number};
 
 /// Serves the traps until the input ends (0), a frame was refused (1), or a device failed (2 reading, 3 writing).
 #[unsafe(no_mangle)]
 pub extern "C" fn pmpmon_serve(alloc: Global, from: Stdin, to: Stdout) -> i64 {
     let mut source = Counted::new(from);
     let mut sink = Counted::new(to);
-    match serve_traps(alloc, &mut source, &mut sink) {
-        Ok(()) => 0,
-        Err(ServeFault::Refused(_)) => 1,
-        Err(ServeFault::Read) => 2,
-        Err(ServeFault::Write) => 3,
-    }
+    served_number(serve_traps(alloc, &mut source, &mut sink))
 }

@@ -1,7 +1,7 @@
 -- What was read.
 use Rattle.std.proofs.Common.{◌≡◌, ◌≤◌, ◌<◌, ◌+◌, ◌/◌, arith, inl, inr, ℕ, refl, List, [], ◌∷◌, ◌++◌, Ok, Err, Result, Option, length, subst, append_assoc}
 use Rattle.std.specs.Result.{IfOk, IfErr}
-use Rattle.std.specs.Io.KnownBytes.{Consumes}
+use Rattle.std.specs.Io.KnownBytes.{Appends, Consumes}
 use Rattle.std.proofs.Common.{take_all}
 use Rattle.platforms.specs.Platform.{Layout, platform_rules}
 use Rattle.platforms.specs.CheckLists.{AllPass, FailsFirst}
@@ -12,7 +12,7 @@ use Rattle.trap_frames.specs.declared.end.Refusal.{Refusal}
 use Rattle.trap_frames.specs.declared.end.Refusal.TheVariants.{NotUnderstood, Platform, NeedsEntries, Memory}
 use Rattle.trap_frames.specs.Words.{platform_tag, word_at}
 use Rattle.trap_frames.specs.FrameBytes.{Filled}
-use Rattle.trap_frames.specs.PageDigest.{ArePages, IsNoPage, IsPageFrame, Measures, ReadsPage}
+use Rattle.trap_frames.specs.PageDigest.{ArePages, Asks, IsNoPage, IsPageFrame, Measures, ReadsPage, question_of}
 use Rattle.trap_frames.specs.Traps.{CountsWrite}
 use Rattle.enclave_requests.specs.declared.request.Create.{Create}
 use Rattle.std.proofs.KnownBytes.{Consumes-trans}
@@ -48,7 +48,8 @@ pub page_stops :
     → ArePages (parts.base / 4096) k read pages → Consumes before now read → ReadsPage (Err fault) (parts.base / 4096 + k) bytes now after → Measures (Err fault) parts before after
 page_stops faults.NotUnderstood parts k bytes read pages before now after more are came reads =
     (read ++ reads.0, (k, more, read, reads.0, pages, are, reads.1, refl), Consumes-trans before now after read reads.0 came reads.2)
-page_stops faults.Read parts k bytes read pages before now after more are came reads = (read ++ reads.0, Consumes-trans before now after read reads.0 came reads.2)
+page_stops faults.Read parts k bytes read pages before now after more are came reads =
+    (read ++ reads.0, (k, more, read, reads.0, pages, are, reads.1, refl), Consumes-trans before now after read reads.0 came reads.2)
 page_stops faults.Write parts k bytes read pages before now after more are came reads = absurd reads
 
 -- and is no failed write
@@ -58,6 +59,13 @@ pub page_writes :
 page_writes faults.NotUnderstood page bytes before after failures failed stalls stalled reads well = well
 page_writes faults.Read page bytes before after failures failed stalls stalled reads well = well
 page_writes faults.Write page bytes before after failures failed stalls stalled reads well = absurd reads
+
+-- the question for it was written whole
+pub page_asked :
+    (fault : FrameFault) (parts : Create) (page : ℕ) (bytes : List ℕ) (before after held holds : Option (List ℕ)) → ReadsPage (Err fault) page bytes before after → Appends held holds (question_of parts) → Asks (Err fault) parts held holds
+page_asked faults.NotUnderstood parts page bytes before after held holds reads asked = asked
+page_asked faults.Read parts page bytes before after held holds reads asked = asked
+page_asked faults.Write parts page bytes before after held holds reads asked = absurd reads
 
 -- a platform, or why it is none
 pub reads_platform : (result : Result Layout Refusal) (bytes : List ℕ) (before after : Option (List ℕ)) → length bytes ≡ 1336 → IfOk result (λ p. IsPlatformFrame bytes p) → IfErr result (λ refusal. IsNoPlatform refusal bytes) → Consumes before after bytes → ReadsPlatform (Ok result) before after

@@ -1,6 +1,7 @@
 -- The pages of a creation, read as they are measured.
 use Rattle.std.specs.Prelude.{◌≡◌, ◌⊎◌, ℕ, ◌+◌, ◌/◌, ◌<◌, ◌≤◌, ◌^◌, List, [], ◌∷◌, ◌++◌, length, drop, Option, Result, Ok, Err}
 use Rattle.std.specs.Io.KnownBytes.{Appends, Consumes, IsAtEnd}
+use Rattle.byte_streams.specs.Writings.{TakesPart}
 use Rattle.measurement.specs.Measured.{digest_of}
 use Rattle.enclave_requests.specs.declared.request.Create.{Create}
 use Rattle.enclave_requests.specs.Digests.{layout_of}
@@ -17,6 +18,10 @@ pub record HasParts (parts : Create) : Type 0 where
 -- the question for pages
 abbrev pub question_bytes : ℕ → ℕ → List ℕ
 question_bytes first count = bytes_of (measure_tag ∷ (first ∷ (count ∷ [])))
+
+-- the question for the private pages of a creation
+abbrev pub question_of : Create → List ℕ
+question_of parts = question_bytes (parts.base / 4096) (parts.text_pages + parts.data_pages)
 
 -- a frame is that of a page, and these are its bytes
 pub record IsPageFrame (frame : List ℕ) (page : ℕ) (bytes : List ℕ) : Type 0 where
@@ -48,17 +53,23 @@ StopsAtPage parts came after =
     (k : ℕ) × (k < parts.text_pages + parts.data_pages) × (read bad : List ℕ) × (pages : List (List ℕ)) × ArePages (parts.base / 4096) k read pages
     × IsNoPage bad (parts.base / 4096 + k) after × (came ≡ read ++ bad)
 
--- the digest is that of the pages that were read, each once, by rising number; or some bytes were read and there is none, and what is not
--- understood is no frame of the page that was to come
+-- the frames of the first pages were read, and then less than one of the next
+abbrev pub BreaksAtPage : Create → List ℕ → Type 0
+BreaksAtPage parts came =
+    (k : ℕ) × (k < parts.text_pages + parts.data_pages) × (read part : List ℕ) × (pages : List (List ℕ)) × ArePages (parts.base / 4096) k read pages
+    × (length part < 4112) × (came ≡ read ++ part)
+
+-- the digest is that of the pages that were read, each once, by rising number. What is not understood is no frame of the page that was to
+-- come; where a read failed less than that was read, and where a write did nothing
 abbrev pub Measures : Result (List ℕ) FrameFault → Create → Option (List ℕ) → Option (List ℕ) → Type 0
 Measures (Ok digest) parts before after =
     (read : List ℕ) × (pages : List (List ℕ)) × ArePages (parts.base / 4096) (parts.text_pages + parts.data_pages) read pages × Consumes before after read
     × (digest ≡ digest_of (layout_of parts) pages)
 Measures (Err faults.NotUnderstood) parts before after = (read : List ℕ) × StopsAtPage parts read after × Consumes before after read
-Measures (Err faults.Read) parts before after = (read : List ℕ) × Consumes before after read
-Measures (Err faults.Write) parts before after = (read : List ℕ) × Consumes before after read
+Measures (Err faults.Read) parts before after = (read : List ℕ) × BreaksAtPage parts read × Consumes before after read
+Measures (Err faults.Write) parts before after = Consumes before after []
 
--- the question was written, or a beginning of it where that failed
+-- the question was written whole; where a write failed a part of it
 abbrev pub Asks : Result (List ℕ) FrameFault → Create → Option (List ℕ) → Option (List ℕ) → Type 0
-Asks (Ok digest) parts held holds = Appends held holds (question_bytes (parts.base / 4096) (parts.text_pages + parts.data_pages))
-Asks (Err fault) parts held holds = (some : List ℕ) × Appends held holds some
+Asks (Err faults.Write) parts held holds = TakesPart (question_of parts) held holds
+Asks _ parts held holds = Appends held holds (question_of parts)

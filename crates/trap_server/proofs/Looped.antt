@@ -1,12 +1,11 @@
 -- How far the loop has come.
-use Rattle.std.proofs.Common.{◌≡◌, ◌∙◌, ◌+◌, inl, inr, ℕ, Bool, List, [], ◌++◌, length, Option, None, Result, Ok, Err, ap, sym, subst, refl, append_assoc, append-nil}
+use Rattle.std.proofs.Common.{◌≡◌, ◌⊎◌, ◌∙◌, ◌+◌, ◌<◌, inl, inr, ℕ, Bool, List, [], ◌++◌, length, take, Option, None, Result, Ok, Err, ap, sym, subst, refl, append_assoc, append-nil}
 use Rattle.std.specs.Io.KnownBytes.{Appends, Consumes}
 use Rattle.std.proofs.KnownBytes.{Appends-trans, Consumes-trans}
 use Rattle.platforms.specs.Platform.{Layout}
 use Rattle.monitor_core.specs.declared.monitor.Monitor.{Monitor}
 use Rattle.monitor_core.specs.States.{State, opening}
 use Rattle.control_words.specs.declared.words.ControlWords.{ControlWords}
-use Rattle.control_words.specs.Tables.{first_host_words}
 use Rattle.trap_frames.specs.declared.trap.Trap.{Trap}
 use Rattle.trap_frames.specs.declared.fault.FrameFault.{FrameFault}
 use Rattle.trap_frames.specs.declared.fault.FrameFault.TheVariants as frames
@@ -14,15 +13,16 @@ use Rattle.trap_frames.specs.declared.end.Refusal.{Refusal}
 use Rattle.trap_frames.specs.declared.end.Refusal.TheVariants as refusals
 use Rattle.trap_server.specs.declared.fault.ServeFault.{ServeFault}
 use Rattle.trap_server.specs.declared.fault.ServeFault.TheVariants as faults
-use Rattle.trap_server.specs.Ends.{fault_of}
-use Rattle.trap_server.specs.Boot.{Boots, BootsOn, RefusesFirst, StopsAtFirst}
+use Rattle.trap_server.specs.Ends.{EndsAs, Refuses}
+use Rattle.trap_server.specs.Boot.{Boots, BootsOn, EndsAtFirst, IsFirstAnswer, RefusesFirst, StopsAtFirst, others}
 use Rattle.trap_frames.specs.Platforms.{IsNoPlatform, IsPlatformFrame, ReadsPlatform}
 use Rattle.trap_frames.specs.Traps.{IsNoTrap, IsTrapFrame, ReadsTrap}
 use Rattle.trap_server.specs.Answered.{AreAwake, IsAnswer, given_on, no_answer}
-use Rattle.trap_server.specs.Runs.{Ran, StopsAfter, first_words, others, trap_count}
+use Rattle.trap_server.specs.Runs.{EndsEarly, Ran, RefusesNext, StopsBetween, StopsInside, first_words, trap_count}
 use Rattle.trap_server.specs.Runs.{Serves as Served}
 use Rattle.trap_server.specs.Runs.{next_trap, no_trap}
-use Rattle.trap_server.specs.Steps.{Serves, StopsTrap}
+use Rattle.trap_server.specs.Steps.{Serves}
+use Rattle.trap_server.proofs.Served.{refuse_why}
 
 -- the platform was read and answered, and traps were served from it to this state
 pub record Progress (count : ℕ) (now : State) (hosts : ℕ → ControlWords) (before after held holds : Option (List ℕ)) : Type 0 where
@@ -33,7 +33,7 @@ pub record Progress (count : ℕ) (now : State) (hosts : ℕ → ControlWords) (
   pub written : List ℕ
   pub size : length first ≡ 1336
   pub platform : IsPlatformFrame first layout
-  pub begins : IsAnswer (opening layout) first_host_words 0 no_answer None (others layout.harts) opened
+  pub begins : IsFirstAnswer layout opened
   pub served : Served (opening layout) first_words read written now hosts
   pub counted : trap_count served ≡ count
   pub consumed : Consumes before after (first ++ read)
@@ -49,7 +49,7 @@ appended_as held holds xs ys e c = subst (Appends held holds) e c
 -- the opening state
 opened_at :
     (layout : Layout) (first opened : List ℕ) (before after held middle holds : Option (List ℕ)) → length first ≡ 1336 → IsPlatformFrame first layout → Consumes before after first → Appends held middle []
-    → IsAnswer (opening layout) first_host_words 0 no_answer None (others layout.harts) opened → Appends middle holds opened → Progress 0 (opening layout) first_words before after held holds
+    → IsFirstAnswer layout opened → Appends middle holds opened → Progress 0 (opening layout) first_words before after held holds
 opened_at layout first opened before after held middle holds size platform consumed nothing answer wrote = record {
   layout = layout;
   first = first;
@@ -66,15 +66,35 @@ opened_at layout first opened before after held middle holds size platform consu
   quiet = λ hart known. refl;
 }
 
+-- the answer to the platform
+pub opens :
+    (s : State) (hosts : ℕ → ControlWords) (layout : Layout) (opened : List ℕ) (harts : ℕ) (woken : List Bool) → s ≡ opening layout → hosts ≡ first_words → harts ≡ s.table.layout.harts → woken ≡ others harts
+    → IsAnswer s (given_on s hosts 0) 0 no_answer None woken opened → IsFirstAnswer layout opened
+opens s hosts layout opened harts woken is words n w answer =
+    let known = subst (λ ws. IsAnswer s (given_on s hosts 0) 0 no_answer None ws opened) (w ∙ ap others (n ∙ ap (λ (x : State). x.table.layout.harts) is)) answer in
+    let with_words = subst (λ (hs : ℕ → ControlWords). IsAnswer s (given_on s hs 0) 0 no_answer None (others layout.harts) opened) words known in
+    subst (λ (x : State). IsAnswer x (given_on x first_words 0) 0 no_answer None (others layout.harts) opened) is with_words
+
 pub begins :
     (s : State) (hosts : ℕ → ControlWords) (layout : Layout) (first opened : List ℕ) (harts : ℕ) (woken : List Bool) (before after held middle holds : Option (List ℕ)) → length first ≡ 1336 → IsPlatformFrame first layout → s ≡ opening layout → hosts ≡ first_words
     → Consumes before after first → Appends held middle [] → harts ≡ s.table.layout.harts → woken ≡ others harts → IsAnswer s (given_on s hosts 0) 0 no_answer None woken opened → Appends middle holds opened → Progress 0 s hosts before after held holds
 begins s hosts layout first opened harts woken before after held middle holds size platform is words consumed nothing n w answer wrote =
-    let known = subst (λ ws. IsAnswer s (given_on s hosts 0) 0 no_answer None ws opened) (w ∙ ap others (n ∙ ap (λ (x : State). x.table.layout.harts) is)) answer in
-    let with_words = subst (λ (hs : ℕ → ControlWords). IsAnswer s (given_on s hs 0) 0 no_answer None (others layout.harts) opened) words known in
-    let at = subst (λ (x : State). IsAnswer x (given_on x first_words 0) 0 no_answer None (others layout.harts) opened) is with_words in
     subst (λ (hs : ℕ → ControlWords). Progress 0 s hs before after held holds) (sym words)
-    (subst (λ (x : State). Progress 0 x first_words before after held holds) (sym is) (opened_at layout first opened before after held middle holds size platform consumed nothing at wrote))
+    (subst (λ (x : State). Progress 0 x first_words before after held holds) (sym is) (opened_at layout first opened before after held middle holds size platform consumed nothing (opens s hosts layout opened harts woken is words n w answer) wrote))
+
+-- it was not written whole
+pub answer_stops :
+    (fault : ServeFault) (s : State) (hosts : ℕ → ControlWords) (layout : Layout) (first answer : List ℕ) (n harts : ℕ) (woken : List Bool) (before after held middle holds : Option (List ℕ)) → length first ≡ 1336 → IsPlatformFrame first layout → s ≡ opening layout → hosts ≡ first_words
+    → Consumes before after first → Appends held middle [] → harts ≡ s.table.layout.harts → woken ≡ others harts → fault ≡ faults.Write → IsAnswer s (given_on s hosts 0) 0 no_answer None woken answer → n < length answer → Appends middle holds (take n answer)
+    → EndsAtFirst fault before after held holds
+answer_stops fault s hosts layout first answer n harts woken before after held middle holds size platform is words consumed nothing h w write whole less wrote =
+    let part = take n answer in (
+      first,
+      part,
+      subst (λ f. StopsAtFirst f first part after) (sym write) (inr (layout, answer, size, platform, opens s hosts layout answer harts woken is words h w whole, (n, less, refl))),
+      consumed,
+      Appends-trans held middle holds [] part nothing wrote,
+    )
 
 -- one trap more
 pub goes_on :
@@ -119,36 +139,50 @@ ran count now hosts before mid after held middle holds beyond rest p came wrote 
 }
 
 -- and why the loop ends there
-pub ended : (fault : ServeFault) (count : ℕ) (now : State) (hosts : ℕ → ControlWords) (before mid after held middle holds : Option (List ℕ)) (beyond rest : List ℕ) → Progress count now hosts before mid held middle → Consumes mid after beyond → Appends middle holds rest
-    → StopsAfter fault count now beyond after → (run : Ran before after held holds beyond rest) × StopsAfter fault run.count run.state beyond after
+pub ended :
+    (fault : ServeFault) (count : ℕ) (now : State) (hosts : ℕ → ControlWords) (before mid after held middle holds : Option (List ℕ)) (beyond rest : List ℕ) → Progress count now hosts before mid held middle → Consumes mid after beyond → Appends middle holds rest
+    → StopsBetween fault count now beyond rest after ⊎ StopsInside fault now hosts beyond rest after → EndsEarly fault before after held holds
 unfolding ran
-ended fault count now hosts before mid after held middle holds beyond rest p came wrote why = (ran count now hosts before mid after held middle holds beyond rest p came wrote, why)
+ended fault count now hosts before mid after held middle holds beyond rest p came wrote why = inr (beyond, rest, ran count now hosts before mid after held middle holds beyond rest p came wrote, why)
 
--- a trap that was not read: what was, and why the loop ends
+-- there is no next trap
+pub next_refused :
+    (result : ServeFault) (count : ℕ) (now : State) (hosts : ℕ → ControlWords) (before mid after held middle holds : Option (List ℕ)) (beyond : List ℕ) → Progress count now hosts before mid held middle → Consumes mid after beyond
+    → RefusesNext count now beyond after → Refuses result refusals.NotUnderstood middle holds → EndsEarly result before after held holds
+next_refused result count now hosts before mid after held middle holds beyond p came why refused =
+    let e = refuse_why result refusals.NotUnderstood middle holds (λ f rest. StopsBetween f count now beyond rest after) refused (why, refl) (λ part off. (why, off)) in
+    ended result count now hosts before mid after held middle holds beyond e.0 p came e.2 (inl e.1)
+
+-- a trap that was not read
 pub read_stops :
-    (fault : FrameFault) (count : ℕ) (s : State) (harts : ℕ) (before after : Option (List ℕ)) → harts ≡ s.table.layout.harts → ReadsTrap (Err fault) harts before after
-    → (beyond : List ℕ) × StopsAfter (fault_of fault) count s beyond after × Consumes before after beyond
-read_stops frames.NotUnderstood count s harts before after n reads = (reads.0, inl (subst (λ k. IsNoTrap reads.0 k after) n reads.1), reads.2)
-read_stops frames.Read count s harts before after n reads = (reads.0, tt, reads.2)
-read_stops frames.Write count s harts before after n reads = absurd reads
+    (result : ServeFault) (fault : FrameFault) (count : ℕ) (now : State) (hosts : ℕ → ControlWords) (harts : ℕ) (before mid after held middle holds : Option (List ℕ)) → Progress count now hosts before mid held middle → harts ≡ now.table.layout.harts
+    → ReadsTrap (Err fault) harts mid after → EndsAs result fault middle holds → EndsEarly result before after held holds
+read_stops result frames.NotUnderstood count now hosts harts before mid after held middle holds p n reads ends =
+    next_refused result count now hosts before mid after held middle holds reads.0 p reads.2 (inl (subst (λ k. IsNoTrap reads.0 k after) n reads.1)) ends
+read_stops result frames.Read count now hosts harts before mid after held middle holds p n reads ends =
+    ended result count now hosts before mid after held middle holds reads.0 [] p reads.2 ends.1 (inl (subst (λ f. StopsBetween f count now reads.0 [] after) (sym ends.0) (reads.1, refl)))
+read_stops result frames.Write count now hosts harts before mid after held middle holds p n reads ends = absurd reads
 
 -- a trap that was read and not served
 pub trap_stops :
-    (fault : ServeFault) (count : ℕ) (s : State) (trap : Trap) (harts : ℕ) (frame read : List ℕ) (after : Option (List ℕ)) → harts ≡ s.table.layout.harts → length frame ≡ 352 → IsTrapFrame frame harts trap → StopsTrap fault s trap read after
-    → StopsAfter fault count s (frame ++ read) after
-trap_stops (faults.Refused refusals.NotUnderstood) count s trap harts frame read after n size is stops =
-    inr (inl (trap, frame, read, size, subst (λ k. IsTrapFrame frame k trap) n is, stops, refl))
-trap_stops (faults.Refused (refusals.Platform fault)) count s trap harts frame read after n size is stops = absurd stops
-trap_stops (faults.Refused (refusals.NeedsEntries needed)) count s trap harts frame read after n size is stops = absurd stops
-trap_stops (faults.Refused refusals.Memory) count s trap harts frame read after n size is stops = absurd stops
-trap_stops faults.Read count s trap harts frame read after n size is stops = tt
-trap_stops faults.Write count s trap harts frame read after n size is stops = tt
+    (fault : ServeFault) (count : ℕ) (now : State) (hosts kept : ℕ → ControlWords) (new : State) (trap : Trap) (harts : ℕ) (frame : List ℕ) (before mid next after held middle holds : Option (List ℕ)) → Progress count now hosts before mid held middle
+    → harts ≡ now.table.layout.harts → length frame ≡ 352 → IsTrapFrame frame harts trap → Consumes mid next frame → Serves (Err fault) trap now hosts new kept next after middle holds → EndsEarly fault before after held holds
+trap_stops fault count now hosts kept new trap harts frame before mid next after held middle holds p n size is came s =
+    ended fault count now hosts before mid after held middle holds (frame ++ s.0) s.1 p (Consumes-trans mid next after frame s.0 came s.3) s.4 (inr (trap, frame, s.0, size, subst (λ k. IsTrapFrame frame k trap) n is, s.2, refl))
+
+-- the first bytes are refused
+pub first_refused :
+    (result : ServeFault) (refusal : Refusal) (read : List ℕ) (before after held holds : Option (List ℕ)) → RefusesFirst refusal read after → Consumes before after read → Refuses result refusal held holds → EndsAtFirst result before after held holds
+first_refused result refusal read before after held holds why came refused =
+    let e = refuse_why result refusal held holds (λ f rest. StopsAtFirst f read rest after) refused (why, refl) (λ part off. inl (refusal, why, off)) in
+    (read, e.0, e.1, came, e.2)
 
 -- no platform was read
-pub first_stops : (fault : FrameFault) (before after : Option (List ℕ)) → ReadsPlatform (Err fault) before after → (read : List ℕ) × StopsAtFirst (fault_of fault) read after × Consumes before after read
-first_stops frames.NotUnderstood before after reads = (reads.0, inl (reads.1, reads.2), reads.3)
-first_stops frames.Read before after reads = (reads.0, reads.1, reads.2)
-first_stops frames.Write before after reads = absurd reads
+pub first_stops :
+    (result : ServeFault) (fault : FrameFault) (before after held holds : Option (List ℕ)) → ReadsPlatform (Err fault) before after → EndsAs result fault held holds → EndsAtFirst result before after held holds
+first_stops result frames.NotUnderstood before after held holds reads ends = first_refused result refusals.NotUnderstood reads.0 before after held holds (inl (reads.1, reads.2)) reads.3 ends
+first_stops result frames.Read before after held holds reads ends = (reads.0, [], subst (λ f. StopsAtFirst f reads.0 [] after) (sym ends.0) (reads.1, refl), reads.2, ends.1)
+first_stops result frames.Write before after held holds reads ends = absurd reads
 
 pub refuses_first : (refusal : Refusal) (bytes : List ℕ) (after : Option (List ℕ)) → length bytes ≡ 1336 → IsNoPlatform refusal bytes → RefusesFirst refusal bytes after
 refuses_first refusals.NotUnderstood bytes after size not = inr (size, not)
@@ -161,4 +195,4 @@ pub booted :
     (result : Result Monitor ServeFault) (layout : Layout) (first : List ℕ) (before after held holds : Option (List ℕ)) → length first ≡ 1336 → IsPlatformFrame first layout → Consumes before after first → BootsOn result layout held holds
     → Boots result before after held holds
 booted (Ok monitor) layout first before after held holds size is consumed boots = (layout, first, size, is, boots.0, consumed, boots.1)
-booted (Err fault) layout first before after held holds size is consumed boots = (first, boots.0, boots.1, boots.2 first after size is, consumed, boots.3)
+booted (Err fault) layout first before after held holds size is consumed boots = (first, boots.0, boots.1 first after size is, consumed, boots.2)

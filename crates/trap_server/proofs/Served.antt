@@ -1,5 +1,5 @@
 -- A trap that was served, from what was asked, read and written.
-use Rattle.std.proofs.Common.{◌≡◌, ◌⊎◌, ◌∙◌, inl, inr, subst, ℕ, zero, suc, ◌+◌, ◌-◌, ◌<◌, ◌≤◌, Bool, true, false, List, [], ◌∷◌, ◌++◌, length, take, Option, None, Some, Result, Ok, Err, ap, sym, refl, arith, take_all, length-append}
+use Rattle.std.proofs.Common.{◌≡◌, ◌∙◌, inl, inr, subst, ℕ, zero, suc, ◌+◌, ◌-◌, ◌<◌, ◌≤◌, Bool, true, false, List, [], ◌∷◌, ◌++◌, length, take, Option, None, Some, Result, Ok, Err, ap, sym, refl, arith, take_all, append-nil, length-append}
 use Rattle.std.proofs.Math.Seq.{take-suc}
 use Rattle.std.proofs.lemmas.Bool.{true≢false}
 use Rattle.std.specs.Prelude.{get_or, slice_index_or}
@@ -12,14 +12,17 @@ use Rattle.enclave_requests.specs.declared.request.Create.{Create}
 use Rattle.worlds.specs.declared.world.World.{World}
 use Rattle.worlds.specs.declared.world.World.TheVariants.{Host}
 use Rattle.monitor_core.specs.Measured.{IsMeasuredFor, Measures, asked_in}
-use Rattle.trap_frames.specs.PageDigest.{ArePages}
+use Rattle.trap_frames.specs.PageDigest.{ArePages, Asks, question_of}
+use Rattle.trap_frames.specs.Ends.{end_bytes}
+use Rattle.trap_frames.specs.declared.end.Refusal.{Refusal}
+use Rattle.trap_frames.specs.declared.end.Refusal.TheVariants as refusals
 use Rattle.trap_frames.specs.PageDigest.{Measures as MeasuresPages}
 use Rattle.trap_frames.specs.declared.fault.FrameFault.{FrameFault}
 use Rattle.trap_frames.specs.declared.fault.FrameFault.TheVariants as frames
 use Rattle.trap_frames.specs.declared.trap.Event.TheVariants.{Call}
 use Rattle.sbi_decode.specs.Calls.{call_of}
 use Rattle.trap_server.specs.declared.fault.ServeFault.TheVariants as faults
-use Rattle.trap_server.specs.Ends.{CountsRead, CountsReads, CountsWrite, CountsWrites, EndsAs, FrameRead, FrameWrite, LastIs, fault_of}
+use Rattle.trap_server.specs.Ends.{CountsRead, CountsReads, CountsWrite, CountsWrites, BreaksOff, EndsAs, FrameRead, FrameWrite, IsPart, Refuses}
 use Rattle.trap_frames.specs.Traps.{ReadsTrap}
 use Rattle.trap_frames.specs.Traps.{CountsRead as CountsFrame}
 use Rattle.trap_frames.specs.Traps.{CountsWrite as CountsFrameWrite}
@@ -75,7 +78,14 @@ pub serves :
 serves (Ok done) Are trap old new hosts kept before after held middle holds question read served quiet layout consumed asked wrote =
     (read, question, wrote.0, served wrote.0 wrote.1, quiet, layout, consumed, Appends-trans held middle holds question wrote.0 asked wrote.2)
 serves (Err fault) Are trap old new hosts kept before after held middle holds question read served quiet layout consumed asked wrote =
-    (read, question, wrote.1, subst (λ f. LastIs f wrote.1) (sym wrote.0) tt, subst (λ f. StopsTrap f old trap read after) (sym wrote.0) tt, consumed, Appends-trans held middle holds question wrote.1 asked wrote.2)
+    let answer = wrote.1 in
+    let part = take wrote.3.0 answer in (
+      read,
+      question ++ part,
+      subst (λ f. StopsTrap f old hosts trap read (question ++ part) after) (sym wrote.0) (inr (inr (question, answer, new, kept, served answer wrote.2, (part, (wrote.3.0, wrote.3.1, refl), refl)))),
+      consumed,
+      Appends-trans held middle holds question part asked wrote.3.2,
+    )
 
 -- where no creation is to be measured, any digest will do
 pub unmeasured : (asked : Option Create) (table : EnclaveTable) (world : World) (digest : List ℕ) (pages : ℕ → List ℕ) → ((parts : Create) → Measures asked table world parts → ⊥) → IsMeasuredFor asked table world digest pages
@@ -102,22 +112,39 @@ may_wake mid new hart woken n w hosts = rw (n, w) (λ other known is. hosts othe
 pub quiet : (mid new : State) → new ≡ unmarked 4 mid → mid.table.layout.harts ≤ 4 → AreAwake new
 quiet mid new n most = rw n (λ hart known. awake mid mid.table.layout.harts hart most known)
 
--- a measurement that ended: what it had read, and why
+-- a refusal was written, or a part of it, and why
+pub refuse_why :
+    (result : ServeFault) (refusal : Refusal) (held holds : Option (List ℕ)) (Why : ServeFault → List ℕ → Type 0) → Refuses result refusal held holds → Why (faults.Refused refusal) (end_bytes refusal)
+    → ((part : List ℕ) → IsPart part (end_bytes refusal) → Why faults.Write part) → (rest : List ℕ) × Why result rest × Appends held holds rest
+refuse_why result refusal held holds Why (inl is) why failed = (end_bytes refusal, subst (λ f. Why f (end_bytes refusal)) (sym is.0) why, is.1)
+refuse_why result refusal held holds Why (inr is) why failed =
+    let part = take is.1.0 (end_bytes refusal) in (part, subst (λ f. Why f part) (sym is.0) (failed part (is.1.0, is.1.1, refl)), is.1.2)
+
+-- the same after a question that was written whole
+refuse_then :
+    (result : ServeFault) (refusal : Refusal) (question : List ℕ) (held middle holds : Option (List ℕ)) (Why : ServeFault → List ℕ → Type 0) → Appends held middle question → Refuses result refusal middle holds → Why (faults.Refused refusal) (question ++ end_bytes refusal)
+    → ((rest : List ℕ) → BreaksOff rest question (end_bytes refusal) → Why faults.Write rest) → (rest : List ℕ) × Why result rest × Appends held holds rest
+refuse_then result refusal question held middle holds Why asked refused why failed =
+    let r = refuse_why result refusal middle holds (λ f last. Why f (question ++ last)) refused why (λ part is. failed (question ++ part) (part, is, refl)) in
+    (question ++ r.0, r.1, Appends-trans held middle holds question r.0 asked r.2)
+
+-- a measurement that ended: what it had read, what was written, and why
 pub measure_stops :
-    (fault : FrameFault) (s : State) (trap : Trap) (parts : Create) (before after : Option (List ℕ)) → trap.event ≡ Call
-    → Measures (asked_in (call_of trap.registers)) s.table (s.worlds trap.hart) parts → MeasuresPages (Err fault) parts before after
-    → (read : List ℕ) × StopsTrap (fault_of fault) s trap read after × Consumes before after read
-measure_stops frames.NotUnderstood s trap parts before after call measures stops = (stops.0, (call, parts, measures, stops.1), stops.2)
-measure_stops frames.Read s trap parts before after call measures stops = (stops.0, tt, stops.1)
-measure_stops frames.Write s trap parts before after call measures stops = (stops.0, tt, stops.1)
-
-ends_by : (result fault : ServeFault) (held holds : Option (List ℕ)) (Why : ServeFault → Type 0) (last : List ℕ) → ((result ≡ fault) × LastIs fault last) ⊎ (result ≡ faults.Write) → Appends held holds last → Why fault → Why faults.Write → (last : List ℕ) × LastIs result last × Why result × Appends held holds last
-ends_by result fault held holds Why last (inl is) wrote why failed = (last, subst (λ f. LastIs f last) (sym is.0) is.1, subst Why (sym is.0) why, wrote)
-ends_by result fault held holds Why last (inr is) wrote why failed = (last, subst (λ f. LastIs f last) (sym is) tt, subst Why (sym is) failed, wrote)
-
--- the loop ends with a fault, or with a write that failed, and why
-pub ends_why : (result fault : ServeFault) (held holds : Option (List ℕ)) (Why : ServeFault → Type 0) → EndsAs result fault held holds → Why fault → Why faults.Write → (last : List ℕ) × LastIs result last × Why result × Appends held holds last
-ends_why result fault held holds Why ends why failed = ends_by result fault held holds Why ends.0 ends.1 ends.2 why failed
+    (result : ServeFault) (fault : FrameFault) (s : State) (trap : Trap) (parts : Create) (before after held middle holds : Option (List ℕ)) → trap.event ≡ Call
+    → Measures (asked_in (call_of trap.registers)) s.table (s.worlds trap.hart) parts → MeasuresPages (Err fault) parts before after → Asks (Err fault) parts held middle → EndsAs result fault middle holds
+    → (read rest : List ℕ) × ((hosts : ℕ → ControlWords) → StopsTrap result s hosts trap read rest after) × Consumes before after read × Appends held holds rest
+measure_stops result frames.NotUnderstood s trap parts before after held middle holds call measures stops asked ends =
+    let e = refuse_then result refusals.NotUnderstood (question_of parts) held middle holds (λ f rest. (hosts : ℕ → ControlWords) → StopsTrap f s hosts trap stops.0 rest after) asked ends
+    (λ hosts. (parts, (call, measures), stops.1, refl)) (λ rest off hosts. inr (inl (parts, (call, measures), stops.1, off))) in
+    (stops.0, e.0, e.1, stops.2, e.2)
+measure_stops result frames.Read s trap parts before after held middle holds call measures stops asked ends =
+    let question = question_of parts in
+    let wrote = subst (Appends held holds) (append-nil question) (Appends-trans held middle holds question [] asked ends.1) in
+    (stops.0, question, λ hosts. subst (λ f. StopsTrap f s hosts trap stops.0 question after) (sym ends.0) (parts, (call, measures), stops.1, refl), stops.2, wrote)
+measure_stops result frames.Write s trap parts before after held middle holds call measures stops asked ends =
+    let part = take asked.0 (question_of parts) in
+    let wrote = subst (Appends held holds) (append-nil part) (Appends-trans held middle holds part [] asked.2 ends.1) in
+    ([], part, λ hosts. subst (λ f. StopsTrap f s hosts trap [] part after) (sym ends.0) (inl (parts, (call, measures), refl, (asked.0, asked.1, refl))), stops, wrote)
 
 -- counts over two parts, of which the first ended well
 pub reads_then : {X : Type 0} (result : Result X ServeFault) (a b d : ℕ) → b ≡ a → CountsReads result b d → CountsReads result a d

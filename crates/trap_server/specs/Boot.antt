@@ -1,5 +1,5 @@
 -- How the monitor is booted.
-use Rattle.std.specs.Prelude.{◌≡◌, ◌⊎◌, ◌<◌, ℕ, List, [], length, Option, Result, Ok, Err}
+use Rattle.std.specs.Prelude.{◌≡◌, ◌⊎◌, ◌<◌, ℕ, Bool, false, nat_lt, List, [], ◌∷◌, length, Option, None, Result, Ok, Err}
 use Rattle.std.specs.Io.KnownBytes.{Appends, Consumes, IsAtEnd}
 use Rattle.platforms.specs.Platform.{Layout}
 use Rattle.monitor_core.specs.declared.monitor.Monitor.{Monitor}
@@ -12,7 +12,10 @@ use Rattle.trap_frames.specs.declared.end.Refusal.{Refusal}
 use Rattle.trap_frames.specs.declared.end.Refusal.TheVariants.{NotUnderstood, Platform, NeedsEntries, Memory}
 use Rattle.trap_server.specs.declared.fault.ServeFault.{ServeFault}
 use Rattle.trap_server.specs.declared.fault.ServeFault.TheVariants as faults
-use Rattle.trap_server.specs.Ends.{LastIs}
+use Rattle.control_words.specs.Tables.{first_host_words}
+use Rattle.trap_frames.specs.Ends.{end_bytes}
+use Rattle.trap_server.specs.Answered.{IsAnswer, no_answer}
+use Rattle.trap_server.specs.Ends.{IsPart}
 
 -- why the first bytes are refused: they are no frame of a platform, or the input ends within it; its rules are broken; the host's view
 -- needs more entries than there are; or memory is refused for a platform that is one
@@ -22,19 +25,30 @@ RefusesFirst (Platform fault) read after = (length read ≡ 1336) × IsNoPlatfor
 RefusesFirst (NeedsEntries count) read after = (length read ≡ 1336) × (layout : Layout) × IsPlatformFrame read layout × IsBootFault layout (NeedsMoreEntries count)
 RefusesFirst Memory read after = (length read ≡ 1336) × (layout : Layout) × IsPlatformFrame read layout
 
--- why the loop ends before a trap was read
-abbrev pub StopsAtFirst : ServeFault → List ℕ → Option (List ℕ) → Type 0
-StopsAtFirst (faults.Refused refusal) read after = RefusesFirst refusal read after
-StopsAtFirst faults.Read read after = length read < 1336
-StopsAtFirst faults.Write read after = Unit {0}
+-- the harts but hart 0
+abbrev pub others : ℕ → List Bool
+others harts = false ∷ (nat_lt 1 harts ∷ (nat_lt 2 harts ∷ (nat_lt 3 harts ∷ [])))
+
+-- the answer to a platform: with which hart 0 goes on in the opening state, and all others load its entries
+abbrev pub IsFirstAnswer : Layout → List ℕ → Type 0
+IsFirstAnswer layout bytes = IsAnswer (opening layout) first_host_words 0 no_answer None (others layout.harts) bytes
+
+-- why the loop ends before a trap was read, and what was written. A refusal is the last frame. Where a read failed nothing was written; where
+-- a write did, a part of the last frame or of the answer to the platform
+abbrev pub StopsAtFirst : ServeFault → List ℕ → List ℕ → Option (List ℕ) → Type 0
+StopsAtFirst (faults.Refused refusal) read rest after = RefusesFirst refusal read after × (rest ≡ end_bytes refusal)
+StopsAtFirst faults.Read read rest after = (length read < 1336) × (rest ≡ [])
+StopsAtFirst faults.Write read rest after =
+    ((refusal : Refusal) × RefusesFirst refusal read after × IsPart rest (end_bytes refusal))
+    ⊎ ((layout : Layout) × (answer : List ℕ) × (length read ≡ 1336) × IsPlatformFrame read layout × IsFirstAnswer layout answer × IsPart rest answer)
 
 -- the first bytes are a platform's
 abbrev pub IsFirst : Layout → Option (List ℕ) → Option (List ℕ) → Type 0
 IsFirst layout before after = (first : List ℕ) × (length first ≡ 1336) × IsPlatformFrame first layout × Consumes before after first
 
--- the loop ends at the first bytes, and why
+-- the loop ends before a trap was read, and why
 abbrev pub EndsAtFirst : ServeFault → Option (List ℕ) → Option (List ℕ) → Option (List ℕ) → Option (List ℕ) → Type 0
-EndsAtFirst fault before after held holds = (read last : List ℕ) × LastIs fault last × StopsAtFirst fault read after × Consumes before after read × Appends held holds last
+EndsAtFirst fault before after held holds = (read rest : List ℕ) × StopsAtFirst fault read rest after × Consumes before after read × Appends held holds rest
 
 -- the platform was read and nothing written, and the monitor is as at its opening; or the loop ends, and why
 abbrev pub Boots : Result Monitor ServeFault → Option (List ℕ) → Option (List ℕ) → Option (List ℕ) → Option (List ℕ) → Type 0
@@ -46,4 +60,4 @@ Boots (Err fault) before after held holds = EndsAtFirst fault before after held 
 abbrev pub BootsOn : Result Monitor ServeFault → Layout → Option (List ℕ) → Option (List ℕ) → Type 0
 BootsOn (Ok monitor) layout held holds = (state_of monitor ≡ opening layout) × Appends held holds []
 BootsOn (Err fault) layout held holds =
-    (last : List ℕ) × LastIs fault last × ((read : List ℕ) (after : Option (List ℕ)) → length read ≡ 1336 → IsPlatformFrame read layout → StopsAtFirst fault read after) × Appends held holds last
+    (rest : List ℕ) × ((read : List ℕ) (after : Option (List ℕ)) → length read ≡ 1336 → IsPlatformFrame read layout → StopsAtFirst fault read rest after) × Appends held holds rest

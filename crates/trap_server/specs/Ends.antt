@@ -1,29 +1,34 @@
 -- What was written last, where the loop ends early.
-use Rattle.std.specs.Prelude.{◌≡◌, ◌⊎◌, ℕ, List, Option, Result, MatchResult}
+use Rattle.std.specs.Prelude.{◌≡◌, ◌⊎◌, ◌<◌, ℕ, List, [], ◌++◌, length, take, Option, Result, MatchResult}
 use Rattle.std.specs.Io.KnownBytes.{Appends}
 use Rattle.byte_streams.specs.Streams.{WriteFails, one_failure_more}
+use Rattle.byte_streams.specs.Writings.{TakesPart}
 use Rattle.trap_frames.specs.Ends.{end_bytes}
+use Rattle.trap_frames.specs.declared.end.Refusal.{Refusal}
 use Rattle.trap_frames.specs.declared.end.Refusal.TheVariants as refusals
 use Rattle.trap_frames.specs.declared.fault.FrameFault.{FrameFault}
 use Rattle.trap_frames.specs.declared.fault.FrameFault.TheVariants as frames
 use Rattle.trap_server.specs.declared.fault.ServeFault.{ServeFault}
 use Rattle.trap_server.specs.declared.fault.ServeFault.TheVariants as faults
 
--- a refusal is the last frame that was written; where a device failed, some bytes may have been
-abbrev pub LastIs : ServeFault → List ℕ → Type 0
-LastIs (faults.Refused refusal) last = last ≡ end_bytes refusal
-LastIs faults.Read last = Unit {0}
-LastIs faults.Write last = Unit {0}
+-- some bytes are a beginning of a frame, and not all of it
+abbrev pub IsPart : List ℕ → List ℕ → Type 0
+IsPart part frame = (n : ℕ) × (n < length frame) × (part ≡ take n frame)
 
--- the fault that a frame's is
-abbrev pub fault_of : FrameFault → ServeFault
-fault_of frames.Read = faults.Read
-fault_of frames.Write = faults.Write
-fault_of frames.NotUnderstood = faults.Refused refusals.NotUnderstood
+-- some bytes are what stands before a frame, and a part of the frame
+abbrev pub BreaksOff : List ℕ → List ℕ → List ℕ → Type 0
+BreaksOff rest front frame = (part : List ℕ) × IsPart part frame × (rest ≡ front ++ part)
 
--- the loop ends with a fault, whose last frame was written; or the sink failed at that
-abbrev pub EndsAs : ServeFault → ServeFault → Option (List ℕ) → Option (List ℕ) → Type 0
-EndsAs result fault held holds = (last : List ℕ) × (((result ≡ fault) × LastIs fault last) ⊎ (result ≡ faults.Write)) × Appends held holds last
+-- the last frame was written, which says why; or a part of it, where the sink failed
+abbrev pub Refuses : ServeFault → Refusal → Option (List ℕ) → Option (List ℕ) → Type 0
+Refuses result refusal held holds =
+    ((result ≡ faults.Refused refusal) × Appends held holds (end_bytes refusal)) ⊎ ((result ≡ faults.Write) × TakesPart (end_bytes refusal) held holds)
+
+-- the loop ends with a frame's fault: what is not understood is refused, and where a device failed nothing more is written
+abbrev pub EndsAs : ServeFault → FrameFault → Option (List ℕ) → Option (List ℕ) → Type 0
+EndsAs result frames.NotUnderstood held holds = Refuses result refusals.NotUnderstood held holds
+EndsAs result frames.Read held holds = (result ≡ faults.Read) × Appends held holds []
+EndsAs result frames.Write held holds = (result ≡ faults.Write) × Appends held holds []
 
 -- a read failed where that is the fault, and otherwise none did
 abbrev pub CountsRead : ServeFault → ℕ → ℕ → Type 0

@@ -4,3 +4,4 @@ pub mod Ends
 pub mod Steps
 pub mod Boot
 pub mod Runs
+pub mod Numbers

@@ -1,5 +1,5 @@
 -- A run of the loop.
-use Rattle.std.specs.Prelude.{◌≡◌, ◌⊎◌, ℕ, ◌+◌, ◌-◌, ◌^◌, Bool, false, nat_lt, List, [], ◌∷◌, ◌++◌, length, Option, None}
+use Rattle.std.specs.Prelude.{◌≡◌, ◌⊎◌, ℕ, ◌+◌, ◌-◌, ◌^◌, ◌<◌, List, [], ◌++◌, length, Option}
 use Rattle.std.specs.Io.KnownBytes.{Appends, Consumes}
 use Rattle.platforms.specs.Platform.{Layout}
 use Rattle.monitor_core.specs.States.{State, opening}
@@ -12,10 +12,10 @@ use Rattle.trap_frames.specs.Traps.{IsNoTrap, IsTrapFrame}
 use Rattle.trap_server.specs.declared.fault.ServeFault.{ServeFault}
 use Rattle.trap_server.specs.declared.fault.ServeFault.TheVariants as faults
 use Rattle.trap_frames.specs.declared.end.Refusal.TheVariants.{NotUnderstood}
-use Rattle.trap_server.specs.Ends.{LastIs}
-use Rattle.trap_server.specs.Boot.{StopsAtFirst}
+use Rattle.trap_frames.specs.Ends.{end_bytes}
+use Rattle.trap_server.specs.Ends.{IsPart}
+use Rattle.trap_server.specs.Boot.{EndsAtFirst, IsFirstAnswer}
 use Rattle.trap_server.specs.Steps.{StopsTrap}
-use Rattle.trap_server.specs.Answered.{IsAnswer, no_answer}
 use Rattle.trap_server.specs.Service.{ServesTrap}
 
 -- traps that were served in turn, from one state and the hosts' control words to others: the bytes that were read for them, and
@@ -42,10 +42,6 @@ KeepsWhatCame = (old : State) (hosts : ℕ → ControlWords) (read written : Lis
 abbrev pub first_words : ℕ → ControlWords
 first_words hart = first_host_words
 
--- the harts but hart 0
-abbrev pub others : ℕ → List Bool
-others harts = false ∷ (nat_lt 1 harts ∷ (nat_lt 2 harts ∷ (nat_lt 3 harts ∷ [])))
-
 -- the platform was read and its answer written; then traps were served, and after them these bytes were read and written
 pub record Ran (before after held holds : Option (List ℕ)) (beyond rest : List ℕ) : Type 0 where
   pub layout : Layout
@@ -58,27 +54,33 @@ pub record Ran (before after held holds : Option (List ℕ)) (beyond rest : List
   pub count : ℕ
   pub size : length first ≡ 1336
   pub platform : IsPlatformFrame first layout
-  pub begins : IsAnswer (opening layout) first_host_words 0 no_answer None (others layout.harts) opened
+  pub begins : IsFirstAnswer layout opened
   pub served : Serves (opening layout) first_words read written state hosts
   pub counted : trap_count served ≡ count
   pub consumed : Consumes before after (first ++ (read ++ beyond))
   pub appended : Appends held holds (opened ++ (written ++ rest))
 
--- why the loop ends after so many traps: what is not understood is no frame of a trap, or after one no frame of the page that was to come;
--- or there were 2^64 - 1
-abbrev pub StopsAfter : ServeFault → ℕ → State → List ℕ → Option (List ℕ) → Type 0
-StopsAfter (faults.Refused NotUnderstood) count s beyond after =
-    IsNoTrap beyond s.table.layout.harts after
-    ⊎ (((trap : Trap) × (frame read : List ℕ) × (length frame ≡ 352) × IsTrapFrame frame s.table.layout.harts trap × StopsTrap (faults.Refused NotUnderstood) s trap read after × (beyond ≡ frame ++ read))
-    ⊎ (count ≡ 2 ^ 64 - 1))
-StopsAfter (faults.Refused _) count s beyond after = ⊥
-StopsAfter faults.Read count s beyond after = Unit {0}
-StopsAfter faults.Write count s beyond after = Unit {0}
+-- why there is no next trap after so many: what came is no frame of one, or there were 2^64 - 1
+abbrev pub RefusesNext : ℕ → State → List ℕ → Option (List ℕ) → Type 0
+RefusesNext count s beyond after = IsNoTrap beyond s.table.layout.harts after ⊎ ((count ≡ 2 ^ 64 - 1) × (beyond ≡ []))
 
--- the loop ended early, and why: before a trap was read, or after some traps, of which each was served and answered. What came beyond them
--- was read, and some bytes were written for it, the last of which say why where the fault is a refusal
+-- why the loop ends before the next trap was read, and what was written. A refusal is the last frame. Where a read failed less than a trap was
+-- read and nothing written; where a write did, a part of the last frame
+abbrev pub StopsBetween : ServeFault → ℕ → State → List ℕ → List ℕ → Option (List ℕ) → Type 0
+StopsBetween (faults.Refused NotUnderstood) count s beyond rest after = RefusesNext count s beyond after × (rest ≡ end_bytes NotUnderstood)
+StopsBetween (faults.Refused _) count s beyond rest after = ⊥
+StopsBetween faults.Read count s beyond rest after = (length beyond < 352) × (rest ≡ [])
+StopsBetween faults.Write count s beyond rest after = RefusesNext count s beyond after × IsPart rest (end_bytes NotUnderstood)
+
+-- the next trap was read, and why the loop ends at it
+abbrev pub StopsInside : ServeFault → State → (ℕ → ControlWords) → List ℕ → List ℕ → Option (List ℕ) → Type 0
+StopsInside fault s hosts beyond rest after =
+    (trap : Trap) × (frame read : List ℕ) × (length frame ≡ 352) × IsTrapFrame frame s.table.layout.harts trap × StopsTrap fault s hosts trap read rest after × (beyond ≡ frame ++ read)
+
+-- the loop ended early, and why: before a trap was read, or after some traps, of which each was served and answered. Then some bytes were read
+-- beyond them and some written, before the next trap was read or behind it
 abbrev pub EndsEarly : ServeFault → Option (List ℕ) → Option (List ℕ) → Option (List ℕ) → Option (List ℕ) → Type 0
 EndsEarly fault before after held holds =
-    (beyond some last : List ℕ) × LastIs fault last
-    × ((StopsAtFirst fault beyond after × Consumes before after beyond × Appends held holds (some ++ last))
-    ⊎ ((run : Ran before after held holds beyond (some ++ last)) × StopsAfter fault run.count run.state beyond after))
+    EndsAtFirst fault before after held holds
+    ⊎ ((beyond rest : List ℕ) × (run : Ran before after held holds beyond rest)
+    × (StopsBetween fault run.count run.state beyond rest after ⊎ StopsInside fault run.state run.hosts beyond rest after))

@@ -14,14 +14,14 @@ use Rattle.control_words.specs.Given.{GivesWords}
 use Rattle.trap_frames.specs.declared.trap.Event.{Event}
 use Rattle.trap_frames.specs.declared.trap.Event.TheVariants.{Call, Stop}
 use Rattle.trap_frames.specs.declared.trap.Trap.{Trap}
-use Rattle.trap_frames.specs.PageDigest.{ArePages, question_bytes}
+use Rattle.trap_frames.specs.PageDigest.{ArePages, question_of}
 use Rattle.trap_server.specs.Answered.{IsAnswer, marks_of, no_answer, unmarked}
 
 -- a creation that passes its checks has its private pages asked for, and read once, by rising number; nothing else is asked for or read
 abbrev pub AsksFor : Option Create → State → ℕ → List ℕ → List ℕ → (ℕ → List ℕ) → Type 0
 AsksFor asked s hart question read pages =
     ((question ≡ []) × (read ≡ []) × ((parts : Create) → Measures asked s.table (s.worlds hart) parts → ⊥))
-    ⊎ ((parts : Create) × Measures asked s.table (s.worlds hart) parts × (question ≡ question_bytes (parts.base / 4096) (parts.text_pages + parts.data_pages))
+    ⊎ ((parts : Create) × Measures asked s.table (s.worlds hart) parts × (question ≡ question_of parts)
     × ArePages (parts.base / 4096) (parts.text_pages + parts.data_pages) read (pages_from pages (parts.base / 4096) (parts.text_pages + parts.data_pages)))
 
 -- a call is a step of the monitor, over the pages that were read; then no hart is marked, and each that was is woken

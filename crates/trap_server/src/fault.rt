@@ -1,7 +1,7 @@
 //! Why the loop ended before its input did.
 
 ghost use Rattle.std.specs.Prelude.{ℕ};
-ghost use Rattle.trap_server.specs.Ends.{CountsRead, CountsWrite, EndsAs, FrameRead, FrameWrite, fault_of};
+ghost use Rattle.trap_server.specs.Ends.{CountsRead, CountsWrite, EndsAs, FrameRead, FrameWrite, Refuses};
 
 use byte_streams::{Sink, write_whole};
 use trap_frames::{FrameFault, Refusal, end_frame};
@@ -19,8 +19,7 @@ pub enum ServeFault {
 
 /// Writes the last frame, and gives the fault that the loop ends with.
 pub(crate) fn refuse<W: Sink>(sink: &mut W, refusal: Refusal) -> ServeFault
-    ensures last { EndsAs result (ServeFault.Refused refusal) (W.contents sink.old)
-        (W.contents sink.new) }
+    ensures last { Refuses result refusal (W.contents sink.old) (W.contents sink.new) }
     ensures reads { (n : ℕ) → CountsRead result n n }
     ensures writes { CountsWrite result (W.failures sink.old) (W.failures sink.new)
         (W.stalls sink.old) (W.stalls sink.new) }
@@ -33,7 +32,7 @@ pub(crate) fn refuse<W: Sink>(sink: &mut W, refusal: Refusal) -> ServeFault
 
 /// The fault that the loop ends with, where a frame was not read or not written. What is not understood is answered.
 pub(crate) fn end<W: Sink>(sink: &mut W, fault: FrameFault) -> ServeFault
-    ensures last { EndsAs result (fault_of fault) (W.contents sink.old) (W.contents sink.new) }
+    ensures last { EndsAs result fault (W.contents sink.old) (W.contents sink.new) }
     ensures reads { (before after : ℕ) → FrameRead fault before after
         → CountsRead result before after }
     ensures writes { (failures stalls : ℕ)

@@ -18,10 +18,14 @@
 
 mod fault;
 mod laws;
+mod numbers;
 mod service;
+#[cfg(test)]
+mod tests;
 mod trap_loop;
 
 pub use fault::ServeFault;
 pub use laws::words_law;
+pub use numbers::{served_number, served_status};
 pub use trap_frames::Refusal;
 pub use trap_loop::serve_traps;

@@ -3,10 +3,10 @@
 ghost use Rattle.std.specs.Prelude.{◌≡◌, ◌+◌, ◌≤◌, ◌<◌, ℕ, List, [], IfErr, IfOk, MatchResult};
 ghost use Rattle.std.specs.Io.KnownBytes.{IsAtEnd};
 ghost use Rattle.monitor_core.specs.Monitors.{state_of};
-ghost use Rattle.trap_server.specs.Boot.{Boots, BootsOn, EndsAtFirst, IsFirst};
+ghost use Rattle.trap_server.specs.Boot.{Boots, BootsOn, EndsAtFirst, IsFirst, others};
 ghost use Rattle.trap_server.specs.Answered.{AreAwake};
 ghost use Rattle.trap_server.specs.Ends.{CountsReads, CountsWrites};
-ghost use Rattle.trap_server.specs.Runs.{EndsEarly, Ran, others};
+ghost use Rattle.trap_server.specs.Runs.{EndsEarly, Ran};
 
 use crate::fault::{ServeFault, end, refuse};
 use crate::service::{NOTHING, serve_trap, write_answer};
@@ -95,7 +95,8 @@ fn others(harts: u8) -> [bool; 4]
 ///
 /// It ends early where a frame is not understood, which is no frame of its place or one within which the input ends; where the
 /// first frame is of no platform, or the host's view on it needs more entries than there are; where memory is refused at boot;
-/// where a read or a write fails; and after 2^64 - 1 traps.
+/// where a read or a write fails; and after 2^64 - 1 traps. Behind the last answer there is then a question for pages, where they
+/// were asked for, and the last frame, or a part of what was to come.
 pub fn serve_traps<R: Source, W: Sink>(
     alloc: Global,
     source: &mut R,

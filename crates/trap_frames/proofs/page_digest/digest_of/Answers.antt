@@ -2,7 +2,7 @@ use Rattle.std.proofs.Common.{◌≡◌, ◌+◌, [], ◌∷◌, ◌++◌, rules
 use Rattle.std.proofs.KnownBytes.{Consumes-nil, Consumes-trans}
 use Rattle.enclave_requests.specs.Digests.{layout_of}
 use Rattle.trap_frames.specs.PageDigest.{no_page, next_page}
-use Rattle.trap_frames.proofs.Read.{page_stops, page_writes}
+use Rattle.trap_frames.proofs.Read.{page_asked, page_stops, page_writes}
 use Rattle.trap_frames.proofs.page_digest.digest_of.Goals as goal
 
 pub loop-i-init : goal.loop-i-init
@@ -39,4 +39,4 @@ returns-clause-read g c =
     (old.0, old.1, rw last at old.2, old.3, c.finish.ensures (layout_of c.args.parts.now) old.1 old.4)
 
 pub returns-in-Err-clause-asked : goal.returns-in-Err-clause-asked
-returns-in-Err-clause-asked g c = (_, c.loop-i.invariant.written)
+returns-in-Err-clause-asked g c = page_asked c.in-Err.fault c.args.parts.now _ _ _ _ _ _ c.in-Err.ensures.page c.loop-i.invariant.written

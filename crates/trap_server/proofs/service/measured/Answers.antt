@@ -1,14 +1,12 @@
 use Rattle.std.proofs.Common.{◌∙◌, ◌+◌, ◌/◌, inl, inr, ℕ, List, [], refl, ap, sym, subst}
-use Rattle.std.proofs.KnownBytes.{Appends-nil, Appends-trans, Consumes-nil}
+use Rattle.std.proofs.KnownBytes.{Appends-nil, Consumes-nil}
 use Rattle.measurement.specs.Measured.{digest_of}
 use Rattle.sbi_decode.specs.Calls.{call_of}
 use Rattle.monitor_core.specs.Monitors.{state_of}
 use Rattle.monitor_core.specs.Measured.{asked_in}
 use Rattle.enclave_requests.specs.Digests.{layout_of}
-use Rattle.trap_frames.specs.PageDigest.{ArePages, question_bytes}
-use Rattle.trap_server.proofs.Served.{ends_why, frame_reads, frame_writes, measure_stops, measured_for, numbered, numbered_all, pages_length, unmeasured}
-use Rattle.trap_server.specs.Ends.{fault_of}
-use Rattle.trap_server.specs.Steps.{StopsTrap}
+use Rattle.trap_frames.specs.PageDigest.{ArePages, question_of}
+use Rattle.trap_server.proofs.Served.{frame_reads, frame_writes, measure_stops, measured_for, numbered, numbered_all, pages_length, unmeasured}
 use Rattle.trap_server.proofs.service.measured.Goals as goal
 
 pub returns-in_default-clause-digest : goal.returns-in_default-clause-digest
@@ -28,7 +26,7 @@ returns-in-Ok-clause-digest g c =
     let same = numbered_all r.1 first count (pages_length first count r.0 r.1 r.2) in
     let are = subst (λ (pages : List (List ℕ)). ArePages first count r.0 pages) (sym same) r.2 in
     let own = r.4 ∙ ap (λ (pages : List (List ℕ)). digest_of (layout_of parts) pages) (sym same) in (
-      question_bytes first count,
+      question_of parts,
       r.0,
       numbered r.1 first,
       inr (parts, c.in-Some.ensures.parts, refl, are),
@@ -39,11 +37,7 @@ returns-in-Ok-clause-digest g c =
 
 pub returns-in-Err-clause-digest : goal.returns-in-Err-clause-digest
 returns-in-Err-clause-digest g c =
-    let s = state_of c.args.monitor.now in
-    let r = measure_stops c.in-Err.fault s c.args.trap.now c.in-Some.parts _ _ c.requires.call c.in-Some.ensures.parts c.in-Err.ensures.read in
-    let a = c.in-Err.ensures.asked in
-    let e = ends_why c.end.result (fault_of c.in-Err.fault) _ _ (λ f. StopsTrap f s c.args.trap.now r.0 (g.R.Source.remaining c.digest_of.new.source)) c.end.ensures.last r.1 tt in
-    (r.0, a.0, e.0, e.1, e.2, r.2, Appends-trans _ _ _ _ _ a.1 e.3)
+    measure_stops c.end.result c.in-Err.fault (state_of c.args.monitor.now) c.args.trap.now c.in-Some.parts _ _ _ _ _ c.requires.call c.in-Some.ensures.parts c.in-Err.ensures.read c.in-Err.ensures.asked c.end.ensures.last
 
 pub returns-in-Err-clause-reads : goal.returns-in-Err-clause-reads
 returns-in-Err-clause-reads g c = c.end.ensures.reads _ _ (frame_reads (List ℕ) c.in-Err.fault _ _ c.in-Err.ensures.failures)

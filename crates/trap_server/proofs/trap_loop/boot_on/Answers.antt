@@ -1,11 +1,10 @@
-use Rattle.std.proofs.Common.{◌≡◌, ℕ, List, Option, length, subst}
+use Rattle.std.proofs.Common.{◌≡◌, ℕ, List, Option, length, inl, refl, subst}
 use Rattle.enclave_table.specs.Boot.{IsBootFault}
 use Rattle.platforms.specs.declared.boot_fault.BootFault.TheVariants.{NeedsMoreEntries}
 use Rattle.trap_frames.specs.Platforms.{IsPlatformFrame}
 use Rattle.trap_frames.specs.declared.end.Refusal.TheVariants as refusals
 use Rattle.trap_server.specs.Boot.{StopsAtFirst}
-use Rattle.trap_server.specs.declared.fault.ServeFault.TheVariants as faults
-use Rattle.trap_server.proofs.Served.{ends_why}
+use Rattle.trap_server.proofs.Served.{refuse_why}
 use Rattle.trap_server.proofs.trap_loop.boot_on.Goals as goal
 
 pub returns-in-Err-NeedsMoreEntries-clause-boots : goal.returns-in-Err-NeedsMoreEntries-clause-boots
@@ -14,6 +13,13 @@ returns-in-Err-NeedsMoreEntries-clause-boots g c =
     let count = c.in-Err-NeedsMoreEntries.count in
     let told = subst (λ f. IsBootFault c.into_inner.result f) c.in-Err-NeedsMoreEntries.field-0-is c.in-Err-NeedsMoreEntries.ensures.fault in
     let why = subst (λ l. IsBootFault l (NeedsMoreEntries count)) c.into_inner.ensures told in
-    ends_why c.refuse.result (faults.Refused (refusals.NeedsEntries count)) _ _
-    (λ f. (read : List ℕ) (after : Option (List ℕ)) → length read ≡ 1336 → IsPlatformFrame read layout → StopsAtFirst f read after)
-    c.refuse.ensures.last (λ read after size is. (size, layout, is, why)) (λ read after size is. tt)
+    refuse_why c.refuse.result (refusals.NeedsEntries count) _ _
+    (λ f rest. (read : List ℕ) (after : Option (List ℕ)) → length read ≡ 1336 → IsPlatformFrame read layout → StopsAtFirst f read rest after)
+    c.refuse.ensures.last (λ read after size is. ((size, layout, is, why), refl)) (λ part off read after size is. inl (refusals.NeedsEntries count, (size, layout, is, why), off))
+
+pub returns-in-Err-Memory-clause-boots : goal.returns-in-Err-Memory-clause-boots
+returns-in-Err-Memory-clause-boots g c =
+    let layout = c.args.platform.value in
+    refuse_why c.refuse-in-Err-Memory.result refusals.Memory _ _
+    (λ f rest. (read : List ℕ) (after : Option (List ℕ)) → length read ≡ 1336 → IsPlatformFrame read layout → StopsAtFirst f read rest after)
+    c.refuse-in-Err-Memory.ensures.last (λ read after size is. ((size, layout, is), refl)) (λ part off read after size is. inl (refusals.Memory, (size, layout, is), off))

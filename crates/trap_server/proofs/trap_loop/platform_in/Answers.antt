@@ -1,34 +1,26 @@
 use Rattle.std.proofs.Common.{Ok, Result, refl, subst, sym}
 use Rattle.trap_frames.specs.Platforms.{IsPlatformFrame, ReadsPlatform}
-use Rattle.trap_server.specs.Boot.{StopsAtFirst}
-use Rattle.trap_server.specs.Ends.{fault_of}
-use Rattle.trap_server.specs.declared.fault.ServeFault.TheVariants as faults
-use Rattle.trap_server.proofs.Looped.{first_stops, refuses_first}
-use Rattle.trap_server.proofs.Served.{ends_why, first_writes, frame_reads, read_at}
+use Rattle.trap_server.proofs.Looped.{first_refused, first_stops, refuses_first}
+use Rattle.trap_server.proofs.Served.{first_writes, frame_reads, read_at}
 use Rattle.platforms.specs.Platform.{Layout}
 use Rattle.trap_frames.specs.declared.end.Refusal.{Refusal}
 use Rattle.trap_frames.specs.declared.end.Refusal.TheVariants as refusals
 use Rattle.trap_server.proofs.trap_loop.platform_in.Goals as goal
 
 pub returns-in-Err-clause-first : goal.returns-in-Err-clause-first
-returns-in-Err-clause-first g c =
-    let r = first_stops c.in-Err.fault _ _ c.in-Err.ensures.platform in
-    let e = ends_why c.end.result (fault_of c.in-Err.fault) _ _ (λ f. StopsAtFirst f r.0 (g.R.Source.remaining c.read_platform.new.source)) c.end.ensures.last r.1 tt in
-    (r.0, e.0, e.1, e.2, r.2, e.3)
+returns-in-Err-clause-first g c = first_stops c.end.result c.in-Err.fault _ _ _ _ c.in-Err.ensures.platform c.end.ensures.last
 
 pub returns-in-Ok-Err-clause-first : goal.returns-in-Ok-Err-clause-first
 returns-in-Ok-Err-clause-first g c =
     let after = g.R.Source.remaining c.read_platform.new.source in
     let read = subst (λ r. ReadsPlatform (Ok r) (g.R.Source.remaining c.args.source.now) after) c.in-Ok-Err.field-0-is c.in-Ok-Err.ensures.platform in
-    let e = ends_why c.refuse-in-Ok-Err.result (faults.Refused c.in-Ok-Err.refusal) _ _ (λ f. StopsAtFirst f read.0 after) c.refuse-in-Ok-Err.ensures.last (refuses_first c.in-Ok-Err.refusal read.0 after read.1 read.2) tt in
-    (read.0, e.0, e.1, e.2, read.3, e.3)
+    first_refused c.refuse-in-Ok-Err.result c.in-Ok-Err.refusal read.0 _ after _ _ (refuses_first c.in-Ok-Err.refusal read.0 after read.1 read.2) read.3 c.refuse-in-Ok-Err.ensures.last
 
 pub returns-in-Err-new-clause-first : goal.returns-in-Err-new-clause-first
 returns-in-Err-new-clause-first g c =
     let after = g.R.Source.remaining c.read_platform.new.source in
     let read = subst (λ r. ReadsPlatform (Ok r) (g.R.Source.remaining c.args.source.now) after) c.in-Ok-Ok.field-0-is c.in-Ok-Ok.ensures.platform in
-    let e = ends_why c.refuse.result (faults.Refused refusals.Memory) _ _ (λ f. StopsAtFirst f read.0 after) c.refuse.ensures.last (read.1, c.in-Ok-Ok.platform, read.2) tt in
-    (read.0, e.0, e.1, e.2, read.3, e.3)
+    first_refused c.refuse.result refusals.Memory read.0 _ after _ _ (read.1, c.in-Ok-Ok.platform, read.2) read.3 c.refuse.ensures.last
 
 pub returns-in-Ok-clause-first : goal.returns-in-Ok-clause-first
 returns-in-Ok-clause-first g c =

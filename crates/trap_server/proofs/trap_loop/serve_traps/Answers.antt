@@ -1,33 +1,22 @@
-use Rattle.std.proofs.Common.{◌≡◌, ◌<◌, ◌∙◌, Option, ◌^◌, ◌-◌, arith, inl, inr, [], ◌++◌, Ok, ap, sym, subst}
-use Rattle.std.proofs.KnownBytes.{Appends-nil, Appends-trans, Consumes-nil, Consumes-trans}
+use Rattle.std.proofs.Common.{◌≡◌, ◌<◌, ◌∙◌, Option, ◌^◌, ◌-◌, arith, inl, inr, [], Ok, ap, sym, subst, refl}
+use Rattle.std.proofs.KnownBytes.{Appends-nil, Consumes-nil}
 use Rattle.monitor_core.specs.Monitors.{state_of}
 use Rattle.control_words.specs.Given.{host_words}
 use Rattle.trap_frames.specs.Traps.{ReadsTrap}
-use Rattle.trap_server.proofs.Looped.{begins, ended, goes_on, ran, read_stops, trap_stops}
-use Rattle.trap_server.proofs.Served.{ends_why, frame_after, frame_reads, read_after, read_at, trap_writes, write_after}
+use Rattle.trap_server.proofs.Looped.{answer_stops, begins, goes_on, next_refused, ran, read_stops, trap_stops}
+use Rattle.trap_server.proofs.Served.{frame_after, frame_reads, read_after, read_at, trap_writes, write_after}
 use Rattle.trap_frames.specs.declared.trap.Trap.{Trap}
-use Rattle.trap_frames.specs.declared.end.Refusal.TheVariants as refusals
-use Rattle.trap_server.specs.declared.fault.ServeFault.TheVariants as faults
-use Rattle.trap_server.specs.Boot.{StopsAtFirst}
-use Rattle.trap_server.specs.Ends.{LastIs, fault_of}
-use Rattle.trap_server.specs.Runs.{StopsAfter}
 use Rattle.trap_server.proofs.trap_loop.serve_traps.Goals as goal
 
 pub returns-in-Err-clause-early : goal.returns-in-Err-clause-early
-returns-in-Err-clause-early g c =
-    let b = c.in-Err.ensures.boots in
-    (b.0, [], b.1, b.2, inl (b.3, b.4, b.5))
+returns-in-Err-clause-early g c = inl c.in-Err.ensures.boots
 
 pub returns-in-Err-write_answer-clause-early : goal.returns-in-Err-write_answer-clause-early
 returns-in-Err-write_answer-clause-early g c =
     let b = c.in-Ok.ensures.boots in
-    let w = c.in-Err-write_answer.ensures.bytes in (
-      b.1,
-      [],
-      w.1,
-      subst (λ f. LastIs f w.1) (sym w.0) tt,
-      inl (subst (λ f. StopsAtFirst f b.1 (g.R.Source.remaining c.boot.new.source)) (sym w.0) tt, b.5, Appends-trans (g.W.Sink.contents c.args.sink.now) (g.W.Sink.contents c.boot.new.sink) (g.W.Sink.contents c.write_answer.new.sink) [] w.1 b.6 w.2),
-    )
+    let w = c.in-Err-write_answer.ensures.bytes in
+    inl (answer_stops c.in-Err-write_answer.fault (state_of c.in-Ok.monitor) (host_words c.new-hosts.result) b.0 b.1 w.1 w.3.0 c.harts-harts.result c.others.result (g.R.Source.remaining c.args.source.now) (g.R.Source.remaining c.boot.new.source) (g.W.Sink.contents c.args.sink.now)
+    (g.W.Sink.contents c.boot.new.sink) (g.W.Sink.contents c.write_answer.new.sink) b.2 b.3 b.4 c.new-hosts.ensures b.5 b.6 c.harts-harts.ensures.value c.others.ensures w.0 w.2 w.3.1 w.3.2)
 
 pub loop-count-init : goal.loop-count-init
 loop-count-init g c =
@@ -50,29 +39,16 @@ returns-in-Ok-None-clause-all g c =
 
 pub returns-in-Err-read_trap-clause-early : goal.returns-in-Err-read_trap-clause-early
 returns-in-Err-read_trap-clause-early g c =
-    let before = g.R.Source.remaining c.loop-count.source in
-    let after = g.R.Source.remaining c.read_trap.new.source in
-    let s = state_of c.loop-count.monitor in
-    let n = c.loop-count._count in
-    let read = read_stops c.in-Err-read_trap.fault n s c.harts-harts.result before after c.loop-count.invariant.harts c.in-Err-read_trap.ensures.trap in
-    let e = ends_why c.end.result (fault_of c.in-Err-read_trap.fault) _ _ (λ f. StopsAfter f n s read.0 after) c.end.ensures.last read.1 tt in
-    (read.0, [], e.0, e.1, inr (ended c.end.result n s (host_words c.loop-count.hosts) (g.R.Source.remaining c.args.source.now) before after (g.W.Sink.contents c.args.sink.now) (g.W.Sink.contents c.loop-count.sink) (g.W.Sink.contents c.end.new.sink) read.0 ([] ++ e.0) c.loop-count.invariant.progress read.2 e.3 e.2))
+    read_stops c.end.result c.in-Err-read_trap.fault c.loop-count._count (state_of c.loop-count.monitor) (host_words c.loop-count.hosts) c.harts-harts.result (g.R.Source.remaining c.args.source.now) (g.R.Source.remaining c.loop-count.source) (g.R.Source.remaining c.read_trap.new.source) (g.W.Sink.contents c.args.sink.now)
+    (g.W.Sink.contents c.loop-count.sink) (g.W.Sink.contents c.end.new.sink) c.loop-count.invariant.progress c.loop-count.invariant.harts c.in-Err-read_trap.ensures.trap c.end.ensures.last
 
 pub returns-in-Err-serve_trap-clause-early : goal.returns-in-Err-serve_trap-clause-early
 returns-in-Err-serve_trap-clause-early g c =
     let before = g.R.Source.remaining c.loop-count.source in
     let mid = g.R.Source.remaining c.read_trap.new.source in
-    let after = g.R.Source.remaining c.serve_trap.new.source in
     let read = subst (λ r. ReadsTrap (Ok r) c.harts-harts.result before mid) c.in-Ok-Some.field-0-is c.in-Ok-Some.ensures.trap in
-    let s = c.in-Err-serve_trap.ensures.served in (
-      read.0 ++ s.0,
-      s.1,
-      s.2,
-      s.3,
-      inr (ended c.in-Err-serve_trap.fault c.loop-count._count (state_of c.loop-count.monitor) (host_words c.loop-count.hosts) (g.R.Source.remaining c.args.source.now) before after (g.W.Sink.contents c.args.sink.now) (g.W.Sink.contents c.loop-count.sink) (g.W.Sink.contents c.serve_trap.new.sink)
-          (read.0 ++ s.0) (s.1 ++ s.2) c.loop-count.invariant.progress (Consumes-trans before mid after read.0 s.0 read.3 s.5) s.6
-          (trap_stops c.in-Err-serve_trap.fault c.loop-count._count (state_of c.loop-count.monitor) c.in-Ok-Some.trap c.harts-harts.result read.0 s.0 after c.loop-count.invariant.harts read.1 read.2 s.4)),
-    )
+    trap_stops c.in-Err-serve_trap.fault c.loop-count._count (state_of c.loop-count.monitor) (host_words c.loop-count.hosts) (host_words c.serve_trap.new.hosts) (state_of c.serve_trap.new.monitor) c.in-Ok-Some.trap c.harts-harts.result read.0 (g.R.Source.remaining c.args.source.now) before mid
+    (g.R.Source.remaining c.serve_trap.new.source) (g.W.Sink.contents c.args.sink.now) (g.W.Sink.contents c.loop-count.sink) (g.W.Sink.contents c.serve_trap.new.sink) c.loop-count.invariant.progress c.loop-count.invariant.harts read.1 read.2 read.3 c.in-Err-serve_trap.ensures.served
 
 pub serve_trap-requires-clause-hart : goal.serve_trap-requires-clause-hart
 serve_trap-requires-clause-hart g c =
@@ -98,11 +74,10 @@ loop-count-preserved g c =
 pub returns-clause-early : goal.returns-clause-early
 returns-clause-early g c =
     let before = g.R.Source.remaining c.loop-count.source in
-    let s = state_of c.loop-count.monitor in
     let n = c.loop-count._count in
     let last : n ≡ 2 ^ 64 - 1 = omega (arith, c.loop-count-test.false, c.loop-count.auto._count-end) in
-    let e = ends_why c.refuse.result (faults.Refused refusals.NotUnderstood) _ _ (λ f. StopsAfter f n s [] before) c.refuse.ensures.last (inr (inr last)) tt in
-    ([], [], e.0, e.1, inr (ended c.refuse.result n s (host_words c.loop-count.hosts) (g.R.Source.remaining c.args.source.now) before before (g.W.Sink.contents c.args.sink.now) (g.W.Sink.contents c.loop-count.sink) (g.W.Sink.contents c.refuse.new.sink) [] ([] ++ e.0) c.loop-count.invariant.progress (Consumes-nil _) e.3 e.2))
+    next_refused c.refuse.result n (state_of c.loop-count.monitor) (host_words c.loop-count.hosts) (g.R.Source.remaining c.args.source.now) before before (g.W.Sink.contents c.args.sink.now) (g.W.Sink.contents c.loop-count.sink) (g.W.Sink.contents c.refuse.new.sink) [] c.loop-count.invariant.progress (Consumes-nil _)
+    (inr (last, refl)) c.refuse.ensures.last
 
 pub returns-in-Err-write_answer-clause-reads : goal.returns-in-Err-write_answer-clause-reads
 returns-in-Err-write_answer-clause-reads g c = read_at c.in-Err-write_answer.fault _ _ c.in-Ok.ensures.reads (c.in-Err-write_answer.ensures.reads _)

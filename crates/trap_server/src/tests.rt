@@ -1,0 +1,50 @@
+//! What is written where a frame is refused.
+
+use crate::{Refusal, ServeFault, serve_traps};
+use byte_streams::fakes::{PieceSink, PieceSource};
+use std::alloc::Global;
+use std::process::Abort;
+
+const ANSWER: usize = 984;
+
+const END: &[u8] = b"end\0\0\0\0\0\x01\0\0\0\0\0\0\0\0\0\0\0\0\0\0\0";
+
+/// A platform of one hart, an interrupt there, and a frame that is none.
+fn frames() -> [u8; 2040] {
+    let mut bytes = [0; 2040];
+    bytes[..8].copy_from_slice(b"platform");
+    bytes[8] = 1;
+    bytes[16] = 16;
+    bytes[27] = 0x80;
+    bytes[34] = 0x20;
+    bytes[40] = 1;
+    bytes[59] = 0x80;
+    bytes[67] = 8;
+    bytes[1336..1340].copy_from_slice(b"stop");
+    bytes[1608..1615].copy_from_slice(b"control");
+    bytes
+}
+
+/// After that many answers there is one last frame and nothing else.
+fn ends_behind(rt: &impl Abort, alloc: Global, frames: &[u8], answers: usize) {
+    let mut source = PieceSource::new(frames, 4096, None);
+    let mut sink = PieceSink::new(4096, None);
+    let served = serve_traps(alloc, &mut source, &mut sink);
+    assert!(rt; served == Err(ServeFault::Refused(Refusal::NotUnderstood)));
+    let mut written = sink.written();
+    for _ in 0..answers {
+        assert!(rt; written.len() > ANSWER && written.starts_with(b"answer"));
+        written = &written[ANSWER..];
+    }
+    assert!(rt; written == END);
+}
+
+#[test]
+fn a_refused_frame_leaves_the_last_frame_and_nothing_else(rt: HostRuntime) {
+    let frames = frames();
+    let mut without = frames;
+    without[1336] = 0;
+    ends_behind(&rt, rt.alloc(), &frames[8..], 0);
+    ends_behind(&rt, rt.alloc(), &without, 1);
+    ends_behind(&rt, rt.alloc(), &frames, 2);
+}
