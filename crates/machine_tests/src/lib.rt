@@ -16,6 +16,8 @@ mod machines;
 #[cfg(test)]
 mod outgrown;
 #[cfg(test)]
+mod refused_frames;
+#[cfg(test)]
 mod runs;
 #[cfg(test)]
 mod served;

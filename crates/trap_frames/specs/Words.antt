@@ -15,11 +15,11 @@ bytes_of (word ∷ words) = little_bytes 8 word ++ bytes_of words
 abbrev pub platform_tag : ℕ
 platform_tag = 7886488383309048944
 
--- the tag of a trap whose call or interrupt is answered
+-- the tag of a trap that is a call
 abbrev pub call_tag : ℕ
 call_tag = 1819042147
 
--- the tag of a trap that stops the hart
+-- the tag of every other trap, which stops an enclave
 abbrev pub stop_tag : ℕ
 stop_tag = 1886352499
 

@@ -20,8 +20,6 @@ mod fault;
 mod laws;
 mod numbers;
 mod service;
-#[cfg(test)]
-mod tests;
 mod trap_loop;
 
 pub use fault::ServeFault;

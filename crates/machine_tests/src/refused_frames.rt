@@ -1,9 +1,9 @@
-//! What is written where a frame is refused.
+//! What is written where a frame of a trap is refused.
 
-use crate::{Refusal, ServeFault, serve_traps};
 use byte_streams::fakes::{PieceSink, PieceSource};
 use std::alloc::Global;
 use std::process::Abort;
+use trap_server::{Refusal, ServeFault, serve_traps};
 
 const ANSWER: usize = 984;
 
