@@ -1,6 +1,6 @@
 //! Look-ups in a document.
 
-ghost use Rattle.std.specs.Prelude.{◌≡◌, map, option_map, false, true, IfSome, None};
+ghost use Rattle.std.specs.Prelude.{◌≡◌, ◌≢◌, map, option_map, false, true, IfSome, None};
 ghost use Rattle.std.specs.Option.{option_and_then};
 ghost use Rattle.toml.specs.Data.{as_table, get_member};
 ghost use Rattle.toml.specs.View.{table_view, view};
@@ -24,8 +24,9 @@ fn is_known(key: &str, names: &[&str]) -> bool
 /// The first key of a table that has another name than these.
 pub fn unknown_key<'a>(table: &'a Table, names: &[&str]) -> Option<&'a str>
     ensures some { IfSome result (λ key.
-        (has_only (map (λ name. name.now) names.now) (table_view table.now) ≡ false)
-        × (is_known key.now (map (λ name. name.now) names.now) ≡ false)) }
+        (get_member key.now (table_view table.now) ≢ None)
+        × (is_known key.now (map (λ name. name.now) names.now) ≡ false)
+        × (has_only (map (λ name. name.now) names.now) (table_view table.now) ≡ false)) }
     ensures none { result ≡ None
         → has_only (map (λ name. name.now) names.now) (table_view table.now) ≡ true }
 {

@@ -1,11 +1,12 @@
 -- What is found of a part of a document is found of the document.
-use Rattle.std.proofs.Common.{arith, ℕ, true, [], ◌∷◌, ◌≡◌, ◌∙◌, ◌+◌, ◌-◌, Option, Some, None, option_map, IfSome, ap, if◌then◌else◌}
+use Rattle.std.proofs.Common.{arith, ℕ, true, [], ◌∷◌, ◌≡◌, ◌∙◌, suc, ◌+◌, Option, Some, None, option_map, IfSome, ap, if◌then◌else◌}
 use Rattle.std.specs.Prelude.{codes}
 use Rattle.std.specs.Option.{option_and_then}
 use Rattle.std.proofs.lemmas.Option.{same_Some}
 use Rattle.toml.specs.Data.{Data, string, integer, float, boolean, datetime, array, table, Items, Members, at, as_array, get_item}
 use Rattle.pmp_encoding.specs.declared.perm.Perm.{Perm}
 use Rattle.platform_file.specs.Document.{has_only, range_in, perm_at, device_in, device_of}
+use Rattle.platform_lint.specs.Breaches.{numbered}
 
 -- of whatever is found
 pub carried : {X : Type 0} {P Q : X → Type 0} (found : Option X) → ((x : X) → P x → Q x) → IfSome found P → IfSome found Q
@@ -33,9 +34,9 @@ at_array (table ms) items i is = absurd (let h : None ≡ Some items = is in cc)
 
 pub item_of :
     (found : Option Data) (value : Data) (items : Items) (i : ℕ) (one : Data) → found ≡ Some value → as_array value ≡ Some items → get_item i items ≡ Some one
-    → option_and_then (at (i + 1 - 1)) found ≡ Some one
+    → option_and_then (numbered (i + 1)) found ≡ Some one
 item_of found value items i one is is_array here =
-    ap (λ n. option_and_then (at n) found) (let same : i + 1 - 1 ≡ i = omega arith in same)
-    ∙ ap (option_and_then (at i)) is
+    ap (option_and_then (numbered (i + 1))) is
+    ∙ ap (λ n. numbered n value) (let same : i + 1 ≡ suc i = omega arith in same)
     ∙ at_array value items i is_array
     ∙ here

@@ -5,7 +5,7 @@ use Rattle.std.proofs.lemmas.List.Elements.{All-map}
 use Rattle.pmp_encoding.specs.declared.perm.Perm.{Perm}
 use Rattle.platforms.specs.Ranges.{AreRangesApart, EachApart, device_range}
 use Rattle.platforms.specs.declared.platform.PlatformFault.{PlatformFault}
-use Rattle.platforms.specs.declared.platform.PlatformFault.TheVariants.{BadRange, Overlap, MonitorNotRam, BadNumber, BadHarts, BadEntries}
+use Rattle.platforms.specs.declared.platform.PlatformFault.TheVariants.{Overlap}
 use Rattle.platform_lint.specs.Breaches.{BreaksRule}
 use Rattle.platform_lint.specs.declared.breach.Place.{Place}
 use Rattle.platform_lint.specs.declared.breach.Place.TheVariants.{Ram, Device}
@@ -43,13 +43,10 @@ bounds_are ram devices = both Ram 1 ram (placed_from Device 1 (map device_range 
 pub not_apart :
     (monitor : ℕ × ℕ) (ram : List (ℕ × ℕ)) (devices : List (ℕ × ℕ × Perm)) (harts entries : ℕ) (fault : PlatformFault) → fault ≡ Overlap → BreaksRule monitor ram devices harts entries fault
     → EachApart (ram ++ map device_range devices) → ⊥
-not_apart monitor ram devices harts entries BadRange is broken each = cc
-not_apart monitor ram devices harts entries Overlap is (inl first) each = cc
-not_apart monitor ram devices harts entries Overlap is (inr (ranges, inl here)) each = here.1 each
-not_apart monitor ram devices harts entries Overlap is (inr (ranges, inr (apart, inl third))) each = cc
-not_apart monitor ram devices harts entries Overlap is (inr (ranges, inr (apart, inr (among, inl fourth)))) each = cc
-not_apart monitor ram devices harts entries Overlap is (inr (ranges, inr (apart, inr (among, inr (few, none))))) each = none
-not_apart monitor ram devices harts entries MonitorNotRam is broken each = cc
-not_apart monitor ram devices harts entries BadNumber is broken each = cc
-not_apart monitor ram devices harts entries BadHarts is broken each = cc
-not_apart monitor ram devices harts entries BadEntries is broken each = cc
+not_apart monitor ram devices harts entries fault is (inl first) each = cc
+not_apart monitor ram devices harts entries fault is (inr (ranges, inl here)) each = here.1 each
+not_apart monitor ram devices harts entries fault is (inr (ranges, inr (apart, inl third))) each = cc
+not_apart monitor ram devices harts entries fault is (inr (ranges, inr (apart, inr (among, inl fourth)))) each = cc
+not_apart monitor ram devices harts entries fault is (inr (ranges, inr (apart, inr (among, inr (few, inl fifth))))) each = cc
+not_apart monitor ram devices harts entries fault is (inr (ranges, inr (apart, inr (among, inr (few, inr (harts_few, inl sixth)))))) each = cc
+not_apart monitor ram devices harts entries fault is (inr (ranges, inr (apart, inr (among, inr (few, inr (harts_few, inr (entries_are, none))))))) each = none

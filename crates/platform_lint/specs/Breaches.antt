@@ -1,5 +1,5 @@
 -- Why a document tells no platform.
-use Rattle.std.specs.Prelude.{◌≡◌, ◌≢◌, ◌⊎◌, ℕ, ◌+◌, ◌-◌, ◌<◌, false, true, List, [], ◌∷◌, Option, Some, None, option_and_then, codes}
+use Rattle.std.specs.Prelude.{◌≡◌, ◌≢◌, ◌⊎◌, ℕ, zero, suc, ◌+◌, ◌<◌, ◌≤◌, false, true, List, [], ◌∷◌, ◌++◌, Option, Some, None, option_and_then, codes}
 use Rattle.toml.specs.Data.{Data, table, Items, Members, get_item, get_member, at, as_array, as_table}
 use Rattle.pmp_encoding.specs.declared.perm.Perm.{Perm}
 use Rattle.platforms.specs.Platform.{platform_rules}
@@ -12,7 +12,6 @@ use Rattle.platform_lint.specs.declared.breach.Key.{Key}
 use Rattle.platform_lint.specs.declared.breach.Key.TheVariants as keys
 use Rattle.platform_lint.specs.declared.breach.Place.{Place}
 use Rattle.platform_lint.specs.declared.breach.Place.TheVariants.{File, Monitor, Ram, Device}
-use Rattle.platform_lint.specs.declared.breach.PlacedRange.{PlacedRange}
 use Rattle.platform_lint.specs.declared.breach.Breach.{Breach}
 use Rattle.platform_lint.specs.declared.breach.Breach.TheVariants as breaches
 use Rattle.platform_lint.specs.Overlaps.{IsOverlap, placed_ranges}
@@ -36,20 +35,37 @@ keys_of Monitor = codes "base" ∷ codes "size" ∷ []
 keys_of (Ram n) = codes "base" ∷ codes "size" ∷ []
 keys_of (Device n) = codes "base" ∷ codes "size" ∷ codes "perm" ∷ []
 
+-- the keys that the table of a place must have
+abbrev pub needed_of : Place → List (List ℕ)
+needed_of File = codes "monitor" ∷ codes "ram" ∷ []
+needed_of place = keys_of place
+
+-- the keys of the table of a place whose values are numbers
+abbrev pub numbers_of : Place → List (List ℕ)
+numbers_of File = codes "harts" ∷ codes "entries" ∷ []
+numbers_of place = codes "base" ∷ codes "size" ∷ []
+
+-- the item of an array that has this number, counted from 1
+abbrev pub numbered : ℕ → Data → Option Data
+numbered zero value = None
+numbered (suc i) value = at i value
+
 -- what stands at a place of a document: a range of memory and a device are counted from 1
 abbrev pub value_of : Members → Place → Option Data
 value_of document File = Some (table document)
 value_of document Monitor = get_member (codes "monitor") document
-value_of document (Ram n) = option_and_then (at (n - 1)) (get_member (codes "ram") document)
-value_of document (Device n) = option_and_then (at (n - 1)) (get_member (codes "device") document)
+value_of document (Ram n) = option_and_then (numbered n) (get_member (codes "ram") document)
+value_of document (Device n) = option_and_then (numbered n) (get_member (codes "device") document)
 
--- the table of a place breaks this: it has a key that it may not have, lacks one, or has a value that will not do
+-- the table of a place breaks this: it has a key that it may not have, lacks one that it must have, or has a value that will not do
 abbrev pub Breaks : Members → Place → Breach → Type 0
-Breaks fields place (Unknown spot key) = (spot ≡ place) × (has_only (keys_of place) fields ≡ false) × (is_known key.now (keys_of place) ≡ false)
-Breaks fields place (Missing spot key) = (spot ≡ place) × (get_member (key_name key) fields ≡ None)
-Breaks fields place (NoNumber spot key) = (spot ≡ place) × (value : Data) × (get_member (key_name key) fields ≡ Some value) × (number value ≡ None)
-Breaks fields place (NoPages spot) = (spot ≡ place) × (range : ℕ × ℕ) × (range_in fields ≡ Some range) × (IsRange range → ⊥)
-Breaks fields place (NoPerm spot) = (spot ≡ place) × (value : Data) × (get_member (codes "perm") fields ≡ Some value) × (perm_of value ≡ None)
+Breaks fields place (Unknown spot key) = (spot ≡ place) × (get_member key.now fields ≢ None) × (is_known key.now (keys_of place) ≡ false)
+Breaks fields place (Missing spot key) = (spot ≡ place) × (is_known (key_name key) (needed_of place) ≡ true) × (get_member (key_name key) fields ≡ None)
+Breaks fields place (NoNumber spot key) =
+    (spot ≡ place) × (is_known (key_name key) (numbers_of place) ≡ true) × (value : Data) × (get_member (key_name key) fields ≡ Some value) × (number value ≡ None)
+Breaks fields place (NoPages spot) = (spot ≡ place) × (place ≢ File) × (range : ℕ × ℕ) × (range_in fields ≡ Some range) × (IsRange range → ⊥)
+Breaks fields place (NoPerm spot) =
+    (spot ≡ place) × (is_known (codes "perm") (needed_of place) ≡ true) × (value : Data) × (get_member (codes "perm") fields ≡ Some value) × (perm_of value ≡ None)
 Breaks fields place _ = ⊥
 
 -- what stands at a place breaks this: it is no table, or one that breaks it
@@ -61,11 +77,10 @@ BreaksAt value place breach =
 abbrev pub BreaksItem : Items → (ℕ → Place) → Breach → Type 0
 BreaksItem items place breach = (i : ℕ) × (value : Data) × (get_item i items ≡ Some value) × BreaksAt value (place (i + 1)) breach
 
--- a rule on platforms that ranges and numbers break
+-- the first rule on platforms that ranges and numbers break: the rules on ranges come first, then how many harts and entries there are
 abbrev pub BreaksRule : (ℕ × ℕ) → List (ℕ × ℕ) → List (ℕ × ℕ × Perm) → ℕ → ℕ → PlatformFault → Type 0
-BreaksRule monitor ram devices harts entries BadHarts = 0 < harts → 4 < harts
-BreaksRule monitor ram devices harts entries BadEntries = (entries ≢ 16) × (entries ≢ 64)
-BreaksRule monitor ram devices harts entries fault = FailsFirst (platform_rules monitor ram devices) fault
+BreaksRule monitor ram devices harts entries fault =
+    FailsFirst (platform_rules monitor ram devices ++ ((BadHarts, (0 < harts) × (harts ≤ 4)) ∷ ((BadEntries, (entries ≡ 16) ⊎ (entries ≡ 64)) ∷ []))) fault
 
 -- each part of a platform is there and has its form. What is left are the rules on its ranges and numbers
 pub record HasForm (document : Members) : Type 0 where
@@ -90,9 +105,7 @@ IsBroken fault ram devices _ = ⊥
 -- a document breaks this: what stands at a place does, a value is no array, two ranges have a page in common, or another rule is broken
 pub data IsBreach (document : Members) : Breach → Type 0 where
   at_place : (place : Place) (value : Data) (breach : Breach) → value_of document place ≡ Some value → BreaksAt value place breach → IsBreach document breach
-  missing : (key : Key) → get_member (key_name key) document ≡ None → IsBreach document (Missing File key)
-  no_number : (key : Key) (value : Data) → get_member (key_name key) document ≡ Some value → number value ≡ None → IsBreach document (NoNumber File key)
-  no_array : (key : Key) (value : Data) → get_member (key_name key) document ≡ Some value → as_array value ≡ None → IsBreach document (NoTables key)
+  no_array : (key : Key) (value : Data) → (key ≡ keys.Ram) ⊎ (key ≡ keys.Device) → get_member (key_name key) document ≡ Some value → as_array value ≡ None → IsBreach document (NoTables key)
   rule :
       (form : HasForm document) (fault : PlatformFault) (breach : Breach) → BreaksRule form.monitor form.ram form.devices form.harts form.entries fault → IsBroken fault form.ram form.devices breach
       → IsBreach document breach

@@ -1,12 +1,12 @@
 //! The first thing that a document breaks.
 
-ghost use Rattle.std.specs.Prelude.{◌≡◌, ℕ, IfSome, None, Some, List};
+ghost use Rattle.std.specs.Prelude.{◌≡◌, ℕ, IfSome, None, Some, List, true};
 ghost use Rattle.std.specs.Option.{option_and_then};
 ghost use Rattle.toml.specs.Data.{as_table};
 ghost use Rattle.toml.specs.View.{items_view, table_view, view};
 ghost use Rattle.pmp_encoding.specs.declared.perm.Perm.{Perm};
-ghost use Rattle.platform_file.specs.Document.{device_of, devices_at, each, monitor_at, number_or, ram_at, range_of};
-ghost use Rattle.platform_lint.specs.Breaches.{key_name, keys_of, BreaksAt, BreaksItem, IsBreach, HasForm};
+ghost use Rattle.platform_file.specs.Document.{device_of, devices_at, each, is_known, monitor_at, number_or, ram_at, range_of};
+ghost use Rattle.platform_lint.specs.Breaches.{key_name, keys_of, numbers_of, BreaksAt, BreaksItem, IsBreach, HasForm};
 
 use crate::breach::{Breach, Key, Place};
 use crate::ranges::{device_breach, range_breach};
@@ -111,7 +111,8 @@ fn device_list_breach<'a>(document: &'a Table) -> Option<Breach<'a>>
 
 /// What a number of the file breaks that may be left out.
 fn count_breach<'a>(document: &'a Table, key: Key) -> Option<Breach<'a>>
-    ensures some { IfSome result (IsBreach (table_view document.now)) }
+    ensures some { is_known (key_name key) (numbers_of Place.File) ≡ true
+        → IfSome result (IsBreach (table_view document.now)) }
     ensures none { result ≡ None → (usual : ℕ)
         → (n : ℕ) × (number_or usual (key_name key) (table_view document.now) ≡ Some n) }
 {

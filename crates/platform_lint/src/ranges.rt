@@ -1,11 +1,11 @@
 //! What the table of a range or a device breaks.
 
-ghost use Rattle.std.specs.Prelude.{◌≡◌, ◌↔◌, ℕ, IfSome, IsTrue, None, Some};
+ghost use Rattle.std.specs.Prelude.{◌≡◌, ◌≢◌, ◌↔◌, ℕ, IfSome, IsTrue, None, Some, codes, true};
 ghost use Rattle.toml.specs.View.{table_view};
 ghost use Rattle.platforms.specs.Ranges.{IsRange};
 ghost use Rattle.pmp_encoding.specs.declared.perm.Perm.{Perm};
-ghost use Rattle.platform_file.specs.Document.{device_of, number_at, perm_at, range_in, range_of};
-ghost use Rattle.platform_lint.specs.Breaches.{key_name, keys_of, Breaks};
+ghost use Rattle.platform_file.specs.Document.{device_of, is_known, number_at, perm_at, range_in, range_of};
+ghost use Rattle.platform_lint.specs.Breaches.{key_name, keys_of, needed_of, numbers_of, Breaks};
 
 use crate::breach::{Breach, Key, Place};
 use page_views::PAGE_SIZE;
@@ -15,7 +15,9 @@ use toml::Table;
 
 /// What is wrong with the number at a key.
 fn number_breach<'a>(table: &'a Table, place: Place, key: Key) -> Option<Breach<'a>>
-    ensures some { IfSome result (Breaks (table_view table.now) place) }
+    ensures some { is_known (key_name key) (needed_of place) ≡ true
+        → is_known (key_name key) (numbers_of place) ≡ true
+        → IfSome result (Breaks (table_view table.now) place) }
     ensures none { result ≡ None
         → (n : ℕ) × (number_at (key_name key) (table_view table.now) ≡ Some n) }
 {
@@ -30,7 +32,8 @@ fn number_breach<'a>(table: &'a Table, place: Place, key: Key) -> Option<Breach<
 
 /// What is wrong with the permission of a device.
 fn perm_breach<'a>(table: &'a Table, place: Place) -> Option<Breach<'a>>
-    ensures some { IfSome result (Breaks (table_view table.now) place) }
+    ensures some { is_known (codes "perm") (needed_of place) ≡ true
+        → IfSome result (Breaks (table_view table.now) place) }
     ensures none { result ≡ None
         → (perm : Perm) × (perm_at (table_view table.now) ≡ Some perm) }
 {
@@ -53,7 +56,7 @@ fn is_range(base: u64, size: u64) -> bool
 
 /// What is wrong with the base and the size of a table.
 fn numbers_breach<'a>(table: &'a Table, place: Place) -> Option<Breach<'a>>
-    ensures some { IfSome result (Breaks (table_view table.now) place) }
+    ensures some { place ≢ Place.File → IfSome result (Breaks (table_view table.now) place) }
     ensures none { result ≡ None
         → (range : ℕ × ℕ) × (range_in (table_view table.now) ≡ Some range) }
 {

@@ -29,6 +29,10 @@ fn keys_and_values_of_tables_are_named(rt: HostRuntime) -> Result<(), Fail> {
             b"hart = 2\n".as_slice(),
             "p: unknown key 'hart'; the keys are monitor, ram, device, harts and entries\n",
         ),
+        (
+            b"monitor = { base = 0, size = 4096 }\nram = [{ base = 0, size = 4096 }]\nhart = 2\n",
+            "p: unknown key 'hart'; the keys are monitor, ram, device, harts and entries\n",
+        ),
         (b"harts = 2\n", "p: the key monitor is missing\n"),
         (
             b"monitor = 1\n",
@@ -90,6 +94,14 @@ fn devices_and_numbers_are_named(rt: HostRuntime) -> Result<(), Fail> {
         (
             b"monitor = { base = 8192, size = 4096 }\nram = [{ base = 0, size = 8192 }]\n",
             "p: a page of the monitor is not in a range of memory\n",
+        ),
+        (
+            b"harts = 5\nmonitor = { base = 8192, size = 4096 }\nram = [{ base = 0, size = 8192 }]\n",
+            "p: a page of the monitor is not in a range of memory\n",
+        ),
+        (
+            b"harts = 0\nentries = 8\nmonitor = { base = 0, size = 4096 }\nram = [{ base = 0, size = 8192 }]\n",
+            "p: harts is 1, 2, 3 or 4\n",
         ),
         (
             b"monitor = { base = 0, size = 4096 }\nram = [{ base = 0, size = 8192 }, { base = 4096, size = 4096 }]\n",

@@ -1,8 +1,9 @@
-use Rattle.std.proofs.Common.{ap, sym, ◌∙◌}
-use Rattle.toml.specs.Data.{get_member}
+use Rattle.std.proofs.Common.{ap, inr, refl, sym, ◌∙◌}
+use Rattle.toml.specs.Data.{get_member, table}
 use Rattle.toml.specs.View.{table_view}
 use Rattle.platform_file.specs.Document.{number_told}
-use Rattle.platform_lint.specs.Breaches.{no_number}
+use Rattle.platform_lint.specs.declared.breach.Place.TheVariants as places
+use Rattle.platform_lint.specs.Breaches.{at_place}
 use Rattle.platform_lint.proofs.first_breach.count_breach.Goals as goal
 
 pub returns-in_default-clause-none : goal.returns-in_default-clause-none
@@ -11,6 +12,7 @@ returns-in_default-clause-none c = λ none usual.
     (usual, ap (number_told usual) absent)
 
 pub returns-in-None-clause-some : goal.returns-in-None-clause-some
-returns-in-None-clause-some c =
-    let there = ap (λ key. get_member key (table_view c.args.document.now)) (sym c.name.ensures) ∙ sym c.in-Some.ensures in
-    no_number c.args.key _ there (sym c.number.ensures ∙ c.in-None.is)
+returns-in-None-clause-some c = λ counted.
+    let document = table_view c.args.document.now in
+    let there = ap (λ key. get_member key document) (sym c.name.ensures) ∙ sym c.in-Some.ensures in
+    at_place places.File (table document) _ refl (inr (document, refl, (refl, counted, _, there, sym c.number.ensures ∙ c.in-None.is)))

@@ -1,4 +1,4 @@
-use Rattle.std.proofs.Common.{ap, sym, ◌∙◌, ◌+◌}
+use Rattle.std.proofs.Common.{ap, inr, refl, sym, ◌∙◌, ◌+◌}
 use Rattle.toml.specs.Data.{get_item}
 use Rattle.toml.specs.View.{items_view}
 use Rattle.platform_lint.specs.declared.breach.Key.TheVariants as keys
@@ -8,7 +8,7 @@ use Rattle.platform_lint.proofs.Found.{carried, item_of}
 use Rattle.platform_lint.proofs.first_breach.device_list_breach.Goals as goal
 
 pub returns-in-None-clause-some : goal.returns-in-None-clause-some
-returns-in-None-clause-some c = no_array keys.Device _ (sym c.in-Some.ensures) (sym c.in-None.ensures)
+returns-in-None-clause-some c = no_array keys.Device _ (inr refl) (sym c.in-Some.ensures) (sym c.in-None.ensures)
 
 pub returns-in-Some-as_array-clause-some : goal.returns-in-Some-as_array-clause-some
 returns-in-Some-as_array-clause-some c = carried c.devices_breach.result (λ breach broken. at_place (places.Device (broken.0 + 1)) broken.1 breach (item_of _ _ _ broken.0 broken.1 (sym c.in-Some.ensures) (sym c.in-Some-as_array.ensures) (ap (λ vs. get_item broken.0 (items_view vs)) (sym c.as_slice.ensures.value) ∙ broken.2)) broken.3) c.devices_breach.ensures.some
