@@ -146,8 +146,8 @@ IsOfMap registers format = registers ≡ true → format ≡ tables.Text
 abbrev pub IsOfText : Bool → TableFormat → Bool → Type 0
 IsOfText registers format costs = costs ≡ true → (registers ≡ false) × (format ≡ tables.Text)
 
--- standard input is read once at most, a certificate never takes the place of its map, a name is an identifier, a plan
--- begins at an entry that such a hart has, and a table has a form and costs that there are
+-- a map that judges or is audited and what is judged or audited are not both standard input, a certificate never takes the place of its
+-- map, a name is an identifier, a plan begins at an entry that such a hart has, and a table has a form and costs that there are
 abbrev pub IsSound : Task → Type 0
 IsSound (Plan map cert limit at_most format name first xlen) =
     (option_map (λ s. s.now) cert ≢ Some map.now)
