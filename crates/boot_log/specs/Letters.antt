@@ -2,12 +2,17 @@
 use Rattle.std.specs.Prelude.{ℕ, ◌-◌, ◌==◌, ◌||◌, ◌&&◌, Bool, true, false, nat_lt, nat_le, if◌then◌else◌, List, length, take, drop, Option, Some, None, codes, bytes_eq}
 use Rattle.std.specs.List.{list_all, position_or_len}
 use Rattle.std.specs.Option.{option_and_then}
+use Rattle.std.specs.Str.{str_eq_ignore_ascii_case}
 use Rattle.pmp_encoding.specs.declared.perm.Perm.{Perm}
 use Rattle.pmp_encoding.specs.declared.perm.Perm.TheVariants.{NoAccess, Read, ReadWrite, Execute, ReadExecute, ReadWriteExecute}
 
 -- what stands after a name that a word begins with
 abbrev pub behind : List ℕ → List ℕ → Option (List ℕ)
 behind word name = if nat_le (length name) (length word) && bytes_eq (take (length name) word) name then Some (drop (length name) word) else None
+
+-- a word begins with a name, in upper or lower case
+abbrev pub begins_with : List ℕ → List ℕ → Bool
+begins_with word name = nat_le (length name) (length word) && str_eq_ignore_ascii_case (take (length name) word) name
 
 -- what stands before a closing parenthesis at the end
 abbrev pub before_end : List ℕ → Option (List ℕ)

@@ -1,5 +1,5 @@
 -- What the lines of OpenSBI's boot log say.
-use Rattle.std.specs.Prelude.{ℕ, ◌+◌, ◌==◌, ◌&&◌, Bool, false, not, nat_lt, if◌then◌else◌, List, [], ◌∷◌, length, take, drop, Option, Some, None, option_map, codes, bytes_eq}
+use Rattle.std.specs.Prelude.{ℕ, ◌+◌, ◌==◌, ◌&&◌, ◌||◌, Bool, false, not, nat_lt, if◌then◌else◌, List, [], ◌∷◌, length, take, drop, Option, Some, None, option_map, codes, bytes_eq}
 use Rattle.std.specs.List.{list_all, position_or_len}
 use Rattle.std.specs.Option.{is_some, option_and_then, unwrap_or}
 use Rattle.pmp_encoding.specs.declared.perm.Perm.{Perm}
@@ -9,7 +9,7 @@ use Rattle.text_lines.specs.Numbers.{numeral_of, number_of}
 use Rattle.text_lines.specs.Lines.{raw_lines, without_return}
 use Rattle.boot_log.specs.declared.entry.RegionEntry.{RegionEntry}
 use Rattle.boot_log.specs.Blocks.{address_by, block_from, cfg_by}
-use Rattle.boot_log.specs.Letters.{behind, perm_of}
+use Rattle.boot_log.specs.Letters.{begins_with, behind, perm_of}
 
 -- the words of a line, and none where a byte outside its comment may not stand there
 abbrev pub words_in : List ℕ → List (List ℕ)
@@ -24,10 +24,10 @@ is_region _ = false
 abbrev pub is_region_line : List ℕ → Bool
 is_region_line raw = is_region (words_in raw)
 
--- words on a register of the protection: its first word begins with `pmp`
+-- words on a register of the protection: the first begins with `pmp` or `mseccfg`, in upper or lower case
 abbrev pub is_register : List (List ℕ) → Bool
 is_register [] = false
-is_register (name ∷ rest) = is_some (behind name (codes "pmp"))
+is_register (name ∷ rest) = begins_with name (codes "pmp") || begins_with name (codes "mseccfg")
 
 -- the number of a region, of `RegionNN`
 abbrev pub number_in : List ℕ → Option ℕ

@@ -2,7 +2,7 @@
 
 ghost use Rattle.std.specs.Prelude.{◌≡◌, option_map, bytes_eq};
 ghost use Rattle.std.specs.List.{list_all};
-ghost use Rattle.boot_log.specs.Letters.{before_end, behind, has_letter, is_letter, letters_of, perm_by, perm_of};
+ghost use Rattle.boot_log.specs.Letters.{before_end, begins_with, behind, has_letter, is_letter, letters_of, perm_by, perm_of};
 
 use lint_texts::len_before;
 use pmp_encoding::Perm;
@@ -26,6 +26,13 @@ pub(crate) fn behind<'a>(word: &'a [u8], name: &[u8]) -> Option<&'a [u8]>
     } else {
         None
     }
+}
+
+/// Whether a word begins with a name, in upper or lower case.
+pub fn begins_with(word: &[u8], name: &[u8]) -> bool
+    ensures { result ≡ begins_with word.now name.now }
+{
+    name.len() <= word.len() && word[..name.len()].eq_ignore_ascii_case(name)
 }
 
 /// What stands before a closing parenthesis at the end.

@@ -20,4 +20,5 @@ mod lines;
 pub use block::block_from;
 pub use entry::RegionEntry;
 pub use laws::region_law;
+pub use letters::begins_with;
 pub use lines::{is_boot_log, log_says};

@@ -9,7 +9,7 @@ ghost use Rattle.boot_log.specs.Lines.{block_in, entry_by, entry_in, is_boot_log
 
 use crate::block::block_from;
 use crate::entry::RegionEntry;
-use crate::letters::{behind, is_text, perm_of};
+use crate::letters::{begins_with, behind, is_text, perm_of};
 use lint_texts::{len_before, split_line};
 use pmp_encoding::{Entry, Perm, Region};
 use register_width::Xlen;
@@ -43,7 +43,7 @@ fn is_register(mut words: Words<'_>) -> bool
     ensures { result ≡ is_register (split_words words.entry.rest.now) }
 {
     match words.next_word() {
-        Some(name) => behind(name, b"pmp").is_some(),
+        Some(name) => begins_with(name, b"pmp") || begins_with(name, b"mseccfg"),
         None => false,
     }
 }

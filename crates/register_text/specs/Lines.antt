@@ -10,6 +10,7 @@ use Rattle.text_lines.specs.Words.{words_of}
 use Rattle.text_lines.specs.Numbers.{numeral_of, number_of}
 use Rattle.text_lines.specs.Lines.{without_return}
 use Rattle.boot_log.specs.declared.entry.RegionEntry.{RegionEntry}
+pub use Rattle.boot_log.specs.Letters.{begins_with}
 use Rattle.boot_log.specs.Lines.{log_says}
 use Rattle.register_text.specs.declared.setting.Setting.{Setting}
 use Rattle.register_text.specs.declared.setting.Setting.TheVariants as settings
@@ -23,10 +24,7 @@ IsInside xlen (settings.Pair place cfg address) = place < 64
 IsInside xlen (settings.Address place value) = place < 64
 IsInside xlen (settings.Word place value) = place + word_entries xlen ≤ 64
 
--- a word begins with a name, in upper or lower case, and what stands after it
-abbrev pub begins_with : List ℕ → List ℕ → Bool
-begins_with word name = nat_le (length name) (length word) && str_eq_ignore_ascii_case (take (length name) word) name
-
+-- what stands after a name with which a word begins, in upper or lower case
 abbrev pub behind : List ℕ → List ℕ → Option (List ℕ)
 behind word name = if begins_with word name then Some (drop (length name) word) else None
 

@@ -12,6 +12,7 @@ ghost use Rattle.std.specs.Str.{str_eq_ignore_ascii_case};
 ghost use Rattle.register_text.specs.Lines.{IsInside, address_setting, begins_with, begins_with_letter, behind, equals_at, has_leading_zero, index_of, is_between, is_foreign, is_letter, is_no_name, is_other, line_sets, named_setting, other_setting, pair_by_words, pair_setting, plain_setting, register_setting, set_by_many, set_by_words, value_word, width_sign, without_colon, word_setting};
 
 use crate::setting::Setting;
+use boot_log::begins_with;
 use register_width::Xlen;
 use text_lines::{NotUnderstood, Words, number, numeral};
 
@@ -32,10 +33,7 @@ fn is_text_in_any_case(word: &[u8], text: &[u8]) -> bool
 fn behind<'a>(word: &'a [u8], name: &[u8]) -> Option<&'a [u8]>
     ensures { option_map (λ rest. rest.now) result ≡ behind word.now name.now }
 {
-    if name.len() > word.len() {
-        return None;
-    }
-    if is_text_in_any_case(&word[..name.len()], name) {
+    if begins_with(word, name) {
         Some(&word[name.len()..])
     } else {
         None
@@ -105,13 +103,6 @@ fn word_setting(xlen: Xlen, digits: &[u8], value: u64) -> Option<Setting>
         place: 4 * k as usize,
         value,
     })
-}
-
-/// Whether a word begins with a name, in upper or lower case.
-fn begins_with(word: &[u8], name: &[u8]) -> bool
-    ensures { result ≡ begins_with word.now name.now }
-{
-    behind(word, name).is_some()
 }
 
 fn is_letter(byte: u8) -> bool

@@ -56,6 +56,8 @@ fn lines_on_regions_that_are_not_understood(rt: HostRuntime) {
         (b"Domain0 Region64 : 0-0xfff (R)", 1),
         (b"Domain0 Regions : 0-0xfff (R)", 1),
         (b"Domain0 Region00 : 0-0xfff (R)\npmpaddr1 1\n", 2),
+        (b"Domain0 Region00 : 0-0xfff (R)\nPMPADDR1 1\n", 2),
+        (b"MSECCFG 7\nDomain0 Region00 : 0-0xfff (R)\n", 1),
         (b"Domain1 Region00 : 0-0xfff (R)\n", 1),
         (b"# Domain0 Region00 : 0-0xfff (R)\nOpenSBI v1.1\n", 2),
     ] {
