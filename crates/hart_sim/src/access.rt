@@ -10,6 +10,7 @@ use pmp_match::{Access, Kind, judge};
 use std::alloc::Global;
 
 /// An access that is allowed. It takes memory only for a store to a page that was not written.
+#[inline(always)]
 fn reach(memory: &mut Memory, alloc: Global, access: &Access, value: u64) -> Reply
     requires { access.now.address % access.now.size ≡ 0 }
     ensures { ReachesMemory access.now.kind memory.old access.now value result memory.new }
@@ -42,6 +43,7 @@ impl Parts {
 
     /// An access on a hart that is not marked. By the bank that is loaded there it is a fault or not, on every machine;
     /// where the banks are right, it is what the view of the hart's world says.
+    #[inline(always)]
     pub(crate) fn access(&mut self, hart: u8, access: &Access, value: u64) -> Reply
         requires on { IsOn self.old hart }
         requires few { hart < 4 }

@@ -78,6 +78,7 @@ impl Parts {
     }
 
     /// A marked hart loads the host's entries, and is not marked any more.
+    #[inline(always)]
     pub(crate) fn wake(&mut self, hart: u8)
         requires on { IsOn self.old hart }
         requires few { hart < 4 }

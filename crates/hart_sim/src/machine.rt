@@ -141,6 +141,7 @@ impl Machine {
     /// An event happens on a hart, numbered from 0. On every machine the list that the event meets judges an access. From
     /// boot on, as long as no other bank was put in place, the event is answered as the state says, and each hart that is
     /// not marked has the fewest entries of the view of its world.
+    #[inline(always)]
     pub fn step(&mut self, hart: u8, event: Event) -> Reply
         requires hart { hart < (state_of self.old).table.layout.harts }
         requires event { IsEvent event }

@@ -20,6 +20,7 @@ impl Parts {
     ghost use Rattle.hart_sim.specs.Steps.{Does, IsEvent, Step};
 
     /// A register of the world that runs on a hart is set.
+    #[inline(always)]
     fn set_register(&mut self, hart: u8, n: u8, value: u64) -> Reply
         requires on { IsOn self.old hart }
         requires few { hart < 4 }
@@ -33,6 +34,7 @@ impl Parts {
     }
 
     /// An event on a hart that is not marked.
+    #[inline(always)]
     fn happen(&mut self, hart: u8, event: Event) -> Reply
         requires on { IsOn self.old hart }
         requires few { hart < 4 }
@@ -57,6 +59,7 @@ impl Parts {
     }
 
     /// An event on a hart, which loads the host's entries first where it is marked.
+    #[inline(always)]
     pub(crate) fn step(&mut self, hart: u8, event: Event) -> Reply
         requires on { IsOn self.old hart }
         requires few { hart < 4 }

@@ -45,6 +45,7 @@ impl Interpreter for Machine {
 
     ghost keeps = { KeepsBanksRight };
 
+    #[inline(always)]
     fn interpret(&mut self, line: &[u8], count: u64, answer: &mut Line) -> Result<bool, Refusal> {
         let Ok(said) = self.event_in(line) else {
             return Err(Refusal::NotUnderstood);
