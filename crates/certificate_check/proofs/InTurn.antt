@@ -43,9 +43,6 @@ listed_append bytes mid rest front es e h split one page = record {
   pages = pages_append es e h.pages page;
 }
 
-pub listed_none : (bytes : List ℕ) → IsListed bytes bytes []
-listed_none bytes = record { listed = []; split = refl; spelled = refl; pages = tt }
-
 -- the first of the entries, and the others
 pub record IsNextEntry (bytes rest : List ℕ) (count : ℕ) : Type 0 where
   pub entry : Entry

@@ -1,5 +1,5 @@
 -- The parts of a right certificate.
-use Rattle.std.proofs.Common.{◌≡◌, ℕ, ◌^◌, ◌<◌, ◌≤◌, List, [], ◌∷◌, ◌++◌, length, arith, sym, subst, ap, refl, ◌∙◌, Result, Ok, Err}
+use Rattle.std.proofs.Common.{◌≡◌, ℕ, ◌^◌, ◌<◌, ◌≤◌, List, [], ◌++◌, length, arith, sym, subst, ap, refl, ◌∙◌, Result, Ok, Err}
 use Rattle.std.proofs.lemmas.List.{append-nil}
 use Rattle.std.specs.Result.{IfOk}
 use Rattle.pmp_encoding.specs.declared.perm.Perm.TheVariants.{NoAccess}
@@ -121,8 +121,3 @@ if_least view bytes (Err r) h = tt
 pub right_where : (view : View) (bytes : List ℕ) (result : Result ℕ CheckRefusal) (n : ℕ) → IfOk result (IsRight view bytes) → result ≡ Ok n → IsRight view bytes n
 right_where view bytes (Ok m) n h e = subst (λ (k : ℕ). IsRight view bytes k) (cc) h
 right_where view bytes (Err r) n h e = absurd (cc)
-
--- no bytes are left
-pub empty_list : (xs : List ℕ) → length xs ≡ 0 → xs ≡ []
-empty_list [] h = refl
-empty_list (x ∷ xs) h = absurd (omega arith)

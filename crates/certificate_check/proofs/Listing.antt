@@ -1,19 +1,16 @@
 -- Entries that are read one after the other through a window.
-use Rattle.std.proofs.Common.{◌≡◌, ℕ, ◌<◌, ◌≤◌, List, [], ◌∷◌, ◌++◌, length, length-append, arith, refl, sym, subst, ◌+◌}
+use Rattle.std.proofs.Common.{◌≡◌, ℕ, ◌<◌, ◌≤◌, List, [], ◌∷◌, ◌++◌, length, length-append, arith, sym, subst, ◌+◌}
 use Rattle.pmp_encoding.specs.declared.region.Entry.{Entry}
 use Rattle.certificate_format.specs.Spelling.{SpellsEntry, SpellsEntries}
 use Rattle.certificate_check.specs.declared.stop.Stop.{Stop}
 use Rattle.certificate_check.specs.declared.stop.Stop.TheVariants.{Refused, Memory}
 use Rattle.certificate_check.specs.Listed.{IsListed, EntryFault, ListFault}
 use Rattle.certificate_check.specs.Windows.{StandsIn}
-use Rattle.certificate_check.proofs.InTurn.{listed_append, listed_none, spells_append}
+use Rattle.certificate_check.proofs.InTurn.{listed_append, spells_append}
 
 -- so many entries were read, and their bytes are held
 abbrev pub AreHeld : ℕ → List ℕ → List ℕ → List ℕ → Type 0
 AreHeld count held left rest = (es : List Entry) × IsListed left rest es × (length es ≡ count) × SpellsEntries held es
-
-pub held_none : (left : List ℕ) → AreHeld 0 [] left left
-held_none left = ([], listed_none left, refl, refl)
 
 pub held_one :
     (count next : ℕ) (held new left mid rest : List ℕ) → next ≡ count + 1 → AreHeld count held left mid

@@ -5,12 +5,12 @@ use Rattle.pmp_encoding.specs.declared.perm.Perm.{Perm}
 use Rattle.pmp_encoding.specs.Perms.{bits_of}
 use Rattle.pmp_match.specs.Meaning.{View}
 use Rattle.pmp_match.specs.Bounds.{BoundTree, Leaf, Branch, bound_of, IsSoundAt}
-use Rattle.certificate_format.specs.Costs.{cost_of, six_of}
+use Rattle.certificate_format.specs.Costs.{cost_of}
 use Rattle.certificate_format.specs.Spelling.{costs_bytes, node_bytes}
 use Rattle.certificate_format.specs.declared.reader.Tag.{Tag}
 use Rattle.certificate_format.specs.declared.reader.Tag.TheVariants as Tags
 use Rattle.certificate_format.specs.Tags.{tag_byte}
-use Rattle.certificate_format.proofs.Trees.{same_function, six_back, tags_differ, joined_branch}
+use Rattle.certificate_format.proofs.Trees.{same_function, tags_differ, joined_branch}
 use Rattle.certificate_check.specs.declared.refusal.CheckRefusal.{CheckRefusal}
 use Rattle.certificate_check.specs.declared.refusal.CheckRefusal.TheVariants.{CostTooHigh, CostOverflow}
 use Rattle.certificate_format.specs.declared.costs.SixCosts.{SixCosts}
@@ -88,10 +88,6 @@ uniform_from : (view : View) (k first : ℕ) (perm : Perm) → IsSoundAt view k 
 uniform_from view zero first perm sound = sound
 uniform_from view (suc k) first perm sound = sound
 
-pub uniform_to : (view : View) (k first : ℕ) (perm : Perm) → IsUniform view k first perm → IsSoundAt view k first (Leaf perm)
-uniform_to view zero first perm sound = sound
-uniform_to view (suc k) first perm sound = sound
-
 pub leaf_at :
     (view : View) (k first : ℕ) (tree : BoundTree) (rest bytes left : List ℕ) → bytes ≡ 0 ∷ left → IsRightNode view k first tree → bytes ≡ node_bytes tree ++ rest
     → IsLeafAt view k first tree rest left
@@ -159,14 +155,6 @@ branch_refused view k half first bytes inner second third left costs lower upper
 pub tag_at : (tree : BoundTree) (rest bytes : List ℕ) → bytes ≡ node_bytes tree ++ rest → (tag : Tag) × (left : List ℕ) × (bytes ≡ tag_byte tag ∷ left)
 tag_at (Leaf perm) rest bytes spelled = (Tags.Leaf, bits_of perm ∷ rest, spelled)
 tag_at (Branch costs lower upper) rest bytes spelled = (Tags.Branch, (costs_bytes costs ++ (node_bytes lower ++ node_bytes upper)) ++ rest, spelled)
-
--- the same costs, and numbers as those of the halves, are allowed alike
-pub allowed_along :
-    (costs f g f' g' : Perm → ℕ) (six : SixCosts) → six ≡ six_of costs → ((p : Perm) → f' p ≡ f p) → ((p : Perm) → g' p ≡ g p) → IsAllowed costs f g → IsAllowed (cost_of six) f' g'
-allowed_along costs f g f' g' six is l u allowed =
-    let c : cost_of six ≡ costs = same_function _ _ (λ p. ap (λ x. cost_of x p) is ∙ six_back costs p) in
-    subst (λ (x : Perm → ℕ). IsAllowed x f' g') (sym c)
-    (subst (λ (x : Perm → ℕ). IsAllowed costs x g') (sym (same_function _ _ l)) (subst (λ (x : Perm → ℕ). IsAllowed costs f x) (sym (same_function _ _ u)) allowed))
 
 -- halves of an aligned block
 pub half_inside : (first half k most : ℕ) → k ≡ suc half → first + 2 ^ k ≤ most → first + 2 ^ half + 2 ^ half ≤ most

@@ -173,10 +173,6 @@ pub ok_from : {T E : Type 0} (result : Result T E) (P : T → Type 0) (F : E →
 ok_from (Ok x) P F p = p
 ok_from (Err e) P F f = tt
 
-pub err_from : {T E : Type 0} (result : Result T E) (P : T → Type 0) (F : E → Type 0) → MatchResult result P F → IfErr result F
-err_from (Ok x) P F p = tt
-err_from (Err e) P F f = f
-
 -- three parts one after the other
 pub reads_thrice :
     (a b c d : Place) (P Q R S : List ℕ → List ℕ → Type 0) → Reads a b P → Reads b c Q → Reads c d R

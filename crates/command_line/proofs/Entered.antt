@@ -19,17 +19,6 @@ joined (Some b) name rows p q = cc
 pub entered : (m : ArgMatches) (name : Text) (rows : List Row) → Some name ≡ subcommand_name_of m → Some rows ≡ option_map (λ p. p.1) (subcommand_rows (out-ArgMatches m).subcommand) → subcommand_rows_of m ≡ Some (name, rows)
 entered m name rows p q = joined (out-ArgMatches m).subcommand name rows p q
 
-absent : {Z : Type 0} (sub : Option (Box SubCommand Z)) → None ≡ option_map (λ b. (out-SubCommand (box_value b)).name.now) sub → subcommand_rows sub ≡ None
-absent None p = cc
-absent (Some b) p = cc
-
--- no request is a subcommand that was not entered
-pub none_entered : (m : ArgMatches) → None ≡ subcommand_name_of m → AreNone (subcommand_rows_of m)
-none_entered m p request (rows, e, values) sound = nothing _ _ (absent (out-ArgMatches m).subcommand p) e
-  where
-    nothing : (found : Option (Text × List Row)) (p : Text × List Row) → found ≡ None → found ≡ Some p → ⊥
-    nothing found p e f = cc
-
 pub with_rows :
     {E : Type 0} (result : Result Request E) (found : Option (Text × List Row)) (name : Text) (rows : List Row) → found ≡ Some (name, rows)
     → IfOk result (λ request. word_of request.task ≡ name) → IfOk result (HasRequest (λ id. first_of id rows) (λ id. one_of id rows)) → IfOk result (IsRequest found)

@@ -10,9 +10,6 @@ use Rattle.enclave_table.specs.declared.enclave.Enclave.{Enclave}
 pub at_place : (es : List (Option Enclave)) (id : ℕ) → 1 ≤ id → enclave_at es id ≡ get_or es (id - 1) None
 at_place es id h = ap (λ t. cond t None (get_or es (id - 1) None)) (ne_eqb id 0 (λ z. omega (arith, z, h)))
 
-pub at_zero : (es : List (Option Enclave)) → enclave_at es 0 ≡ None
-at_zero es = refl
-
 pub at_past : (es : List (Option Enclave)) (id : ℕ) → length es ≤ id - 1 → enclave_at es id ≡ None
 at_past es id past = ⊎_elim (λ z. rw z refl) (λ h. at_place es id (omega (arith, h)) ∙ get_or_past es (id - 1) None past) (cases_eq id 0)
 

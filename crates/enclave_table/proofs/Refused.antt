@@ -50,22 +50,6 @@ create_fails pages old world asked BadId fails = fails
 create_fails pages old world asked BadState fails = fails
 create_fails pages old world asked BadWord fails = fails
 
-pub destroy_fails : (old : EnclaveTable) (world : World) (id : ℕ) (refusal : Refusal) → FailsFirst (host_checks MayDestroy old world id) refusal → RefusesBy (host_checks MayDestroy old world id) (NeedsMore old.layout.limit (host_view (with_enclave old id None))) refusal
-unfolding is_want none_want
-destroy_fails old world id NoEntries fails = absurd (true≢false (unwanted (host_checks MayDestroy old world id) NoEntries (refl, (refl, (refl, tt))) fails))
-destroy_fails old world id NoMemory fails = absurd (true≢false (unwanted (host_checks MayDestroy old world id) NoMemory (refl, (refl, (refl, tt))) fails))
-destroy_fails old world id NotHost fails = fails
-destroy_fails old world id NotEnclave fails = fails
-destroy_fails old world id BadCount fails = fails
-destroy_fails old world id BadAddress fails = fails
-destroy_fails old world id BadEntry fails = fails
-destroy_fails old world id NotRam fails = fails
-destroy_fails old world id Overlap fails = fails
-destroy_fails old world id TableFull fails = fails
-destroy_fails old world id BadId fails = fails
-destroy_fails old world id BadState fails = fails
-destroy_fails old world id BadWord fails = fails
-
 pub create_host_want :
     (pages : ℕ → List ℕ) (old : EnclaveTable) (world : World) (asked : Create) (id : ℕ) (view : View) (refusal : Refusal) → AllPass (create_checks old world (parts_of asked)) → IsNextId old id
     → SameView view (host_view (with_enclave old id (Some (fresh pages (parts_of asked))))) → IsWant old.layout.limit view refusal → RefusesBy (create_checks old world (parts_of asked)) (OutgrowsByCreate pages old asked) refusal

@@ -104,11 +104,6 @@ half_perms_added tree low high old mid items all split m i a =
     ∙ added_both old (half_perms_in low) (half_perms_in high) (half_perms low high)
     ∙ ap (λ t. old ++ reverse (half_perms_in t)) (sym split)
 
--- the two numbers together
-pub together_is :
-    (low high : PermTree) (lower upper : BlockCost) → lower ≡ block_cost low → upper ≡ block_cost high → lower.least + upper.least ≡ least_cost low + least_cost high
-together_is low high lower upper l u = ap₂ (λ a b. a.least + b.least) l u
-
 -- the number of a tree that is not too large fits its type, and one more does
 pub least_small : (tree : PermTree) (c : BlockCost) → splits tree + 1 < 2 ^ 32 → c ≡ block_cost tree → c.least + 1 < 2 ^ 32
 least_small tree c few is =

@@ -1,5 +1,5 @@
 -- What a packed entry's number has in it.
-use Rattle.std.proofs.Common.{◌≡◌, ℕ, ◌+◌, ◌*◌, ◌/◌, ◌%◌, ◌^◌, ◌<◌, ◌≤◌, ◌∙◌, refl, sym, ap, subst, arith}
+use Rattle.std.proofs.Common.{◌≡◌, ℕ, ◌+◌, ◌*◌, ◌/◌, ◌%◌, ◌<◌, ◌∙◌, refl, sym, ap, subst, arith}
 use Rattle.pmp_encoding.specs.declared.perm.Perm.{Perm}
 use Rattle.pmp_encoding.specs.declared.perm.Perm.TheVariants.{NoAccess, Read, ReadWrite, Execute, ReadExecute, ReadWriteExecute}
 use Rattle.std.proofs.Props.{props}
@@ -56,13 +56,6 @@ block_of first k n p pages is block =
       size = ap (λ m. m / 8 % 64 + 12) is ∙ ap (λ m. m + 12) its.1;
       perm = ap (λ m. perm_for (m % 8)) is ∙ ap perm_for its.2 ∙ perm_for-bits p;
     }
-
--- the number fits 64 bits
-pub packed_small : (first k b : ℕ) → ArePages k first → b ≤ 7 → first * 512 + k * 8 + b < 2 ^ 64
-packed_small first k b pages few =
-    let fits = pages_small k first pages in
-    let inside = pages.inside in
-    omega (arith, fits, inside, few)
 
 block_prop : (n : ℕ) → IsProp (HasBlock n)
 block_prop n = hlevel props

@@ -1,9 +1,7 @@
 -- The first extent that has a byte of an access is that of the first entry that meets it.
-use Rattle.std.proofs.Common.{◌≡◌, ◌∙◌, ℕ, ◌+◌, ◌<◌, Bool, true, false, cond, All, List, [], ◌∷◌, length, drop, get_or, map, Option, Some, None, refl, ap, arith}
+use Rattle.std.proofs.Common.{◌≡◌, ℕ, ◌+◌, Bool, true, false, cond, All, List, [], ◌∷◌, length, map, Option, Some, None, refl, ap, arith}
 use Rattle.std.proofs.lemmas.Bool.{both_ways}
-use Rattle.std.proofs.lemmas.List.{at_drop_more}
 use Rattle.std.proofs.lemmas.List.Elements.{All-nil, All-cons}
-use Rattle.pmp_encoding.specs.declared.extent.Extent.{Extent}
 use Rattle.pmp_encoding.specs.declared.region.Entry.{Entry}
 use Rattle.pmp_encoding.specs.Extents.{extent_of}
 use Rattle.pmp_match.specs.declared.access.Access.{Access}
@@ -13,14 +11,6 @@ use Rattle.pmp_match.specs.Matching.{touches}
 use Rattle.pmp_match.proofs.Decided.{Meets-from_test, test_from_Meets}
 use Rattle.explained_answers.specs.declared.deciders.Decider.{Decider}
 use Rattle.explained_answers.specs.Deciders.{DecidesIn, found_from}
-
--- the first extent from a place on that has a byte of the access is found there
-pub found_at :
-    (n : ℕ) (extents : List Extent) (i : ℕ) (d : Extent) (a : Access) → i < length extents → touches (get_or extents i d) a ≡ true
-    → found_from n (drop i extents) a ≡ Some (record { number = n; extent = get_or extents i d })
-found_at n extents i d a inside touched =
-    at_drop_more (λ xs. found_from n xs a) extents i d inside
-    ∙ ap (λ t. cond t (Some (record { number = n; extent = get_or extents i d })) (found_from (n + 1) (drop (i + 1) extents) a)) touched
 
 -- of entries, the first of which has this number, the first that meets the access
 abbrev DecidesFrom : ℕ → List Entry → Access → Option Decider → Type 0

@@ -13,10 +13,6 @@ use Rattle.hart_sim.specs.States.{State, core_of, view_of, view_on}
 use Rattle.monitor_core.proofs.Others.{KeepsOthers}
 use Rattle.hart_sim.proofs.BankPlaces.{at_place, loads_same, banks_after}
 
--- the hart is one of the platform still
-pub still_on : (old new : Parts) (hart : ℕ) → IsOn old hart → KeepsFrame old new hart → IsOn new hart
-still_on old new hart on frame = record { known = subst (λ l. hart < l.harts) (sym frame.layout) on.known; limited = frame.limited }
-
 -- where table and world stay, so does the view
 same_view : (s new : State) (i : ℕ) → new.table ≡ s.table → new.worlds i ≡ s.worlds i → SameView (view_on s i) (view_on new i)
 same_view s new i table world = λ page small. ap₂ (λ t w. view_of t w page) (sym table) (sym world)

@@ -145,6 +145,7 @@ pub(crate) fn behind_hart(line: &[u8], harts: u8) -> Option<(u8, &[u8])>
 
 /// The access of a plain line, the value that a store writes, 0 else, and the hart that it happens on: the one that the
 /// line names, or hart 0. None says nothing of the line.
+#[inline(always)]
 pub(crate) fn plain_on_hart(line: &[u8], harts: u8) -> Option<(u8, Access, u64)>
     ensures { IfSome result (λ found.
         meaning_of harts line.now ≡ Some (Some (found.0, events.Access found.1 found.2))) }

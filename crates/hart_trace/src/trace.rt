@@ -200,6 +200,7 @@ fn on_hart(hart: u8, words: Words<'_>) -> Result<Option<(u8, Event)>, NotUnderst
 
 /// The event of a line, and the hart that it happens on, where there are `harts` of them. A line
 /// without words has none.
+#[inline(always)]
 pub fn parse_line(line: &[u8], harts: u8) -> Result<Option<(u8, Event)>, NotUnderstood>
     ensures { result_ok result ≡ meaning_of harts line.now }
 {

@@ -1,30 +1,17 @@
 -- The hints that a lint gives, by its status and what it wrote.
-use Rattle.std.proofs.Common.{ℕ, ◌≡◌, ◌≢◌, ◌^◌, ◌<◌, Bool, true, false, List, [], Option, Some, None, Result, Ok, Err, IfOk, arith, refl, subst, sym}
+use Rattle.std.proofs.Common.{ℕ, ◌≡◌, ◌≢◌, Bool, true, false, List, [], Option, Some, None, Result, Ok, Err, IfOk, refl, subst, sym}
 use Rattle.byte_streams.specs.Writings.{Prints, Writing}
 use Rattle.enclave_table.specs.Boot.{IsBootFault}
 use Rattle.platforms.specs.Platform.{Layout}
 use Rattle.platforms.specs.declared.boot_fault.BootFault.TheVariants.{NeedsMoreEntries}
-use Rattle.hart_sim.specs.declared.machine.Machine.{Machine}
-use Rattle.hart_sim.specs.After.{IsBooted}
 use Rattle.program_tasks.specs.declared.task.Task.{Task}
 use Rattle.program_troubles.specs.declared.trouble.Trouble.{Trouble}
-use Rattle.trace_lint.specs.declared.taker.Taker.TheVariants as takers
 use Rattle.command_inputs.specs.Inputs.{IsUnread, Reading}
 use Rattle.lint_commands.specs.Lint.{Tells}
 use Rattle.command_inputs.specs.Statuses.{answer_status}
 use Rattle.lint_commands.specs.Lint as lints
-use Rattle.input_hints.specs.declared.forms.Form.{Form}
-use Rattle.input_hints.specs.declared.forms.Form.TheVariants.{Map, Platform, Listing, Trace}
 use Rattle.input_hints.specs.Hints.{AreHints, AreRunHints, HasTaskHints, InOrder, TellsHints, boot_hint, cut, hints_in, of_boot, of_second, told}
 use Rattle.platform_file.specs.Document.{IsPlatformFile}
-
-not_both : (status : ℕ) → status ≡ 1 → status ≡ 0 → ⊥
-not_both status one zero = omega (arith, one, zero)
-
--- a lint with status 0 has no hints, and one with another has those that it wrote
-pub right : (IsText : Bool → List ℕ → Type 0) (status : ℕ) (is : Bool) (text : List ℕ) → status ≡ answer_status is → IsText is text → status ≡ 0 → AreHints IsText None
-right IsText status true text e said zero = (text, said)
-right IsText status false text e said zero = absurd (not_both status e zero)
 
 pub wrong : (IsText : Bool → List ℕ → Type 0) (status : ℕ) (is : Bool) (text : List ℕ) → status ≡ answer_status is → IsText is text → status ≢ 0 → AreHints IsText (Some (hints_in text))
 wrong IsText status true text e said other = absurd (other e)

@@ -1,9 +1,8 @@
 -- Bytes of a memory as numbers and lists.
-use Rattle.std.proofs.Common.{◌≡◌, ℕ, zero, suc, ◌+◌, ◌-◌, ◌*◌, ◌/◌, ◌%◌, ◌^◌, ◌<◌, ◌≤◌, ◌∙◌, List, [], ◌∷◌, length, take, drop, slice_index, arith, refl, ap, ap₂, sym, pow-suc}
+use Rattle.std.proofs.Common.{◌≡◌, ℕ, zero, suc, ◌+◌, ◌-◌, ◌*◌, ◌/◌, ◌%◌, ◌^◌, ◌<◌, ◌≤◌, ◌∙◌, List, [], ◌∷◌, length, slice_index, arith, refl, ap, ap₂, sym, pow-suc}
 use Rattle.std.proofs.Math.Nat.{pow-le-pow_right}
-use Rattle.std.proofs.lemmas.List.{get_or-drop, get_or-take}
 use Rattle.std.proofs.lemmas.Grind.{common_steps}
-use Rattle.std.proofs.Common.{length-drop, length-take, Option, replicate}
+use Rattle.std.proofs.Common.{Option, replicate}
 use Rattle.machine_memory.specs.declared.memory.Memory.{Memory}
 use Rattle.machine_memory.specs.Groups.{byte_in, page_in}
 use Rattle.machine_memory.specs.Memory.{bytes_at, number_of, byte_at}
@@ -93,11 +92,6 @@ place_in_page address k low = omega arith
 
 pub place_of_byte : (address k : ℕ) → address % 4096 + k < 4096 → (address + k) % 4096 ≡ address % 4096 + k
 place_of_byte address k low = omega arith
-
--- part of a list, by its places
-pub part_of : (xs : List ℕ) (at size : ℕ) → at + size ≤ length xs → bytes_at (slice_index xs) at size ≡ take size (drop at xs)
-part_of xs at size inside =
-    bytes_of_list (slice_index xs) at size (take size (drop at xs)) (omega (arith, length-take size (drop at xs), length-drop at xs)) (λ k low. sym (get_or-take size (drop at xs) k 0 low ∙ get_or-drop at xs k 0))
 
 -- the bytes of a page, by the page
 pub byte_of_page : (memory : Memory) (page : Option (List ℕ)) (address k : ℕ) → page_in memory (address / 4096) ≡ page → address % 4096 + k < 4096 → byte_at memory (address + k) ≡ byte_in page (address % 4096 + k)

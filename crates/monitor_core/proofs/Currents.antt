@@ -1,15 +1,14 @@
 -- Which worlds are current, as truth values and as facts.
-use Rattle.std.proofs.Common.{◌≡◌, ◌≢◌, ◌∙◌, ℕ, zero, suc, ◌-◌, ◌≤◌, true, false, replicate, Option, Some, None, slice_index_or, refl, ap, sym, arith}
+use Rattle.std.proofs.Common.{◌≡◌, ◌≢◌, ◌∙◌, ℕ, zero, suc, ◌-◌, ◌≤◌, true, false, replicate, Option, Some, None, slice_index_or, refl, ap, sym}
 use Rattle.platforms.specs.Platform.{Layout}
 use Rattle.enclave_table.specs.Enclaves.{EnclaveTable, Live, enclave_at, with_enclave}
-use Rattle.enclave_table.specs.Tables.{IsTable, IsCurrent}
+use Rattle.enclave_table.specs.Tables.{IsCurrent}
 use Rattle.enclave_table.specs.declared.enclave.Enclave.{Enclave}
 use Rattle.enclave_table.specs.declared.enclave.State.{State as Stage}
 use Rattle.enclave_table.specs.declared.enclave.State.TheVariants.{Fresh, Running, Stopped, Exited}
 use Rattle.worlds.specs.declared.world.World.{World}
 use Rattle.worlds.specs.declared.world.World.TheVariants.{Host, Enclave as InEnclave}
-use Rattle.worlds.specs.Runners.{IsWorld}
-use Rattle.enclave_table.proofs.Places.{live_place, live_above, live_inside, set_other}
+use Rattle.enclave_table.proofs.Places.{live_place, set_other}
 use Rattle.monitor_core.specs.States.{opening}
 use Rattle.monitor_core.specs.Changes.{is_host}
 use Rattle.monitor_core.specs.declared.parts.Parts.{Parts}
@@ -56,15 +55,6 @@ current_to table (InEnclave id) is = ap is_running is.1 ∙ ap is_run is.2
 pub current_other : (table : EnclaveTable) (id : ℕ) (slot : Option Enclave) (world : World) → 1 ≤ id → world ≢ InEnclave id → IsCurrent table world → IsCurrent (with_enclave table id slot) world
 current_other table id slot Host above other is = tt
 current_other table id slot (InEnclave k) above other is = (is.0, set_other table.enclaves id k slot above (λ e. other (ap InEnclave e)) ∙ is.1, is.2)
-
--- whoever is live has one of the ids
-pub id_below : (table : EnclaveTable) (id : ℕ) (e : Enclave) → IsTable table → Live table id e → id ≤ 64
-id_below table id e is live = omega (arith, is.places, live_inside table.enclaves id e live, live_above table.enclaves id e live)
-
--- a world that is current is one that there is
-pub current_is_world : (table : EnclaveTable) (w : World) → IsTable table → is_current table w ≡ true → IsWorld w
-current_is_world table Host t e = tt
-current_is_world table (InEnclave id) t e = let is = current_from table (InEnclave id) e in (live_above table.enclaves id is.0 is.1, id_below table id is.0 t is.1)
 
 -- each hart of the parts is where it may be
 pub placed_from : (parts : Parts) → HoldsTogether parts.table parts.worlds parts.marked → ArePlaced (state_in parts)

@@ -1,11 +1,11 @@
 -- What parts of a call keep, one after another.
-use Rattle.std.proofs.Common.{◌≡◌, ◌∙◌, ℕ, ◌<◌, Bool, List, Option, refl, ap, sym, subst}
+use Rattle.std.proofs.Common.{◌≡◌, ◌∙◌, ℕ, Bool, List, Option, refl, ap, sym, subst}
 use Rattle.enclave_table.specs.Enclaves.{with_enclave}
 use Rattle.enclave_table.specs.Tables.{Kept}
 use Rattle.enclave_table.specs.declared.enclave.Enclave.{Enclave}
 use Rattle.worlds.specs.declared.world.World.{World}
 use Rattle.monitor_core.specs.declared.parts.Parts.{Parts}
-use Rattle.monitor_core.specs.Frames.{IsOn, KeepsFrame}
+use Rattle.monitor_core.specs.Frames.{KeepsFrame}
 use Rattle.monitor_core.specs.Parts.{HoldsTogether}
 use Rattle.monitor_core.proofs.Moved.{Turning, whole_turned}
 use Rattle.monitor_core.proofs.Stayed.{lists_turned}
@@ -13,26 +13,6 @@ use Rattle.monitor_core.proofs.Stayed.{lists_turned}
 -- the same parts belong together
 pub whole_same : (kept now : Kept) (worlds after : List World) (marks then : List Bool) → now ≡ kept → after ≡ worlds → then ≡ marks → HoldsTogether kept worlds marks → HoldsTogether now after then
 whole_same kept now worlds after marks then k w m is = subst (λ x. HoldsTogether x after then) (sym k) (subst (λ x. HoldsTogether kept x then) (sym w) (subst (HoldsTogether kept worlds) (sym m) is))
-
--- the hart is one of the platform still
-pub still_on : (old new : Parts) (hart : ℕ) → IsOn old hart → KeepsFrame old new → IsOn new hart
-still_on old new hart on frame = record { known = subst (λ l. hart < l.harts) (sym frame.layout) on.known; whole = frame.whole }
-
--- table, worlds and marks stay
-pub frame_still : (old new : Parts) (hart : ℕ) → IsOn old hart → new.table ≡ old.table → new.worlds ≡ old.worlds → new.marked ≡ old.marked → KeepsFrame old new
-frame_still old new hart on table worlds marks = record {
-  whole = whole_same old.table new.table old.worlds new.worlds old.marked new.marked table worlds marks on.whole;
-  layout = ap (λ k. k.table.layout) table;
-  lists = λ same. table;
-}
-
--- after something that leaves the table
-pub frame_after : (old mid new : Parts) → mid.table ≡ old.table → KeepsFrame mid new → KeepsFrame old new
-frame_after old mid new same y = record {
-  whole = y.whole;
-  layout = y.layout ∙ ap (λ k. k.table.layout) same;
-  lists = λ table. y.lists (table ∙ sym (ap (λ k. k.table) same)) ∙ same;
-}
 
 -- an enclave was put into another state while a hart went to another world
 pub frame_turned : (old new : Parts) (now : Kept) (hart id : ℕ) (to : World) → HoldsTogether old.table old.worlds old.marked → Turning old.table now old.worlds new.worlds old.marked hart id to → new.table ≡ now → new.marked ≡ old.marked → now ≡ record old.table { table = now.table } → KeepsFrame old new

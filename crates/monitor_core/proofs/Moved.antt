@@ -1,5 +1,5 @@
 -- The parts together, after the table changed at one id, or a hart went from one world to another.
-use Rattle.std.proofs.Common.{◌≡◌, ◌≢◌, ◌∙◌, inl, inr, option_map, ℕ, zero, suc, ◌+◌, ◌<◌, ◌≤◌, List, [], ◌∷◌, length, Bool, true, false, ◌==◌, if◌then◌else◌, Option, Some, None, slice_set, refl, ap, sym, subst, arith}
+use Rattle.std.proofs.Common.{◌≡◌, ◌≢◌, ◌∙◌, option_map, ℕ, ◌+◌, ◌<◌, ◌≤◌, List, Bool, true, false, ◌==◌, if◌then◌else◌, Option, Some, None, refl, ap, sym, subst, arith}
 use Rattle.std.proofs.lemmas.Bool.{eq-eqb, eqb-true, both_ways}
 use Rattle.std.proofs.lemmas.Option.{same_Some}
 use Rattle.enclave_table.specs.Enclaves.{EnclaveTable, Live, enclave_at, with_enclave}
@@ -11,11 +11,9 @@ use Rattle.enclave_table.specs.declared.enclave.State.TheVariants.{Fresh, Runnin
 use Rattle.enclave_table.specs.declared.life.Entering.{Entering}
 use Rattle.enclave_table.specs.declared.life.Entering.TheVariants.{Run, Resume}
 use Rattle.enclave_table.specs.declared.life.Leaving.{Leaving}
-use Rattle.enclave_table.specs.Checks.{leave_checks, state_before}
+use Rattle.enclave_table.specs.Checks.{state_before}
 use Rattle.enclave_table.specs.Lives.{Enters, Leaves, Turns, state_after}
-use Rattle.platforms.specs.CheckLists.{FailsFirst}
 use Rattle.enclave_table.specs.Destroy.{Destroys}
-use Rattle.enclave_table.specs.declared.refusal.Refusal.{Refusal}
 use Rattle.page_views.specs.declared.pages.PageRange.{PageRange}
 use Rattle.worlds.specs.declared.world.World.{World}
 use Rattle.worlds.specs.declared.world.World.TheVariants.{Host, Enclave as InEnclave}
@@ -30,24 +28,6 @@ use Rattle.monitor_core.proofs.Currents.{current_from, current_to, current_other
 -- the view of an enclave that is live
 pub live_view : (table : EnclaveTable) (id : ℕ) (e : Enclave) → Live table id e → view_of table (InEnclave id) ≡ enclave_view e.parts
 live_view table id e live = ap (λ o page. view_in o page) live
-
--- the worlds after a hart went to another one
-world_here : (worlds : List World) (hart : ℕ) (to : World) → hart < length worlds → world_in (slice_set worlds hart to) hart ≡ to
-world_here [] hart to low = absurd (omega (arith, low))
-world_here (w ∷ worlds) zero to low = refl
-world_here (w ∷ worlds) (suc hart) to low = world_here worlds hart to (omega (arith, low))
-
-world_there : (worlds : List World) (hart other : ℕ) (to : World) → other ≢ hart → world_in (slice_set worlds hart to) other ≡ world_in worlds other
-world_there [] hart other to not = refl
-world_there (w ∷ worlds) zero zero to not = absurd (not refl)
-world_there (w ∷ worlds) zero (suc other) to not = refl
-world_there (w ∷ worlds) (suc hart) zero to not = refl
-world_there (w ∷ worlds) (suc hart) (suc other) to not = world_there worlds hart other to (λ e. not (ap suc e))
-
-pub world_set : (worlds : List World) (hart i : ℕ) (to : World) → hart < length worlds → world_in (slice_set worlds hart to) i ≡ (if i == hart then to else world_in worlds i)
-world_set worlds hart i to low = both (i == hart)
-    (λ e. ap (world_in (slice_set worlds hart to)) (eqb-true i hart e) ∙ world_here worlds hart to low ∙ sym (ap (λ t. if t then to else world_in worlds i) e))
-    (λ e. world_there worlds hart i to (λ is. both_ways (i == hart) e (eq-eqb i hart is)) ∙ sym (ap (λ t. if t then to else world_in worlds i) e))
 
 -- a hart went from one world to another while an enclave was put into another state
 pub record Turning (kept now : Kept) (worlds after : List World) (marks : List Bool) (hart id : ℕ) (to : World) : Type 0 where
@@ -145,10 +125,6 @@ entry_is table now id pc stage t at =
     let there : enclave_at now.enclaves id ≡ Some (record e { state = stage }) =
     ap (λ x. enclave_at x.enclaves id) t.2 ∙ set_same table.enclaves id (Some (record e { state = stage })) (live_above table.enclaves id e t.1) (live_inside table.enclaves id e t.1) in
     same_Some pc (e.parts.base + e.parts.entry_offset) (at ∙ ap (option_map (λ (e : Enclave). e.parts.base + e.parts.entry_offset)) there)
-
--- an enclave is never refused to leave
-pub never_refused : (world : World) (id : ℕ) (refusal : Refusal) → world ≡ InEnclave id → FailsFirst (leave_checks world) refusal → ⊥
-never_refused world id refusal is refused = elim refused [ inl p ↦ p.1 (id, is) | inr q ↦ q.1 ]
 
 -- an id that is free runs on no hart
 pub free_runs_nowhere : (kept : Kept) (worlds : List World) (marks : List Bool) (id : ℕ) → HoldsTogether kept worlds marks → enclave_at kept.table.enclaves id ≡ None → (i : ℕ) → world_in worlds i ≢ InEnclave id

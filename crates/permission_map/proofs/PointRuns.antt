@@ -6,7 +6,6 @@ use Rattle.std.proofs.lemmas.List.Recursion.{is_count_by}
 use Rattle.pmp_encoding.specs.declared.perm.Perm.{Perm}
 use Rattle.pmp_encoding.specs.declared.perm.Perm.TheVariants.{NoAccess, Read, ReadWrite, Execute, ReadExecute, ReadWriteExecute}
 use Rattle.permission_map.specs.declared.points.Point.{Point}
-use Rattle.permission_map.specs.declared.runs.Run.{Run}
 use Rattle.permission_map.specs.Runs.{AreRuns, AreRunsAfter, view_of_runs}
 use Rattle.permission_map.specs.Points.{ArePoints, ArePointsAfter, allows, next_page, page_of, perm_for, perm_of, runs_of, standing}
 use Rattle.permission_map.proofs.Rising.{view_before, view_in, view_past}
@@ -76,9 +75,6 @@ pub behind_point : (at : ℕ) (p : Perm) (q : Point) (ps : List Point) → ArePo
 behind_point at p q ps are =
     let inside : page_of q < 2 ^ 44 = are.0.inside in
     next_after (page_of q + 1) (perm_of q) ps are.1 (omega (arith, inside))
-
-run_at : ℕ → Point → Run
-run_at end q = record { first = page_of q; count = end - page_of q; perm = perm_of q }
 
 runs_after :
     (at e : ℕ) (p b : Perm) (ps : List Point) → ArePointsAfter at p ps → e ≤ next_page ps → (e ≡ next_page ps → b ≡ p) → AreRunsAfter e b (runs_of ps)
@@ -195,10 +191,6 @@ few_points at p (q ∷ ps) are = go (allows q) refl (few_points (page_of q + 1) 
 
 pub points_few : (ps : List Point) → ArePoints ps → length ps ≤ 2 * length (runs_of ps) + 1
 points_few ps are = omega (arith, (few_points 0 NoAccess ps are).0, runs_begun ps)
-
--- points without a run are none
-pub no_points : (ps : List Point) → ArePoints ps → length (runs_of ps) ≡ 0 → length ps ≡ 0
-no_points ps are none = omega (arith, (few_points 0 NoAccess ps are).1 refl, runs_begun ps, none)
 
 pub empty_is : {X : Type 0} (xs : List X) → length xs ≡ 0 → xs ≡ []
 empty_is [] e = refl

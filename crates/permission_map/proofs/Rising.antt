@@ -94,11 +94,6 @@ view_alike (x ∷ xs) ys zs page same = ap (λ q. cond (in_range x.first x.count
 
 -- ---- the same runs from another page on
 
-pub runs_later : (at next : ℕ) (p : Perm) (runs : List Run) → AreRunsAfter at p runs → AllByRecursion (λ run. next ≤ run.first) runs → AreRunsAfter next NoAccess runs
-runs_later at next p [] are later = tt
-runs_later at next p (run ∷ runs) are later =
-    (record { rising = later.0; maximal = λ _. are.0.allows; some = are.0.some; allows = are.0.allows; inside = are.0.inside }, are.1)
-
 pub runs_apart : (at next : ℕ) (p q : Perm) (runs : List Run) → AreRunsAfter at p runs → AllByRecursion (λ run. next < run.first) runs → AreRunsAfter next q runs
 runs_apart at next p q [] are later = tt
 runs_apart at next p q (run ∷ runs) are later =

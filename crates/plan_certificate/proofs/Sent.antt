@@ -1,6 +1,6 @@
 -- Bytes that went to a sink one after another.
-use Rattle.std.proofs.Common.{◌≡◌, ◌∙◌, ℕ, ◌+◌, ◌<◌, List, [], ◌∷◌, ◌++◌, get_or, ap₂, length, take, drop, append_assoc, length-append, arith, ap, sym, refl, subst, Option}
-use Rattle.std.proofs.KnownBytes.{Appends-trans, Appends-nil}
+use Rattle.std.proofs.Common.{◌≡◌, ◌∙◌, ℕ, ◌+◌, ◌<◌, List, [], ◌∷◌, ◌++◌, get_or, ap₂, length, take, drop, append_assoc, length-append, arith, ap, sym, subst, Option}
+use Rattle.std.proofs.KnownBytes.{Appends-trans}
 use Rattle.std.proofs.Math.Seq.{take-append_seam}
 use Rattle.std.proofs.lemmas.Grind.{flat_map-append}
 use Rattle.std.proofs.lemmas.List.{take-append-drop, take_more, flat_map_more, length-drop, append-nil}
@@ -18,9 +18,6 @@ use Rattle.certificate_format.specs.Spelling.{costs_bytes, node_bytes}
 use Rattle.byte_streams.specs.Writings.{Breaks, writing}
 use Rattle.plan_certificate.specs.Pieces.{Taken, IsPut, IsCut, taken}
 use Rattle.plan_certificate.specs.Written.{entry_bytes}
-
-pub put_none : (held : List ℕ) (sink : Taken) → IsPut held held sink sink []
-put_none held sink = record { went = []; appended = Appends-nil sink.contents; left = sym (append-nil held); well = refl; unstalled = refl }
 
 -- what goes in turn
 joined : (went then held middle holds bytes more : List ℕ) → went ++ middle ≡ held ++ bytes → then ++ holds ≡ middle ++ more → (went ++ then) ++ holds ≡ held ++ (bytes ++ more)

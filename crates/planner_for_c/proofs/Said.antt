@@ -1,6 +1,5 @@
 -- Words say at most one access.
-use Rattle.std.proofs.Common.{◌≡◌, ◌∙◌, ◌≤◌, ℕ, true, refl, sym, arith}
-use Rattle.std.proofs.lemmas.Bool.Decides.{nat_tests}
+use Rattle.std.proofs.Common.{◌≡◌, ◌∙◌, ℕ, true, refl, sym, arith}
 use Rattle.std.proofs.Props.{props}
 use mathlib.Core.HLevel.{is_prop→PathP}
 use Rattle.pmp_match.specs.declared.access.Access.{Access}
@@ -49,9 +48,3 @@ same_access a b m k s p = λ i. record {
 pub one_access : (words : AccessWords) (a b : Access) → Says words a → Says words b → a ≡ b
 one_access words a b x y =
     same_access a b (same_mode a.mode b.mode (x.mode ∙ sym y.mode)) (same_kind a.kind b.kind (x.kind ∙ sym y.kind)) (x.size ∙ sym y.size) (x.address ∙ sym y.address)
-
--- no access has more than eight bytes
-pub few_bytes : (kind : Kind) (size : ℕ) → has_size kind size ≡ true → size ≤ 8
-few_bytes Fetch size h = grind (arith, nat_tests, h)
-few_bytes Load size h = grind (arith, nat_tests, h)
-few_bytes Store size h = grind (arith, nat_tests, h)

@@ -1,5 +1,5 @@
 -- Ranges set one before the other.
-use Rattle.std.proofs.Common.{ℕ, suc, ◌≡◌, ◌+◌, ◌/◌, ◌<◌, ◌∙◌, sym, ap, refl, Bool, true, false, ◌||◌, cond, List, ◌∷◌, length, get_or, drop, drop-cons, add-one}
+use Rattle.std.proofs.Common.{ℕ, suc, ◌≡◌, ◌+◌, ◌/◌, ◌<◌, ◌∙◌, sym, ap, cond, List, ◌∷◌, length, get_or, drop, drop-cons, add-one}
 use Rattle.pmp_encoding.specs.declared.perm.Perm.{Perm}
 use Rattle.pmp_encoding.specs.declared.perm.Perm.TheVariants.{NoAccess, ReadWriteExecute}
 use Rattle.page_views.specs.Views.{in_range}
@@ -20,20 +20,6 @@ device_set devices i d old new inside is before set page small =
     set page small
     ∙ ap (λ p. cond (in_range (d.0 / 4096) (d.1 / 4096) page) d.2 p) (before page small)
     ∙ sym (ap (λ ds. device_perm ds page) (from_place devices i d inside is))
-
-memory_perm : (a b : Bool) (q : Perm) → cond a ReadWriteExecute (cond b ReadWriteExecute q) ≡ cond (a || b) ReadWriteExecute q
-memory_perm true b q = refl
-memory_perm false b q = refl
-
-pub memory_set :
-    (ram : List (ℕ × ℕ)) (i : ℕ) (range : ℕ × ℕ) (first old new : View) → i < length ram → range ≡ get_or ram i range
-    → SameView old (λ page. cond (is_among (drop (i + 1) ram) page) ReadWriteExecute (first page))
-    → SameView new (overwritten old (range.0 / 4096) (range.1 / 4096) ReadWriteExecute) → SameView new (λ page. cond (is_among (drop i ram) page) ReadWriteExecute (first page))
-memory_set ram i range first old new inside is before set page small =
-    set page small
-    ∙ ap (λ p. cond (has_page range page) ReadWriteExecute p) (before page small)
-    ∙ memory_perm (has_page range page) (is_among (drop (i + 1) ram) page) (first page)
-    ∙ sym (ap (λ rs. cond (is_among rs page) ReadWriteExecute (first page)) (from_place ram i range inside is))
 
 -- the devices set first, then the memory, then nothing on the monitor's pages: that is what the platform allows
 pub platform_view :

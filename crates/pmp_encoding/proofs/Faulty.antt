@@ -83,12 +83,6 @@ entry_decoded cfg address (Err f) fault meaning e p = absurd ((entry_faultless c
 entry_decoded cfg address (Ok None) fault meaning e p = absurd (not_off cfg address e p meaning)
 entry_decoded cfg address (Ok (Some d)) fault meaning e p = ap (λ x. Ok (Some x)) (one_entry cfg address d e meaning p)
 
-pub off_decoded :
-    (cfg address : ℕ) (r : Result (Option Entry) EncodingFault) → MatchResult r (λ _. IsFaultless cfg address) (IsLeastFault cfg address) → IfOk r (IsMeaning cfg address) → IsOff cfg address → r ≡ Ok None
-off_decoded cfg address (Err f) fault meaning off = absurd ((off_faultless cfg address off).none f fault.has)
-off_decoded cfg address (Ok None) fault meaning off = refl
-off_decoded cfg address (Ok (Some d)) fault meaning off = absurd (not_off cfg address d meaning off)
-
 pub fault_decoded :
     (cfg address : ℕ) (r : Result (Option Entry) EncodingFault) → MatchResult r (λ _. IsFaultless cfg address) (IsLeastFault cfg address) → (f : EncodingFault)
     → IsLeastFault cfg address f → r ≡ Err f

@@ -82,6 +82,7 @@ fn behind_misses<'a>(extents: &'a [Extent], access: &Access) -> &'a [Extent]
 }
 
 /// Whether the first extent with a byte of the access lets it through; where there is none, machine mode may.
+#[inline(always)]
 fn lets_through(extents: &[Extent], access: &Access) -> bool
     requires { access.now.address < 2 ^ 56 }
     ensures { result ≡ lets_through extents.now access.now }
@@ -96,6 +97,7 @@ fn lets_through(extents: &[Extent], access: &Access) -> bool
 }
 
 /// What the bank's list says of the access.
+#[inline(always)]
 fn is_allowed(bank: &Bank, access: &Access) -> bool
     requires { access.now.address < 2 ^ 56 }
     ensures { (entries : List Entry) → HasList bank.now entries
@@ -135,6 +137,7 @@ pub fn access_fault(kind: Kind) -> Cause
     }
 }
 
+#[inline(always)]
 fn judged(bank: &Bank, access: &Access) -> Result<(), Cause>
     ensures { (entries : List Entry) → HasList bank.now entries
         → result ≡ judgement entries access.now }
@@ -151,6 +154,7 @@ fn judged(bank: &Bank, access: &Access) -> Result<(), Cause>
 /// The outcome of the access under the entries that the bank's registers mean. It looks at nothing else, and takes
 /// no memory. (RISC-V Privileged Architecture, Physical Memory Protection, priority and matching logic; that a
 /// misaligned access comes before all else, and then one past the space, is this project's own order)
+#[inline(always)]
 pub fn judge(bank: &Bank, access: &Access) -> Result<(), Cause>
     ensures by_its_list { (entries : List Entry) × HasList bank.now entries
         × Judges entries access.now result }

@@ -1,5 +1,5 @@
 -- The canonical tree of a view, and of the runs that meet a block.
-use Rattle.std.proofs.Common.{◌≡◌, ℕ, zero, suc, ◌+◌, ◌-◌, ◌*◌, ◌^◌, ◌<◌, ◌≤◌, ◌⊎◌, ⊎_elim, List, [], ◌∷◌, ◌++◌, length, take, drop, get_or, slice_index_or, count_by, None, Some, refl, sym, ap, ap₂, ◌∙◌, arith, pow_pos, pow-suc}
+use Rattle.std.proofs.Common.{◌≡◌, ℕ, zero, suc, ◌+◌, ◌-◌, ◌*◌, ◌^◌, ◌<◌, ◌≤◌, ◌⊎◌, ⊎_elim, List, [], ◌∷◌, ◌++◌, length, take, drop, get_or, slice_index_or, count_by, None, Some, refl, sym, ap, ap₂, ◌∙◌, arith, pow_pos}
 use Rattle.std.proofs.lemmas.List.{take-append-drop}
 use Rattle.pmp_encoding.specs.declared.perm.Perm.{Perm}
 use Rattle.pmp_encoding.specs.declared.perm.Perm.TheVariants.{NoAccess}
@@ -47,22 +47,6 @@ tree_at-is v k first tree canonical means =
 pub tree_at-same : (v w : ℕ → Perm) (k first : ℕ) → ((i : ℕ) → i < 2 ^ k → v (first + i) ≡ w (first + i)) → tree_at v k first ≡ tree_at w k first
 tree_at-same v w k first same =
     sym (tree_at-is w k first (tree_at v k first) (tree_at-canonical v k first) (means_along v w k first (tree_at v k first) same (tree_at-means v k first)))
-
--- so have two that agree over blocks of one size
-pub tree_at-moved : (v w : ℕ → Perm) (k a b : ℕ) → ((i : ℕ) → i < 2 ^ k → v (a + i) ≡ w (b + i)) → tree_at v k a ≡ tree_at w k b
-unfolding tree_at
-tree_at-moved v w zero a b same =
-    let e : a + 0 ≡ a = omega arith in
-    let f : b + 0 ≡ b = omega arith in
-    ap Uniform (sym (ap v e) ∙ same 0 (omega arith) ∙ ap w f)
-tree_at-moved v w (suc k) a b same =
-    let double : 2 ^ suc k ≡ 2 ^ k * 2 = pow-suc 2 k in
-    ap₂ joined (tree_at-moved v w k a b (λ i h. same i (omega arith)))
-    (tree_at-moved v w k (a + 2 ^ k) (b + 2 ^ k)
-    (λ i h.
-    let e : a + (2 ^ k + i) ≡ a + 2 ^ k + i = omega arith in
-    let f : b + (2 ^ k + i) ≡ b + 2 ^ k + i = omega arith in
-    sym (ap v e) ∙ same (2 ^ k + i) (omega arith) ∙ ap w f))
 
 joins_split : (lower upper tree : PermTree) → Joins lower upper tree → one_perm tree ≡ None → tree ≡ Split lower upper
 joins_split lower upper (Uniform q) j none = absurd (let no : ⊥ = cc in no)

@@ -6,11 +6,7 @@ use Rattle.pmp_encoding.specs.declared.perm.Perm.TheVariants.{NoAccess}
 use Rattle.pmp_encoding.specs.declared.perm.Perm.{Perm}
 use Rattle.permission_map.specs.declared.runs.Run.{Run}
 use Rattle.permission_map.specs.Runs.{end_of, in_range, view_of_runs, AreRunsAfter}
-use Rattle.prefix_tree.specs.Trees.{PermTree, TreeMeansAt}
 use Rattle.prefix_tree.specs.Slices.{MeetBehind}
-use Rattle.prefix_tree.specs.Joined.{joined}
-use Rattle.prefix_tree.proofs.Meant.{means_along}
-use Rattle.prefix_tree.proofs.Joins.{joined_means}
 
 abbrev pub begins_before : ℕ → Run → Bool
 begins_before page run = nat_lt run.first page
@@ -127,21 +123,6 @@ pub upper_view :
     (low high page q : ℕ) (runs : List Run) → MeetBehind 0 low high runs → page ≤ q
     → view_of_runs (drop (count_by (ends_before page) runs) runs) q ≡ view_of_runs runs q
 upper_view low high page q runs meet before = rw (← counted-is (ends_before page) runs) (ended_view 0 low high page q runs meet before)
-
--- the halves of a block, from the runs that meet each, mean the view of all the runs
-pub cut_means :
-    (runs : List Run) (h k first high : ℕ) (lower upper : PermTree) → h ≡ suc k → MeetBehind 0 first high runs
-    → TreeMeansAt (view_of_runs (take (count_by (begins_before (first + 2 ^ k)) runs) runs)) k first lower
-    → TreeMeansAt (view_of_runs (drop (count_by (ends_before (first + 2 ^ k)) runs) runs)) k (first + 2 ^ k) upper
-    → TreeMeansAt (view_of_runs runs) h first (joined lower upper)
-cut_means runs h k first high lower upper e meet ml mu =
-    let middle = first + 2 ^ k in
-    rw e
-    (joined_means (view_of_runs runs) k first lower upper
-    (means_along (view_of_runs (take (count_by (begins_before middle) runs) runs)) (view_of_runs runs) k first lower
-    (λ i h. lower_view first high middle (first + i) runs meet (omega arith)) ml)
-    (means_along (view_of_runs (drop (count_by (ends_before middle) runs) runs)) (view_of_runs runs) k middle upper
-    (λ i h. upper_view first high middle (middle + i) runs meet (omega arith)) mu))
 
 -- the runs of a map meet the whole space
 pub runs_meet : (at : ℕ) (before : Perm) (runs : List Run) → AreRunsAfter at before runs → MeetBehind at 0 (0 + 2 ^ 44) runs

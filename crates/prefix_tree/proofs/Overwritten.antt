@@ -1,6 +1,6 @@
 -- A block with some of its pages overwritten.
-use Rattle.std.proofs.Common.{◌≡◌, ℕ, suc, ◌+◌, ◌^◌, ◌≤◌, ◌⊎◌, ⊎_elim, true, false, cond, sym, ap, arith}
-use Rattle.std.proofs.lemmas.Bool.{cases_lt, lt-ltb, le-ltb, le-leb, lt-leb, and_from, and_left, and_right}
+use Rattle.std.proofs.Common.{◌≡◌, ℕ, suc, ◌+◌, ◌^◌, ◌≤◌, ◌⊎◌, ⊎_elim, false, cond, sym, ap, arith}
+use Rattle.std.proofs.lemmas.Bool.{cases_lt, le-ltb, lt-leb, and_left, and_right}
 use Rattle.pmp_encoding.specs.declared.perm.Perm.{Perm}
 use Rattle.permission_map.specs.Runs.{in_range}
 use Rattle.permission_map.specs.Views.{overwritten}
@@ -55,14 +55,6 @@ apart_means v k first from count perm tree apart means =
     apart in
     sym (ap (λ t. cond t perm (v (first + i))) out))
     means
-
--- a block within the range has its permission
-pub within_means :
-    (v : ℕ → Perm) (k first from count : ℕ) (perm : Perm) → from ≤ first → first + 2 ^ k ≤ from + count
-    → TreeMeansAt (overwritten v from count perm) k first (Uniform perm)
-within_means v k first from count perm low high i h =
-    let held : in_range from count (first + i) ≡ true = and_from _ _ (le-leb from (first + i) (omega arith)) (lt-ltb (first + i) (from + count) (omega arith)) in
-    ap (λ t. cond t perm (v (first + i))) held
 
 -- an empty range changes nothing
 pub overwritten_none : (v : ℕ → Perm) (from count : ℕ) (perm : Perm) (page : ℕ) → count ≡ 0 → overwritten v from count perm page ≡ v page

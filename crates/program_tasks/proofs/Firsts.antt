@@ -1,25 +1,12 @@
 -- The first demand that values lack, behind those that they meet.
-use Rattle.std.proofs.Common.{[], ◌∷◌, ◌++◌, ◌≡◌, ◌∙◌, List, Option, Some, ap, codes, inl, inr, sym}
+use Rattle.std.proofs.Common.{[], ◌∷◌, ◌≡◌, ◌∙◌, Option, Some, ap, codes, inl, inr, sym}
 use Rattle.program_tasks.specs.declared.fault.Fault.{Fault}
 use Rattle.program_tasks.specs.declared.fault.Fault.TheVariants.{InputTwice}
 use Rattle.program_tasks.specs.declared.subcommand.Subcommand.TheVariants as subcommands
-use Rattle.program_tasks.specs.Faults.{Breaks, Demand, IsFirst, demands_of, has, names_width}
+use Rattle.program_tasks.specs.Faults.{Breaks, IsFirst, demands_of, has, names_width}
 use Rattle.program_tasks.specs.Subcommands.{Text}
 use Rattle.program_tasks.specs.Tasks.{input_word}
-use Rattle.program_tasks.proofs.Refused.{AreMet, given, same}
-
--- behind demands that are met
-pub behind : (value flag : Text → Option Text) (demands rest : List Demand) (fault : Fault) → AreMet value flag demands → IsFirst value flag rest fault → IsFirst value flag (demands ++ rest) fault
-behind value flag [] rest fault met first = first
-behind value flag (demand ∷ demands) rest fault met first = inr (met.0, behind value flag demands rest fault met.1 first)
-
--- ahead of others
-pub ahead : (value flag : Text → Option Text) (demands rest : List Demand) (fault : Fault) → IsFirst value flag demands fault → IsFirst value flag (demands ++ rest) fault
-ahead value flag [] rest fault first = absurd first
-ahead value flag (demand ∷ demands) rest fault first = elim first [
-  | inl broken ↦ inl broken
-  | inr later ↦ inr (later.0, ahead value flag demands rest fault later.1)
-]
+use Rattle.program_tasks.proofs.Refused.{given, same}
 
 pub no_registers : (value flag : Text → Option Text) (map : Text) (fault : Fault) → value (codes "MAP") ≡ Some map → Breaks value flag (has (codes "REGISTERS")) fault → IsFirst value flag (demands_of subcommands.Audit) fault
 no_registers value flag map fault m broken = inr (given value (codes "MAP") map m, inl broken)

@@ -13,7 +13,7 @@ use Rattle.register_audit.specs.declared.verdict.Verdict.TheVariants as verdicts
 use Rattle.register_audit.specs.Findings.{IsFirstDifference}
 use Rattle.register_text.specs.declared.listing.Listing.{Listing}
 use Rattle.register_audit.specs.Audits.{IsAnswer, judged, unmodelled}
-use Rattle.register_audit.specs.Verdicts.{IsVerdict, IsWritable, is_difference, is_meant}
+use Rattle.register_audit.specs.Verdicts.{IsVerdict, is_difference, is_meant}
 use Rattle.register_audit.proofs.Cut.{cut_not}
 
 differs_not : (view : View) (registers : Registers) (xs : List Extent) (s : Stretch) → AreExtents registers xs → IsFirstDifference view xs s → ¬ ExtentsMean xs view
@@ -49,12 +49,6 @@ extents_given view registers true (verdicts.Means count) is e = absurd cc
 extents_given view registers true (verdicts.Differs stretch) is e = (is.0, is.1)
 extents_given view registers true (verdicts.Cuts entry at) is e = absurd cc
 extents_given view registers true (verdicts.NoMeaning found) is e = absurd cc
-
-pub writable : (view : View) (registers : Registers) (v : Verdict) → IsVerdict view registers v → IsWritable v
-writable view registers (verdicts.Means count) is = tt
-writable view registers (verdicts.Differs stretch) is = let s = is.2.stretch in omega (arith, s.some)
-writable view registers (verdicts.Cuts entry at) is = let c = is.2.first.cut.cut in omega (arith, c.inside)
-writable view registers (verdicts.NoMeaning found) is = is.inside
 
 -- what an answer says of the registers
 pub answer_yes : (view : View) (fewest : ℕ) (all : Bool) (listing : Listing) (text : List ℕ) (means : Bool) → IsAnswer view fewest all listing text means → means ≡ true

@@ -8,7 +8,7 @@ use Rattle.permission_map.specs.declared.runs.Run.{Run}
 use Rattle.permission_map.specs.Overwrite.{AreOverwritten}
 use Rattle.permission_map.specs.Runs.{view_of_runs}
 use Rattle.permission_map.proofs.Overwritten.{changed_below, changed_in, changed_past}
-use Rattle.std.proofs.lemmas.List.{drop_all, drop_more}
+use Rattle.std.proofs.lemmas.List.{drop_more}
 use Rattle.page_views.specs.Views.{View}
 use Rattle.register_map.specs.Pages.{IsTooFine}
 use Rattle.pmp_registers.specs.Bytes.{perm_at}
@@ -20,10 +20,6 @@ pub next_stretch :
     (view : View) (xs : List Extent) (at : ℕ) (all : List Stretch) (i : ℕ) (d : Stretch) → i < length all → AreStretches view xs at (drop i all) (2 ^ 56)
     → ((get_or all i d).first ≡ at) × IsStretch view xs (get_or all i d) × AreStretches view xs (get_or all i d).end (drop (i + 1) all) (2 ^ 56)
 next_stretch view xs at all i d inside are = subst (λ ss. AreStretches view xs at ss (2 ^ 56)) (drop_more all i d inside) are
-
--- none is left at the end of the space
-pub no_stretch : (view : View) (xs : List Extent) (at : ℕ) (all : List Stretch) (i : ℕ) → length all ≤ i → AreStretches view xs at (drop i all) (2 ^ 56) → at ≡ 2 ^ 56
-no_stretch view xs at all i past are = subst (λ ss. AreStretches view xs at ss (2 ^ 56)) (drop_all i all past) are
 
 -- a stretch more: the pages that begin before its end have what the extents give their first byte
 pub one_more :

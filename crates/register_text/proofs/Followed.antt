@@ -1,8 +1,6 @@
 -- Lines that are followed one after another.
-use Rattle.std.proofs.Common.{◌≡◌, ◌∙◌, ℕ, ◌+◌, ◌≤◌, List, [], ◌∷◌, ◌++◌, length, Option, None, Some, ap, refl, sym, arith}
+use Rattle.std.proofs.Common.{◌≡◌, ◌∙◌, ℕ, ◌+◌, List, [], ◌∷◌, ◌++◌, length, Option, None, Some, ap, refl, sym, arith}
 use Rattle.std.proofs.lemmas.Bool.{le-leb}
-use Rattle.std.proofs.lemmas.Bool.Decides.{nat_tests}
-use Rattle.std.proofs.lemmas.Grind.{common_steps}
 use Rattle.std.proofs.lemmas.Option.{same_Some}
 use Rattle.std.specs.Option.{option_and_then}
 use Rattle.text_lines.specs.Lines.{IsShortLine, without_return}
@@ -15,9 +13,6 @@ use Rattle.register_text.specs.Listings.{IsFirstUnknown, listed, nothing_set, se
 
 pub short_sets : (xlen : Xlen) (raw text : List ℕ) → IsShortLine raw → text ≡ without_return raw → raw_sets xlen raw ≡ line_sets xlen text
 short_sets xlen raw text short is = rw (le-leb (length raw) 1023 short.1) (ap (line_sets xlen) (sym is))
-
-pub long_sets : (xlen : Xlen) (raw : List ℕ) → 1024 ≤ length raw → raw_sets xlen raw ≡ None
-long_sets xlen raw long = grind (arith, nat_tests, common_steps, long)
 
 -- one line more
 pub set_by_more : (sets : List ℕ → Option Setting) (listing now : Listing) (n k : ℕ) (before : List (List ℕ)) (raw : List ℕ) (setting : Setting) → set_by_lines sets listing n before ≡ Some now → n + length before ≡ k

@@ -6,7 +6,7 @@ use Rattle.std.proofs.lemmas.Bool.{cases_lt}
 use Rattle.std.proofs.lemmas.Bool.Decides.{nat_tests}
 use Rattle.std.proofs.lemmas.List.{get_or_default, get_or_past}
 use Rattle.std.proofs.lemmas.List.Elements.{All-contains_itself}
-use Rattle.std.proofs.lemmas.List.Sorted.{All-permutation, IsPermutation-sym, length_permutation}
+use Rattle.std.proofs.lemmas.List.Sorted.{All-permutation, IsPermutation-sym}
 use Rattle.pmp_encoding.specs.declared.extent.Extent.{Extent}
 use Rattle.pmp_registers.specs.Tor.{nowhere}
 use Rattle.stretches.specs.declared.hull_tree.Hull.{Hull}
@@ -38,9 +38,6 @@ all_leaves : (extents : List Extent) → All (IsLeaf extents) (numbered 0 extent
 all_leaves extents = λ j d h.
     let inside : j < length extents = omega (arith, h, length_numbered 0 extents) in
     leaf_of_number extents j (get_or (numbered 0 extents) j d) inside (numbered_at 0 j extents d inside ∙ ap (λ k. hull_of k (get_or extents j nowhere)) (omega arith))
-
-pub as_many : (extents : List Extent) (leaves : List Hull) → IsPermutation (numbered 0 extents) leaves → length leaves ≡ length extents
-as_many extents leaves same = length_permutation (numbered 0 extents) leaves same ∙ length_numbered 0 extents
 
 -- the extent of a leaf
 pub leaf_at : (extents : List Extent) (leaves : List Hull) (p : ℕ) → IsPermutation (numbered 0 extents) leaves → p < length leaves → IsLeaf extents (get_or leaves p no_hull)

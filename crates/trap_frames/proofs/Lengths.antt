@@ -13,23 +13,6 @@ use Rattle.trap_frames.specs.Answers.{address_at, address_bytes, cfg_at, cfg_byt
 pub word_length : (x : ℕ) → length (little_bytes 8 x) ≡ 8
 word_length x = refl
 
-pub cfg_length : (entries : List Entry) (n : ℕ) → length (cfg_bytes entries n) ≡ n
-cfg_length entries zero = refl
-cfg_length entries (suc n) = omega (arith, length-append (cfg_bytes entries n) (cfg_at entries n ∷ []), cfg_length entries n)
-
-pub address_length : (entries : List Entry) (n : ℕ) → length (address_bytes entries n) ≡ 8 * n
-address_length entries zero = refl
-address_length entries (suc n) = omega (arith, length-append (address_bytes entries n) (little_bytes 8 (address_at entries n)), word_length (address_at entries n), address_length entries n)
-
-pub register_length : (file : RegisterFile) (n : ℕ) → length (register_bytes file n) ≡ 8 * n
-register_length file zero = refl
-register_length file (suc zero) = word_length file.pc
-register_length file (suc (suc n)) = omega (arith, length-append (register_bytes file (suc n)) (little_bytes 8 (x_of file (suc n))), word_length (x_of file (suc n)), register_length file (suc n))
-
--- a frame that began with a part and has another after it
-pub room : (frame start part : List ℕ) (n : ℕ) → frame ≡ start ++ part → length part ≡ n → length frame ≡ length start + n
-room frame start part n is has = omega (arith, ap length is, has, length-append start part)
-
 pub ram_length : (bytes : List ℕ) (n : ℕ) → length (ram_in bytes n) ≡ n
 ram_length bytes zero = refl
 ram_length bytes (suc n) = omega (arith, length-append (ram_in bytes n) ((word_at bytes (7 + 2 * n), word_at bytes (8 + 2 * n)) ∷ []), ram_length bytes n)

@@ -1,31 +1,21 @@
 -- What was read.
-use Rattle.std.proofs.Common.{◌≡◌, ◌≤◌, ◌<◌, ◌+◌, ◌/◌, arith, inl, inr, ℕ, refl, List, [], ◌∷◌, ◌++◌, Ok, Err, Result, Option, length, subst, append_assoc}
+use Rattle.std.proofs.Common.{◌≡◌, ◌≤◌, ◌<◌, ◌+◌, ◌/◌, arith, inl, inr, ℕ, refl, List, [], ◌∷◌, ◌++◌, Ok, Err, Result, Option, length, subst}
 use Rattle.std.specs.Result.{IfOk, IfErr}
 use Rattle.std.specs.Io.KnownBytes.{Appends, Consumes}
 use Rattle.std.proofs.Common.{take_all}
-use Rattle.platforms.specs.Platform.{Layout, platform_rules}
+use Rattle.platforms.specs.Platform.{Layout}
 use Rattle.platforms.specs.CheckLists.{AllPass, FailsFirst}
 use Rattle.platforms.specs.declared.platform.PlatformFault.{PlatformFault}
 use Rattle.trap_frames.specs.declared.fault.FrameFault.{FrameFault}
 use Rattle.trap_frames.specs.declared.fault.FrameFault.TheVariants as faults
 use Rattle.trap_frames.specs.declared.end.Refusal.{Refusal}
-use Rattle.trap_frames.specs.declared.end.Refusal.TheVariants.{NotUnderstood, Platform, NeedsEntries, Memory}
-use Rattle.trap_frames.specs.Words.{platform_tag, word_at}
+use Rattle.trap_frames.specs.declared.end.Refusal.TheVariants.{NotUnderstood}
 use Rattle.trap_frames.specs.FrameBytes.{Filled}
 use Rattle.trap_frames.specs.PageDigest.{ArePages, Asks, IsNoPage, IsPageFrame, Measures, ReadsPage, question_of}
 use Rattle.trap_frames.specs.Traps.{CountsWrite}
 use Rattle.enclave_requests.specs.declared.request.Create.{Create}
 use Rattle.std.proofs.KnownBytes.{Consumes-trans}
-use Rattle.trap_frames.specs.Platforms.{AreNoRanges, IsNoPlatform, IsPlatformFrame, ReadsPlatform, shape_rules}
-
-fails_then : (front more : List (PlatformFault × Type 0)) (fault : PlatformFault) → FailsFirst front fault → FailsFirst (front ++ more) fault
-fails_then [] more fault fails = absurd fails
-fails_then (rule ∷ rules) more fault (inl here) = inl here
-fails_then (rule ∷ rules) more fault (inr later) = inr (later.0, fails_then rules more fault later.1)
-
--- the first rule that is broken, where others come after
-pub fails_before : (front between more : List (PlatformFault × Type 0)) (fault : PlatformFault) → FailsFirst (front ++ between) fault → FailsFirst (front ++ (between ++ more)) fault
-fails_before front between more fault fails = subst (λ rules. FailsFirst rules fault) (append_assoc front between more) (fails_then (front ++ between) more fault fails)
+use Rattle.trap_frames.specs.Platforms.{IsNoPlatform, IsPlatformFrame, ReadsPlatform}
 
 -- where none of those before is
 pub fails_after : (front more : List (PlatformFault × Type 0)) (fault : PlatformFault) → AllPass front → FailsFirst more fault → FailsFirst (front ++ more) fault
@@ -71,11 +61,3 @@ page_asked faults.Write parts page bytes before after held holds reads asked = a
 pub reads_platform : (result : Result Layout Refusal) (bytes : List ℕ) (before after : Option (List ℕ)) → length bytes ≡ 1336 → IfOk result (λ p. IsPlatformFrame bytes p) → IfErr result (λ refusal. IsNoPlatform refusal bytes) → Consumes before after bytes → ReadsPlatform (Ok result) before after
 reads_platform (Ok layout) bytes before after size is not consumed = (bytes, size, is, consumed)
 reads_platform (Err refusal) bytes before after size is not consumed = (bytes, size, not, consumed)
-
--- what is no range of a platform is none, with its tag
-pub no_platform : (refusal : Refusal) (bytes : List ℕ) → word_at bytes 0 ≡ platform_tag → AreNoRanges refusal bytes → IsNoPlatform refusal bytes
-no_platform NotUnderstood bytes tag not = inr (tag, not.0, not.1)
-no_platform (Platform fault) bytes tag (inl many) = (tag, inl many)
-no_platform (Platform fault) bytes tag (inr broken) = (tag, inr (broken.0, broken.1, broken.2, fails_before (platform_rules broken.1.monitor broken.1.ram broken.1.devices) [] (shape_rules bytes) fault broken.3))
-no_platform (NeedsEntries count) bytes tag not = absurd not
-no_platform Memory bytes tag not = absurd not

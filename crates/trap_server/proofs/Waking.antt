@@ -2,13 +2,12 @@
 use Rattle.std.proofs.Common.{◌≡◌, ◌∙◌, inl, inr, ℕ, List, true, false, Option, Some, None, ap, sym, refl}
 use Rattle.std.proofs.lemmas.Bool.{true≢false}
 use Rattle.page_views.specs.declared.pages.PageRange.{PageRange}
-use Rattle.worlds.specs.declared.world.World.{World}
-use Rattle.worlds.specs.declared.world.World.TheVariants.{Host, Enclave as InEnclave}
+use Rattle.worlds.specs.declared.world.World.TheVariants.{Host}
 use Rattle.sbi_decode.specs.declared.calls.Call.{Call}
 use Rattle.sbi_decode.specs.declared.calls.Call.TheVariants as calls
 use Rattle.monitor_core.specs.declared.answer.Answer.{Answer}
 use Rattle.monitor_core.specs.States.{State}
-use Rattle.monitor_core.specs.Steps.{DoesCall, Interrupts}
+use Rattle.monitor_core.specs.Steps.{DoesCall}
 
 -- that hart was not marked
 no_mark : {P : Type 0} (s new that : State) (i : ℕ) → new ≡ that → that.marked i ≡ s.marked i → s.marked i ≡ false → new.marked i ≡ true → P
@@ -32,8 +31,3 @@ marks_in_host (Some (calls.Exit value)) pages s hart answer cleared new i awake 
 marks_in_host (Some (calls.Exit value)) pages s hart answer cleared new i awake (inr x) m = no_mark s new _ i x.2.state refl awake m
 marks_in_host (Some (calls.Measure id k)) pages s hart answer cleared new i awake (inl x) m = no_mark s new _ i x.2.state refl awake m
 marks_in_host (Some (calls.Measure id k)) pages s hart answer cleared new i awake (inr x) m = no_mark s new _ i x.2.state refl awake m
-
--- an interrupt marks none
-pub none_marked : (world : World) (s : State) (hart : ℕ) (new : State) (i : ℕ) → s.marked i ≡ false → Interrupts world s hart new → new.marked i ≡ false
-none_marked Host s hart new i awake x = ap (λ (y : State). y.marked i) x ∙ awake
-none_marked (InEnclave id) s hart new i awake x = ap (λ (y : State). y.marked i) x.2 ∙ awake
