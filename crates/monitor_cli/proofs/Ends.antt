@@ -1,48 +1,10 @@
--- How troubles that are printed and measurements end.
-use Rattle.std.proofs.Common.{ℕ, ◌≡◌, Bool, true, false, List, Option, Result, Ok, Err, refl}
-use Rattle.std.specs.Io.KnownBytes.{Appends}
+-- How a trouble that is printed ends.
+use Rattle.std.proofs.Common.{Result, Ok, Err}
 use Rattle.byte_streams.specs.Writings.{Prints, Writing}
 use Rattle.program_troubles.specs.declared.trouble.Trouble.{Trouble}
 use Rattle.program_troubles.specs.Troubles.{trouble_text}
-use Rattle.text_lines.specs.declared.fault.RunFault.{RunFault}
-use Rattle.text_lines.specs.declared.fault.RunFault.TheVariants as runs
-use Rattle.text_lines.specs.LineLoop.{StopsAt, StopsForMemory, StopsReading, StopsTooLong, StopsWriting}
-use Rattle.hart_sim.specs.declared.machine.Machine.{Machine}
-use Rattle.hart_sim.specs.Machines.{kept_of}
-use Rattle.map_commands.specs.Stops.{Stops}
-use Rattle.explained_runs.specs.declared.tally.Tally.{Tally}
-use Rattle.explained_runs.specs.Accounts.{ExplainsLine, RefusesAccount, StarvesAccount, opened}
-use Rattle.explained_runs.specs.Tallies.{HasAccount}
 use Rattle.monitor_cli.specs.Programs.{Tells, told, cut}
-use Rattle.monitor_cli.specs.Runs.{IsMeasured}
-use Rattle.monitor_cli.specs.Tasks.{AreMeasures}
 
 pub tells : {E X Y : Type 0} (err : Writing E) (trouble : Trouble) (printed : Result X Y) → Prints (trouble_text trouble) err printed → Tells err (Err trouble)
 tells err trouble (Ok x) whole = told trouble whole.whole
 tells err trouble (Err y) broken = cut trouble broken
-
--- measurements that were not asked for, and those that were
-pub unmeasured : (measure : Bool) (machine : Machine) (held : Option (List ℕ)) → measure ≡ false → IsMeasured measure machine held held
-unmeasured false machine held e = refl
-unmeasured true machine held e = cc
-
-pub measured :
-    (measure : Bool) (machine : Machine) (before after : Option (List ℕ)) → measure ≡ true → (text : List ℕ) × AreMeasures (kept_of machine).table 64 text × Appends before after text
-    → IsMeasured measure machine before after
-measured true machine before after e written = written
-measured false machine before after e written = cc
-
--- a run that is explained stops so, each time with its account
-pub stops_with :
-    (machine booted : Machine) (tally : Tally) (before after held holds : Option (List ℕ)) (fault : RunFault)
-    → ((n : ℕ) → fault ≡ runs.Line n → HasAccount machine tally (λ a. StopsAt n ExplainsLine RefusesAccount (opened booted) a before after held holds))
-    → (fault ≡ runs.TooLong → HasAccount machine tally (λ a. StopsTooLong ExplainsLine (opened booted) a before after held holds))
-    → (fault ≡ runs.Read → HasAccount machine tally (λ a. StopsReading ExplainsLine (opened booted) a before after held holds))
-    → (fault ≡ runs.Write → HasAccount machine tally (λ a. StopsWriting ExplainsLine (opened booted) a before after held holds))
-    → (fault ≡ runs.Memory → HasAccount machine tally (λ a. StopsForMemory ExplainsLine StarvesAccount (opened booted) a before after held holds))
-    → HasAccount machine tally (λ a. Stops ExplainsLine RefusesAccount StarvesAccount (opened booted) a before after held holds fault)
-stops_with machine booted tally before after held holds (runs.Line n) line long read write memory = line n refl
-stops_with machine booted tally before after held holds runs.TooLong line long read write memory = long refl
-stops_with machine booted tally before after held holds runs.Read line long read write memory = read refl
-stops_with machine booted tally before after held holds runs.Write line long read write memory = write refl
-stops_with machine booted tally before after held holds runs.Memory line long read write memory = memory refl

@@ -2,5 +2,3 @@ pub use Rattle.trace_judge.specs.Answers
 pub mod HeldOutput
 pub mod OnFiles
 pub mod Programs
-pub mod Runs
-pub mod Tasks

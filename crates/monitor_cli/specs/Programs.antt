@@ -19,7 +19,7 @@ use Rattle.lint_commands.specs.Lint.{Lints, LintsListing}
 use Rattle.map_commands.specs.Map.{Maps}
 use Rattle.map_commands.specs.Plan.{Plans}
 use Rattle.map_commands.specs.Show.{ShowsAs}
-use Rattle.monitor_cli.specs.Runs.{Runs}
+use Rattle.run_command.specs.Runs.{Runs}
 use Rattle.lint_commands.specs.Traces.{LintsTrace}
 
 -- `lint`, by what the file should be; the width is that of the registers of a listing

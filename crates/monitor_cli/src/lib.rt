@@ -3,17 +3,15 @@
 //! For the layer above: [`perform`] does a [`Task`] and answers the program's status: its clause has a rule for each way in
 //! which a command ends, with what was read and written in which order. [`perform_and_close`] does the same on an output that
 //! is held in part until its end, and [`perform_on_files`] on the task's own files: it opens what reads at its places, and says
-//! behind the end what helps. The commands that need no machine, hints, tasks, the program's files, troubles, the texts of maps
-//! and platforms and the printed lines are crates of their own.
+//! behind the end what helps. The commands, hints, tasks, the program's files, troubles, the texts of maps and platforms and the
+//! printed lines are crates of their own.
 //!
 //! ```rust
 //! let status = perform(rt.alloc(), &task, &mut first, &mut second, &mut cert, &mut out, &mut err);
 //! ```
 #![tactic(auto)]
 
-mod commands;
 mod held_output;
-mod machine_run;
 mod on_files;
 mod program;
 

@@ -7,7 +7,6 @@ ghost use Rattle.command_inputs.specs.Inputs.{reading};
 ghost use Rattle.monitor_cli.specs.Programs.{Ends, LintsAs, Performs, Tells};
 ghost use Rattle.program_troubles.specs.Troubles.{status_of};
 
-use crate::commands::do_run_as;
 use byte_streams::{Sink, Source};
 use lint_commands::{do_lint, do_lint_listing, do_lint_trace};
 use map_commands::{Asked, Table, do_audit, do_check, do_judge_as, do_map, do_plan, do_show_as};
@@ -15,6 +14,7 @@ use program_files::WholeSink;
 use program_tasks::{LintKind, Task};
 use program_troubles::Trouble;
 use register_width::Xlen;
+use run_command::do_run_as;
 use std::alloc::Global;
 
 /// Reports the trouble of a task on standard error, and answers its status.

@@ -1,8 +1,8 @@
 use Rattle.std.proofs.Common.{[], ◌++◌, ◌+◌, arith}
 use Rattle.std.proofs.lemmas.Result.{err_from_is_err_and}
 use Rattle.byte_streams.proofs.Writings.{breaks_after, takes_none, takes_then}
-use Rattle.monitor_cli.specs.Tasks.{none, more}
-use Rattle.monitor_cli.proofs.machine_run.print_measures.Goals as goal
+use Rattle.run_command.specs.Measurements.{none, more}
+use Rattle.run_command.proofs.measurements.print_measures.Goals as goal
 
 pub loop-i-init : goal.loop-i-init
 loop-i-init g c = ([], none, takes_none g.W.Sink.contents g.W.Sink.failures g.W.Sink.stalls _)

@@ -5,9 +5,9 @@ ghost use Rattle.byte_streams.specs.Writings.{writing};
 ghost use Rattle.hart_sim.specs.Machines.{KeepsBanksRight};
 ghost use Rattle.hart_sim.specs.Reports.{DoesLine};
 ghost use Rattle.command_inputs.specs.Inputs.{reading};
-ghost use Rattle.monitor_cli.specs.Runs.{Runs, RunsExpecting, RunsExplaining, RunsTrace, RunsTraceAs};
+ghost use Rattle.run_command.specs.Runs.{Runs, RunsExpecting, RunsExplaining, RunsTrace, RunsTraceAs};
 
-use crate::machine_run::{booted, measure_where};
+use crate::measurements::{booted, measure_where};
 use byte_streams::{DeviceFault, Sink, Source};
 use command_inputs::read_platform;
 use expected_answers::{Compared, compare_lines};

@@ -2,8 +2,8 @@ use Rattle.std.proofs.Common.{[], ◌∙◌, refl}
 use Rattle.std.proofs.lemmas.Result.{err_from_is_err_and}
 use Rattle.byte_streams.proofs.Writings.{takes_none}
 use Rattle.printed_lines.specs.Texts.{measure_text}
-use Rattle.monitor_cli.specs.Tasks.{absent, live}
-use Rattle.monitor_cli.proofs.machine_run.print_measure.Goals as goal
+use Rattle.run_command.specs.Measurements.{absent, live}
+use Rattle.run_command.proofs.measurements.print_measure.Goals as goal
 
 pub returns-in_default : goal.returns-in_default
 returns-in_default g c = ([], absent (c.in_default.ensures.none refl), takes_none g.W.Sink.contents g.W.Sink.failures g.W.Sink.stalls _)

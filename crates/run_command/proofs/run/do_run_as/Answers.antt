@@ -1,8 +1,8 @@
 use Rattle.std.proofs.Common.{refl}
 use Rattle.std.proofs.lemmas.Result.{err_from_is_err_and}
-use Rattle.monitor_cli.specs.Runs.{not_booted, ran}
-use Rattle.monitor_cli.specs.Runs as commands
-use Rattle.monitor_cli.proofs.commands.run.do_run_as.Goals as goal
+use Rattle.run_command.specs.Runs.{not_booted, ran}
+use Rattle.run_command.specs.Runs as commands
+use Rattle.run_command.proofs.run.do_run_as.Goals as goal
 
 pub returns-in_err-platform : goal.returns-in_err-platform
 returns-in_err-platform g c =

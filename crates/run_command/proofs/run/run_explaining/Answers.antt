@@ -1,7 +1,7 @@
 use Rattle.std.proofs.Common.{◌∙◌, Err, ap}
-use Rattle.monitor_cli.specs.Runs.{explained, not_all_measured, not_summed_up, stopped}
-use Rattle.monitor_cli.proofs.Ends.{stops_with}
-use Rattle.monitor_cli.proofs.commands.run.run_explaining.Goals as goal
+use Rattle.run_command.specs.Runs.{explained, not_all_measured, not_summed_up, stopped}
+use Rattle.run_command.proofs.Ends.{stops_with}
+use Rattle.run_command.proofs.run.run_explaining.Goals as goal
 
 pub returns-in-Err : goal.returns-in-Err
 returns-in-Err g c =

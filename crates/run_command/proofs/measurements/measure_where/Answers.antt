@@ -1,5 +1,5 @@
-use Rattle.monitor_cli.proofs.Ends.{measured, unmeasured}
-use Rattle.monitor_cli.proofs.machine_run.measure_where.Goals as goal
+use Rattle.run_command.proofs.Ends.{measured, unmeasured}
+use Rattle.run_command.proofs.measurements.measure_where.Goals as goal
 
 pub returns-then-not-measure-clause-measured : goal.returns-then-not-measure-clause-measured
 returns-then-not-measure-clause-measured g c = unmeasured c.args.measure c.args.machine.now _ c.if-not-measure.true

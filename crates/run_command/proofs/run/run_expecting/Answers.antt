@@ -1,8 +1,8 @@
 use Rattle.std.proofs.Common.{◌∙◌, Err, ap}
 use Rattle.hart_sim.specs.Reports.{DoesLine, RefusesLine, StarvesLine}
-use Rattle.monitor_cli.specs.Runs.{compared, not_told, unfinished, unmeasured}
+use Rattle.run_command.specs.Runs.{compared, not_told, unfinished, unmeasured}
 use Rattle.map_commands.proofs.Ends.{stops}
-use Rattle.monitor_cli.proofs.commands.run.run_expecting.Goals as goal
+use Rattle.run_command.proofs.run.run_expecting.Goals as goal
 
 pub returns-in-Err : goal.returns-in-Err
 returns-in-Err g c =

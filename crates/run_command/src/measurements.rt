@@ -11,8 +11,8 @@ ghost use Rattle.enclave_table.specs.Enclaves.{Live};
 ghost use Rattle.hart_sim.specs.After.{IsBooted};
 ghost use Rattle.hart_sim.specs.Machines.{kept_of, KeepsBanksRight};
 ghost use Rattle.program_troubles.specs.Troubles.{boot_trouble};
-ghost use Rattle.monitor_cli.specs.Runs.{IsMeasured};
-ghost use Rattle.monitor_cli.specs.Tasks.{AreMeasures, IsDigest, IsMeasureText};
+ghost use Rattle.run_command.specs.Runs.{IsMeasured};
+ghost use Rattle.run_command.specs.Measurements.{AreMeasures, IsDigest, IsMeasureText};
 
 use byte_streams::{DeviceFault, Sink, write_whole};
 use byteorder::{ByteOrder, LittleEndian};

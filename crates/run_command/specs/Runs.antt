@@ -25,7 +25,7 @@ use Rattle.command_inputs.specs.Inputs.{IsUnread, Reading}
 use Rattle.command_inputs.specs.PlatformInputs.{HasNoPlatform, HasPlatform}
 use Rattle.map_commands.specs.Expected.{IsTold}
 use Rattle.map_commands.specs.Stops.{Stops}
-use Rattle.monitor_cli.specs.Tasks.{AreMeasures}
+use Rattle.run_command.specs.Measurements.{AreMeasures}
 
 -- the measurements of a machine's live enclaves were written where they are asked for, and otherwise nothing more
 abbrev pub IsMeasured : Bool → Machine → Option (List ℕ) → Option (List ℕ) → Type 0

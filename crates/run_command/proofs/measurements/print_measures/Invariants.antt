@@ -1,7 +1,7 @@
 use Rattle.std.proofs.Common.{ℕ, List}
 use Rattle.byte_streams.specs.Writings.{TakesAll, writing}
-use Rattle.monitor_cli.specs.Tasks.{AreMeasures}
-use Rattle.monitor_cli.proofs.machine_run.print_measures.Given as goal
+use Rattle.run_command.specs.Measurements.{AreMeasures}
+use Rattle.run_command.proofs.measurements.print_measures.Given as goal
 
 abbrev pub invariant-loop-i : goal.invariant-loop-i
 invariant-loop-i g l =

@@ -1,5 +1,0 @@
-//! The commands that need a machine.
-
-mod run;
-
-pub use run::do_run_as;
