@@ -21,6 +21,10 @@ abbrev pub IsMeasuredFor : Option Create → EnclaveTable → World → List ℕ
 IsMeasuredFor None table world digest pages = Unit {0}
 IsMeasuredFor (Some asked) table world digest pages = IsMeasured table world asked digest pages
 
+-- the digest is that of some pages, where the call is a creation that passes its checks
+abbrev pub IsOfPages : Option Create → EnclaveTable → World → List ℕ → Type 0
+IsOfPages asked table world digest = (pages : ℕ → List ℕ) × IsMeasuredFor asked table world digest pages
+
 -- a creation with these parts, as they are kept, passes each check but those for entries and memory
 abbrev pub Measures : Option Create → EnclaveTable → World → Create → Type 0
 Measures None table world parts = ⊥

@@ -22,7 +22,7 @@ impl Monitor {
     ghost use Rattle.std.specs.Prelude.{◌≡◌, ◌<◌, ◌≤◌, ℕ, List, false, length, IfOk, IfErr, IfSome, IfNone};
     ghost use Rattle.enclave_requests.specs.Requests.{HasCounts, HasPlaces};
     ghost use Rattle.enclave_requests.specs.declared.request.Create.{Create as CreateParts};
-    ghost use Rattle.monitor_core.specs.Measured.{IsMeasuredFor, Measures, asked_in};
+    ghost use Rattle.monitor_core.specs.Measured.{IsMeasuredFor, IsOfPages, Measures, asked_in};
     ghost use Rattle.pmp_encoding.specs.Limits.{limit_number};
     ghost use Rattle.pmp_match.specs.Meaning.{IsFewest, Needs};
     ghost use Rattle.enclave_table.specs.Boot.{IsBootFault, opening as opening_table};
@@ -246,7 +246,22 @@ impl Monitor {
         ensures registers { result.onward.registers
             ≡ running_registers (state_of self.new) hart }
         ensures load { LoadsAnew result.onward.load (state_of self.old) (state_of self.new) hart }
+        ensures others { let s = state_of self.old in
+            IsOfPages (asked_in (call_of (past_call registers.now))) s.table (s.worlds hart) digest.now
+            → KeepsOthers s (state_of self.new) hart }
+        ensures zeroed { let s = state_of self.old in
+            IsOfPages (asked_in (call_of (past_call registers.now))) s.table (s.worlds hart) digest.now
+            → IfSome result.zero (ClearsMemory s.table.layout) }
+        ensures awake { let s = state_of self.old in
+            IsOfPages (asked_in (call_of (past_call registers.now))) s.table (s.worlds hart) digest.now
+            → (state_of self.new).marked hart ≡ false }
         ensures platform { (state_of self.new).table.layout ≡ (state_of self.old).table.layout }
+        ensures lists { (state_of self.new).table ≡ (state_of self.old).table
+            → kept_of self.new ≡ kept_of self.old }
+        ensures need { let s = state_of self.old in
+            IsOfPages (asked_in (call_of (past_call registers.now))) s.table (s.worlds hart) digest.now
+            → IsRefusedByNeed (call_of registers.now) s.table (s.worlds hart)
+            (λ refusal. result.answer.status ≡ below_zero (refusal_number refusal)) }
     {
         self.parts.table.cite_invariant();
         self.parts.serve_measured(hart, registers, digest)
