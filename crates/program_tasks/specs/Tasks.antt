@@ -146,8 +146,9 @@ IsOfMap registers format = registers ≡ true → format ≡ tables.Text
 abbrev pub IsOfText : Bool → TableFormat → Bool → Type 0
 IsOfText registers format costs = costs ≡ true → (registers ≡ false) × (format ≡ tables.Text)
 
--- a map that judges or is audited and what is judged or audited are not both standard input, a certificate never takes the place of its
--- map, a name is an identifier, a plan begins at an entry that such a hart has, and a table has a form and costs that there are
+-- standard input is not both a map and the trace or the registers beside it. A certificate does not take the place of its map. The
+-- name of a plan is an identifier, and its first entry is one that such a hart has. Registers have a table as text alone, and costs
+-- stand in the text of a map's table alone
 abbrev pub IsSound : Task → Type 0
 IsSound (Plan map cert limit at_most format name first xlen) =
     (option_map (λ s. s.now) cert ≢ Some map.now)
