@@ -26,29 +26,41 @@ const LOWER_HALF: [u8; 47] = [
     0, 7, 0, 0, // leaves
 ];
 
+/// A range of a map: the first page, the number of pages, the permission.
+type Range = (u64, u64, Perm);
+
+const EMPTY: Range = (0, 0, Perm::Read);
+
+const WHOLE_SPACE: Range = (0, 1 << 44, Perm::ReadWriteExecute);
+
+const LOWER_HALF_SPACE: Range = (0, 1 << 43, Perm::ReadWriteExecute);
+
+/// Seven pages, the first of eight.
+const SEVEN_PAGES: Range = (0x80208, 7, Perm::ReadExecute);
+
 /// The map with one range.
-fn map_of(rt: &impl Abort, alloc: Global, first: u64, count: u64, perm: Perm) -> PermissionMap {
+fn map_of(rt: &impl Abort, alloc: Global, range: Range) -> PermissionMap {
+    let (first, count, perm) = range;
     let mut map = PermissionMap::new(alloc);
     map.set_range(first, count, perm).expect(rt, "memory");
     map
 }
 
-fn whole_map(rt: &impl Abort, alloc: Global) -> PermissionMap {
-    map_of(rt, alloc, 0, 1 << 44, Perm::ReadWriteExecute)
-}
-
-fn lower_half_map(rt: &impl Abort, alloc: Global) -> PermissionMap {
-    map_of(rt, alloc, 0, 1 << 43, Perm::ReadWriteExecute)
-}
-
-/// Seven pages, the first of eight.
-fn seven_pages_map(rt: &impl Abort, alloc: Global) -> PermissionMap {
-    map_of(rt, alloc, 0x80208, 7, Perm::ReadExecute)
-}
-
 /// The check of these bytes against the map answers so.
 fn answers(rt: &impl Abort, map: &PermissionMap, bytes: &[u8], wanted: Result<u32, CheckRefusal>) {
     assert!(rt; check(map, bytes) == wanted);
+}
+
+/// The check of these bytes against the map with one range answers so.
+fn range_answers(
+    rt: &impl Abort,
+    alloc: Global,
+    range: Range,
+    bytes: &[u8],
+    wanted: Result<u32, CheckRefusal>,
+) {
+    let map = map_of(rt, alloc, range);
+    answers(rt, &map, bytes, wanted);
 }
 
 /// The number of the refusal, or 0 for a yes.
@@ -60,75 +72,79 @@ fn code(map: &PermissionMap, bytes: &[u8]) -> u8 {
 }
 
 /// The lower half's certificate with one byte changed is refused with this number.
-fn is_refused_with(rt: &impl Abort, map: &PermissionMap, place: usize, byte: u8, refusal: u8) {
+fn is_refused_with(rt: &impl Abort, alloc: Global, place: usize, byte: u8, refusal: u8) {
     let mut bytes = LOWER_HALF;
     if let Some(there) = bytes.get_mut(place) {
         *there = byte;
     }
-    assert!(rt; code(map, bytes.as_slice()) == refusal, "{byte} at {place}");
+    let map = map_of(rt, alloc, LOWER_HALF_SPACE);
+    assert!(rt;
+        code(&map, bytes.as_slice()) == refusal,
+        "{byte} at {place}"
+    );
 }
 
 #[test]
 fn empty_map_needs_no_entry(rt: HostRuntime) {
-    let map = PermissionMap::new(rt.alloc());
     let bytes = [0x50, 0x4D, 0x50, 0x43, 1, 0, 0, 0, 0, 0, 0];
-    answers(&rt, &map, bytes.as_slice(), Ok(0));
+    range_answers(&rt, rt.alloc(), EMPTY, &bytes, Ok(0));
 }
 
 #[test]
 fn whole_space_needs_one_entry(rt: HostRuntime) {
-    let map = whole_map(&rt, rt.alloc());
-    answers(&rt, &map, WHOLE.as_slice(), Ok(1));
+    range_answers(&rt, rt.alloc(), WHOLE_SPACE, &WHOLE, Ok(1));
     let mut one_more_one = WHOLE;
     one_more_one[16] = 0x3F;
-    answers(&rt, &map, one_more_one.as_slice(), Ok(1));
-    let empty = PermissionMap::new(rt.alloc());
+    range_answers(&rt, rt.alloc(), WHOLE_SPACE, &one_more_one, Ok(1));
     let wrong_leaf = Err(CheckRefusal::WrongLeaf);
-    answers(&rt, &empty, WHOLE.as_slice(), wrong_leaf);
-    let half = lower_half_map(&rt, rt.alloc());
+    range_answers(&rt, rt.alloc(), EMPTY, &WHOLE, wrong_leaf);
     let not_uniform = Err(CheckRefusal::LeafNotUniform);
-    answers(&rt, &half, WHOLE.as_slice(), not_uniform);
+    range_answers(&rt, rt.alloc(), LOWER_HALF_SPACE, &WHOLE, not_uniform);
 }
 
 #[test]
 fn needless_split_is_accepted(rt: HostRuntime) {
-    let map = whole_map(&rt, rt.alloc());
     let bytes = [
         0x50, 0x4D, 0x50, 0x43, 1, 1, 0, 0, 0, // header
         0x1F, 0xFF, 0xFF, 0xFF, 0xFF, 0xFF, 0xFF, 0x1F, 0, // entry
         1, 1, 0, 0, 0, 1, 0, 0, 0, 1, 0, 0, 0, 1, 0, 0, 0, 1, 0, 0, 0, 0, 0, 0, 0, // branch
         0, 7, 0, 7, // leaves
     ];
-    answers(&rt, &map, bytes.as_slice(), Ok(1));
+    range_answers(&rt, rt.alloc(), WHOLE_SPACE, &bytes, Ok(1));
 }
 
 #[test]
 fn second_version_names_its_limit(rt: HostRuntime) {
-    let map = whole_map(&rt, rt.alloc());
     let mut bytes = [
         0x50, 0x4D, 0x50, 0x43, 2, 0x40, 1, 0, 0, 0, // header
         0x1F, 0xFF, 0xFF, 0xFF, 0xFF, 0xFF, 0xFF, 0x1F, 0, // entry
         0, 7, // leaf
     ];
-    answers(&rt, &map, bytes.as_slice(), Ok(1));
+    range_answers(&rt, rt.alloc(), WHOLE_SPACE, &bytes, Ok(1));
     bytes[5] = 0x10;
-    answers(&rt, &map, bytes.as_slice(), Ok(1));
+    range_answers(&rt, rt.alloc(), WHOLE_SPACE, &bytes, Ok(1));
     bytes[5] = 0x20;
-    answers(&rt, &map, bytes.as_slice(), Err(CheckRefusal::BadLimit));
+    let bad_limit = Err(CheckRefusal::BadLimit);
+    range_answers(&rt, rt.alloc(), WHOLE_SPACE, &bytes, bad_limit);
 }
 
 #[test]
 fn lower_half_needs_one_entry_and_all_its_bytes(rt: HostRuntime) {
-    let map = lower_half_map(&rt, rt.alloc());
-    answers(&rt, &map, LOWER_HALF.as_slice(), Ok(1));
+    range_answers(&rt, rt.alloc(), LOWER_HALF_SPACE, &LOWER_HALF, Ok(1));
+    let truncated = Err(CheckRefusal::Truncated);
     for n in 0..47 {
-        answers(&rt, &map, &LOWER_HALF[..n], Err(CheckRefusal::Truncated));
+        range_answers(
+            &rt,
+            rt.alloc(),
+            LOWER_HALF_SPACE,
+            &LOWER_HALF[..n],
+            truncated,
+        );
     }
 }
 
 #[test]
 fn each_refusal_has_its_place_in_the_lower_half(rt: HostRuntime) {
-    let map = lower_half_map(&rt, rt.alloc());
     let cases = [
         (0, 0, 1),
         (4, 3, 2),
@@ -140,13 +156,14 @@ fn each_refusal_has_its_place_in_the_lower_half(rt: HostRuntime) {
         (19, 0, 13),
     ];
     for (place, byte, refusal) in cases {
-        is_refused_with(&rt, &map, place, byte, refusal);
+        is_refused_with(&rt, rt.alloc(), place, byte, refusal);
     }
     let mut bytes = LOWER_HALF;
     for place in 19..23 {
         bytes[place] = 0xFF;
     }
-    answers(&rt, &map, bytes.as_slice(), Err(CheckRefusal::CostTooHigh));
+    let too_high = Err(CheckRefusal::CostTooHigh);
+    range_answers(&rt, rt.alloc(), LOWER_HALF_SPACE, &bytes, too_high);
 }
 
 /// Whether a lesser bound for another permission than none was written: it is sound, and the root's number for none
@@ -159,9 +176,25 @@ fn is_lesser_bound(place: usize, byte: u8) -> bool {
     }
 }
 
-#[test]
-fn of_all_changes_of_one_byte_nine_are_right(rt: HostRuntime) {
-    let map = lower_half_map(&rt, rt.alloc());
+/// The lower half's certificate with one byte changed is right where it says a lesser bound, and is refused otherwise.
+/// The answer is whether it is right.
+fn is_right(rt: &impl Abort, map: &PermissionMap, place: usize, byte: u8) -> bool {
+    let mut bytes = LOWER_HALF;
+    if let Some(there) = bytes.get_mut(place) {
+        *there = byte;
+    }
+    let answer = check(map, bytes.as_slice());
+    if is_lesser_bound(place, byte) {
+        assert!(rt; answer == Ok(1), "{byte} at {place}");
+        true
+    } else {
+        assert!(rt; answer.is_err(), "{byte} at {place}");
+        false
+    }
+}
+
+/// How many changes of one byte are right, and how many are refused.
+fn changes_of_one_byte(rt: &impl Abort, map: &PermissionMap) -> (u32, u32) {
     let mut accepted = 0u32;
     let mut refused = 0u32;
     for place in 0..47 {
@@ -169,22 +202,23 @@ fn of_all_changes_of_one_byte_nine_are_right(rt: HostRuntime) {
             if byte == LOWER_HALF[place] {
                 continue;
             }
-            let mut bytes = LOWER_HALF;
-            bytes[place] = byte;
-            if is_lesser_bound(place, byte) {
-                assert!(rt; check(&map, bytes.as_slice()) == Ok(1), "{byte} at {place}");
+            if is_right(rt, map, place, byte) {
                 accepted = accepted.saturating_add(1);
             } else {
-                assert!(rt; check(&map, bytes.as_slice()).is_err(), "{byte} at {place}");
                 refused = refused.saturating_add(1);
             }
         }
     }
-    assert!(rt; (accepted, refused) == (9, 11976));
+    (accepted, refused)
+}
+
+#[test]
+fn of_all_changes_of_one_byte_nine_are_right(rt: HostRuntime) {
+    let map = map_of(&rt, rt.alloc(), LOWER_HALF_SPACE);
+    assert!(rt; changes_of_one_byte(&rt, &map) == (9, 11976));
     let mut second_version = LOWER_HALF;
     second_version[4] = 2;
-    let bad_limit = Err(CheckRefusal::BadLimit);
-    answers(&rt, &map, second_version.as_slice(), bad_limit);
+    answers(&rt, &map, &second_version, Err(CheckRefusal::BadLimit));
 }
 
 /// A certificate without entries that splits 44 blocks around the first page, and ends there.
@@ -203,15 +237,12 @@ fn a_page_that_is_split_is_too_deep(rt: HostRuntime) -> Result<(), Fail> {
     let alloc = rt.alloc();
     let mut bytes = split_down_to_a_page(alloc)?;
     assert!(rt; bytes.len() == 1109);
-    let empty = PermissionMap::new(alloc);
-    let whole = whole_map(&rt, alloc);
-    let seven = seven_pages_map(&rt, alloc);
-    for map in [&empty, &whole, &seven] {
-        answers(&rt, map, &bytes, Err(CheckRefusal::Truncated));
+    for range in [EMPTY, WHOLE_SPACE, SEVEN_PAGES] {
+        range_answers(&rt, alloc, range, &bytes, Err(CheckRefusal::Truncated));
     }
     bytes.push(1)?;
-    for map in [&empty, &whole, &seven] {
-        answers(&rt, map, &bytes, Err(CheckRefusal::TooDeep));
+    for range in [EMPTY, WHOLE_SPACE, SEVEN_PAGES] {
+        range_answers(&rt, alloc, range, &bytes, Err(CheckRefusal::TooDeep));
     }
     Ok(())
 }

@@ -38,27 +38,23 @@ fn a_partial_match_fails_in_every_mode(rt: HostRuntime) {
     }
 }
 
-/// A load of that size by a user, judged by the list, comes to this.
-fn list_loads(
-    rt: &impl Abort,
-    segments: &Segments,
-    size: u8,
-    addr: u64,
-    wanted: Result<(), Cause>,
-) {
+/// A load of that size by a user, judged by the bank's list, comes to this.
+fn list_loads(rt: &impl Abort, bank: &Bank, size: u8, addr: u64, wanted: Result<(), Cause>) {
     let access = Access::new(Mode::User, Kind::Load, size, addr).expect(rt, "a size");
-    assert!(rt; segments.judge(&access) == wanted, "{size} {addr:#x}");
+    assert!(rt;
+        Segments::of(bank).judge(&access) == wanted,
+        "{size} {addr:#x}"
+    );
 }
 
 #[test]
 fn the_list_judges_what_no_segment_has_whole(rt: HostRuntime) {
     let bank = word_before_page(&rt);
-    let segments = Segments::of(&bank);
-    list_loads(&rt, &segments, 4, 0x8000_0000, Ok(()));
-    list_loads(&rt, &segments, 8, 0x8000_0000, Err(Cause::LoadFault));
-    list_loads(&rt, &segments, 8, 0x8000_0008, Ok(()));
-    list_loads(&rt, &segments, 8, 0x8000_1000, Err(Cause::LoadFault));
-    list_loads(&rt, &segments, 8, 0x8000_0004, Err(Cause::LoadMisaligned));
+    list_loads(&rt, &bank, 4, 0x8000_0000, Ok(()));
+    list_loads(&rt, &bank, 8, 0x8000_0000, Err(Cause::LoadFault));
+    list_loads(&rt, &bank, 8, 0x8000_0008, Ok(()));
+    list_loads(&rt, &bank, 8, 0x8000_1000, Err(Cause::LoadFault));
+    list_loads(&rt, &bank, 8, 0x8000_0004, Err(Cause::LoadMisaligned));
 }
 
 #[test]

@@ -40,16 +40,23 @@ fn fault_of(bytes: &[u8]) -> Option<ReadFault> {
     }
 }
 
-#[test]
-fn lower_half_reads_part_by_part(rt: HostRuntime) -> Result<(), ReadFault> {
-    let mut reader = Reader::new(LOWER_HALF.as_slice());
-    let header = reader.header()?;
+/// The reader comes to a header of the first version, with that many entries.
+fn reads_header(rt: &impl Abort, reader: &mut Reader, count: u32) {
+    let header = reader.header().expect(rt, "a header");
     assert!(rt; header.version == Version::One);
-    assert!(rt; (header.version.limit(), header.count) == (Limit::Sixteen, 1));
-    let entry = reader.entry()?;
-    assert!(rt; (entry.cfg(), entry.address()) == (0x1F, 0x000F_FFFF_FFFF_FFFF));
-    assert!(rt; reader.tag()? == Tag::Branch);
-    let costs = reader.costs()?;
+    assert!(rt; (header.version.limit(), header.count) == (Limit::Sixteen, count));
+}
+
+/// The reader comes to an entry that is written as this pair.
+fn reads_entry(rt: &impl Abort, reader: &mut Reader, cfg: u8, address: u64) {
+    let entry = reader.entry().expect(rt, "an entry");
+    assert!(rt; (entry.cfg(), entry.address()) == (cfg, address));
+}
+
+/// The reader comes to a split block with these costs, under all permissions in their order.
+fn reads_costs(rt: &impl Abort, reader: &mut Reader, wanted: [u32; 6]) {
+    assert!(rt; reader.tag() == Ok(Tag::Branch));
+    let costs = reader.costs().expect(rt, "costs");
     let all = [
         costs.cost(Perm::NoAccess),
         costs.cost(Perm::Read),
@@ -58,13 +65,24 @@ fn lower_half_reads_part_by_part(rt: HostRuntime) -> Result<(), ReadFault> {
         costs.cost(Perm::ReadExecute),
         costs.cost(Perm::ReadWriteExecute),
     ];
-    assert!(rt; all == [1, 2, 2, 2, 2, 1]);
-    let lower = (reader.tag()?, reader.perm()?);
-    assert!(rt; lower == (Tag::Leaf, Perm::ReadWriteExecute));
-    let upper = (reader.tag()?, reader.perm()?);
-    assert!(rt; upper == (Tag::Leaf, Perm::NoAccess));
+    assert!(rt; all == wanted);
+}
+
+/// The reader comes to a leaf with this permission.
+fn reads_leaf(rt: &impl Abort, reader: &mut Reader, wanted: Perm) {
+    assert!(rt; reader.tag() == Ok(Tag::Leaf));
+    assert!(rt; reader.perm() == Ok(wanted));
+}
+
+#[test]
+fn lower_half_reads_part_by_part(rt: HostRuntime) {
+    let mut reader = Reader::new(LOWER_HALF.as_slice());
+    reads_header(&rt, &mut reader, 1);
+    reads_entry(&rt, &mut reader, 0x1F, 0x000F_FFFF_FFFF_FFFF);
+    reads_costs(&rt, &mut reader, [1, 2, 2, 2, 2, 1]);
+    reads_leaf(&rt, &mut reader, Perm::ReadWriteExecute);
+    reads_leaf(&rt, &mut reader, Perm::NoAccess);
     assert!(rt; reader.rest().len() == 0);
-    Ok(())
 }
 
 #[test]

@@ -67,97 +67,106 @@ fn certificate(
     bytes
 }
 
+/// That certificate has these bytes.
+fn has_bytes(rt: &impl Abort, alloc: Global, range: (u64, u64, Perm), limit: Limit, wanted: &[u8]) {
+    let (first, count, perm) = range;
+    let bytes = certificate(rt, alloc, first, count, perm, limit);
+    assert!(rt; bytes.as_slice() == wanted);
+}
+
 #[test]
 fn empty_map_has_eleven_bytes(rt: HostRuntime) {
-    let bytes = certificate(&rt, rt.alloc(), 0, 0, Perm::Read, Limit::Sixteen);
-    assert!(rt; bytes.as_slice() == b"PMPC\x01\x00\x00\x00\x00\x00\x00".as_slice());
+    let none = (0, 0, Perm::Read);
+    let wanted = b"PMPC\x01\x00\x00\x00\x00\x00\x00".as_slice();
+    has_bytes(&rt, rt.alloc(), none, Limit::Sixteen, wanted);
 }
 
 #[test]
 fn whole_space_has_twenty_bytes(rt: HostRuntime) {
-    let all = Perm::ReadWriteExecute;
+    let whole = (0, 1 << 44, Perm::ReadWriteExecute);
     let first = [
         0x50, 0x4D, 0x50, 0x43, 1, 1, 0, 0, 0, 0x1F, 0xFF, 0xFF, 0xFF, 0xFF, 0xFF, 0xFF, 0x1F, 0,
         0, 7,
     ];
-    let bytes = certificate(&rt, rt.alloc(), 0, 1 << 44, all, Limit::Sixteen);
-    assert!(rt; bytes.as_slice() == first.as_slice());
+    has_bytes(&rt, rt.alloc(), whole, Limit::Sixteen, &first);
     let second = [
         0x50, 0x4D, 0x50, 0x43, 2, 0x40, 1, 0, 0, 0, 0x1F, 0xFF, 0xFF, 0xFF, 0xFF, 0xFF, 0xFF,
         0x1F, 0, 0, 7,
     ];
-    let bytes = certificate(&rt, rt.alloc(), 0, 1 << 44, all, Limit::SixtyFour);
-    assert!(rt; bytes.as_slice() == second.as_slice());
+    has_bytes(&rt, rt.alloc(), whole, Limit::SixtyFour, &second);
 }
 
 #[test]
 fn lower_half_has_forty_seven_bytes(rt: HostRuntime) {
-    let bytes = certificate(
-        &rt,
-        rt.alloc(),
-        0,
-        1 << 43,
-        Perm::ReadWriteExecute,
-        Limit::Sixteen,
-    );
-    assert!(rt; bytes.as_slice() == LOWER_HALF.as_slice());
+    let half = (0, 1 << 43, Perm::ReadWriteExecute);
+    has_bytes(&rt, rt.alloc(), half, Limit::Sixteen, &LOWER_HALF);
+}
+
+/// A certificate has that many bytes, and is read to its end, with that many entries.
+fn is_read(rt: &impl Abort, bytes: &[u8], length: usize, count: u32) {
+    assert!(rt; bytes.len() == length);
+    let (header, left) = read_whole(bytes).expect(rt, "memory");
+    assert!(rt; (header.count, left) == (count, 0));
 }
 
 #[test]
 fn one_page_splits_forty_four_blocks(rt: HostRuntime) {
-    let bytes = certificate(
-        &rt,
-        rt.alloc(),
-        0x80000,
-        1,
-        Perm::ReadWriteExecute,
-        Limit::Sixteen,
-    );
-    assert!(rt; bytes.len() == 1208);
-    let (header, left) = read_whole(bytes.as_slice()).expect(&rt, "memory");
-    assert!(rt; (header.count, left) == (1, 0));
+    let all = Perm::ReadWriteExecute;
+    let bytes = certificate(&rt, rt.alloc(), 0x80000, 1, all, Limit::Sixteen);
+    is_read(&rt, bytes.as_slice(), 1208, 1);
+}
+
+/// The reader comes to an entry that is written as this pair.
+fn reads_entry(rt: &impl Abort, reader: &mut Reader, cfg: u8, address: u64) {
+    let entry = reader.entry().expect(rt, "memory");
+    assert!(rt; (entry.cfg(), entry.address()) == (cfg, address));
+}
+
+/// The reader comes to a split block, which costs so much where nothing is inherited.
+fn reads_cost(rt: &impl Abort, reader: &mut Reader, wanted: u32) {
+    assert!(rt; reader.tag().expect(rt, "memory") == Tag::Branch);
+    let costs = reader.costs().expect(rt, "memory");
+    assert!(rt; costs.cost(Perm::NoAccess) == wanted);
+}
+
+/// A certificate begins with the two entries of seven pages, and with what they cost.
+fn begins_with_two_entries(rt: &impl Abort, bytes: &[u8]) {
+    let mut reader = Reader::new(bytes);
+    let header = reader.header().expect(rt, "memory");
+    assert!(rt; header.count == 2);
+    reads_entry(rt, &mut reader, 0x18, 0x2008_3DFF);
+    reads_entry(rt, &mut reader, 0x1D, 0x2008_2FFF);
+    reads_cost(rt, &mut reader, 2);
 }
 
 #[test]
 fn seven_pages_take_two_entries(rt: HostRuntime) {
-    let bytes = certificate(
-        &rt,
-        rt.alloc(),
-        0x80208,
-        7,
-        Perm::ReadExecute,
-        Limit::Sixteen,
-    );
-    assert!(rt; bytes.len() == 1217);
-    let mut reader = Reader::new(bytes.as_slice());
-    let header = reader.header().expect(&rt, "memory");
-    assert!(rt; header.count == 2);
-    let own = reader.entry().expect(&rt, "memory");
-    assert!(rt; (own.cfg(), own.address()) == (0x18, 0x2008_3DFF));
-    let round = reader.entry().expect(&rt, "memory");
-    assert!(rt; (round.cfg(), round.address()) == (0x1D, 0x2008_2FFF));
-    assert!(rt; reader.tag().expect(&rt, "memory") == Tag::Branch);
-    let costs = reader.costs().expect(&rt, "memory");
-    assert!(rt; costs.cost(Perm::NoAccess) == 2);
-    let (_, left) = read_whole(bytes.as_slice()).expect(&rt, "memory");
-    assert!(rt; left == 0);
+    let perm = Perm::ReadExecute;
+    let bytes = certificate(&rt, rt.alloc(), 0x80208, 7, perm, Limit::Sixteen);
+    is_read(&rt, bytes.as_slice(), 1217, 2);
+    begins_with_two_entries(&rt, bytes.as_slice());
 }
 
-/// Whether a sink takes the whole certificate of a map, and it is these bytes.
-fn is_sent(rt: &impl Abort, alloc: Global, map: &PermissionMap, bytes: &[u8]) -> bool {
+/// A sink takes the whole certificate of a map, and it is these bytes.
+fn is_sent(rt: &impl Abort, alloc: Global, map: &PermissionMap, bytes: &[u8]) {
     let plan = plan_map(alloc, map).expect(rt, "memory");
     let mut sink = PieceSink::new(100, None);
-    send_map(map, &plan, Limit::SixtyFour, &mut sink).is_ok() && sink.written() == bytes
+    assert!(rt; send_map(map, &plan, Limit::SixtyFour, &mut sink).is_ok());
+    assert!(rt; sink.written() == bytes);
 }
 
-/// How many bytes a sink has taken of the certificate of a map where its third write fails. `None` where this isn't told.
-fn taken_of_two_writes(rt: &impl Abort, alloc: Global, map: &PermissionMap) -> Option<usize> {
+/// A sink has taken so many bytes of the certificate of a map where its third write fails, which is told.
+fn is_cut_off(rt: &impl Abort, alloc: Global, map: &PermissionMap, wanted: usize) {
     let plan = plan_map(alloc, map).expect(rt, "memory");
     let mut failing = PieceSink::new(100, Some(3));
-    match send_map(map, &plan, Limit::SixtyFour, &mut failing) {
-        Ok(()) => None,
-        Err(_) => Some(failing.written().len()),
-    }
+    assert!(rt; send_map(map, &plan, Limit::SixtyFour, &mut failing).is_err());
+    assert!(rt; failing.written().len() == wanted);
+}
+
+/// The certificate of the map that is sent is the one that is held.
+fn sends_what_it_holds(rt: &impl Abort, alloc: Global, map: &PermissionMap) {
+    let bytes = by_map(rt, alloc, map, Limit::SixtyFour);
+    is_sent(rt, alloc, map, bytes.as_slice());
 }
 
 #[test]
@@ -165,7 +174,6 @@ fn a_certificate_that_is_sent_is_the_one_that_is_held(rt: HostRuntime) {
     let mut map = PermissionMap::new(rt.alloc());
     map.set_range(0x80208, 7, Perm::ReadExecute)
         .expect(&rt, "memory");
-    let bytes = by_map(&rt, rt.alloc(), &map, Limit::SixtyFour);
-    assert!(rt; is_sent(&rt, rt.alloc(), &map, bytes.as_slice()));
-    assert!(rt; taken_of_two_writes(&rt, rt.alloc(), &map) == Some(200));
+    sends_what_it_holds(&rt, rt.alloc(), &map);
+    is_cut_off(&rt, rt.alloc(), &map, 200);
 }

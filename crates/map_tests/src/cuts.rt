@@ -27,28 +27,35 @@ fn nothing(first: u64, end: u64) -> Stretch {
     stretch(first, end, Perm::NoAccess, Perm::NoAccess, None)
 }
 
-/// That the entries cut the map so.
-fn expect_stretches(
+/// The map that gives these ranges their permissions: the first page, the number of pages, the permission.
+fn map_of(rt: &impl Abort, alloc: Global, ranges: &[(u64, u64, Perm)]) -> PermissionMap {
+    let mut map = PermissionMap::new(alloc);
+    for (first, count, perm) in ranges {
+        map.set_range(*first, *count, *perm).expect(rt, "inside");
+    }
+    map
+}
+
+/// The entries cut the map of the ranges so.
+fn cut(
     rt: &impl Abort,
     alloc: Global,
-    map: &PermissionMap,
+    ranges: &[(u64, u64, Perm)],
     entries: &[Entry],
     wanted: &[Stretch],
 ) {
-    let all = stretches_by_entries(alloc, map, entries).expect(rt, "memory");
+    let map = map_of(rt, alloc, ranges);
+    let all = stretches_by_entries(alloc, &map, entries).expect(rt, "memory");
     assert!(rt; all.as_slice() == wanted);
 }
 
 #[test]
 fn host_map_and_its_three_entries(rt: HostRuntime) {
-    let alloc = rt.alloc();
-    let mut map = PermissionMap::new(alloc);
-    map.set_range(0x80000, 0x8000, Perm::ReadWriteExecute)
-        .expect(&rt, "inside");
-    map.set_range(0x80000, 0x200, Perm::NoAccess)
-        .expect(&rt, "inside");
-    map.set_range(0x10000, 1, Perm::ReadWrite)
-        .expect(&rt, "inside");
+    let ranges = [
+        (0x80000, 0x8000, Perm::ReadWriteExecute),
+        (0x80000, 0x200, Perm::NoAccess),
+        (0x10000, 1, Perm::ReadWrite),
+    ];
     let entries = [
         entry(&rt, 0x1000_0000, 12, Perm::ReadWrite),
         entry(&rt, 0x8000_0000, 21, Perm::NoAccess),
@@ -65,14 +72,12 @@ fn host_map_and_its_three_entries(rt: HostRuntime) {
         stretch(0x8020_0000, 0x8800_0000, all, all, Some(2)),
         nothing(0x8800_0000, SPACE_SIZE),
     ];
-    expect_stretches(&rt, alloc, &map, entries.as_slice(), wanted.as_slice());
+    cut(&rt, rt.alloc(), &ranges, &entries, &wanted);
 }
 
 #[test]
 fn four_bytes_of_a_page_and_a_run_without_entry(rt: HostRuntime) {
-    let alloc = rt.alloc();
-    let mut map = PermissionMap::new(alloc);
-    map.set_range(1, 2, Perm::Read).expect(&rt, "inside");
+    let ranges = [(1, 2, Perm::Read)];
     let entries = [
         entry(&rt, 0x1004, 2, Perm::Execute),
         entry(&rt, 0x1000, 12, Perm::Read),
@@ -87,12 +92,25 @@ fn four_bytes_of_a_page_and_a_run_without_entry(rt: HostRuntime) {
         stretch(0x2000, 0x3000, read, none, None),
         nothing(0x3000, SPACE_SIZE),
     ];
-    expect_stretches(&rt, alloc, &map, entries.as_slice(), wanted.as_slice());
+    cut(&rt, rt.alloc(), &ranges, &entries, &wanted);
+}
+
+/// The first entry from this one on that meets a piece, for each row: the entry, the piece from here, to there.
+fn meet(
+    rt: &impl Abort,
+    alloc: Global,
+    entries: &[Entry],
+    rows: &[(usize, u64, u64, Option<usize>)],
+) {
+    let extents = extents_of(alloc, entries).expect(rt, "memory");
+    let tree = ExtentTree::new(alloc, extents.as_slice()).expect(rt, "memory");
+    for (from, first, end, wanted) in rows {
+        assert!(rt; tree.next_meeting(*from, *first, *end) == *wanted);
+    }
 }
 
 #[test]
 fn next_entry_that_meets_a_piece(rt: HostRuntime) {
-    let alloc = rt.alloc();
     let entries = [
         entry(&rt, 0x3000, 12, Perm::Read),
         entry(&rt, 0x1000, 12, Perm::Read),
@@ -100,14 +118,15 @@ fn next_entry_that_meets_a_piece(rt: HostRuntime) {
         entry(&rt, 0x2000, 13, Perm::Read),
         entry(&rt, 0, 14, Perm::Read),
     ];
-    let extents = extents_of(alloc, entries.as_slice()).expect(&rt, "memory");
-    let tree = ExtentTree::new(alloc, extents.as_slice()).expect(&rt, "memory");
-    assert!(rt; tree.next_meeting(0, 0x3000, 0x3001) == Some(0));
-    assert!(rt; tree.next_meeting(1, 0x3000, 0x3001) == Some(3));
-    assert!(rt; tree.next_meeting(4, 0x3000, 0x3001) == Some(4));
-    assert!(rt; tree.next_meeting(5, 0x3000, 0x3001) == None);
-    assert!(rt; tree.next_meeting(0, 0x4000, 0x8000) == None);
-    assert!(rt; tree.next_meeting(0, 0x4000, 0x8001) == Some(2));
-    assert!(rt; tree.next_meeting(0, 0x8fff, 0x9000) == Some(2));
-    assert!(rt; tree.next_meeting(0, 0x9000, 0xa000) == None);
+    let rows = [
+        (0, 0x3000, 0x3001, Some(0)),
+        (1, 0x3000, 0x3001, Some(3)),
+        (4, 0x3000, 0x3001, Some(4)),
+        (5, 0x3000, 0x3001, None),
+        (0, 0x4000, 0x8000, None),
+        (0, 0x4000, 0x8001, Some(2)),
+        (0, 0x8fff, 0x9000, Some(2)),
+        (0, 0x9000, 0xa000, None),
+    ];
+    meet(&rt, rt.alloc(), &entries, &rows);
 }

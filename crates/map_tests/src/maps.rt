@@ -21,20 +21,12 @@ fn map_of(alloc: Global, ranges: &[Run]) -> Result<PermissionMap, MapFault> {
     Ok(map)
 }
 
-/// That these ranges give these runs, and that a copy has them too.
-fn expect_runs(
-    rt: &impl Abort,
-    alloc: Global,
-    ranges: &[Run],
-    wanted: &[Run],
-) -> Result<(), MapFault> {
-    let map = map_of(alloc, ranges)?;
+/// These ranges give these runs, and a copy has them too.
+fn have_runs(rt: &impl Abort, alloc: Global, ranges: &[Run], wanted: &[Run]) {
+    let map = map_of(alloc, ranges).expect(rt, "memory");
     assert!(rt; map.ranges() == wanted);
-    let Ok(copy) = map.try_clone() else {
-        return Err(MapFault::Memory);
-    };
+    let copy = map.try_clone().expect(rt, "memory");
     assert!(rt; copy.ranges() == wanted);
-    Ok(())
 }
 
 /// The example, in which a later range takes the lowest pages of an earlier one away.
@@ -52,22 +44,34 @@ fn ranges_become_maximal_runs(rt: HostRuntime) {
         run(0x10000, 1, Perm::ReadWrite),
         run(0x80200, 0x7E00, Perm::ReadWriteExecute),
     ];
-    expect_runs(&rt, rt.alloc(), &example(), &two_runs).expect(&rt, "memory");
+    have_runs(&rt, rt.alloc(), &example(), &two_runs);
     let joining = [
         run(10, 5, Perm::Read),
         run(20, 5, Perm::Read),
         run(15, 5, Perm::Read),
     ];
-    expect_runs(&rt, rt.alloc(), &joining, &[run(10, 15, Perm::Read)]).expect(&rt, "memory");
+    have_runs(&rt, rt.alloc(), &joining, &[run(10, 15, Perm::Read)]);
     let splitting = [run(10, 10, Perm::Read), run(13, 2, Perm::Execute)];
     let split = [
         run(10, 3, Perm::Read),
         run(13, 2, Perm::Execute),
         run(15, 5, Perm::Read),
     ];
-    expect_runs(&rt, rt.alloc(), &splitting, &split).expect(&rt, "memory");
+    have_runs(&rt, rt.alloc(), &splitting, &split);
     let last_page = [run(SPACE - 1, 1, Perm::ReadExecute)];
-    expect_runs(&rt, rt.alloc(), &last_page, &last_page).expect(&rt, "memory");
+    have_runs(&rt, rt.alloc(), &last_page, &last_page);
+}
+
+/// The page has this permission.
+fn gives(rt: &impl Abort, map: &PermissionMap, page: u32, perm: Perm) {
+    assert!(rt; map.get(u64::from(page)) == perm, "{page:#x}");
+}
+
+/// A block of the example that has one permission, one that has two, and one that has none.
+fn has_blocks(rt: &impl Abort, map: &PermissionMap) {
+    assert!(rt; map.uniform(0x84000, 14) == Some(Perm::ReadWriteExecute));
+    assert!(rt; map.uniform(0x80000, 15) == None);
+    assert!(rt; map.uniform(0x80000, 9) == Some(Perm::NoAccess));
 }
 
 #[test]
@@ -78,25 +82,45 @@ fn pages_and_blocks_of_the_example(rt: HostRuntime) {
         (0x801FF, Perm::NoAccess),
         (0x80200, Perm::ReadWriteExecute),
     ] {
-        assert!(rt; map.get(page) == perm, "{page:#x}");
+        gives(&rt, &map, page, perm);
     }
-    assert!(rt; map.uniform(0x84000, 14) == Some(Perm::ReadWriteExecute));
-    assert!(rt; map.uniform(0x80000, 15) == None);
-    assert!(rt; map.uniform(0x80000, 9) == Some(Perm::NoAccess));
+    has_blocks(&rt, &map);
+}
+
+/// One run more is refused, and the map keeps its runs.
+fn refuses_one_more(rt: &impl Abort, map: &mut PermissionMap) {
+    let before = map.try_clone().expect(rt, "memory");
+    let refused = map.set_range(8192, 1, Perm::Read);
+    assert!(rt; refused == Err(MapFault::TooManyRanges));
+    assert!(rt; map.ranges() == before.ranges());
+}
+
+/// Sets as many runs as there may be; one more is refused, and what grows the last is not.
+fn fills(rt: &impl Abort, map: &mut PermissionMap) {
+    for i in 0..4096u64 {
+        map.set_range(2 * i, 1, Perm::Read).expect(rt, "memory");
+    }
+    refuses_one_more(rt, map);
+    map.set_range(8191, 1, Perm::Read).expect(rt, "memory");
+    assert!(rt; map.ranges().len() == 4096);
 }
 
 #[test]
 fn one_run_above_the_limit_is_refused(rt: HostRuntime) {
     let mut map = PermissionMap::new(rt.alloc());
-    for i in 0..4096u64 {
-        map.set_range(2 * i, 1, Perm::Read).expect(&rt, "memory");
-    }
-    let before = map.try_clone().expect(&rt, "memory");
-    let refused = map.set_range(8192, 1, Perm::Read);
-    assert!(rt; refused == Err(MapFault::TooManyRanges));
-    assert!(rt; map.ranges() == before.ranges());
-    map.set_range(8191, 1, Perm::Read).expect(&rt, "memory");
-    assert!(rt; map.ranges().len() == 4096);
+    fills(&rt, &mut map);
+}
+
+/// The range is set or refused so.
+fn sets(
+    rt: &impl Abort,
+    map: &mut PermissionMap,
+    first: u64,
+    count: u64,
+    wanted: Result<(), MapFault>,
+) {
+    let answer = map.set_range(first, count, Perm::Read);
+    assert!(rt; answer == wanted, "{first} {count}");
 }
 
 #[test]
@@ -110,10 +134,9 @@ fn ranges_past_the_end_are_refused(rt: HostRuntime) {
         (1, u64::MAX),
         (u64::MAX, 1),
     ] {
-        let refused = map.set_range(first, count, Perm::Read);
-        assert!(rt; refused == Err(MapFault::PastEnd), "{first} {count}");
+        sets(&rt, &mut map, first, count, Err(MapFault::PastEnd));
     }
-    assert!(rt; map.set_range(SPACE, 0, Perm::Read) == Ok(()));
+    sets(&rt, &mut map, SPACE, 0, Ok(()));
 }
 
 /// The map of a builder that is given these ranges.
@@ -123,6 +146,12 @@ fn built_of(rt: &impl Abort, alloc: Global, ranges: &[Run]) -> PermissionMap {
         built.set_range(*first, *count, *perm).expect(rt, "memory");
     }
     built.finish().expect(rt, "memory")
+}
+
+/// A builder that is given these ranges gives these runs.
+fn builds(rt: &impl Abort, alloc: Global, ranges: &[Run], wanted: &[Run]) {
+    let built = built_of(rt, alloc, ranges);
+    assert!(rt; built.ranges() == wanted);
 }
 
 #[test]
@@ -136,18 +165,23 @@ fn a_built_map_is_the_map_of_its_ranges(rt: HostRuntime) {
         run(0x803FF, 1, Perm::ReadWrite),
     ];
     let map = map_of(rt.alloc(), &over).expect(&rt, "memory");
-    assert!(rt; built_of(&rt, rt.alloc(), &over).ranges() == map.ranges());
-    assert!(rt; built_of(&rt, rt.alloc(), &[]).ranges().len() == 0);
+    builds(&rt, rt.alloc(), &over, map.ranges());
+    builds(&rt, rt.alloc(), &[], &[]);
+}
+
+/// Gives a builder as many runs as there may be; one more is refused, and what grows the last is not.
+fn fills_builder(rt: &impl Abort, built: &mut MapBuilder) {
+    for i in 0..4096u64 {
+        built.set_range(2 * i, 1, Perm::Read).expect(rt, "memory");
+    }
+    let refused = built.set_range(8192, 1, Perm::Read);
+    assert!(rt; refused == Err(MapFault::TooManyRanges));
+    built.set_range(8191, 1, Perm::Read).expect(rt, "memory");
 }
 
 #[test]
 fn a_builder_counts_its_runs(rt: HostRuntime) {
     let mut built = MapBuilder::new(rt.alloc());
-    for i in 0..4096u64 {
-        built.set_range(2 * i, 1, Perm::Read).expect(&rt, "memory");
-    }
-    let refused = built.set_range(8192, 1, Perm::Read);
-    assert!(rt; refused == Err(MapFault::TooManyRanges));
-    built.set_range(8191, 1, Perm::Read).expect(&rt, "memory");
+    fills_builder(&rt, &mut built);
     assert!(rt; built.finish().expect(&rt, "memory").ranges().len() == 4096);
 }

@@ -3,7 +3,7 @@
 use entry_planner::{Plan, plan, plan_map};
 use permission_map::PermissionMap;
 use pmp_encoding::{Bank, Entry, Limit, Perm};
-use prefix_tree::{Tree, build};
+use prefix_tree::build;
 use std::alloc::Global;
 use std::process::Abort;
 
@@ -24,11 +24,6 @@ fn map_of(rt: &impl Abort, alloc: Global, ranges: &[(u64, u64, Perm)]) -> Permis
         map.set_range(*first, *count, *perm).expect(rt, "memory");
     }
     map
-}
-
-/// The tree of that map.
-fn tree_of(rt: &impl Abort, alloc: Global, ranges: &[(u64, u64, Perm)]) -> Tree {
-    build(alloc, &map_of(rt, alloc, ranges)).expect(rt, "memory")
 }
 
 /// Whether entries are written as these pairs, in this order.
@@ -56,6 +51,19 @@ fn have_same_costs(one: &Plan, other: &Plan) -> bool {
     true
 }
 
+/// Whether the split blocks of a plan have these costs, under all permissions in their order.
+fn have_costs(plan: &Plan, wanted: &[[u32; 6]]) -> bool {
+    for i in 0..plan.branches() {
+        let costs = wanted.get(i).copied().unwrap_or_default();
+        for k in 0..6 {
+            if plan.cost(i, PERMS[k]) != costs[k] {
+                return false;
+            }
+        }
+    }
+    plan.branches() == wanted.len()
+}
+
 /// Whether a plan without a tree is that of the map's tree, with the same entries and costs.
 fn is_of_tree(rt: &impl Abort, alloc: Global, map: &PermissionMap, of_map: &Plan) -> bool {
     let tree = build(alloc, map).expect(rt, "memory");
@@ -68,172 +76,160 @@ fn is_of_tree(rt: &impl Abort, alloc: Global, map: &PermissionMap, of_map: &Plan
 
 /// The plan of the ranges has these entries, written as pairs, in this order, and so has that of their map's tree, with
 /// the same costs.
-fn is_planned(
-    ranges: &[(u64, u64, Perm)],
-    pairs: &[(u8, u64)],
-    alloc: Global,
-    rt: &impl Abort,
-) -> Plan {
+fn is_planned(rt: &impl Abort, alloc: Global, ranges: &[(u64, u64, Perm)], pairs: &[(u8, u64)]) {
     let map = map_of(rt, alloc, ranges);
     let plan = plan_map(alloc, &map).expect(rt, "memory");
     assert!(rt; are_written(plan.entries(), pairs));
     assert!(rt; plan.needed() as usize == pairs.len());
     assert!(rt; is_of_tree(rt, alloc, &map, &plan));
-    plan
 }
 
-/// The first configuration word of the bank that has the plan's list.
-fn first_word(plan: &Plan, rt: &impl Abort) -> u64 {
+/// The bank that has the list of the ranges' plan has this first configuration word.
+fn configures(rt: &impl Abort, alloc: Global, ranges: &[(u64, u64, Perm)], word: u64) {
+    let map = map_of(rt, alloc, ranges);
+    let plan = plan_map(alloc, &map).expect(rt, "memory");
     assert!(rt; plan.entries().len() <= 16);
-    Bank::of(plan.entries(), Limit::Sixteen).cfg0()
+    assert!(rt; Bank::of(plan.entries(), Limit::Sixteen).cfg0() == word);
+}
+
+/// The map of the ranges splits as many blocks as there are rows, which have these costs.
+fn costs(rt: &impl Abort, alloc: Global, ranges: &[(u64, u64, Perm)], rows: &[[u32; 6]]) {
+    let tree = build(alloc, &map_of(rt, alloc, ranges)).expect(rt, "memory");
+    let plan = plan(alloc, &tree).expect(rt, "memory");
+    assert!(rt; have_costs(&plan, rows));
 }
 
 #[test]
 fn empty_map_needs_no_entry(rt: HostRuntime) {
-    let plan = is_planned(&[], &[], rt.alloc(), &rt);
-    assert!(rt; plan.branches() == 0);
+    is_planned(&rt, rt.alloc(), &[], &[]);
+    costs(&rt, rt.alloc(), &[], &[]);
 }
 
 #[test]
 fn the_whole_space_needs_one_entry(rt: HostRuntime) {
-    let _ = is_planned(
-        &[(0, 1 << 44, Perm::ReadWriteExecute)],
-        &[(0x1F, 0x001F_FFFF_FFFF_FFFF)],
-        rt.alloc(),
-        &rt,
-    );
+    let ranges = [(0, 1 << 44, Perm::ReadWriteExecute)];
+    let pairs = [(0x1F, 0x001F_FFFF_FFFF_FFFF)];
+    is_planned(&rt, rt.alloc(), &ranges, &pairs);
 }
 
 #[test]
 fn a_page_denied_in_the_whole_space_needs_one_more(rt: HostRuntime) {
-    let _ = is_planned(
-        &[
-            (0, 1 << 44, Perm::ReadWriteExecute),
-            (0x80000, 1, Perm::NoAccess),
-        ],
-        &[(0x18, 0x2000_01FF), (0x1F, 0x001F_FFFF_FFFF_FFFF)],
-        rt.alloc(),
-        &rt,
-    );
+    let ranges = [
+        (0, 1 << 44, Perm::ReadWriteExecute),
+        (0x80000, 1, Perm::NoAccess),
+    ];
+    let pairs = [(0x18, 0x2000_01FF), (0x1F, 0x001F_FFFF_FFFF_FFFF)];
+    is_planned(&rt, rt.alloc(), &ranges, &pairs);
 }
 
 #[test]
 fn boot_of_the_example_platform_uses_three_entries(rt: HostRuntime) {
-    let plan = is_planned(
-        &[
-            (0x80000, 0x8000, Perm::ReadWriteExecute),
-            (0x80000, 0x200, Perm::NoAccess),
-            (0x10000, 1, Perm::ReadWrite),
-        ],
-        &[
-            (0x1B, 0x0400_01FF),
-            (0x18, 0x2003_FFFF),
-            (0x1F, 0x20FF_FFFF),
-        ],
-        rt.alloc(),
-        &rt,
-    );
-    assert!(rt; first_word(&plan, &rt) == 0x1F_181B);
+    let ranges = [
+        (0x80000, 0x8000, Perm::ReadWriteExecute),
+        (0x80000, 0x200, Perm::NoAccess),
+        (0x10000, 1, Perm::ReadWrite),
+    ];
+    let pairs = [
+        (0x1B, 0x0400_01FF),
+        (0x18, 0x2003_FFFF),
+        (0x1F, 0x20FF_FFFF),
+    ];
+    is_planned(&rt, rt.alloc(), &ranges, &pairs);
+    configures(&rt, rt.alloc(), &ranges, 0x1F_181B);
 }
 
 #[test]
 fn seven_pages_need_two_entries(rt: HostRuntime) {
-    let plan = is_planned(
-        &[(0x80208, 7, Perm::ReadExecute)],
-        &[(0x18, 0x2008_3DFF), (0x1D, 0x2008_2FFF)],
-        rt.alloc(),
-        &rt,
-    );
-    assert!(rt; first_word(&plan, &rt) == 0x1D18);
+    let ranges = [(0x80208, 7, Perm::ReadExecute)];
+    let pairs = [(0x18, 0x2008_3DFF), (0x1D, 0x2008_2FFF)];
+    is_planned(&rt, rt.alloc(), &ranges, &pairs);
+    configures(&rt, rt.alloc(), &ranges, 0x1D18);
 }
 
 #[test]
 fn one_page_of_four_is_overridden(rt: HostRuntime) {
-    let _ = is_planned(
-        &[(0x80000, 4, Perm::Read), (0x80001, 1, Perm::ReadWrite)],
-        &[(0x1B, 0x2000_05FF), (0x19, 0x2000_07FF)],
-        rt.alloc(),
-        &rt,
-    );
+    let ranges = [(0x80000, 4, Perm::Read), (0x80001, 1, Perm::ReadWrite)];
+    let pairs = [(0x1B, 0x2000_05FF), (0x19, 0x2000_07FF)];
+    is_planned(&rt, rt.alloc(), &ranges, &pairs);
 }
 
 #[test]
 fn the_inherited_permission_stays_where_it_is_best_for_a_half(rt: HostRuntime) {
-    let _ = is_planned(
-        &[(0x80000, 4, Perm::Read), (0x80001, 1, Perm::NoAccess)],
-        &[(0x19, 0x2000_01FF), (0x19, 0x2000_0BFF)],
-        rt.alloc(),
-        &rt,
-    );
+    let ranges = [(0x80000, 4, Perm::Read), (0x80001, 1, Perm::NoAccess)];
+    let pairs = [(0x19, 0x2000_01FF), (0x19, 0x2000_0BFF)];
+    is_planned(&rt, rt.alloc(), &ranges, &pairs);
 }
 
 #[test]
 fn the_first_permission_that_is_best_for_both_halves_is_placed(rt: HostRuntime) {
-    let _ = is_planned(
-        &[
-            (0x80000, 4, Perm::Read),
-            (0x80001, 1, Perm::ReadWrite),
-            (0x80003, 1, Perm::ReadWrite),
-        ],
-        &[
-            (0x1B, 0x2000_05FF),
-            (0x1B, 0x2000_0DFF),
-            (0x19, 0x2000_07FF),
-        ],
-        rt.alloc(),
-        &rt,
-    );
+    let ranges = [
+        (0x80000, 4, Perm::Read),
+        (0x80001, 1, Perm::ReadWrite),
+        (0x80003, 1, Perm::ReadWrite),
+    ];
+    let pairs = [
+        (0x1B, 0x2000_05FF),
+        (0x1B, 0x2000_0DFF),
+        (0x19, 0x2000_07FF),
+    ];
+    is_planned(&rt, rt.alloc(), &ranges, &pairs);
 }
 
 #[test]
 fn a_tie_is_settled_as_two_pages(rt: HostRuntime) {
-    let plan = is_planned(
-        &[
-            (0x80200, 1, Perm::ReadExecute),
-            (0x80201, 1, Perm::ReadWrite),
-            (0x80400, 1, Perm::ReadWrite),
-        ],
-        &[
-            (0x1D, 0x2008_01FF),
-            (0x1B, 0x2008_05FF),
-            (0x1B, 0x2010_01FF),
-        ],
-        rt.alloc(),
-        &rt,
-    );
-    assert!(rt; first_word(&plan, &rt) == 0x1B_1B1D);
+    let ranges = [
+        (0x80200, 1, Perm::ReadExecute),
+        (0x80201, 1, Perm::ReadWrite),
+        (0x80400, 1, Perm::ReadWrite),
+    ];
+    let pairs = [
+        (0x1D, 0x2008_01FF),
+        (0x1B, 0x2008_05FF),
+        (0x1B, 0x2010_01FF),
+    ];
+    is_planned(&rt, rt.alloc(), &ranges, &pairs);
+    configures(&rt, rt.alloc(), &ranges, 0x1B_1B1D);
 }
 
-/// How many entries the host of the example platform needs where these many single pages, each second one from
-/// 0x80200000 on, are private to enclaves.
-fn needed_beside_scattered_pages(rt: &impl Abort, alloc: Global, pages: u32) -> u32 {
-    let mut map = PermissionMap::new(alloc);
-    map.set_range(0x80000, 0x8000, Perm::ReadWriteExecute)
-        .expect(rt, "memory");
-    map.set_range(0x80000, 0x200, Perm::NoAccess)
-        .expect(rt, "memory");
-    map.set_range(0x10000, 1, Perm::ReadWrite)
-        .expect(rt, "memory");
+/// The map needs that many entries.
+fn needs(rt: &impl Abort, alloc: Global, map: &PermissionMap, wanted: u32) {
+    let tree = build(alloc, map).expect(rt, "memory");
+    let plan = plan(alloc, &tree).expect(rt, "memory");
+    assert!(rt; plan.needed() == wanted);
+}
+
+/// What the host of the example platform may do where these many single pages, each second one from 0x80200000 on, are
+/// private to enclaves.
+fn host_beside_scattered_pages(rt: &impl Abort, alloc: Global, pages: u32) -> PermissionMap {
+    let ranges = [
+        (0x80000, 0x8000, Perm::ReadWriteExecute),
+        (0x80000, 0x200, Perm::NoAccess),
+        (0x10000, 1, Perm::ReadWrite),
+    ];
+    let mut map = map_of(rt, alloc, &ranges);
     for i in 0..pages {
         map.set_range(0x80200 + 2 * u64::from(i), 1, Perm::NoAccess)
             .expect(rt, "memory");
     }
-    let tree = build(alloc, &map).expect(rt, "memory");
-    let plan = plan(alloc, &tree).expect(rt, "memory");
-    plan.needed()
+    map
+}
+
+/// The host beside so many scattered pages needs that many entries.
+fn scattered_pages_need(rt: &impl Abort, alloc: Global, pages: u32, wanted: u32) {
+    let map = host_beside_scattered_pages(rt, alloc, pages);
+    needs(rt, alloc, &map, wanted);
 }
 
 #[test]
 fn thirteen_scattered_pages_fit_sixteen_entries(rt: HostRuntime) {
-    assert!(rt; needed_beside_scattered_pages(&rt, rt.alloc(), 13) == 16);
-    assert!(rt; needed_beside_scattered_pages(&rt, rt.alloc(), 14) == 17);
+    scattered_pages_need(&rt, rt.alloc(), 13, 16);
+    scattered_pages_need(&rt, rt.alloc(), 14, 17);
 }
 
-/// How many entries the ranges need.
-fn needed(rt: &impl Abort, alloc: Global, ranges: &[(u64, u64, Perm)]) -> u32 {
-    let tree = tree_of(rt, alloc, ranges);
-    let plan = plan(alloc, &tree).expect(rt, "memory");
-    plan.needed()
+/// The map of the ranges needs that many entries.
+fn ranges_need(rt: &impl Abort, alloc: Global, ranges: &[(u64, u64, Perm)], wanted: u32) {
+    let map = map_of(rt, alloc, ranges);
+    needs(rt, alloc, &map, wanted);
 }
 
 #[test]
@@ -241,21 +237,13 @@ fn one_shared_page_more_needs_one_entry_more(rt: HostRuntime) {
     let text = (0x804AB, 170, Perm::ReadExecute);
     let data = (0x80555, 342, Perm::ReadWrite);
     let ten = [text, data, (0x81000, 10, Perm::ReadWrite)];
-    assert!(rt; needed(&rt, rt.alloc(), &ten) == 16);
+    ranges_need(&rt, rt.alloc(), &ten, 16);
     let eleven = [text, data, (0x81000, 11, Perm::ReadWrite)];
-    assert!(rt; needed(&rt, rt.alloc(), &eleven) == 17);
+    ranges_need(&rt, rt.alloc(), &eleven, 17);
 }
 
 #[test]
 fn the_lower_half_costs_one_under_either_permission(rt: HostRuntime) {
     let ranges = [(0, 1 << 43, Perm::ReadWriteExecute)];
-    let tree = tree_of(&rt, rt.alloc(), &ranges);
-    let plan = plan(rt.alloc(), &tree).expect(&rt, "memory");
-    assert!(rt; plan.branches() == 1);
-    assert!(rt; plan.cost(0, Perm::NoAccess) == 1);
-    assert!(rt; plan.cost(0, Perm::Read) == 2);
-    assert!(rt; plan.cost(0, Perm::ReadWrite) == 2);
-    assert!(rt; plan.cost(0, Perm::Execute) == 2);
-    assert!(rt; plan.cost(0, Perm::ReadExecute) == 2);
-    assert!(rt; plan.cost(0, Perm::ReadWriteExecute) == 1);
+    costs(&rt, rt.alloc(), &ranges, &[[1, 2, 2, 2, 2, 1]]);
 }

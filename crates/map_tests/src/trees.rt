@@ -51,45 +51,71 @@ fn versions_agree(alloc: Global, first: u64, count: u64, perm: Perm, rt: &impl A
     }
 }
 
+/// The tree of the map in which these ranges were set: the first page, the number of pages, the permission.
+fn tree_of(rt: &impl Abort, alloc: Global, ranges: &[(u64, u64, Perm)]) -> Tree {
+    let mut map = PermissionMap::new(alloc);
+    for (first, count, perm) in ranges {
+        map.set_range(*first, *count, *perm).expect(rt, "memory");
+    }
+    build(alloc, &map).expect(rt, "memory")
+}
+
+/// The tree of the ranges splits that many blocks.
+fn splits(rt: &impl Abort, alloc: Global, ranges: &[(u64, u64, Perm)], wanted: usize) {
+    let tree = tree_of(rt, alloc, ranges);
+    assert!(rt; tree.branches() == wanted);
+}
+
+/// The block is not split, and has this permission.
+fn is_leaf(rt: &impl Abort, block: &Block, wanted: Perm) {
+    let Parts::Leaf(perm) = block.parts() else {
+        panic!(rt; "split");
+    };
+    assert!(rt; perm == wanted);
+}
+
+/// The tree of the ranges is not split, and has this permission.
+fn is_one_leaf(rt: &impl Abort, alloc: Global, ranges: &[(u64, u64, Perm)], wanted: Perm) {
+    splits(rt, alloc, ranges, 0);
+    let tree = tree_of(rt, alloc, ranges);
+    is_leaf(rt, tree.root(), wanted);
+}
+
 #[test]
 fn empty_map_is_one_leaf(rt: HostRuntime) {
-    let tree = build(rt.alloc(), &PermissionMap::new(rt.alloc())).expect(&rt, "memory");
-    assert!(rt; tree.branches() == 0);
-    assert!(rt; matches!(tree.root().parts(), Parts::Leaf(Perm::NoAccess)));
+    is_one_leaf(&rt, rt.alloc(), &[], Perm::NoAccess);
 }
 
 #[test]
 fn whole_space_is_one_leaf(rt: HostRuntime) {
-    let mut map = PermissionMap::new(rt.alloc());
-    map.set_range(0, PAGES, Perm::ReadWriteExecute)
-        .expect(&rt, "memory");
-    let tree = build(rt.alloc(), &map).expect(&rt, "memory");
-    assert!(rt; tree.branches() == 0);
-    assert!(rt; matches!(tree.root().parts(), Parts::Leaf(Perm::ReadWriteExecute)));
+    let whole = [(0, PAGES, Perm::ReadWriteExecute)];
+    is_one_leaf(&rt, rt.alloc(), &whole, Perm::ReadWriteExecute);
 }
 
 #[test]
 fn one_page_splits_each_block_around_it(rt: HostRuntime) {
-    let mut map = PermissionMap::new(rt.alloc());
-    map.set_range(0x80000, 1, Perm::ReadWriteExecute)
-        .expect(&rt, "memory");
-    assert!(rt; build(rt.alloc(), &map).expect(&rt, "memory").branches() == 44);
+    let page = [(0x80000, 1, Perm::ReadWriteExecute)];
+    splits(&rt, rt.alloc(), &page, 44);
+}
+
+/// The block is split in two leaves with these permissions.
+fn has_leaves(rt: &impl Abort, block: &Block, lower: Perm, upper: Perm) {
+    let Parts::Halves(low, high) = block.parts() else {
+        panic!(rt; "not split");
+    };
+    is_leaf(rt, low, lower);
+    is_leaf(rt, high, upper);
 }
 
 #[test]
 fn halves_of_the_space_split_it_once(rt: HostRuntime) {
-    let mut map = PermissionMap::new(rt.alloc());
-    map.set_range(0, PAGES / 2, Perm::Read)
-        .expect(&rt, "memory");
-    map.set_range(PAGES / 2, PAGES / 2, Perm::Execute)
-        .expect(&rt, "memory");
-    let tree = build(rt.alloc(), &map).expect(&rt, "memory");
-    assert!(rt; tree.branches() == 1);
-    let Parts::Halves(lower, upper) = tree.root().parts() else {
-        panic!(rt; "not split");
-    };
-    assert!(rt; matches!(lower.parts(), Parts::Leaf(Perm::Read)));
-    assert!(rt; matches!(upper.parts(), Parts::Leaf(Perm::Execute)));
+    let halves = [
+        (0, PAGES / 2, Perm::Read),
+        (PAGES / 2, PAGES / 2, Perm::Execute),
+    ];
+    splits(&rt, rt.alloc(), &halves, 1);
+    let tree = tree_of(&rt, rt.alloc(), &halves);
+    has_leaves(&rt, tree.root(), Perm::Read, Perm::Execute);
 }
 
 #[test]
@@ -130,50 +156,68 @@ fn share_upper_halves(one: &Tree, other: &Tree) -> Option<bool> {
     Some(Rc::ptr_eq(one, other))
 }
 
-/// Whether the version with the range shares the upper half of the upper half with the tree, where both split it.
-fn shares(rt: &impl Abort, tree: &Tree, first: u64, count: u64) -> Option<bool> {
-    let version = tree
-        .with_range(first, count, Perm::Execute)
-        .expect(rt, "memory");
-    share_upper_halves(tree, &version)
-}
-
 /// The tree of the example map.
 fn example_tree(rt: &impl Abort, alloc: Global) -> Tree {
     build(alloc, &example_map(rt, alloc)).expect(rt, "memory")
 }
 
-#[test]
-fn what_the_range_does_not_meet_is_shared(rt: HostRuntime) {
-    let tree = example_tree(&rt, rt.alloc());
-    assert!(rt; shares(&rt, &tree, 3, 5) == Some(true));
-    assert!(rt; shares(&rt, &tree, PAGES - 1, 1) == Some(false));
+/// Whether the version of the example with the range shares the upper half of the upper half with its tree; both split
+/// it.
+fn shares(rt: &impl Abort, alloc: Global, first: u64, count: u64, wanted: bool) {
+    let tree = example_tree(rt, alloc);
+    let version = tree
+        .with_range(first, count, Perm::Execute)
+        .expect(rt, "memory");
+    assert!(rt; share_upper_halves(&tree, &version) == Some(wanted));
 }
 
-/// Why there is no version with the range, where there is none.
-fn refusal(tree: &Tree, first: u64, count: u64, perm: Perm) -> Option<MapFault> {
-    tree.with_range(first, count, perm).err()
+#[test]
+fn what_the_range_does_not_meet_is_shared(rt: HostRuntime) {
+    shares(&rt, rt.alloc(), 3, 5, true);
+    shares(&rt, rt.alloc(), PAGES - 1, 1, false);
+}
+
+/// Sets as many runs as a map has at most, each of one page.
+fn set_most_runs(rt: &impl Abort, map: &mut PermissionMap) {
+    for i in 0..4096u64 {
+        map.set_range(i * 0x1_0000_0000, 1, Perm::Read)
+            .expect(rt, "memory");
+    }
+}
+
+/// Why there is no version with the range; none where there is one.
+fn refuses(
+    rt: &impl Abort,
+    tree: &Tree,
+    first: u64,
+    count: u64,
+    perm: Perm,
+    wanted: Option<MapFault>,
+) {
+    assert!(rt; tree.with_range(first, count, perm).err() == wanted);
+}
+
+/// The tree splits that many blocks, and has no version with one run more.
+fn is_full(rt: &impl Abort, tree: &Tree) {
+    assert!(rt; tree.branches() == 4095 + 4096 * 32);
+    refuses(rt, tree, 2, 1, Perm::Read, Some(MapFault::TooManyRanges));
+    refuses(rt, tree, 1, 1, Perm::Read, None);
+    refuses(rt, tree, 0, 2, Perm::NoAccess, None);
 }
 
 #[test]
 fn most_ranges_build_and_one_more_is_refused(rt: HostRuntime) {
     let mut map = PermissionMap::new(rt.alloc());
-    for i in 0..4096u64 {
-        map.set_range(i * 0x1_0000_0000, 1, Perm::Read)
-            .expect(&rt, "memory");
-    }
-    let tree = build(rt.alloc(), &map).expect(&rt, "memory");
-    assert!(rt; tree.branches() == 4095 + 4096 * 32);
-    assert!(rt; refusal(&tree, 2, 1, Perm::Read) == Some(MapFault::TooManyRanges));
+    set_most_runs(&rt, &mut map);
+    is_full(&rt, &build(rt.alloc(), &map).expect(&rt, "memory"));
     assert!(rt; map.set_range(2, 1, Perm::Read).err() == Some(MapFault::TooManyRanges));
-    assert!(rt; refusal(&tree, 1, 1, Perm::Read) == None);
-    assert!(rt; refusal(&tree, 0, 2, Perm::NoAccess) == None);
 }
 
-/// A version of the last tree, in which one page more can be read.
-fn next_version(rt: &impl Abort, versions: &[Tree], page: u64) -> Tree {
+/// Keeps a version of the last tree, in which one page more can be read.
+fn push_next_version(rt: &impl Abort, versions: &mut Vec<Tree>, page: u64) {
     let last = versions.last().expect(rt, "a version");
-    last.with_range(page, 1, Perm::Read).expect(rt, "memory")
+    let next = last.with_range(page, 1, Perm::Read).expect(rt, "memory");
+    versions.push(next).expect(rt, "memory");
 }
 
 #[test]
@@ -183,9 +227,7 @@ fn many_versions_are_kept_and_let_go(rt: HostRuntime) {
         .push(example_tree(&rt, rt.alloc()))
         .expect(&rt, "memory");
     for i in 0..1000u64 {
-        versions
-            .push(next_version(&rt, versions.as_slice(), 64 + i))
-            .expect(&rt, "memory");
+        push_next_version(&rt, &mut versions, 64 + i);
     }
     assert!(rt; versions.len() == 1001);
 }

@@ -11,7 +11,7 @@ mod scattered;
 mod views;
 
 use enclave_requests::{Create, Pages};
-use enclave_table::{Owner, Refusal, Table, World};
+use enclave_table::{CreateNeeds, Owner, Refusal, Table, World};
 use platforms::Platform;
 use pmp_encoding::{Bank, Entry, Perm};
 use std::alloc::Global;
@@ -112,6 +112,8 @@ enum Step {
     Keeps(u64),
     Uses(usize),
     Owns(u32, Owner),
+    /// How many entries an enclave's list has.
+    ListsMany(u64, usize),
     Configures(u64),
     /// The host's view and the enclave's own would need that many entries after this creation.
     WouldNeed(Create, u32, u32),
@@ -136,9 +138,12 @@ fn takes(rt: &impl Abort, alloc: Global, table: &mut Table, steps: &[Step]) {
             Step::Keeps(id) => anew::keeps(rt, table, id),
             Step::Uses(wanted) => uses(rt, table, wanted),
             Step::Owns(page, wanted) => owns(rt, table, page, wanted),
+            Step::ListsMany(id, wanted) => views::lists_many(rt, table, id, wanted),
             Step::Configures(wanted) => configures(rt, table, wanted),
-            Step::WouldNeed(asked, host, own) => needs::of_creation(rt, table, asked, host, own),
-            Step::WouldNeedWithout(id, host) => needs::of_destruction(rt, table, id, host),
+            Step::WouldNeed(asked, host, own) => {
+                needs::of_creation(rt, table, asked, Some(CreateNeeds { host, own }))
+            }
+            Step::WouldNeedWithout(id, host) => needs::of_destruction(rt, table, id, Some(host)),
         }
     }
 }
@@ -159,10 +164,11 @@ fn have_addresses(entries: &[Entry], wanted: &[u64]) -> bool {
     entries.len() == wanted.len()
 }
 
-/// Whether the list of an enclave has these numbers in its address registers.
-fn lists(table: &Table, id: u64, wanted: &[u64]) -> bool {
-    match table.enclave_entries(id) {
-        Some(entries) => have_addresses(entries, wanted),
-        None => false,
+/// Whether the list of an enclave has these numbers in its address registers; none where there is no such enclave.
+fn lists(table: &Table, id: u64, wanted: Option<&[u64]>) -> bool {
+    match (table.enclave_entries(id), wanted) {
+        (Some(entries), Some(wanted)) => have_addresses(entries, wanted),
+        (None, None) => true,
+        _ => false,
     }
 }

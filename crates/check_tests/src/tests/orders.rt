@@ -86,6 +86,24 @@ fn set_pages(map: &mut PermissionMap, perm: Perm) -> Result<(), MapFault> {
     Ok(())
 }
 
+/// Fifty entries mean the map in either order; one fewer do not, and none do after the map is changed.
+fn mean_in_any_order(
+    rt: &impl Abort,
+    alloc: Global,
+    map: &mut PermissionMap,
+    falling: &[u8],
+    rising: &[u8],
+) {
+    assert!(rt; rising.len() == 450);
+    let (fewer, _) = rising.split_at(441);
+    answers(rt, alloc, map, falling, 50, Ok(50));
+    answers(rt, alloc, map, rising, 50, Ok(50));
+    answers(rt, alloc, map, fewer, 49, WRONG);
+    map.set_range(0x80001, 1, Perm::Read).expect(rt, "memory");
+    answers(rt, alloc, map, falling, 50, WRONG);
+    answers(rt, alloc, map, rising, 50, WRONG);
+}
+
 #[test]
 fn entries_in_any_order_mean_a_map(rt: HostRuntime) {
     let alloc = rt.alloc();
@@ -93,14 +111,7 @@ fn entries_in_any_order_mean_a_map(rt: HostRuntime) {
     set_pages(&mut map, Perm::ReadWriteExecute).expect(&rt, "memory");
     let falling = falling_pages(alloc).expect(&rt, "memory");
     let rising = reversed(alloc, &falling).expect(&rt, "memory");
-    assert!(rt; rising.len() == 450);
-    let (fewer, _) = rising.as_slice().split_at(441);
-    answers(&rt, alloc, &map, &falling, 50, Ok(50));
-    answers(&rt, alloc, &map, &rising, 50, Ok(50));
-    answers(&rt, alloc, &map, fewer, 49, WRONG);
-    map.set_range(0x80001, 1, Perm::Read).expect(&rt, "memory");
-    answers(&rt, alloc, &map, &falling, 50, WRONG);
-    answers(&rt, alloc, &map, &rising, 50, WRONG);
+    mean_in_any_order(&rt, alloc, &mut map, &falling, &rising);
 }
 
 /// The block of 256 pages from 0x80000 on, with read alone.
@@ -131,31 +142,61 @@ fn with_read_alone(alloc: Global, entries: &[u8]) -> Result<Vec<u8>, AllocError>
     Ok(bytes)
 }
 
+/// The falling pages, and the block of 256 pages after them.
+fn wide_last(rt: &impl Abort, alloc: Global) -> Vec<u8> {
+    let falling = falling_pages(alloc).expect(rt, "memory");
+    joined(alloc, &falling, WIDE.as_slice()).expect(rt, "memory")
+}
+
+/// The falling pages, and the block of 256 pages before them.
+fn wide_first(rt: &impl Abort, alloc: Global) -> Vec<u8> {
+    let falling = falling_pages(alloc).expect(rt, "memory");
+    joined(alloc, WIDE.as_slice(), &falling).expect(rt, "memory")
+}
+
+/// The check answers so to that many entries and the tree of the block with pages of this permission.
+fn wide_answers(
+    rt: &impl Abort,
+    alloc: Global,
+    perm: Perm,
+    entries: &[u8],
+    count: u32,
+    wanted: Result<u32, CheckRefusal>,
+) {
+    let map = wide_map(rt, alloc, perm);
+    answers(rt, alloc, &map, entries, count, wanted);
+}
+
 #[test]
 fn of_entries_in_any_order_the_first_decides(rt: HostRuntime) {
     let alloc = rt.alloc();
-    let both = wide_map(&rt, alloc, Perm::ReadWriteExecute);
-    let falling = falling_pages(alloc).expect(&rt, "memory");
-    let wide_last = joined(alloc, &falling, WIDE.as_slice()).expect(&rt, "memory");
-    let wide_first = joined(alloc, WIDE.as_slice(), &falling).expect(&rt, "memory");
-    answers(&rt, alloc, &both, &wide_last, 51, Ok(51));
-    answers(&rt, alloc, &both, &wide_first, 51, WRONG);
-    let others = wide_map(&rt, alloc, Perm::ReadExecute);
-    answers(&rt, alloc, &others, &wide_last, 51, WRONG);
-    let wide = wide_map(&rt, alloc, Perm::Read);
-    answers(&rt, alloc, &wide, &wide_last, 51, TOO_MANY);
-    answers(&rt, alloc, &wide, &wide_first, 51, TOO_MANY);
+    let last = wide_last(&rt, alloc);
+    wide_answers(&rt, alloc, Perm::ReadWriteExecute, &last, 51, Ok(51));
+    wide_answers(&rt, alloc, Perm::ReadExecute, &last, 51, WRONG);
+    wide_answers(&rt, alloc, Perm::Read, &last, 51, TOO_MANY);
+    let first = wide_first(&rt, alloc);
+    wide_answers(&rt, alloc, Perm::ReadWriteExecute, &first, 51, WRONG);
+    wide_answers(&rt, alloc, Perm::Read, &first, 51, TOO_MANY);
+}
+
+/// The falling pages, the block of 256 pages, and the pages again with read alone.
+fn wide_last_and_again(rt: &impl Abort, alloc: Global) -> Vec<u8> {
+    let falling = falling_pages(alloc).expect(rt, "memory");
+    let again = with_read_alone(alloc, &falling).expect(rt, "memory");
+    joined(alloc, &wide_last(rt, alloc), &again).expect(rt, "memory")
 }
 
 #[test]
 fn entries_that_come_twice_are_too_many(rt: HostRuntime) {
-    let alloc = rt.alloc();
-    let both = wide_map(&rt, alloc, Perm::ReadWriteExecute);
-    let falling = falling_pages(alloc).expect(&rt, "memory");
-    let wide_last = joined(alloc, &falling, WIDE.as_slice()).expect(&rt, "memory");
-    let again = with_read_alone(alloc, &falling).expect(&rt, "memory");
-    let twice = joined(alloc, &wide_last, &again).expect(&rt, "memory");
-    answers(&rt, alloc, &both, &twice, 101, TOO_MANY);
+    let twice = wide_last_and_again(&rt, rt.alloc());
+    wide_answers(
+        &rt,
+        rt.alloc(),
+        Perm::ReadWriteExecute,
+        &twice,
+        101,
+        TOO_MANY,
+    );
 }
 
 /// The map of 2,200 runs, each of the 0x55555555 pages on either side of the middle of 2^32. Each side needs a block of
@@ -169,18 +210,28 @@ fn map_of_many_entries(alloc: Global) -> Result<PermissionMap, MapFault> {
     Ok(map)
 }
 
+/// The planner's entries for the map of many, from the last to the first.
+fn many_reversed(rt: &impl Abort, alloc: Global, map: &PermissionMap) -> Vec<u8> {
+    let planned = planned(rt, alloc, map);
+    let entries = planned.get(9..633609).expect(rt, "as many entries");
+    reversed(alloc, entries).expect(rt, "memory")
+}
+
+/// That many entries mean the map; one fewer do not, and none do after the map is changed.
+fn many_mean(rt: &impl Abort, alloc: Global, map: &mut PermissionMap, falling: &[u8]) {
+    assert!(rt; falling.len() == 633600);
+    answers(rt, alloc, map, falling, 70400, Ok(70400));
+    let (fewer, _) = falling.split_at(633591);
+    answers(rt, alloc, map, fewer, 70399, WRONG);
+    map.set_range(1100 * 0x1_0000_0000 + 0x8000_0000, 1, Perm::Read)
+        .expect(rt, "memory");
+    answers(rt, alloc, map, falling, 70400, WRONG);
+}
+
 #[test]
 fn more_entries_than_are_held_at_once_mean_a_map(rt: HostRuntime) {
     let alloc = rt.alloc();
     let mut map = map_of_many_entries(alloc).expect(&rt, "memory");
-    let planned = planned(&rt, alloc, &map);
-    let entries = planned.get(9..633609).expect(&rt, "as many entries");
-    let falling = reversed(alloc, entries).expect(&rt, "memory");
-    assert!(rt; falling.len() == 633600);
-    answers(&rt, alloc, &map, &falling, 70400, Ok(70400));
-    let (fewer, _) = falling.as_slice().split_at(633591);
-    answers(&rt, alloc, &map, fewer, 70399, WRONG);
-    map.set_range(1100 * 0x1_0000_0000 + 0x8000_0000, 1, Perm::Read)
-        .expect(&rt, "memory");
-    answers(&rt, alloc, &map, &falling, 70400, WRONG);
+    let falling = many_reversed(&rt, alloc, &map);
+    many_mean(&rt, alloc, &mut map, &falling);
 }

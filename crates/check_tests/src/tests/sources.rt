@@ -1,6 +1,6 @@
 //! Certificates that a source gives piece by piece.
 
-use crate::tests::{LOWER_HALF, lower_half_map};
+use crate::tests::{LOWER_HALF, LOWER_HALF_SPACE, map_of};
 use byte_streams::fakes::PieceSource;
 use certificate_check::{SourceFault, check_source};
 use permission_map::PermissionMap;
@@ -25,7 +25,7 @@ fn code(alloc: Global, map: &PermissionMap, source: &mut PieceSource, most: u32)
 
 /// The lower half's certificate with one byte changed, in pieces of this length, comes to this.
 fn comes_to(rt: &impl Abort, alloc: Global, piece: usize, place: usize, byte: u8, wanted: u32) {
-    let map = lower_half_map(rt, alloc);
+    let map = map_of(rt, alloc, LOWER_HALF_SPACE);
     let mut bytes = LOWER_HALF;
     if let Some(there) = bytes.get_mut(place) {
         *there = byte;
@@ -50,7 +50,7 @@ fn pieces_have_any_length(rt: HostRuntime) {
 
 /// The lower half's certificate, of which each read gives a byte, and the read `failing` fails, comes to this.
 fn ends_with(rt: &impl Abort, alloc: Global, failing: Option<u64>, most: u32, wanted: u32) {
-    let map = lower_half_map(rt, alloc);
+    let map = map_of(rt, alloc, LOWER_HALF_SPACE);
     let mut source = PieceSource::new(LOWER_HALF.as_slice(), 1, failing);
     let found = code(alloc, &map, &mut source, most);
     assert!(rt; found == wanted, "{found}");

@@ -1,6 +1,6 @@
 //! Certificates of trees that are split down to one page, written by hand.
 
-use super::{answers, code, map_of, seven_pages_map};
+use super::{SEVEN_PAGES, answers, code, map_of, range_answers};
 use certificate_check::CheckRefusal;
 use permission_map::PermissionMap;
 use pmp_encoding::Perm;
@@ -108,12 +108,15 @@ const HOLE: (u8, u64) = (0x18, 0x2008_3DFF);
 
 const EIGHT_PAGES: (u8, u64) = (0x1D, 0x2008_2FFF);
 
+/// The certificate of seven pages, with a cost of two at the root.
 fn seven_pages(rt: &impl Abort, alloc: Global) -> Vec<u8> {
     let entries = [HOLE, EIGHT_PAGES];
-    certificate(alloc, entries.as_slice(), seven_pages_way()).expect(rt, "memory")
+    let bytes = certificate(alloc, entries.as_slice(), seven_pages_way()).expect(rt, "memory");
+    assert!(rt; bytes.get(28) == Some(&2));
+    bytes
 }
 
-/// The bytes with one of them changed are refused with this number.
+/// The certificate of seven pages with one of its bytes changed is refused with this number.
 fn is_refused_with(
     rt: &impl Abort,
     alloc: Global,
@@ -134,7 +137,6 @@ fn is_refused_with(
 
 #[test]
 fn one_page_needs_one_entry(rt: HostRuntime) {
-    let map = map_of(&rt, rt.alloc(), 0x80000, 1, Perm::ReadWriteExecute);
     let way = Way {
         page: 0x80000,
         perm: Perm::ReadWriteExecute,
@@ -144,26 +146,30 @@ fn one_page_needs_one_entry(rt: HostRuntime) {
     let entries = [(0x1F, 0x2000_01FF)];
     let bytes = certificate(rt.alloc(), entries.as_slice(), way).expect(&rt, "memory");
     assert!(rt; bytes.len() == 1208);
-    answers(&rt, &map, bytes.as_slice(), Ok(1));
+    let page = (0x80000, 1, Perm::ReadWriteExecute);
+    range_answers(&rt, rt.alloc(), page, bytes.as_slice(), Ok(1));
 }
 
-#[test]
-fn seven_pages_need_two_entries_and_all_their_bytes(rt: HostRuntime) {
-    let map = seven_pages_map(&rt, rt.alloc());
-    let bytes = seven_pages(&rt, rt.alloc());
+/// The certificate of seven pages is right, and what is cut off it anywhere is truncated.
+fn are_all_needed(rt: &impl Abort, map: &PermissionMap, bytes: &[u8]) {
     assert!(rt; bytes.len() == 1217);
-    answers(&rt, &map, bytes.as_slice(), Ok(2));
+    answers(rt, map, bytes, Ok(2));
     for n in 0..1217 {
         let front = bytes.get(..n).unwrap_or_default();
-        answers(&rt, &map, front, Err(CheckRefusal::Truncated));
+        answers(rt, map, front, Err(CheckRefusal::Truncated));
     }
 }
 
 #[test]
-fn each_refusal_has_its_place_in_the_seven_pages(rt: HostRuntime) {
-    let map = seven_pages_map(&rt, rt.alloc());
+fn seven_pages_need_two_entries_and_all_their_bytes(rt: HostRuntime) {
+    let map = map_of(&rt, rt.alloc(), SEVEN_PAGES);
     let bytes = seven_pages(&rt, rt.alloc());
-    assert!(rt; bytes.get(28) == Some(&2));
+    are_all_needed(&rt, &map, bytes.as_slice());
+}
+
+#[test]
+fn each_refusal_has_its_place_in_the_seven_pages(rt: HostRuntime) {
+    let map = map_of(&rt, rt.alloc(), SEVEN_PAGES);
     let cases = [
         (1216, 7, 10),
         (1216, 2, 5),
@@ -192,15 +198,19 @@ fn with_three_entries(rt: &impl Abort, alloc: Global, cost: u8) -> Vec<u8> {
     bytes
 }
 
+/// The check of three entries, with this cost at the root, refuses them so.
+fn three_are_refused(rt: &impl Abort, alloc: Global, cost: u8, refusal: CheckRefusal) {
+    let bytes = with_three_entries(rt, alloc, cost);
+    range_answers(rt, alloc, SEVEN_PAGES, bytes.as_slice(), Err(refusal));
+}
+
 #[test]
 fn other_entries_are_refused_for_seven_pages(rt: HostRuntime) {
     let alloc = rt.alloc();
-    let map = seven_pages_map(&rt, alloc);
+    three_are_refused(&rt, alloc, 2, CheckRefusal::EntriesTooMany);
+    three_are_refused(&rt, alloc, 3, CheckRefusal::CostTooHigh);
     let entries = [EIGHT_PAGES, HOLE];
     let exchanged = certificate(alloc, entries.as_slice(), seven_pages_way()).expect(&rt, "memory");
-    answers(&rt, &map, &exchanged, Err(CheckRefusal::WrongMeaning));
-    let repeated = with_three_entries(&rt, alloc, 2);
-    answers(&rt, &map, &repeated, Err(CheckRefusal::EntriesTooMany));
-    let dearer = with_three_entries(&rt, alloc, 3);
-    answers(&rt, &map, &dearer, Err(CheckRefusal::CostTooHigh));
+    let wrong = Err(CheckRefusal::WrongMeaning);
+    range_answers(&rt, alloc, SEVEN_PAGES, &exchanged, wrong);
 }

@@ -53,17 +53,23 @@ fn refused_inside(table: &mut Table, id: u64, call: HostCall) -> Option<Refusal>
     }
 }
 
+/// The first enclave is entered and stopped, resumed and left for good, and destroyed; each call before its time is
+/// refused.
+fn lives(rt: &impl Abort, table: &mut Table) {
+    refuses_entry(rt, table, 1, Entering::Resume, Refusal::BadState);
+    refuses_entry(rt, table, 2, Entering::Run, Refusal::BadId);
+    assert!(rt; runs(table, 1, Entering::Run, Leaving::Stop));
+    assert!(rt; runs(table, 1, Entering::Resume, Leaving::Exit));
+    refuses_entry(rt, table, 1, Entering::Resume, Refusal::BadState);
+    refuses_word(rt, table, 1, 4, Refusal::BadWord);
+    destroys(rt, table, 1, Ok(0x80200));
+    refuses_word(rt, table, 1, 0, Refusal::BadId);
+}
+
 #[test]
 fn an_enclave_is_entered_stopped_resumed_and_exits(rt: HostRuntime) {
     let mut table = with_one_page(&rt, rt.alloc());
-    refuses_entry(&rt, &mut table, 1, Entering::Resume, Refusal::BadState);
-    refuses_entry(&rt, &mut table, 2, Entering::Run, Refusal::BadId);
-    assert!(rt; runs(&mut table, 1, Entering::Run, Leaving::Stop));
-    assert!(rt; runs(&mut table, 1, Entering::Resume, Leaving::Exit));
-    refuses_entry(&rt, &mut table, 1, Entering::Resume, Refusal::BadState);
-    refuses_word(&rt, &table, 1, 4, Refusal::BadWord);
-    destroys(&rt, &mut table, 1, Ok(0x80200));
-    refuses_word(&rt, &table, 1, 0, Refusal::BadId);
+    lives(&rt, &mut table);
 }
 
 /// The answer where the host leaves an enclave that it is not in.

@@ -1,18 +1,19 @@
 //! How many entries the views after a creation or a destruction need, where there are as many and where there are not.
 
 use super::*;
-use enclave_table::CreateNeeds;
 
-/// The host's view and the enclave's own would need that many entries after a creation.
-pub fn of_creation(rt: &impl Abort, table: &Table, asked: Create, host: u32, own: u32) {
+/// The host's view and the enclave's own would need that many entries after a creation; nothing where it is refused by
+/// another check.
+pub fn of_creation(rt: &impl Abort, table: &Table, asked: Create, wanted: Option<CreateNeeds>) {
     let needs = table.needed_by_create(World::Host, asked);
-    assert!(rt; needs.expect(rt, "memory") == Some(CreateNeeds { host, own }));
+    assert!(rt; needs.expect(rt, "memory") == wanted);
 }
 
-/// The host's view would need that many entries after the destruction of an enclave.
-pub fn of_destruction(rt: &impl Abort, table: &Table, id: u64, host: u32) {
+/// The host's view would need that many entries after the destruction of an enclave; nothing where it is refused by
+/// another check.
+pub fn of_destruction(rt: &impl Abort, table: &Table, id: u64, wanted: Option<u32>) {
     let needs = table.needed_by_destroy(World::Host, id);
-    assert!(rt; needs.expect(rt, "memory") == Some(host));
+    assert!(rt; needs.expect(rt, "memory") == wanted);
 }
 
 #[test]
@@ -39,8 +40,6 @@ fn destroying_every_second_page_would_need_seventeen(rt: HostRuntime) {
 #[test]
 fn a_refusal_by_another_check_needs_nothing(rt: HostRuntime) {
     let table = table_of(&rt, rt.alloc(), 16, 1, 0x2000);
-    let there = table.needed_by_create(World::Host, page_at(0x8020_0000));
-    assert!(rt; there.expect(&rt, "memory") == None);
-    let none = table.needed_by_destroy(World::Host, 2);
-    assert!(rt; none.expect(&rt, "memory") == None);
+    of_creation(&rt, &table, page_at(0x8020_0000), None);
+    of_destruction(&rt, &table, 2, None);
 }

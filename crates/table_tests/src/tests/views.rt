@@ -1,46 +1,61 @@
 //! The views of the host and of enclaves, and the lists that mean them.
 
 use super::*;
+use permission_map::PermissionMap;
 
-#[test]
-fn boot_of_the_example_platform_uses_three_entries(rt: HostRuntime) {
-    let table = example_table(&rt, rt.alloc(), 16);
-    let wanted = [0x0400_01FF, 0x2003_FFFF, 0x20FF_FFFF];
-    assert!(rt; have_addresses(table.host_entries(), wanted.as_slice()));
-    assert!(rt; table.enclave_entries(1).is_none());
-    owns(&rt, &table, 0x80000, Owner::Monitor);
-    owns(&rt, &table, 0x80200, Owner::Host);
+/// What is so of the host's view and of those of enclaves, and of the lists that mean them.
+#[derive(Clone, Copy)]
+enum Seen<'a> {
+    /// The numbers in the address registers of the host's list.
+    HostLists(&'a [u64]),
+    /// Those of an enclave's list; none where there is no such enclave.
+    Lists(u64, Option<&'a [u64]>),
+    /// How many maximal runs an enclave's view has; none where there is no such enclave.
+    Runs(u64, Option<usize>),
+    /// What the host may do with a page.
+    HostPage(u32, Perm),
+    /// What an enclave may do with a page.
+    Page(u64, u32, Perm),
+    /// Where an enclave is entered.
+    EnteredAt(u64, u64),
+    /// How many entries the host's view uses.
+    Uses(usize),
+    Owns(u32, Owner),
 }
 
-#[test]
-fn seven_pages_need_two_entries(rt: HostRuntime) {
-    let mut table = example_table(&rt, rt.alloc(), 16);
-    let mut asked = page_at(0x8020_8000);
-    asked.text_pages = 7;
-    creates(&rt, &mut table, asked, Ok(1));
-    assert!(rt; lists(&table, 1, &[0x2008_3DFF, 0x2008_2FFF]));
-    uses(&rt, &table, 5);
+/// That this is so of a table.
+fn is_so(rt: &impl Abort, table: &Table, seen: Seen) {
+    match seen {
+        Seen::HostLists(wanted) => assert!(rt; have_addresses(table.host_entries(), wanted)),
+        Seen::Lists(id, wanted) => assert!(rt; lists(table, id, wanted)),
+        Seen::Runs(id, wanted) => assert!(rt; run_count(rt, table, id) == wanted),
+        Seen::HostPage(page, perm) => host_sees(rt, table, page, perm),
+        Seen::Page(id, page, perm) => enclave_sees(rt, table, id, page, perm),
+        Seen::EnteredAt(id, wanted) => assert!(rt; table.entry_point(id) == Some(wanted)),
+        Seen::Uses(wanted) => uses(rt, table, wanted),
+        Seen::Owns(page, wanted) => owns(rt, table, page, wanted),
+    }
 }
 
-/// The table of one enclave with a page of text, one of data and one that it shares.
-fn with_three_pages(rt: &impl Abort, alloc: Global) -> Table {
+/// All this is so of a new table with this enclave, or with none.
+fn sees(rt: &impl Abort, alloc: Global, asked: Option<Create>, seen: &[Seen]) {
     let mut table = example_table(rt, alloc, 16);
-    let mut asked = page_at(0x8020_0000);
-    asked.data_pages = 1;
-    asked.shared_base = 0x8040_0000;
-    asked.shared_count = 1;
-    creates(rt, &mut table, asked, Ok(1));
-    table
+    if let Some(asked) = asked {
+        creates(rt, &mut table, asked, Ok(1));
+    }
+    all_are_so(rt, &table, seen);
 }
 
-#[test]
-fn lists_and_owners_of_text_data_and_shared_pages(rt: HostRuntime) {
-    let table = with_three_pages(&rt, rt.alloc());
-    assert!(rt; lists(&table, 1, &[0x2008_01FF, 0x2008_05FF, 0x2010_01FF]));
-    uses(&rt, &table, 4);
-    owns(&rt, &table, 0x80201, Owner::Private(1));
-    owns(&rt, &table, 0x80400, Owner::Shared(1));
-    assert!(rt; table.entry_point(1) == Some(0x8020_0000));
+/// All this is so of a table.
+fn all_are_so(rt: &impl Abort, table: &Table, seen: &[Seen]) {
+    for one in seen {
+        is_so(rt, table, *one);
+    }
+}
+
+/// The list of an enclave has that many entries.
+pub fn lists_many(rt: &impl Abort, table: &Table, id: u64, wanted: usize) {
+    assert!(rt; table.enclave_entries(id).map(|entries| entries.len()) == Some(wanted));
 }
 
 /// How many maximal runs the view of an enclave has.
@@ -49,53 +64,95 @@ fn run_count(rt: &impl Abort, table: &Table, id: u64) -> Option<usize> {
     view.map(|view| view.ranges().len())
 }
 
-/// Pages of the view of an enclave have these permissions.
-fn enclave_sees(rt: &impl Abort, table: &Table, id: u64, pages: &[(u32, Perm)]) {
-    let view = table.enclave_view(id).expect(rt, "memory");
-    let view = view.expect(rt, "an enclave");
-    for (page, perm) in pages {
-        assert_eq!(rt; view.get(u64::from(*page)), *perm, "page {page:#x}");
-    }
+/// A page of a view has this permission.
+fn gives(rt: &impl Abort, view: &PermissionMap, page: u32, perm: Perm) {
+    assert_eq!(rt; view.get(u64::from(page)), perm, "page {page:#x}");
 }
 
-/// Pages of the host's view have these permissions.
-fn host_sees(rt: &impl Abort, table: &Table, pages: &[(u32, Perm)]) {
+/// A page of the view of an enclave has this permission.
+fn enclave_sees(rt: &impl Abort, table: &Table, id: u64, page: u32, perm: Perm) {
+    let view = table.enclave_view(id).expect(rt, "memory");
+    let view = view.expect(rt, "an enclave");
+    gives(rt, &view, page, perm);
+}
+
+/// A page of the host's view has this permission.
+fn host_sees(rt: &impl Abort, table: &Table, page: u32, perm: Perm) {
     let view = table.host_view().expect(rt, "memory");
-    for (page, perm) in pages {
-        assert_eq!(rt; view.get(u64::from(*page)), *perm, "page {page:#x}");
-    }
+    gives(rt, &view, page, perm);
+}
+
+#[test]
+fn boot_of_the_example_platform_uses_three_entries(rt: HostRuntime) {
+    let seen = [
+        Seen::HostLists(&[0x0400_01FF, 0x2003_FFFF, 0x20FF_FFFF]),
+        Seen::Lists(1, None),
+        Seen::Owns(0x80000, Owner::Monitor),
+        Seen::Owns(0x80200, Owner::Host),
+    ];
+    sees(&rt, rt.alloc(), None, seen.as_slice());
+}
+
+#[test]
+fn seven_pages_need_two_entries(rt: HostRuntime) {
+    let mut asked = page_at(0x8020_8000);
+    asked.text_pages = 7;
+    let seen = [
+        Seen::Lists(1, Some(&[0x2008_3DFF, 0x2008_2FFF])),
+        Seen::Uses(5),
+    ];
+    sees(&rt, rt.alloc(), Some(asked), seen.as_slice());
+}
+
+/// A page of text, one of data and one that is shared.
+fn three_pages() -> Create {
+    let mut asked = page_at(0x8020_0000);
+    asked.data_pages = 1;
+    asked.shared_base = 0x8040_0000;
+    asked.shared_count = 1;
+    asked
+}
+
+#[test]
+fn lists_and_owners_of_text_data_and_shared_pages(rt: HostRuntime) {
+    let list = [0x2008_01FF, 0x2008_05FF, 0x2010_01FF];
+    let seen = [
+        Seen::Lists(1, Some(list.as_slice())),
+        Seen::Uses(4),
+        Seen::Owns(0x80201, Owner::Private(1)),
+        Seen::Owns(0x80400, Owner::Shared(1)),
+        Seen::EnteredAt(1, 0x8020_0000),
+    ];
+    sees(&rt, rt.alloc(), Some(three_pages()), seen.as_slice());
 }
 
 #[test]
 fn view_of_an_enclave_with_text_data_and_shared_pages(rt: HostRuntime) {
-    let table = with_three_pages(&rt, rt.alloc());
-    assert!(rt; run_count(&rt, &table, 1) == Some(3));
-    assert!(rt; run_count(&rt, &table, 2) == None);
-    let pages = [
-        (0x80200, Perm::ReadExecute),
-        (0x80201, Perm::ReadWrite),
-        (0x80400, Perm::ReadWrite),
+    let seen = [
+        Seen::Runs(1, Some(3)),
+        Seen::Runs(2, None),
+        Seen::Page(1, 0x80200, Perm::ReadExecute),
+        Seen::Page(1, 0x80201, Perm::ReadWrite),
+        Seen::Page(1, 0x80400, Perm::ReadWrite),
     ];
-    enclave_sees(&rt, &table, 1, pages.as_slice());
+    sees(&rt, rt.alloc(), Some(three_pages()), seen.as_slice());
 }
 
 #[test]
 fn view_of_the_host_beside_an_enclave(rt: HostRuntime) {
-    let table = with_three_pages(&rt, rt.alloc());
-    let pages = [
-        (0x801FF, Perm::NoAccess),
-        (0x80200, Perm::NoAccess),
-        (0x80201, Perm::NoAccess),
-        (0x80202, Perm::ReadWriteExecute),
-        (0x80400, Perm::ReadWriteExecute),
+    let seen = [
+        Seen::HostPage(0x801FF, Perm::NoAccess),
+        Seen::HostPage(0x80200, Perm::NoAccess),
+        Seen::HostPage(0x80201, Perm::NoAccess),
+        Seen::HostPage(0x80202, Perm::ReadWriteExecute),
+        Seen::HostPage(0x80400, Perm::ReadWriteExecute),
     ];
-    host_sees(&rt, &table, pages.as_slice());
+    sees(&rt, rt.alloc(), Some(three_pages()), seen.as_slice());
 }
 
 #[test]
 fn an_enclaves_own_view_can_need_too_many(rt: HostRuntime) {
-    let mut table = example_table(&rt, rt.alloc(), 16);
-    let mut asked = Create {
+    let too_many = Create {
         base: 0x804A_B000,
         text_pages: 170,
         data_pages: 342,
@@ -103,10 +160,14 @@ fn an_enclaves_own_view_can_need_too_many(rt: HostRuntime) {
         shared_count: 11,
         entry_offset: 0,
     };
-    needs::of_creation(&rt, &table, asked, 13, 17);
-    creates(&rt, &mut table, asked, Err(Refusal::NoEntries));
+    let mut asked = too_many;
     asked.shared_count = 10;
-    creates(&rt, &mut table, asked, Ok(1));
-    uses(&rt, &table, 13);
-    assert!(rt; table.enclave_entries(1).map(|entries| entries.len()) == Some(16));
+    let steps = [
+        Step::WouldNeed(too_many, 13, 17),
+        Step::Creates(too_many, Err(Refusal::NoEntries)),
+        Step::Creates(asked, Ok(1)),
+        Step::Uses(13),
+        Step::ListsMany(1, 16),
+    ];
+    takes_on(&rt, rt.alloc(), 16, 0, 0, steps.as_slice());
 }
