@@ -1,19 +1,9 @@
 //! Maps at fault, with what is said of each line.
 
-use byte_streams::fakes::PieceSink;
-use map_lint::lint;
+use crate::said::{Reader, expect_faults, expect_said};
 use map_text::map_of;
 use std::alloc::Global;
 use std::process::Abort;
-use std::test::Fail;
-
-/// That the lint of the file has this answer and these lines.
-fn expect_lint(rt: &impl Abort, alloc: Global, bytes: &[u8], is_map: bool, wanted: &str) {
-    let mut out = PieceSink::new(4096, None);
-    let answer = lint(alloc, "m", bytes, &mut out);
-    assert!(rt; answer == Ok(is_map));
-    assert!(rt; out.written() == wanted.as_bytes());
-}
 
 /// That two files make the same map.
 fn expect_same_map(rt: &impl Abort, alloc: Global, one: &[u8], other: &[u8]) {
@@ -24,8 +14,8 @@ fn expect_same_map(rt: &impl Abort, alloc: Global, one: &[u8], other: &[u8]) {
 }
 
 #[test]
-fn each_line_at_fault_by_its_column_and_reason(rt: HostRuntime) -> Result<(), Fail> {
-    for (map, wanted) in [
+fn each_line_at_fault_by_its_column_and_reason(rt: HostRuntime) {
+    let rows = [
         (
             b"0x80000000 0x400 rwx\n".as_slice(),
             "m:1:12: SIZE 0x400 is not a multiple of 4096; the whole page is 0x1000\n",
@@ -82,52 +72,64 @@ fn each_line_at_fault_by_its_column_and_reason(rt: HostRuntime) -> Result<(), Fa
             b"\xEF\xBB\xBF0 4096 r\n0 4096 \xC3\xA9\n",
             "m:1:1: a byte order mark; save the file without one\nm:2:8: a byte that is no visible ASCII character; write it behind a #\n",
         ),
-    ] {
-        expect_lint(&rt, rt.alloc(), map, false, wanted);
-    }
-    let long = [b'0'; 1024];
+    ];
+    expect_faults(&rt, rt.alloc(), Reader::MapLint, &rows);
     let wanted = "m:1:1024: the line is too long; it has at most 1023 bytes\n";
-    expect_lint(&rt, rt.alloc(), long.as_slice(), false, wanted);
-    Ok(())
+    expect_faults(&rt, rt.alloc(), Reader::MapLint, &[(&[b'0'; 1024], wanted)]);
 }
 
 #[test]
-fn a_map_without_fault_and_lines_that_change_nothing(rt: HostRuntime) -> Result<(), Fail> {
-    let alloc = rt.alloc();
-    let host = b"0x80000000 0x8000000 rwx\n0x80000000 0x200000 none\n0x10000000 0x1000 rw\n";
-    expect_lint(&rt, alloc, host.as_slice(), true, "");
-    let idle = b"0 0x1000 r # overwritten below\n\n0 0x2000 rw\n0x1000 0x1000 rw\n0x5000 0 x\n";
-    let wanted =
-        "m:1:1: warning: the line changes nothing of the whole map; it can go\nm:4:1: warning: the line changes nothing of the whole map; it can go\nm:5:1: warning: the line changes nothing of the whole map; it can go\n";
-    expect_lint(&rt, alloc, idle.as_slice(), true, wanted);
-    Ok(())
+fn a_map_without_fault_and_lines_that_change_nothing(rt: HostRuntime) {
+    let rows = [
+        (
+            b"0x80000000 0x8000000 rwx\n0x80000000 0x200000 none\n0x10000000 0x1000 rw\n".as_slice(),
+            true,
+            "",
+        ),
+        (
+            b"0 0x1000 r # overwritten below\n\n0 0x2000 rw\n0x1000 0x1000 rw\n0x5000 0 x\n",
+            true,
+            "m:1:1: warning: the line changes nothing of the whole map; it can go\nm:4:1: warning: the line changes nothing of the whole map; it can go\nm:5:1: warning: the line changes nothing of the whole map; it can go\n",
+        ),
+    ];
+    expect_said(&rt, rt.alloc(), Reader::MapLint, &rows);
 }
 
 #[test]
-fn a_line_that_denies_what_no_line_allows_is_a_note(rt: HostRuntime) -> Result<(), Fail> {
-    let alloc = rt.alloc();
-    let kept = b"0x80000000 0x8000000 rwx\n0x10000000 0x1000 none\n";
-    let note =
-        "m:2:1: note: the line says what holds anyway; its pages have no permission without it\n";
-    expect_lint(&rt, alloc, kept.as_slice(), true, note);
-    let partly = b"0 0x1000 r\n0 0x2000 none\n0 0x1000 r\n";
-    let warnings =
-        "m:1:1: warning: the line changes nothing of the whole map; it can go\nm:2:1: note: the line says what holds anyway; its pages have no permission without it\n";
-    expect_lint(&rt, alloc, partly.as_slice(), true, warnings);
-    Ok(())
+fn a_line_that_denies_what_no_line_allows_is_a_note(rt: HostRuntime) {
+    let rows = [
+        (
+            b"0x80000000 0x8000000 rwx\n0x10000000 0x1000 none\n".as_slice(),
+            true,
+            "m:2:1: note: the line says what holds anyway; its pages have no permission without it\n",
+        ),
+        (
+            b"0 0x1000 r\n0 0x2000 none\n0 0x1000 r\n",
+            true,
+            "m:1:1: warning: the line changes nothing of the whole map; it can go\nm:2:1: note: the line says what holds anyway; its pages have no permission without it\n",
+        ),
+    ];
+    expect_said(&rt, rt.alloc(), Reader::MapLint, &rows);
 }
 
 #[test]
-fn lines_that_are_named_can_all_be_left_out(rt: HostRuntime) -> Result<(), Fail> {
-    let alloc = rt.alloc();
+fn lines_that_are_named_can_all_be_left_out(rt: HostRuntime) {
     let twice = b"0 0x1000 r\n0 0x1000 r\n";
-    let wanted = "m:1:1: warning: the line changes nothing of the whole map; it can go\n";
-    expect_lint(&rt, alloc, twice.as_slice(), true, wanted);
     let guard = b"0x80000000 0x8000000 rwx\n0x80000000 0x200000 none\n0x80000000 0x200000 none\n";
-    let wanted = "m:2:1: warning: the line changes nothing of the whole map; it can go\n";
-    expect_lint(&rt, alloc, guard.as_slice(), true, wanted);
     let left = b"0x80000000 0x8000000 rwx\n0x80000000 0x200000 none\n";
-    expect_lint(&rt, alloc, left.as_slice(), true, "");
-    expect_same_map(&rt, alloc, guard.as_slice(), left.as_slice());
-    Ok(())
+    let rows = [
+        (
+            twice.as_slice(),
+            true,
+            "m:1:1: warning: the line changes nothing of the whole map; it can go\n",
+        ),
+        (
+            guard,
+            true,
+            "m:2:1: warning: the line changes nothing of the whole map; it can go\n",
+        ),
+        (left, true, ""),
+    ];
+    expect_said(&rt, rt.alloc(), Reader::MapLint, &rows);
+    expect_same_map(&rt, rt.alloc(), guard, left);
 }

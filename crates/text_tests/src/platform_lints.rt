@@ -1,30 +1,20 @@
 //! Files that are no platforms, with what is said of each.
 
+use crate::said::{Reader, answer_of, expect_faults, expect_said};
 use byte_streams::fakes::PieceSink;
-use platform_lint::lint_platform;
 use std::alloc::Global;
 use std::process::Abort;
-use std::test::Fail;
-
-/// That the lint of the file has this answer and this line.
-fn expect_lint(rt: &impl Abort, alloc: Global, bytes: &[u8], is_platform: bool, wanted: &str) {
-    let mut out = PieceSink::new(4096, None);
-    let answer = lint_platform(alloc, "p", bytes, &mut out);
-    assert!(rt; answer == Ok(is_platform));
-    assert!(rt; out.written() == wanted.as_bytes());
-}
 
 #[test]
-fn a_platform_has_nothing_said_of_it(rt: HostRuntime) -> Result<(), Fail> {
+fn a_platform_has_nothing_said_of_it(rt: HostRuntime) {
     let text =
         b"monitor = { base = 0x80000000, size = 0x200000 }\nram = [{ base = 0x80000000, size = 0x8000000 }]\n";
-    expect_lint(&rt, rt.alloc(), text, true, "");
-    Ok(())
+    expect_said(&rt, rt.alloc(), Reader::PlatformLint, &[(text, true, "")]);
 }
 
 #[test]
-fn keys_and_values_of_tables_are_named(rt: HostRuntime) -> Result<(), Fail> {
-    for (text, wanted) in [
+fn keys_and_values_of_tables_are_named(rt: HostRuntime) {
+    let rows = [
         (
             b"hart = 2\n".as_slice(),
             "p: unknown key 'hart'; the keys are monitor, ram, device, harts and entries\n",
@@ -62,15 +52,13 @@ fn keys_and_values_of_tables_are_named(rt: HostRuntime) -> Result<(), Fail> {
             b"monitor = { base = 0, size = 4096 }\nram = [{ base = 0, size = 4096 }, { base = 8192 }]\n",
             "p: ram 2: the key size is missing\n",
         ),
-    ] {
-        expect_lint(&rt, rt.alloc(), text, false, wanted);
-    }
-    Ok(())
+    ];
+    expect_faults(&rt, rt.alloc(), Reader::PlatformLint, &rows);
 }
 
 #[test]
-fn devices_and_numbers_are_named(rt: HostRuntime) -> Result<(), Fail> {
-    for (text, wanted) in [
+fn devices_and_numbers_are_named(rt: HostRuntime) {
+    let rows = [
         (
             b"monitor = { base = 0, size = 4096 }\nram = [{ base = 0, size = 8192 }]\ndevice = [{ base = 8192, size = 4096 }]\n".as_slice(),
             "p: device 1: the key perm is missing\n",
@@ -107,18 +95,20 @@ fn devices_and_numbers_are_named(rt: HostRuntime) -> Result<(), Fail> {
             b"monitor = { base = 0, size = 4096 }\nram = [{ base = 0, size = 8192 }, { base = 4096, size = 4096 }]\n",
             "p: ram 2: base 0x1000, size 0x1000 has a page in common with ram 1: base 0x0, size 0x2000\n",
         ),
-    ] {
-        expect_lint(&rt, rt.alloc(), text, false, wanted);
-    }
-    Ok(())
+    ];
+    expect_faults(&rt, rt.alloc(), Reader::PlatformLint, &rows);
+}
+
+/// That the file is no platform, and that what is said of it begins so.
+fn expect_begin(rt: &impl Abort, alloc: Global, bytes: &[u8], begin: &[u8]) {
+    let mut out = PieceSink::new(4096, None);
+    assert!(rt; answer_of(alloc, Reader::PlatformLint, bytes, &mut out) == Some(false));
+    assert!(rt; out.written().starts_with(begin));
 }
 
 #[test]
-fn what_is_no_document_has_its_line_and_column(rt: HostRuntime) -> Result<(), Fail> {
-    let mut out = PieceSink::new(4096, None);
-    let answer = lint_platform(rt.alloc(), "p", b"harts = 1\nram = [\n", &mut out);
-    assert!(rt; answer == Ok(false));
-    assert!(rt; out.written().starts_with(b"p:3:1: "));
-    expect_lint(&rt, rt.alloc(), b"harts = \xff\n", false, "p: not UTF-8\n");
-    Ok(())
+fn what_is_no_document_has_its_line_and_column(rt: HostRuntime) {
+    expect_begin(&rt, rt.alloc(), b"harts = 1\nram = [\n", b"p:3:1: ");
+    let rows = [(b"harts = \xff\n".as_slice(), "p: not UTF-8\n")];
+    expect_faults(&rt, rt.alloc(), Reader::PlatformLint, &rows);
 }

@@ -2,21 +2,34 @@
 
 use platform_file::{TextFault, platform_of};
 use pmp_encoding::Limit;
-use std::test::Fail;
+use std::alloc::Global;
+use std::process::Abort;
+
+/// That the text is a platform of so many harts and of that limit.
+fn expect_platform(rt: &impl Abort, alloc: Global, text: &str, harts: u8, limit: Limit) {
+    let platform = platform_of(alloc, text).expect(rt, "a platform");
+    assert!(rt; platform.harts() == harts);
+    assert!(rt; platform.limit() == limit);
+}
+
+/// That none of the texts is a platform.
+fn expect_none(rt: &impl Abort, alloc: Global, texts: &[&str]) {
+    for text in texts {
+        match platform_of(alloc, *text) {
+            Ok(_) => panic!(rt; "taken: {text}"),
+            Err(fault) => assert!(rt; fault == TextFault::NotAPlatform, "{text}"),
+        }
+    }
+}
 
 #[test]
-fn the_example_is_a_platform(rt: HostRuntime) -> Result<(), Fail> {
+fn the_example_is_a_platform(rt: HostRuntime) {
     let text =
         "[monitor]\nbase = 0x80000000\nsize = 0x200000\n\n[[ram]]\nbase = 0x80000000\nsize = 0x8000000\n\n[[device]]\nbase = 0x10000000\nsize = 0x1000\nperm = \"rw\"\n";
-    let platform = platform_of(rt.alloc(), text)?;
-    assert!(rt; platform.harts() == 1);
-    assert!(rt; platform.limit() == Limit::Sixteen);
+    expect_platform(&rt, rt.alloc(), text, 1, Limit::Sixteen);
     let other =
         "harts = 4\n\"entries\" = 0o100\nmonitor = { size = 4096, base = 0 }\nram = [{ base = 0b0, size = 0x1_000 }]\ndevice = []";
-    let platform = platform_of(rt.alloc(), other)?;
-    assert!(rt; platform.harts() == 4);
-    assert!(rt; platform.limit() == Limit::SixtyFour);
-    Ok(())
+    expect_platform(&rt, rt.alloc(), other, 4, Limit::SixtyFour);
 }
 
 #[test]
@@ -50,10 +63,5 @@ fn other_texts_are_no_platform(rt: HostRuntime) {
         "entries = 272\nmonitor = { base = 0, size = 4096 }\nram = [{ base = 0, size = 4096 }]",
         "entries = 16.0\nmonitor = { base = 0, size = 4096 }\nram = [{ base = 0, size = 4096 }]",
     ];
-    for text in texts {
-        match platform_of(rt.alloc(), text) {
-            Ok(_) => assert!(rt; false, "taken"),
-            Err(fault) => assert!(rt; fault == TextFault::NotAPlatform),
-        }
-    }
+    expect_none(&rt, rt.alloc(), &texts);
 }

@@ -1,43 +1,26 @@
 //! Files that are no traces, with what is said of each line at fault.
 
-use byte_streams::fakes::PieceSink;
-use std::alloc::Global;
-use std::process::Abort;
-use std::test::Fail;
-use trace_lint::{Taker, lint_trace};
+use crate::said::{Reader, expect_faults, expect_said};
+use trace_lint::Taker;
 
-/// That the lint of the file has this answer and these lines, for whom it is.
-fn expect_lint_for(
-    rt: &impl Abort,
-    alloc: Global,
-    taker: Taker,
-    bytes: &[u8],
-    is_trace: bool,
-    wanted: &str,
-) {
-    let mut out = PieceSink::new(4096, None);
-    let answer = lint_trace(alloc, "t", bytes, taker, &mut out);
-    assert!(rt; answer == Ok(is_trace));
-    assert!(rt; out.written() == wanted.as_bytes());
-}
-
-/// The same for `run` on two harts.
-fn expect_lint(rt: &impl Abort, alloc: Global, bytes: &[u8], is_trace: bool, wanted: &str) {
-    expect_lint_for(rt, alloc, Taker::Run { harts: 2 }, bytes, is_trace, wanted);
-}
+/// The lint for `run` on two harts.
+const OF_TWO: Reader = Reader::TraceLint(Taker::Run { harts: 2 });
 
 #[test]
-fn a_trace_has_nothing_said_of_it(rt: HostRuntime) -> Result<(), Fail> {
+fn a_trace_has_nothing_said_of_it(rt: HostRuntime) {
     let trace =
-        b"# each form\r\nfetch s 4 0x80000000\n\n@1 load u 8 4096 # a comment\nstore\tu 1 0 0xff\nreg x31 18446744073709551615\necall\necall 1 2 3 4 5 6 7 0x8\n@0 irq";
-    expect_lint(&rt, rt.alloc(), trace, true, "");
-    expect_lint(&rt, rt.alloc(), b"", true, "");
-    Ok(())
+        b"# each form\r\nfetch s 4 0x80000000\n\n@1 load u 8 4096 # a comment\nstore\tu 1 0 0xff\nreg x31 18446744073709551615\necall\necall 1 2 3 4 5 6 7 0x8\n@0 irq".as_slice();
+    expect_said(
+        &rt,
+        rt.alloc(),
+        OF_TWO,
+        &[(trace, true, ""), (b"", true, "")],
+    );
 }
 
 #[test]
-fn words_of_accesses_are_named(rt: HostRuntime) -> Result<(), Fail> {
-    for (trace, wanted) in [
+fn words_of_accesses_are_named(rt: HostRuntime) {
+    let rows = [
         (
             b"load 8 0x1000\nload m 8 0x1000\n".as_slice(),
             "t:1:6: M '8' is no mode; write s or u\nt:2:6: M 'm' is machine mode; write s or u\n",
@@ -58,15 +41,13 @@ fn words_of_accesses_are_named(rt: HostRuntime) -> Result<(), Fail> {
             b"fetch s 4 0 1\nload s 8 0 1\nstore s 8 0 1 2\n",
             "t:1:13: '1' is too much; a fetch ends with ADDR, and a comment begins with #\nt:2:12: '1' is too much; a load ends with ADDR, and a comment begins with #\nt:3:15: '2' is too much; a store ends with VALUE, and a comment begins with #\n",
         ),
-    ] {
-        expect_lint(&rt, rt.alloc(), trace, false, wanted);
-    }
-    Ok(())
+    ];
+    expect_faults(&rt, rt.alloc(), OF_TWO, &rows);
 }
 
 #[test]
-fn registers_and_calls_are_named(rt: HostRuntime) -> Result<(), Fail> {
-    for (trace, wanted) in [
+fn registers_and_calls_are_named(rt: HostRuntime) {
+    let rows = [
         (
             b"reg a0 1\nreg sp 1\nreg s11 1\nreg t6 1\nreg fp 1\n".as_slice(),
             "t:1:5: xN 'a0' is not written so; write x10\nt:2:5: xN 'sp' is not written so; write x2\nt:3:5: xN 's11' is not written so; write x27\nt:4:5: xN 't6' is not written so; write x31\nt:5:5: xN 'fp' is not written so; write x8\n",
@@ -79,15 +60,13 @@ fn registers_and_calls_are_named(rt: HostRuntime) -> Result<(), Fail> {
             b"ecall 1 2 3 4 5 6 7 8 9\necall create\nirq 7\n",
             "t:1:23: '9' is a ninth word of the call; a call has at most eight\nt:2:7: W 'create' is no number; write decimal digits, or 0x and hexadecimal digits\nt:3:5: '7' is too much; irq stands alone, and a comment begins with #\n",
         ),
-    ] {
-        expect_lint(&rt, rt.alloc(), trace, false, wanted);
-    }
-    Ok(())
+    ];
+    expect_faults(&rt, rt.alloc(), OF_TWO, &rows);
 }
 
 #[test]
-fn harts_and_events_are_named(rt: HostRuntime) -> Result<(), Fail> {
-    for (trace, wanted) in [
+fn harts_and_events_are_named(rt: HostRuntime) {
+    let rows = [
         (
             b"@2 irq\n@ 1 irq\n@10 irq\n  @1\n@1 @0 irq\n".as_slice(),
             "t:1:1: '@2' is none of the harts; H is below 2\nt:2:1: '@' names no hart; write @ and one digit\nt:3:1: '@10' names no hart; write @ and one digit\nt:4:5: no event stands after the hart; write fetch, load, store, reg, ecall or irq\nt:5:4: '@0' is no event; write fetch, load, store, reg, ecall or irq\n",
@@ -108,18 +87,15 @@ fn harts_and_events_are_named(rt: HostRuntime) -> Result<(), Fail> {
             b"irq\n0123456789012345678901234567890123456789\n\nirq irq",
             "t:2:1: '01234567890123456789012345678901..' is no event; write fetch, load, store, reg, ecall or irq\nt:4:5: 'irq' is too much; irq stands alone, and a comment begins with #\n",
         ),
-    ] {
-        expect_lint(&rt, rt.alloc(), trace, false, wanted);
-    }
-    let long = [b'0'; 1024];
+    ];
+    expect_faults(&rt, rt.alloc(), OF_TWO, &rows);
     let wanted = "t:1:1024: the line is too long; it has at most 1023 bytes\n";
-    expect_lint(&rt, rt.alloc(), long.as_slice(), false, wanted);
-    Ok(())
+    expect_faults(&rt, rt.alloc(), OF_TWO, &[(&[b'0'; 1024], wanted)]);
 }
 
 #[test]
-fn judge_takes_accesses_alone(rt: HostRuntime) -> Result<(), Fail> {
-    for (trace, is_trace, wanted) in [
+fn judge_takes_accesses_alone(rt: HostRuntime) {
+    let rows = [
         (
             b"# accesses\nfetch s 4 0x80000000\n\n  load u 8 4096 # a comment\nstore\tu 1 0 0xff".as_slice(),
             true,
@@ -140,8 +116,6 @@ fn judge_takes_accesses_alone(rt: HostRuntime) -> Result<(), Fail> {
             false,
             "t:1:6: M '8' is no mode; write s or u\nt:2:5: xN 'a0' is not written so; write x10\n",
         ),
-    ] {
-        expect_lint_for(&rt, rt.alloc(), Taker::Judge, trace, is_trace, wanted);
-    }
-    Ok(())
+    ];
+    expect_said(&rt, rt.alloc(), Reader::TraceLint(Taker::Judge), &rows);
 }
