@@ -35,13 +35,13 @@ pub(crate) fn expect_audits_of(
     fewest: u64,
     xlen: Xlen,
     all: bool,
-    rows: &[(&[u8], bool, &str)],
+    rows: &[(&str, bool, &str)],
 ) {
     for (listing, means, text) in rows {
         let mut out = PieceSink::new(7, None);
-        let answer = audit(alloc, map, fewest, xlen, *listing, all, &mut out).ok();
-        assert!(rt; answer == Some(*means), "{text}");
-        assert!(rt; out.written() == text.as_bytes(), "{text}");
+        let answer = audit(alloc, map, fewest, xlen, listing.as_bytes(), all, &mut out);
+        let is_written = out.written() == text.as_bytes();
+        assert!(rt; answer.ok() == Some(*means) && is_written, "{listing}");
     }
 }
 
@@ -55,10 +55,7 @@ fn expect_audits(
     rows: &[(&str, bool, &str)],
 ) {
     let map = map_of(rt, alloc, ranges);
-    for (listing, means, text) in rows {
-        let row = (listing.as_bytes(), *means, *text);
-        expect_audits_of(rt, alloc, &map, fewest, Xlen::Rv64, all, &[row]);
-    }
+    expect_audits_of(rt, alloc, &map, fewest, Xlen::Rv64, all, rows);
 }
 
 #[test]

@@ -19,19 +19,14 @@ pub(crate) fn expect_listing(
     let registers = listing.registers;
     assert!(rt; registers.xlen == xlen);
     for (at, bytes) in cfgs {
-        let set = registers.cfgs.as_slice().get(*at..).unwrap_or_default();
-        assert!(rt; set.starts_with(*bytes), "bytes from {at}");
+        let set = registers.cfgs.as_slice().get(*at..);
+        assert!(rt; set.unwrap_or_default().starts_with(*bytes));
     }
     for (at, words) in addresses {
-        let set = registers
-            .addresses
-            .as_slice()
-            .get(*at..)
-            .unwrap_or_default();
-        assert!(rt; set.starts_with(*words), "addresses from {at}");
+        let set = registers.addresses.as_slice().get(*at..);
+        assert!(rt; set.unwrap_or_default().starts_with(*words));
     }
-    assert!(rt; listing.mseccfg == mseccfg);
-    assert!(rt; listing.passed == passed);
+    assert!(rt; listing.mseccfg == mseccfg && listing.passed == passed);
 }
 
 /// That of each listing of that width this is the first line that is not understood.

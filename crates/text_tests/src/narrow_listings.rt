@@ -78,21 +78,15 @@ fn lines_that_are_none_of_rv32(rt: HostRuntime) {
 }
 
 /// That the listing has this table, this map, and this answer of an audit against the map.
-fn expect_texts(
-    rt: &impl Abort,
-    alloc: Global,
-    listing: &[u8],
-    table: &str,
-    map: &str,
-    line: &str,
-) {
+fn expect_texts(rt: &impl Abort, alloc: Global, listing: &str, table: &str, map: &str, line: &str) {
+    let bytes = listing.as_bytes();
     expect_said(
         rt,
         alloc,
         Reader::Table(Xlen::Rv32),
-        &[(listing, true, table)],
+        &[(bytes, true, table)],
     );
-    expect_said(rt, alloc, Reader::Map(Xlen::Rv32), &[(listing, true, map)]);
+    expect_said(rt, alloc, Reader::Map(Xlen::Rv32), &[(bytes, true, map)]);
     let meant = map_of(alloc, map.as_bytes()).expect(rt, "a map");
     expect_audits_of(
         rt,
@@ -111,12 +105,12 @@ fn the_whole_space_of_rv32_and_ranges(rt: HostRuntime) {
         "from               to                 size    perm by\n0x0000000000000000 0x00000003ffffffff  16 GiB  rwx  0\nall else                                       ---  no entry\n1 entry is not OFF\n";
     let map = "0x0000000000000000 0x0000000400000000 rwx\n";
     let line = "means the map: 1 entry where 1 is enough\n";
-    let ones = b"pmpcfg0 0x1f\npmpaddr0 0xffffffff\n";
+    let ones = "pmpcfg0 0x1f\npmpaddr0 0xffffffff\n";
     expect_texts(&rt, rt.alloc(), ones, all, map, line);
-    let ones = b"pmpcfg0 0x1f\npmpaddr0 0x7fffffff\n";
+    let ones = "pmpcfg0 0x1f\npmpaddr0 0x7fffffff\n";
     expect_texts(&rt, rt.alloc(), ones, all, map, line);
     let ranges =
-        b"pmpcfg1 0x0b00\npmpaddr4 0x8000400\npmpaddr5 0x8000c00\npmpcfg0 0x1b\npmpaddr0 0xc00001ff\n";
+        "pmpcfg1 0x0b00\npmpaddr4 0x8000400\npmpaddr5 0x8000c00\npmpcfg0 0x1b\npmpaddr0 0xc00001ff\n";
     let table =
         "from               to                 size    perm by\n0x0000000020001000 0x0000000020002fff   8 KiB  rw-  5\n0x0000000300000000 0x0000000300000fff   4 KiB  rw-  0\nall else                                       ---  no entry\n2 entries are not OFF\n";
     let map =

@@ -51,11 +51,9 @@ pub(crate) fn expect_said(
     for (bytes, answer, wanted) in rows {
         for piece in [7, 4096] {
             let mut out = PieceSink::new(piece, None);
-            assert!(rt;
-                answer_of(alloc, reader, *bytes, &mut out) == Some(*answer),
-                "{wanted}"
-            );
-            assert!(rt; out.written() == wanted.as_bytes(), "{wanted}");
+            let said = answer_of(alloc, reader, *bytes, &mut out);
+            let is_written = out.written() == wanted.as_bytes();
+            assert!(rt; said == Some(*answer) && is_written, "{wanted}");
         }
     }
 }
