@@ -17,39 +17,38 @@ fn regions_are_entries(rt: HostRuntime) {
     expect_listing(&rt, Xlen::Rv64, log, &cfgs, &addresses, 0, None);
 }
 
+/// Logs, and the first line of each that is not understood.
+const NOT_UNDERSTOOD: &[(&[u8], u64)] = &[
+    (b"OpenSBI\nDomain0 Region00 : 0x80000000-0x8002ffff ()\n", 2),
+    (b"Domain0 Region00 : 0x80000000-0x80000001 ()", 1),
+    (b"Domain0 Region00 : 0x80001000-0x80002fff ()", 1),
+    (b"Domain0 Region00 : 0x80000200-0x800005ff ()", 1),
+    (b"Domain0 Region00 : 0x1000-0xfff ()", 1),
+    (b"Domain0 Region00 : 0x1000-0x7ff ()", 1),
+    (b"Domain0 Region00 : 0-0x1ffffffffffffff ()", 1),
+    (
+        b"Domain0 Region00 : 0x100000000000000-0x100000000000fff ()",
+        1,
+    ),
+    (b"Domain0 Region00 : 0x1000 ()", 1),
+    (b"Domain0 Region00 : 0-0xfff (W)", 1),
+    (b"Domain0 Region00 : 0-0xfff M: (R) S/U: (W,X)", 1),
+    (b"Domain0 Region00 : 0-0xfff (R,Q)", 1),
+    (b"Domain0 Region00 : 0-0xfff R,W", 1),
+    (b"Domain0 Region00 : 0-0xfff", 1),
+    (b"Domain0 Region00 : 0-0xfff M: (R) S/U:", 1),
+    (b"Domain0 Region00 : 0-0xfff M: (R) H: (R)", 1),
+    (b"Domain0 Region00 0-0xfff (R)", 1),
+    (b"Domain0 Region64 : 0-0xfff (R)", 1),
+    (b"Domain0 Regions : 0-0xfff (R)", 1),
+    (b"Domain0 Region00 : 0-0xfff (R)\npmpaddr1 1\n", 2),
+    (b"Domain0 Region00 : 0-0xfff (R)\nPMPADDR1 1\n", 2),
+    (b"MSECCFG 7\nDomain0 Region00 : 0-0xfff (R)\n", 1),
+    (b"Domain1 Region00 : 0-0xfff (R)\n", 1),
+    (b"# Domain0 Region00 : 0-0xfff (R)\nOpenSBI v1.1\n", 2),
+];
+
 #[test]
 fn lines_on_regions_that_are_not_understood(rt: HostRuntime) {
-    let rows = [
-        (
-            b"OpenSBI\nDomain0 Region00 : 0x80000000-0x8002ffff ()\n".as_slice(),
-            2,
-        ),
-        (b"Domain0 Region00 : 0x80000000-0x80000001 ()", 1),
-        (b"Domain0 Region00 : 0x80001000-0x80002fff ()", 1),
-        (b"Domain0 Region00 : 0x80000200-0x800005ff ()", 1),
-        (b"Domain0 Region00 : 0x1000-0xfff ()", 1),
-        (b"Domain0 Region00 : 0x1000-0x7ff ()", 1),
-        (b"Domain0 Region00 : 0-0x1ffffffffffffff ()", 1),
-        (
-            b"Domain0 Region00 : 0x100000000000000-0x100000000000fff ()",
-            1,
-        ),
-        (b"Domain0 Region00 : 0x1000 ()", 1),
-        (b"Domain0 Region00 : 0-0xfff (W)", 1),
-        (b"Domain0 Region00 : 0-0xfff M: (R) S/U: (W,X)", 1),
-        (b"Domain0 Region00 : 0-0xfff (R,Q)", 1),
-        (b"Domain0 Region00 : 0-0xfff R,W", 1),
-        (b"Domain0 Region00 : 0-0xfff", 1),
-        (b"Domain0 Region00 : 0-0xfff M: (R) S/U:", 1),
-        (b"Domain0 Region00 : 0-0xfff M: (R) H: (R)", 1),
-        (b"Domain0 Region00 0-0xfff (R)", 1),
-        (b"Domain0 Region64 : 0-0xfff (R)", 1),
-        (b"Domain0 Regions : 0-0xfff (R)", 1),
-        (b"Domain0 Region00 : 0-0xfff (R)\npmpaddr1 1\n", 2),
-        (b"Domain0 Region00 : 0-0xfff (R)\nPMPADDR1 1\n", 2),
-        (b"MSECCFG 7\nDomain0 Region00 : 0-0xfff (R)\n", 1),
-        (b"Domain1 Region00 : 0-0xfff (R)\n", 1),
-        (b"# Domain0 Region00 : 0-0xfff (R)\nOpenSBI v1.1\n", 2),
-    ];
-    expect_unknown(&rt, Xlen::Rv64, &rows);
+    expect_unknown(&rt, Xlen::Rv64, NOT_UNDERSTOOD);
 }

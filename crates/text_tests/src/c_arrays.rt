@@ -113,21 +113,23 @@ static inline void pmp_load(void)
     );
 }
 
+/// What stands in the board's C with a name, and how often.
+const NAMED: &[(&[u8], usize)] = &[
+    (b"uint64_t _uart9_pmpaddr[16] = {", 1),
+    (b"uint64_t _uart9_pmpcfg[2] = {", 1),
+    (b"enum { _uart9_count = 3 };", 1),
+    (b"static inline void _uart9_load(void)", 1),
+    (b"*addr = _uart9_pmpaddr;", 1),
+    (b"*cfg = _uart9_pmpcfg;", 1),
+    (b"_uart9_", 6),
+    (b"csrw pmpaddr", 16),
+    (b"csrw pmpaddr15, %0\" : : \"r\"(addr[15])", 1),
+    (b"csrw pmpcfg2, %0\" : : \"r\"(cfg[1])", 1),
+];
+
 #[test]
 fn c_has_the_name_that_is_given(rt: HostRuntime) {
-    let parts = [
-        (b"uint64_t _uart9_pmpaddr[16] = {".as_slice(), 1),
-        (b"uint64_t _uart9_pmpcfg[2] = {", 1),
-        (b"enum { _uart9_count = 3 };", 1),
-        (b"static inline void _uart9_load(void)", 1),
-        (b"*addr = _uart9_pmpaddr;", 1),
-        (b"*cfg = _uart9_pmpcfg;", 1),
-        (b"_uart9_", 6),
-        (b"csrw pmpaddr", 16),
-        (b"csrw pmpaddr15, %0\" : : \"r\"(addr[15])", 1),
-        (b"csrw pmpcfg2, %0\" : : \"r\"(cfg[1])", 1),
-    ];
-    expect_c(&rt, rt.alloc(), Some("_uart9"), 0, HEAD, b"", &parts);
+    expect_c(&rt, rt.alloc(), Some("_uart9"), 0, HEAD, b"", NAMED);
 }
 
 #[test]

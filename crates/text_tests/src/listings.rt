@@ -103,43 +103,47 @@ fn names_in_upper_case(rt: HostRuntime) {
     expect_listing(&rt, Xlen::Rv64, listing, &cfgs, &addresses, 0, None);
 }
 
+/// Listings, and the first line of each that is not understood.
+const NOT_UNDERSTOOD: &[(&[u8], u64)] = &[
+    (b"pmpaddr64 1", 1),
+    (b"\n\npmpaddr01 1\nwhat", 3),
+    (b"pmpcfg1 0", 1),
+    (b"pmpcfg16 0", 1),
+    (b"pmpcfg0\n", 1),
+    (b"pmpaddr 1\n", 1),
+    (b"pmpaddr0 1\n64 0 0\n", 2),
+    (b"0 0x100 0\n", 1),
+    (b"0 0 0 0\n", 1),
+    (b"entries many\n", 1),
+    (b"pmpaddr0 0x10000000000000000\n", 1),
+    (b"pmpaddr0 1\npmpaddr1 \x80\n", 2),
+];
+
 #[test]
 fn the_first_line_that_is_not_understood(rt: HostRuntime) {
-    let rows = [
-        (b"pmpaddr64 1".as_slice(), 1),
-        (b"\n\npmpaddr01 1\nwhat", 3),
-        (b"pmpcfg1 0", 1),
-        (b"pmpcfg16 0", 1),
-        (b"pmpcfg0\n", 1),
-        (b"pmpaddr 1\n", 1),
-        (b"pmpaddr0 1\n64 0 0\n", 2),
-        (b"0 0x100 0\n", 1),
-        (b"0 0 0 0\n", 1),
-        (b"entries many\n", 1),
-        (b"pmpaddr0 0x10000000000000000\n", 1),
-        (b"pmpaddr0 1\npmpaddr1 \x80\n", 2),
-    ];
-    expect_unknown(&rt, Xlen::Rv64, &rows);
+    expect_unknown(&rt, Xlen::Rv64, NOT_UNDERSTOOD);
 }
+
+/// Listings that tools print almost so, and the first line of each that is not understood.
+const NO_TOOL_PRINTS: &[(&[u8], u64)] = &[
+    (b"mstatus 0x1800\npmpcfg1 0x0 0\n", 2),
+    (b"PMPCFG3 (/64): 0x0\n", 1),
+    (b"pmpcfg0 (/32): 0x1f\n", 1),
+    (b"pmpaddr64 0x0 0\n", 1),
+    (b"pmp0cfg 0\n", 1),
+    (b"pmpaddr0\t1 2 3\n", 1),
+    (b"pmpaddr0=\n", 1),
+    (b"=1\n", 1),
+    (b"mseccfg 0\nmseccfgh 0x1\n", 2),
+    (b"mseccfg MML\n", 1),
+    (b"mstatus 0x1800 SD:0 pmpaddr0 0x1\n", 1),
+    (b"pmpcfg0 0x1f A B\n", 1),
+    (b"pcx 0x1\n", 1),
+    (b"mstatus what\n", 1),
+    (b"pmaddr0 0x1\n", 1),
+];
 
 #[test]
 fn lines_of_tools_that_are_not_understood(rt: HostRuntime) {
-    let rows = [
-        (b"mstatus 0x1800\npmpcfg1 0x0 0\n".as_slice(), 2),
-        (b"PMPCFG3 (/64): 0x0\n", 1),
-        (b"pmpcfg0 (/32): 0x1f\n", 1),
-        (b"pmpaddr64 0x0 0\n", 1),
-        (b"pmp0cfg 0\n", 1),
-        (b"pmpaddr0\t1 2 3\n", 1),
-        (b"pmpaddr0=\n", 1),
-        (b"=1\n", 1),
-        (b"mseccfg 0\nmseccfgh 0x1\n", 2),
-        (b"mseccfg MML\n", 1),
-        (b"mstatus 0x1800 SD:0 pmpaddr0 0x1\n", 1),
-        (b"pmpcfg0 0x1f A B\n", 1),
-        (b"pcx 0x1\n", 1),
-        (b"mstatus what\n", 1),
-        (b"pmaddr0 0x1\n", 1),
-    ];
-    expect_unknown(&rt, Xlen::Rv64, &rows);
+    expect_unknown(&rt, Xlen::Rv64, NO_TOOL_PRINTS);
 }

@@ -59,22 +59,24 @@ fn what_a_boot_log_of_rv32_says(rt: HostRuntime) {
     expect_first(&rt, half, &[0x19, 0], &[0x2fff_ffff, 0], None);
 }
 
+/// Lines that are none of RV32.
+const NOT_NARROW: &[(&[u8], u64)] = &[
+    (b"pmpaddr0 0x100000000", 1),
+    (b"pmpcfg0 0x100000000", 1),
+    (b"pmpcfg16 0", 1),
+    (b"mseccfg 0x100000000", 1),
+    (b"mseccfgh 1", 1),
+    (b"mtvec 0x100000000", 1),
+    (b"pmpaddr0 (/64): 1", 1),
+    (b"0 0x1f 0x100000000", 1),
+    (b"pmpaddr64 1", 1),
+    (b"Domain0 Region00 : 0x400000000-0x400000fff (R)", 1),
+    (b"Domain0 Region00 : 0-0x7ffffffff (R)", 1),
+];
+
 #[test]
 fn lines_that_are_none_of_rv32(rt: HostRuntime) {
-    let rows = [
-        (b"pmpaddr0 0x100000000".as_slice(), 1),
-        (b"pmpcfg0 0x100000000", 1),
-        (b"pmpcfg16 0", 1),
-        (b"mseccfg 0x100000000", 1),
-        (b"mseccfgh 1", 1),
-        (b"mtvec 0x100000000", 1),
-        (b"pmpaddr0 (/64): 1", 1),
-        (b"0 0x1f 0x100000000", 1),
-        (b"pmpaddr64 1", 1),
-        (b"Domain0 Region00 : 0x400000000-0x400000fff (R)", 1),
-        (b"Domain0 Region00 : 0-0x7ffffffff (R)", 1),
-    ];
-    expect_unknown(&rt, Xlen::Rv32, &rows);
+    expect_unknown(&rt, Xlen::Rv32, NOT_NARROW);
 }
 
 /// That the listing has this table, this map, and this answer of an audit against the map.

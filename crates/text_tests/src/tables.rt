@@ -73,25 +73,27 @@ fn registers_as_a_map(rt: HostRuntime) {
     expect_ranges(&rt, rt.alloc(), wanted.as_bytes(), 2, 0x80008);
 }
 
+/// Listings without a map, and what is said of them.
+const BELOW_A_PAGE: &[(&[u8], &str)] = &[
+    (
+        b"pmpcfg0 0x0f\npmpaddr0 0x20000080\n",
+        "no map: 0x0000000080000200 0x0000000080000fff has ---, its page's first byte rwx\n",
+    ),
+    (
+        b"pmpcfg0 0x1911\npmpaddr0 0x20000001\npmpaddr1 0x200001ff\n",
+        "no map: 0x0000000080000000 0x0000000080000007, entry 0 cuts an access of 8 bytes\n",
+    ),
+    (
+        b"pmpcfg0 0x20\n",
+        "pair 0 0x20 0x0000000000000000: reserved bits\n",
+    ),
+    (
+        b"mseccfg 1\n",
+        "mseccfg 0x0000000000000001: no verdict, Smepmp is not modelled\n",
+    ),
+];
+
 #[test]
 fn registers_below_a_page(rt: HostRuntime) {
-    let rows = [
-        (
-            b"pmpcfg0 0x0f\npmpaddr0 0x20000080\n".as_slice(),
-            "no map: 0x0000000080000200 0x0000000080000fff has ---, its page's first byte rwx\n",
-        ),
-        (
-            b"pmpcfg0 0x1911\npmpaddr0 0x20000001\npmpaddr1 0x200001ff\n",
-            "no map: 0x0000000080000000 0x0000000080000007, entry 0 cuts an access of 8 bytes\n",
-        ),
-        (
-            b"pmpcfg0 0x20\n",
-            "pair 0 0x20 0x0000000000000000: reserved bits\n",
-        ),
-        (
-            b"mseccfg 1\n",
-            "mseccfg 0x0000000000000001: no verdict, Smepmp is not modelled\n",
-        ),
-    ];
-    expect_faults(&rt, rt.alloc(), Reader::Map(Xlen::Rv64), &rows);
+    expect_faults(&rt, rt.alloc(), Reader::Map(Xlen::Rv64), BELOW_A_PAGE);
 }
