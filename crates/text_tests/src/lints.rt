@@ -80,38 +80,33 @@ fn each_line_at_fault_by_its_column_and_reason(rt: HostRuntime) {
     expect_faults(&rt, rt.alloc(), Reader::MapLint, &[(&[b'0'; 1024], wanted)]);
 }
 
-#[test]
-fn a_map_without_fault_and_lines_that_change_nothing(rt: HostRuntime) {
-    let rows = [
-        (
-            b"0x80000000 0x8000000 rwx\n0x80000000 0x200000 none\n0x10000000 0x1000 rw\n".as_slice(),
-            true,
-            "",
-        ),
-        (
-            b"0 0x1000 r # overwritten below\n\n0 0x2000 rw\n0x1000 0x1000 rw\n0x5000 0 x\n",
-            true,
-            "m:1:1: warning: the line changes nothing of the whole map; it can go\nm:4:1: warning: the line changes nothing of the whole map; it can go\nm:5:1: warning: the line changes nothing of the whole map; it can go\n",
-        ),
-    ];
-    expect_said(&rt, rt.alloc(), Reader::MapLint, &rows);
-}
+/// Maps without a fault, and what is said of their lines that change nothing.
+const IDLE: &[(&[u8], bool, &str)] = &[
+    (
+        b"0x80000000 0x8000000 rwx\n0x80000000 0x200000 none\n0x10000000 0x1000 rw\n",
+        true,
+        "",
+    ),
+    (
+        b"0 0x1000 r # overwritten below\n\n0 0x2000 rw\n0x1000 0x1000 rw\n0x5000 0 x\n",
+        true,
+        "m:1:1: warning: the line changes nothing of the whole map; it can go\nm:4:1: warning: the line changes nothing of the whole map; it can go\nm:5:1: warning: the line changes nothing of the whole map; it can go\n",
+    ),
+    (
+        b"0x80000000 0x8000000 rwx\n0x10000000 0x1000 none\n",
+        true,
+        "m:2:1: note: the line says what holds anyway; its pages have no permission without it\n",
+    ),
+    (
+        b"0 0x1000 r\n0 0x2000 none\n0 0x1000 r\n",
+        true,
+        "m:1:1: warning: the line changes nothing of the whole map; it can go\nm:2:1: note: the line says what holds anyway; its pages have no permission without it\n",
+    ),
+];
 
 #[test]
-fn a_line_that_denies_what_no_line_allows_is_a_note(rt: HostRuntime) {
-    let rows = [
-        (
-            b"0x80000000 0x8000000 rwx\n0x10000000 0x1000 none\n".as_slice(),
-            true,
-            "m:2:1: note: the line says what holds anyway; its pages have no permission without it\n",
-        ),
-        (
-            b"0 0x1000 r\n0 0x2000 none\n0 0x1000 r\n",
-            true,
-            "m:1:1: warning: the line changes nothing of the whole map; it can go\nm:2:1: note: the line says what holds anyway; its pages have no permission without it\n",
-        ),
-    ];
-    expect_said(&rt, rt.alloc(), Reader::MapLint, &rows);
+fn lines_that_change_nothing_and_lines_that_deny_what_no_line_allows(rt: HostRuntime) {
+    expect_said(&rt, rt.alloc(), Reader::MapLint, IDLE);
 }
 
 #[test]

@@ -40,37 +40,17 @@ pub(crate) fn expect_unknown(rt: &impl Abort, xlen: Xlen, rows: &[(&[u8], u64)])
 }
 
 #[test]
-fn what_plan_prints_is_read_back(rt: HostRuntime) {
+fn what_plan_gdb_and_openocd_print_is_read(rt: HostRuntime) {
     let listing =
         b"entries 2\n0 0x18 0x0000000020083dff\n1 0x1d 0x0000000020082fff\npmpcfg0 0x0000000000001d18\npmpcfg2 0x0000000000000000\n";
     let cfgs: [(usize, &[u8]); 1] = [(0, &[0x18, 0x1d, 0])];
     let addresses: [(usize, &[u64]); 1] = [(0, &[0x2008_3dff, 0x2008_2fff, 0])];
     expect_listing(&rt, Xlen::Rv64, listing, &cfgs, &addresses, 0, None);
-}
-
-#[test]
-fn registers_in_any_order_and_set_twice(rt: HostRuntime) {
-    let listing =
-        b"# from the boot log\r\npmpcfg14 0x1122334455667788 # the last eight\n\npmpaddr63 7\npmpaddr0 1\npmpaddr0 2\n\tpmpcfg0 255\n2 24 0x10";
-    let cfgs: [(usize, &[u8]); 2] = [
-        (0, &[255, 0, 24, 0]),
-        (56, &[0x88, 0x77, 0x66, 0x55, 0x44, 0x33, 0x22, 0x11]),
-    ];
-    let addresses: [(usize, &[u64]); 2] = [(0, &[2, 0, 16]), (63, &[7])];
-    expect_listing(&rt, Xlen::Rv64, listing, &cfgs, &addresses, 0, None);
-}
-
-#[test]
-fn what_gdb_prints(rt: HostRuntime) {
     let listing =
         b"mstatus        0x1800\t6144\npmpcfg0        0x1f\t31\npmpcfg2        0x8000000000000000\t-9223372036854775808\npmpaddr0       0x801fff\t8396799\nmseccfg        0x0\t0\n";
     let cfgs: [(usize, &[u8]); 2] = [(0, &[0x1f, 0, 0]), (15, &[0x80])];
     let addresses: [(usize, &[u64]); 1] = [(0, &[0x80_1fff, 0])];
     expect_listing(&rt, Xlen::Rv64, listing, &cfgs, &addresses, 0, Some(1));
-}
-
-#[test]
-fn what_openocd_prints(rt: HostRuntime) {
     let listing =
         b"mstatus (/64): 0x0000000a00000000\npmpcfg0 (/64): 0x0000000000000f1f\npmpaddr0 (/64): 0x0000000000801fff\npmpaddr1: 0x20\npmpaddr2 : 33\npmpaddr3=0x22\npmpaddr4 = 35\n";
     let cfgs: [(usize, &[u8]); 1] = [(0, &[0x1f, 0x0f, 0])];
@@ -79,16 +59,12 @@ fn what_openocd_prints(rt: HostRuntime) {
 }
 
 #[test]
-fn other_registers_are_passed_over(rt: HostRuntime) {
+fn other_registers_are_passed_over_and_smepmp_is_kept(rt: HostRuntime) {
     let listing =
         b"# gdb\npmpcfg0 0x1f 31\npc 0x80000000 0x80000000 <_start>\nmstatus 0xa00000000 SD:0 VM:00 MXR:0\npriv 0x3 prv:3 [Machine]\nmseccfg 0x0 0\n";
     let cfgs: [(usize, &[u8]); 1] = [(0, &[0x1f])];
     let addresses: [(usize, &[u64]); 0] = [];
     expect_listing(&rt, Xlen::Rv64, listing, &cfgs, &addresses, 0, Some(3));
-}
-
-#[test]
-fn smepmp_is_kept(rt: HostRuntime) {
     let listing = b"MSECCFG (/64): 0x0000000000000004\nmseccfg=0x7\npmpaddr0 1\n";
     let cfgs: [(usize, &[u8]); 0] = [];
     let addresses: [(usize, &[u64]); 0] = [];
@@ -96,7 +72,15 @@ fn smepmp_is_kept(rt: HostRuntime) {
 }
 
 #[test]
-fn names_in_upper_case(rt: HostRuntime) {
+fn registers_in_any_order_set_twice_and_in_upper_case(rt: HostRuntime) {
+    let listing =
+        b"# from the boot log\r\npmpcfg14 0x1122334455667788 # the last eight\n\npmpaddr63 7\npmpaddr0 1\npmpaddr0 2\n\tpmpcfg0 255\n2 24 0x10";
+    let cfgs: [(usize, &[u8]); 2] = [
+        (0, &[255, 0, 24, 0]),
+        (56, &[0x88, 0x77, 0x66, 0x55, 0x44, 0x33, 0x22, 0x11]),
+    ];
+    let addresses: [(usize, &[u64]); 2] = [(0, &[2, 0, 16]), (63, &[7])];
+    expect_listing(&rt, Xlen::Rv64, listing, &cfgs, &addresses, 0, None);
     let listing = b"PMPADDR0 1\nPmpAddr1: 2\nPMPCFG0=0x1f18\n";
     let cfgs: [(usize, &[u8]); 1] = [(0, &[0x18, 0x1f, 0])];
     let addresses: [(usize, &[u64]); 1] = [(0, &[1, 2, 0])];
@@ -119,11 +103,6 @@ const NOT_UNDERSTOOD: &[(&[u8], u64)] = &[
     (b"pmpaddr0 1\npmpaddr1 \x80\n", 2),
 ];
 
-#[test]
-fn the_first_line_that_is_not_understood(rt: HostRuntime) {
-    expect_unknown(&rt, Xlen::Rv64, NOT_UNDERSTOOD);
-}
-
 /// Listings that tools print almost so, and the first line of each that is not understood.
 const NO_TOOL_PRINTS: &[(&[u8], u64)] = &[
     (b"mstatus 0x1800\npmpcfg1 0x0 0\n", 2),
@@ -144,6 +123,7 @@ const NO_TOOL_PRINTS: &[(&[u8], u64)] = &[
 ];
 
 #[test]
-fn lines_of_tools_that_are_not_understood(rt: HostRuntime) {
+fn the_first_line_that_is_not_understood(rt: HostRuntime) {
+    expect_unknown(&rt, Xlen::Rv64, NOT_UNDERSTOOD);
     expect_unknown(&rt, Xlen::Rv64, NO_TOOL_PRINTS);
 }

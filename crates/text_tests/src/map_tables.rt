@@ -43,18 +43,6 @@ all else                                       ---  no entry
 }
 
 #[test]
-fn one_entry_on_the_whole_space(rt: HostRuntime) {
-    let ranges = [(0, 1 << 44, Perm::Execute)];
-    let blocks = [(0, 56, Perm::Execute)];
-    let wanted = "\
-from               to                 size    perm by
-0x0000000000000000 0x00ffffffffffffff  64 PiB  --x  0
-1 entry: fewest possible; fits 64
-";
-    expect_table(&rt, rt.alloc(), &ranges, &blocks, Limit::SixtyFour, wanted);
-}
-
-#[test]
 fn entries_that_override_one_two_and_three(rt: HostRuntime) {
     let ranges = [
         (0, 8, Perm::Read),
@@ -81,7 +69,15 @@ all else                                       ---  no entry
 }
 
 #[test]
-fn more_entries_than_a_hart_has(rt: HostRuntime) {
+fn one_entry_on_the_whole_space_and_more_than_a_hart_has(rt: HostRuntime) {
+    let ranges = [(0, 1 << 44, Perm::Execute)];
+    let blocks = [(0, 56, Perm::Execute)];
+    let wanted = "\
+from               to                 size    perm by
+0x0000000000000000 0x00ffffffffffffff  64 PiB  --x  0
+1 entry: fewest possible; fits 64
+";
+    expect_table(&rt, rt.alloc(), &ranges, &blocks, Limit::SixtyFour, wanted);
     let blocks = [(0, 12, Perm::NoAccess); 17];
     let wanted = "\
 from               to                 size    perm by

@@ -53,11 +53,6 @@ const OF_TABLES: &[(&[u8], &str)] = &[
     ),
 ];
 
-#[test]
-fn keys_and_values_of_tables_are_named(rt: HostRuntime) {
-    expect_faults(&rt, rt.alloc(), Reader::PlatformLint, OF_TABLES);
-}
-
 /// Files with a fault of a device or a number, and what is said of them.
 const OF_DEVICES: &[(&[u8], &str)] = &[
     (
@@ -99,7 +94,8 @@ const OF_DEVICES: &[(&[u8], &str)] = &[
 ];
 
 #[test]
-fn devices_and_numbers_are_named(rt: HostRuntime) {
+fn keys_values_devices_and_numbers_are_named(rt: HostRuntime) {
+    expect_faults(&rt, rt.alloc(), Reader::PlatformLint, OF_TABLES);
     expect_faults(&rt, rt.alloc(), Reader::PlatformLint, OF_DEVICES);
 }
 

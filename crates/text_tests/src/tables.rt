@@ -43,18 +43,6 @@ fn expect_line(rt: &impl Abort, alloc: Global, listing: &[u8], line: u64) {
     assert!(rt; answer == Err(ListingFault::Line(line)));
 }
 
-#[test]
-fn registers_that_mean_nothing(rt: HostRuntime) {
-    let smepmp = "mseccfg 0x0000000000000001: no verdict, Smepmp is not modelled\n";
-    let reserved = "pair 1 0x1a 0x0000000000000005: W without R\n";
-    let rows = [
-        (b"pmpcfg0 0xff\nmseccfg 1\n".as_slice(), smepmp),
-        (b"1 0x1a 5\n2 0x60 0\n", reserved),
-    ];
-    expect_faults(&rt, rt.alloc(), Reader::Table(Xlen::Rv64), &rows);
-    expect_line(&rt, rt.alloc(), b"\npmpcfg1 0\n", 2);
-}
-
 /// That the file makes a map of so many ranges, of which this is the first page of the second.
 fn expect_ranges(rt: &impl Abort, alloc: Global, file: &[u8], count: usize, page: u64) {
     let map = map_of(alloc, file).expect(rt, "a map");
@@ -94,6 +82,14 @@ const BELOW_A_PAGE: &[(&[u8], &str)] = &[
 ];
 
 #[test]
-fn registers_below_a_page(rt: HostRuntime) {
+fn registers_that_mean_nothing_and_those_without_a_map(rt: HostRuntime) {
+    let smepmp = "mseccfg 0x0000000000000001: no verdict, Smepmp is not modelled\n";
+    let reserved = "pair 1 0x1a 0x0000000000000005: W without R\n";
+    let rows = [
+        (b"pmpcfg0 0xff\nmseccfg 1\n".as_slice(), smepmp),
+        (b"1 0x1a 5\n2 0x60 0\n", reserved),
+    ];
+    expect_faults(&rt, rt.alloc(), Reader::Table(Xlen::Rv64), &rows);
+    expect_line(&rt, rt.alloc(), b"\npmpcfg1 0\n", 2);
     expect_faults(&rt, rt.alloc(), Reader::Map(Xlen::Rv64), BELOW_A_PAGE);
 }

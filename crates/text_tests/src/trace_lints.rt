@@ -42,11 +42,6 @@ const OF_ACCESSES: &[(&[u8], &str)] = &[
     ),
 ];
 
-#[test]
-fn words_of_accesses_are_named(rt: HostRuntime) {
-    expect_faults(&rt, rt.alloc(), OF_TWO, OF_ACCESSES);
-}
-
 /// Traces with a fault of a register or a call, and what is said of them.
 const OF_CALLS: &[(&[u8], &str)] = &[
     (
@@ -62,11 +57,6 @@ const OF_CALLS: &[(&[u8], &str)] = &[
         "t:1:23: '9' is a ninth word of the call; a call has at most eight\nt:2:7: W 'create' is no number; write decimal digits, or 0x and hexadecimal digits\nt:3:5: '7' is too much; irq stands alone, and a comment begins with #\n",
     ),
 ];
-
-#[test]
-fn registers_and_calls_are_named(rt: HostRuntime) {
-    expect_faults(&rt, rt.alloc(), OF_TWO, OF_CALLS);
-}
 
 /// Traces with a fault of a hart or an event, and what is said of them.
 const OF_EVENTS: &[(&[u8], &str)] = &[
@@ -93,7 +83,9 @@ const OF_EVENTS: &[(&[u8], &str)] = &[
 ];
 
 #[test]
-fn harts_and_events_are_named(rt: HostRuntime) {
+fn words_of_each_event_are_named(rt: HostRuntime) {
+    expect_faults(&rt, rt.alloc(), OF_TWO, OF_ACCESSES);
+    expect_faults(&rt, rt.alloc(), OF_TWO, OF_CALLS);
     expect_faults(&rt, rt.alloc(), OF_TWO, OF_EVENTS);
     let wanted = "t:1:1024: the line is too long; it has at most 1023 bytes\n";
     expect_faults(&rt, rt.alloc(), OF_TWO, &[(&[b'0'; 1024], wanted)]);
