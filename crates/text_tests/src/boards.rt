@@ -157,7 +157,7 @@ pub(crate) fn expect_text(
 }
 
 /// That the blocks, numbered from the first on, are printed with these parts at the begin, one after another, with this end, and
-/// with each of these parts so many times.
+/// with each of these parts so many times, whatever a write takes.
 pub(crate) fn expect_parts(
     rt: &impl Abort,
     alloc: Global,
@@ -171,12 +171,14 @@ pub(crate) fn expect_parts(
     parts: &[(&[u8], usize)],
 ) {
     let entries = entries_of(rt, alloc, blocks);
-    let mut sink = PieceSink::new(4096, None);
-    assert!(rt; prints(rt, form, xlen, entries.as_slice(), first, limit, &mut sink));
-    assert!(rt;
-        begins_with(sink.written(), begin).is_some(),
-        "from {first}"
-    );
-    assert!(rt; sink.written().ends_with(end), "from {first}");
-    assert!(rt; has_each(sink.written(), parts), "from {first}");
+    for piece in [4096, 8192] {
+        let mut sink = PieceSink::new(piece, None);
+        assert!(rt; prints(rt, form, xlen, entries.as_slice(), first, limit, &mut sink));
+        let has_ends = begins_with(sink.written(), begin).is_some()
+            && sink.written().ends_with(end);
+        assert!(rt;
+            has_ends && has_each(sink.written(), parts),
+            "from {first}, in pieces of {piece}"
+        );
+    }
 }
