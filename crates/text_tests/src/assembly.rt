@@ -1,60 +1,12 @@
 //! Registers as assembly, by hand from the format's description and the privileged architecture.
 
-use crate::boards::{HEAD, HEAD_ABOVE, behind_head, board, times, took};
-use byte_streams::fakes::PieceSink;
-use pmp_encoding::Limit;
-use register_formats::print_asm;
+use crate::boards::{BOARD, Form, HEAD, HEAD_ABOVE, expect_text};
 use register_width::Xlen;
+use std::alloc::Global;
+use std::process::Abort;
 
-#[test]
-fn assembly_with_a_name_is_a_routine(rt: HostRuntime) {
-    let mut plain = PieceSink::new(4096, None);
-    assert!(rt;
-        print_asm(
-            None,
-            Xlen::Rv64,
-            board(&rt).as_slice(),
-            0,
-            Limit::Sixteen,
-            &mut plain
-        )
-        .is_ok()
-    );
-    let mut sink = PieceSink::new(4096, None);
-    let name = Some("uart");
-    assert!(rt;
-        print_asm(
-            name,
-            Xlen::Rv64,
-            board(&rt).as_slice(),
-            0,
-            Limit::Sixteen,
-            &mut sink
-        )
-        .is_ok()
-    );
-    let body = behind_head(&plain);
-    assert!(rt; behind_head(&sink).starts_with(b"uart_load:\n/* Only t0 is changed. */\n"));
-    assert!(rt; behind_head(&sink).ends_with(b"    sfence.vma\n    ret\n"));
-    assert!(rt; times(behind_head(&sink), body) == 1);
-    assert!(rt; behind_head(&sink).len() == body.len() + 11 + 8);
-}
-
-#[test]
-fn assembly_of_a_board(rt: HostRuntime) {
-    let mut sink = PieceSink::new(4096, None);
-    assert!(rt;
-        print_asm(
-            None,
-            Xlen::Rv64,
-            board(&rt).as_slice(),
-            0,
-            Limit::Sixteen,
-            &mut sink
-        )
-        .is_ok()
-    );
-    let text = b"/* Only t0 is changed. */
+/// The board's registers behind the head.
+const TEXT: &[u8] = b"/* Only t0 is changed. */
     addiw   zero, zero, 0 /* an assembler for RV32 refuses this */
     li      t0, 0x00000000040001ff /* 0: 0x0000000010000000, 4 KiB, rw */
     csrw    pmpaddr0, t0
@@ -68,23 +20,29 @@ fn assembly_of_a_board(rt: HostRuntime) {
     csrw    pmpcfg2, t0
     sfence.vma
 ";
-    assert!(rt; took(&sink, HEAD, text.as_slice()));
+
+/// That this is the assembly of the board from the first entry on, with a name where one is given.
+fn expect_assembly(rt: &impl Abort, alloc: Global, name: Option<&str>, first: u8, parts: &[&[u8]]) {
+    expect_text(
+        rt,
+        alloc,
+        Form::Assembly(name),
+        Xlen::Rv64,
+        BOARD,
+        first,
+        parts,
+    );
+}
+
+#[test]
+fn assembly_of_a_board_and_with_a_name_a_routine(rt: HostRuntime) {
+    expect_assembly(&rt, rt.alloc(), None, 0, &[HEAD, TEXT]);
+    let routine = [HEAD, b"uart_load:\n", TEXT, b"    ret\n"];
+    expect_assembly(&rt, rt.alloc(), Some("uart"), 0, &routine);
 }
 
 #[test]
 fn assembly_from_entry_three_keeps_three_bytes(rt: HostRuntime) {
-    let mut sink = PieceSink::new(4096, None);
-    assert!(rt;
-        print_asm(
-            None,
-            Xlen::Rv64,
-            board(&rt).as_slice(),
-            3,
-            Limit::Sixteen,
-            &mut sink
-        )
-        .is_ok()
-    );
     let text = b"/* Only t0 and t1 are changed. */
     addiw   zero, zero, 0 /* an assembler for RV32 refuses this */
     li      t0, 0x00000000040001ff /* 3: 0x0000000010000000, 4 KiB, rw */
@@ -103,23 +61,11 @@ fn assembly_from_entry_three_keeps_three_bytes(rt: HostRuntime) {
     csrw    pmpcfg2, t0
     sfence.vma
 ";
-    assert!(rt; took(&sink, HEAD_ABOVE, text.as_slice()));
+    expect_assembly(&rt, rt.alloc(), None, 3, &[HEAD_ABOVE, text]);
 }
 
 #[test]
 fn assembly_from_entry_eight_shares_no_word(rt: HostRuntime) {
-    let mut sink = PieceSink::new(4096, None);
-    assert!(rt;
-        print_asm(
-            None,
-            Xlen::Rv64,
-            board(&rt).as_slice(),
-            8,
-            Limit::Sixteen,
-            &mut sink
-        )
-        .is_ok()
-    );
     let text = b"/* Only t0 is changed. */
     addiw   zero, zero, 0 /* an assembler for RV32 refuses this */
     li      t0, 0x00000000040001ff /* 8: 0x0000000010000000, 4 KiB, rw */
@@ -132,5 +78,5 @@ fn assembly_from_entry_eight_shares_no_word(rt: HostRuntime) {
     csrw    pmpcfg2, t0
     sfence.vma
 ";
-    assert!(rt; took(&sink, HEAD_ABOVE, text.as_slice()));
+    expect_assembly(&rt, rt.alloc(), None, 8, &[HEAD_ABOVE, text]);
 }

@@ -1,61 +1,67 @@
 //! A plan as text, and what all formats have: long lists and empty ones, sizes, and writes that fail.
 
-use crate::boards::{HEAD, behind_head, board, entry, took};
+use crate::boards::{BOARD, Block, Form, HEAD, entries_of, expect_parts, expect_text, prints};
 use byte_streams::fakes::PieceSink;
 use pmp_encoding::{Limit, Perm};
-use printed_lines::print_plan;
-use register_formats::{print_asm, print_c, print_json};
 use register_width::Xlen;
+use std::alloc::Global;
+use std::process::Abort;
+
+/// That the blocks, numbered from 0 on, are printed for RV64 with this begin and end.
+fn expect_ends(
+    rt: &impl Abort,
+    alloc: Global,
+    form: Form,
+    blocks: &[Block],
+    limit: Limit,
+    begin: &[&[u8]],
+    end: &[u8],
+) {
+    expect_parts(
+        rt,
+        alloc,
+        form,
+        Xlen::Rv64,
+        blocks,
+        0,
+        limit,
+        begin,
+        end,
+        &[],
+    );
+}
 
 #[test]
 fn text_from_entry_three_leaves_a_shared_word_out(rt: HostRuntime) {
-    let mut sink = PieceSink::new(4096, None);
-    assert!(rt;
-        print_plan(
-            Xlen::Rv64,
-            board(&rt).as_slice(),
-            3,
-            Limit::Sixteen,
-            &mut sink
-        )
-        .is_ok()
-    );
     let text = b"entries 3
 3 0x1b 0x00000000040001ff
 4 0x18 0x000000002003ffff
 5 0x1f 0x0000000020ffffff
 pmpcfg2 0x0000000000000000
 ";
-    assert!(rt; took(&sink, b"", text.as_slice()));
+    expect_text(&rt, rt.alloc(), Form::Plan, Xlen::Rv64, BOARD, 3, &[text]);
 }
 
 #[test]
 fn a_list_that_fits_no_bank_has_no_words(rt: HostRuntime) {
-    let page = entry(&rt, 0x1000, 12, Perm::Execute);
-    let mut sink = PieceSink::new(4096, None);
-    assert!(rt;
-        print_json(
-            "-",
-            Xlen::Rv64,
-            [page; 17].as_slice(),
-            0,
-            Limit::Sixteen,
-            &mut sink
-        )
-        .is_ok()
-    );
+    let pages = [(0x1000, 12, Perm::Execute); 17];
     let front =
         b"{\n  \"map\": \"-\",\n  \"limit\": 16,\n  \"entries\": [\n    {\"index\": 0, \"cfg\": 28, ";
     let back =
         b"\n    {\"index\": 16, \"cfg\": 28, \"addr\": \"0x00000000000005ff\", \"base\": \"0x0000000000001000\", \"size\": 4096, \"perm\": \"x\"}\n  ],\n  \"pmpcfg\": [\n  ]\n}\n";
-    assert!(rt; sink.written().starts_with(front.as_slice()));
-    assert!(rt; sink.written().ends_with(back.as_slice()));
+    expect_ends(
+        &rt,
+        rt.alloc(),
+        Form::Json("-"),
+        &pages,
+        Limit::Sixteen,
+        &[front],
+        back,
+    );
 }
 
 #[test]
 fn no_entries_are_a_list_too(rt: HostRuntime) {
-    let mut sink = PieceSink::new(4096, None);
-    assert!(rt; print_asm(None, Xlen::Rv64, &[], 0, Limit::Sixteen, &mut sink).is_ok());
     let text = b"/* Only t0 is changed. */
     addiw   zero, zero, 0 /* an assembler for RV32 refuses this */
     li      t0, 0x0000000000000000
@@ -64,35 +70,37 @@ fn no_entries_are_a_list_too(rt: HostRuntime) {
     csrw    pmpcfg2, t0
     sfence.vma
 ";
-    assert!(rt; took(&sink, HEAD, text.as_slice()));
-    let mut sink = PieceSink::new(4096, None);
-    assert!(rt; print_json("m", Xlen::Rv64, &[], 0, Limit::SixtyFour, &mut sink).is_ok());
+    expect_text(
+        &rt,
+        rt.alloc(),
+        Form::Assembly(None),
+        Xlen::Rv64,
+        &[],
+        0,
+        &[HEAD, text],
+    );
     let begin =
         b"{\n  \"map\": \"m\",\n  \"limit\": 64,\n  \"entries\": [\n  ],\n  \"pmpcfg\": [\n    \"0x0";
-    assert!(rt; sink.written().starts_with(begin.as_slice()));
+    expect_ends(
+        &rt,
+        rt.alloc(),
+        Form::Json("m"),
+        &[],
+        Limit::SixtyFour,
+        &[begin],
+        b"",
+    );
 }
 
 #[test]
 fn sizes_are_told_in_their_largest_unit(rt: HostRuntime) {
-    let entries = [
-        entry(&rt, 0x2000, 2, Perm::Read),
-        entry(&rt, 0x2000, 9, Perm::ReadExecute),
-        entry(&rt, 0x4000_0000, 30, Perm::Read),
-        entry(&rt, 0, 49, Perm::Read),
-        entry(&rt, 0, 56, Perm::Read),
+    let blocks = [
+        (0x2000, 2, Perm::Read),
+        (0x2000, 9, Perm::ReadExecute),
+        (0x4000_0000, 30, Perm::Read),
+        (0, 49, Perm::Read),
+        (0, 56, Perm::Read),
     ];
-    let mut sink = PieceSink::new(4096, None);
-    assert!(rt;
-        print_asm(
-            None,
-            Xlen::Rv64,
-            entries.as_slice(),
-            0,
-            Limit::SixtyFour,
-            &mut sink
-        )
-        .is_ok()
-    );
     let front = b"/* Only t0 is changed. */
     addiw   zero, zero, 0 /* an assembler for RV32 refuses this */
     li      t0, 0x0000000000000800 /* 0: 0x0000000000002000, 4 B, r */
@@ -113,64 +121,54 @@ fn sizes_are_told_in_their_largest_unit(rt: HostRuntime) {
     csrw    pmpcfg14, t0
     sfence.vma
 ";
-    assert!(rt; behind_head(&sink).starts_with(front.as_slice()));
-    assert!(rt; sink.written().ends_with(back.as_slice()));
+    let form = Form::Assembly(None);
+    expect_ends(
+        &rt,
+        rt.alloc(),
+        form,
+        &blocks,
+        Limit::SixtyFour,
+        &[HEAD, front],
+        back,
+    );
 }
 
-#[test]
-fn each_write_that_fails_ends_it(rt: HostRuntime) {
-    let entries = board(&rt);
+/// That each of the first seven writes that fails ends the printing of the board, and that the printing ends too where a device
+/// takes nothing.
+fn expect_failures(rt: &impl Abort, alloc: Global, form: Form) {
+    let entries = entries_of(rt, alloc, BOARD);
     for k in 1..8u64 {
         let mut sink = PieceSink::new(4096, Some(k));
-        assert!(rt;
-            print_c(
-                None,
-                Xlen::Rv64,
-                entries.as_slice(),
-                0,
-                Limit::Sixteen,
-                &mut sink
-            )
-            .is_err()
-        );
-        let mut sink = PieceSink::new(4096, Some(k));
-        assert!(rt;
-            print_asm(
-                None,
-                Xlen::Rv64,
-                entries.as_slice(),
-                0,
-                Limit::Sixteen,
-                &mut sink
-            )
-            .is_err()
-        );
-        let mut sink = PieceSink::new(4096, Some(k));
-        assert!(rt;
-            print_json(
-                "a.map",
-                Xlen::Rv64,
-                entries.as_slice(),
-                0,
-                Limit::Sixteen,
-                &mut sink
-            )
-            .is_err()
-        );
-        assert!(rt; sink.failures == 1);
-        assert!(rt; sink.writes() == k);
-    }
-    let mut sink = PieceSink::new(0, None);
-    assert!(rt;
-        print_json(
-            "a.map",
+        let printed = prints(
+            rt,
+            form,
             Xlen::Rv64,
             entries.as_slice(),
             0,
             Limit::Sixteen,
-            &mut sink
-        )
-        .is_err()
+            &mut sink,
+        );
+        assert!(rt;
+            !printed && sink.failures == 1 && sink.writes() == k,
+            "write {k}"
+        );
+    }
+    let mut sink = PieceSink::new(0, None);
+    let printed = prints(
+        rt,
+        form,
+        Xlen::Rv64,
+        entries.as_slice(),
+        0,
+        Limit::Sixteen,
+        &mut sink,
     );
-    assert!(rt; sink.written().is_empty());
+    assert!(rt; !printed && sink.written().is_empty());
+}
+
+#[test]
+fn each_write_that_fails_ends_it(rt: HostRuntime) {
+    expect_failures(&rt, rt.alloc(), Form::C(None));
+    expect_failures(&rt, rt.alloc(), Form::Assembly(None));
+    expect_failures(&rt, rt.alloc(), Form::Json("a.map"));
 }

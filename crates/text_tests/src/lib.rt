@@ -37,6 +37,8 @@ mod platform_lints;
 #[cfg(test)]
 mod platform_texts;
 #[cfg(test)]
+mod said;
+#[cfg(test)]
 mod tables;
 #[cfg(test)]
 mod trace_lints;

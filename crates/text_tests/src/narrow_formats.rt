@@ -1,18 +1,19 @@
 //! The formats for RV32, by hand from their descriptions and the privileged architecture.
 
-use crate::boards::{board, entry};
-use byte_streams::fakes::PieceSink;
+use crate::boards::{BOARD, Block, Form, entries_of, expect_parts, expect_text};
 use pmp_encoding::{Limit, Perm};
-use printed_lines::print_plan;
-use register_formats::{print_asm, print_c, print_json};
 use register_width::Xlen;
+use std::alloc::Global;
+use std::process::Abort;
+
+/// The first page with code.
+const PAGE: &[Block] = &[(0x1000, 12, Perm::Execute)];
+
+/// The last page that a hart of RV32 reaches.
+const LAST: Block = (0x3_ffff_f000, 12, Perm::ReadExecute);
 
 #[test]
 fn text_has_words_of_four_entries(rt: HostRuntime) {
-    let entries = board(&rt);
-    assert!(rt; Xlen::Rv32.reaches(entries.as_slice()));
-    let mut sink = PieceSink::new(4096, None);
-    assert!(rt; print_plan(Xlen::Rv32, entries.as_slice(), 0, Limit::Sixteen, &mut sink).is_ok());
     let text = b"entries 3
 0 0x1b 0x040001ff
 1 0x18 0x2003ffff
@@ -22,9 +23,7 @@ pmpcfg1 0x00000000
 pmpcfg2 0x00000000
 pmpcfg3 0x00000000
 ";
-    assert!(rt; sink.written() == text.as_slice());
-    let mut sink = PieceSink::new(4096, None);
-    assert!(rt; print_plan(Xlen::Rv32, entries.as_slice(), 3, Limit::Sixteen, &mut sink).is_ok());
+    expect_text(&rt, rt.alloc(), Form::Plan, Xlen::Rv32, BOARD, 0, &[text]);
     let text = b"entries 3
 3 0x1b 0x040001ff
 4 0x18 0x2003ffff
@@ -33,43 +32,57 @@ pmpcfg1 0x00001f18
 pmpcfg2 0x00000000
 pmpcfg3 0x00000000
 ";
-    assert!(rt; sink.written() == text.as_slice());
+    expect_text(&rt, rt.alloc(), Form::Plan, Xlen::Rv32, BOARD, 3, &[text]);
+}
+
+/// That address registers of that width reach the blocks or not.
+fn expect_reach(rt: &impl Abort, alloc: Global, xlen: Xlen, blocks: &[Block], reached: bool) {
+    let entries = entries_of(rt, alloc, blocks);
+    assert!(rt; xlen.reaches(entries.as_slice()) == reached);
+}
+
+/// That the blocks, numbered from the first on, are printed for RV32 with this begin and end.
+fn expect_ends(
+    rt: &impl Abort,
+    alloc: Global,
+    form: Form,
+    blocks: &[Block],
+    first: u8,
+    begin: &[u8],
+    end: &[u8],
+) {
+    let limit = Limit::Sixteen;
+    expect_parts(
+        rt,
+        alloc,
+        form,
+        Xlen::Rv32,
+        blocks,
+        first,
+        limit,
+        &[begin],
+        end,
+        &[],
+    );
 }
 
 #[test]
 fn address_registers_of_32_bits_reach_34(rt: HostRuntime) {
-    let last = [entry(&rt, 0x3_ffff_f000, 12, Perm::ReadExecute)];
-    assert!(rt; Xlen::Rv32.reaches(last.as_slice()));
-    let mut sink = PieceSink::new(4096, None);
-    assert!(rt; print_plan(Xlen::Rv32, last.as_slice(), 0, Limit::Sixteen, &mut sink).is_ok());
-    assert!(rt;
-        sink.written()
-            .starts_with(b"entries 1\n0 0x1d 0xfffffdff\npmpcfg0 0x0000001d\n")
-    );
-    let whole = [entry(&rt, 0, 34, Perm::Read)];
-    assert!(rt; Xlen::Rv32.reaches(whole.as_slice()));
-    let behind = [last[0], entry(&rt, 0x4_0000_0000, 12, Perm::Read)];
-    assert!(rt; !Xlen::Rv32.reaches(behind.as_slice()));
-    assert!(rt; !Xlen::Rv32.reaches([entry(&rt, 0, 35, Perm::Read)].as_slice()));
-    assert!(rt; Xlen::Rv64.reaches(behind.as_slice()));
+    let alloc = rt.alloc();
+    let begin = b"entries 1\n0 0x1d 0xfffffdff\npmpcfg0 0x0000001d\n";
+    expect_ends(&rt, alloc, Form::Plan, &[LAST], 0, begin, b"");
+    let behind = [LAST, (0x4_0000_0000, 12, Perm::Read)];
+    expect_reach(&rt, alloc, Xlen::Rv32, &[LAST], true);
+    expect_reach(&rt, alloc, Xlen::Rv32, &[(0, 34, Perm::Read)], true);
+    expect_reach(&rt, alloc, Xlen::Rv32, &behind, false);
+    expect_reach(&rt, alloc, Xlen::Rv32, &[(0, 35, Perm::Read)], false);
+    expect_reach(&rt, alloc, Xlen::Rv64, &behind, true);
+    expect_reach(&rt, alloc, Xlen::Rv32, BOARD, true);
+    expect_reach(&rt, alloc, Xlen::Rv32, PAGE, true);
 }
 
 #[test]
 fn asm_from_entry_three_shares_a_word_of_four(rt: HostRuntime) {
-    let entries = board(&rt);
-    assert!(rt; Xlen::Rv32.reaches(entries.as_slice()));
-    let mut sink = PieceSink::new(4096, None);
-    assert!(rt;
-        print_asm(
-            None,
-            Xlen::Rv32,
-            entries.as_slice(),
-            3,
-            Limit::Sixteen,
-            &mut sink
-        )
-        .is_ok()
-    );
     let text = b" */
 /* Only t0 and t1 are changed. */
     j       1f /* over what an assembler for RV64 refuses */
@@ -95,25 +108,11 @@ fn asm_from_entry_three_shares_a_word_of_four(rt: HostRuntime) {
     csrw    pmpcfg3, t0
     sfence.vma
 ";
-    assert!(rt; sink.written().ends_with(text.as_slice()));
+    expect_ends(&rt, rt.alloc(), Form::Assembly(None), BOARD, 3, b"", text);
 }
 
 #[test]
 fn c_and_json_say_that_they_are_for_rv32(rt: HostRuntime) {
-    let page = [entry(&rt, 0x1000, 12, Perm::Execute)];
-    assert!(rt; Xlen::Rv32.reaches(page.as_slice()));
-    let mut sink = PieceSink::new(4096, None);
-    assert!(rt;
-        print_json(
-            "m",
-            Xlen::Rv32,
-            page.as_slice(),
-            5,
-            Limit::Sixteen,
-            &mut sink
-        )
-        .is_ok()
-    );
     let text = b"{
   \"map\": \"m\",
   \"limit\": 16,
@@ -130,18 +129,14 @@ fn c_and_json_say_that_they_are_for_rv32(rt: HostRuntime) {
   ]
 }
 ";
-    assert!(rt; sink.written() == text.as_slice());
-    let mut sink = PieceSink::new(8192, None);
-    assert!(rt;
-        print_c(
-            None,
-            Xlen::Rv32,
-            page.as_slice(),
-            5,
-            Limit::Sixteen,
-            &mut sink
-        )
-        .is_ok()
+    expect_text(
+        &rt,
+        rt.alloc(),
+        Form::Json("m"),
+        Xlen::Rv32,
+        PAGE,
+        5,
+        &[text],
     );
     let begin = b"/*
  * PMP registers, planned by pmpmon. With them a hart lets supervisor and user mode
@@ -159,6 +154,5 @@ fn c_and_json_say_that_they_are_for_rv32(rt: HostRuntime) {
 }
 #endif
 ";
-    assert!(rt; sink.written().starts_with(begin.as_slice()));
-    assert!(rt; sink.written().ends_with(end.as_slice()));
+    expect_ends(&rt, rt.alloc(), Form::C(None), PAGE, 5, begin, end);
 }

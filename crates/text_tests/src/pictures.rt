@@ -1,34 +1,33 @@
 //! The table of a map as JSON and as a picture.
 
+use crate::boards::{BOARD, entries_of};
 use map_text::map_of;
-use pmp_encoding::{Entry, Limit, Perm, Region};
+use pmp_encoding::Limit;
 use std::alloc::Global;
 use std::process::Abort;
-use std::test::Fail;
 use table_formats::{json_table, picture};
 
 const MAP: &[u8] = b"0x80000000 0x8000000 rwx\n0x80000000 0x200000 none\n0x10000000 0x1000 rw\n";
 
-/// The entry of that block.
-fn entry(rt: &impl Abort, base: u64, log2: u32, perm: Perm) -> Entry {
-    let region = Region::new(base, log2).expect(rt, "a block");
-    Entry { region, perm }
+/// That the table of that map, with its fewest entries, is this as JSON.
+fn expect_json(rt: &impl Abort, alloc: Global, wanted: &[u8]) {
+    let map = map_of(alloc, MAP).expect(rt, "a map");
+    let three = entries_of(rt, alloc, BOARD);
+    let text = json_table(alloc, &map, three.as_slice(), Limit::Sixteen).expect(rt, "memory");
+    assert!(rt; text.as_slice() == wanted);
 }
 
-/// The fewest entries of that map.
-fn entries(rt: &impl Abort) -> [Entry; 3] {
-    [
-        entry(rt, 0x1000_0000, 12, Perm::ReadWrite),
-        entry(rt, 0x8000_0000, 21, Perm::NoAccess),
-        entry(rt, 0x8000_0000, 27, Perm::ReadWriteExecute),
-    ]
+/// That the picture of that map, with its fewest entries, has this begin and end.
+fn expect_picture(rt: &impl Abort, alloc: Global, begin: &[u8], end: &[u8]) {
+    let map = map_of(alloc, MAP).expect(rt, "a map");
+    let three = entries_of(rt, alloc, BOARD);
+    let text = picture(alloc, &map, three.as_slice(), Limit::Sixteen).expect(rt, "memory");
+    assert!(rt; text.as_slice().starts_with(begin));
+    assert!(rt; text.as_slice().ends_with(end));
 }
 
 #[test]
-fn each_stretch_is_an_object(rt: HostRuntime) -> Result<(), Fail> {
-    let map = map_of(rt.alloc(), MAP).expect(&rt, "a map");
-    let three = entries(&rt);
-    let text = json_table(rt.alloc(), &map, three.as_slice(), Limit::Sixteen)?;
+fn each_stretch_is_an_object_and_is_drawn(rt: HostRuntime) {
     let wanted = b"{
   \"limit\": 16,
   \"count\": 3,
@@ -43,18 +42,8 @@ fn each_stretch_is_an_object(rt: HostRuntime) -> Result<(), Fail> {
   ]
 }
 ";
-    assert_eq!(rt; text.as_slice(), wanted.as_slice());
-    Ok(())
-}
-
-#[test]
-fn each_stretch_is_drawn(rt: HostRuntime) -> Result<(), Fail> {
-    let map = map_of(rt.alloc(), MAP).expect(&rt, "a map");
-    let three = entries(&rt);
-    let text = picture(rt.alloc(), &map, three.as_slice(), Limit::Sixteen)?;
+    expect_json(&rt, rt.alloc(), wanted);
     let begin =
         b"<svg xmlns=\"http://www.w3.org/2000/svg\" width=\"680\" height=\"336\" viewBox=\"0 0 680 336\">\n";
-    assert!(rt; text.as_slice().starts_with(begin.as_slice()));
-    assert!(rt; text.as_slice().ends_with(b"</g>\n</svg>\n"));
-    Ok(())
+    expect_picture(&rt, rt.alloc(), begin, b"</g>\n</svg>\n");
 }
