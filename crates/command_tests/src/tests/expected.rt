@@ -49,44 +49,41 @@ fn each_tells(rt: &impl Abort, alloc: Global, rows: &[(&[u8], &str)]) {
 
 #[test]
 fn the_first_answer_that_differs_is_told(rt: HostRuntime) {
-    each_tells(
-        &rt,
-        rt.alloc(),
-        &[
-            (
-                b"load s 8 0x80000000 # fault 5\nload s 8 0 # ok\n",
-                "line 1: answered '1 ok', expected # fault 5\n",
-            ),
-            (
-                b"\n# x\nload s 8 0x80000000 # ok\nload s 8 0 # fault 7: why\n",
-                "line 4: answered '2 fault 5', expected # fault 7: why\n",
-            ),
-            (
-                b"load s 8 0x80000000 # 2 ok\nload s 8 0\n",
-                "line 1: answered '1 ok', expected # 2 ok\n",
-            ),
-            (
-                b"load s 8 0x80000000 # ok\nload s 8 0 # fault\n",
-                "line 2: answered '2 fault 5', expected # fault\n",
-            ),
-            (
-                b"load s 8 0x80000000\nload s 8 0 # fault 55\n",
-                "line 2: answered '2 fault 5', expected # fault 55\n",
-            ),
-            (
-                b"load s 8 0x80000000 # call it a day\nload s 8 0 #",
-                "line 1: answered '1 ok', expected # call it a day\n",
-            ),
-            (
-                b"load s 8 0x80000000 # irq\x1b[31m\nload s 8 0 #",
-                "line 1: answered '1 ok', expected # irq\n",
-            ),
-            (
-                b"load s 8 0x80000000\nload s 8 0 # ok 4444444444444444444444444444444444444444444444444444444444444444444444444444444444444444444444444444444444444444444444444444444444\n",
-                "line 2: answered '2 fault 5', expected # ok 444444444444444444444444444444444444444444444444444444444444444444444444444444444444444444444444444444444444444444444444444\n",
-            ),
-        ],
-    )
+    let rows: &[(&[u8], &str)] = &[
+        (
+            b"load s 8 0x80000000 # fault 5\nload s 8 0 # ok\n",
+            "line 1: answered '1 ok', expected # fault 5\n",
+        ),
+        (
+            b"\n# x\nload s 8 0x80000000 # ok\nload s 8 0 # fault 7: why\n",
+            "line 4: answered '2 fault 5', expected # fault 7: why\n",
+        ),
+        (
+            b"load s 8 0x80000000 # 2 ok\nload s 8 0\n",
+            "line 1: answered '1 ok', expected # 2 ok\n",
+        ),
+        (
+            b"load s 8 0x80000000 # ok\nload s 8 0 # fault\n",
+            "line 2: answered '2 fault 5', expected # fault\n",
+        ),
+        (
+            b"load s 8 0x80000000\nload s 8 0 # fault 55\n",
+            "line 2: answered '2 fault 5', expected # fault 55\n",
+        ),
+        (
+            b"load s 8 0x80000000 # call it a day\nload s 8 0 #",
+            "line 1: answered '1 ok', expected # call it a day\n",
+        ),
+        (
+            b"load s 8 0x80000000 # irq\x1b[31m\nload s 8 0 #",
+            "line 1: answered '1 ok', expected # irq\n",
+        ),
+        (
+            b"load s 8 0x80000000\nload s 8 0 # ok 4444444444444444444444444444444444444444444444444444444444444444444444444444444444444444444444444444444444444444444444444444444444\n",
+            "line 2: answered '2 fault 5', expected # ok 444444444444444444444444444444444444444444444444444444444444444444444444444444444444444444444444444444444444444444444444444\n",
+        ),
+    ];
+    each_tells(&rt, rt.alloc(), rows)
 }
 
 #[test]

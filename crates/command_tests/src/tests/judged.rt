@@ -1,7 +1,7 @@
 //! `judge` and `check` on files in memory.
 
 use super::maps::pages;
-use super::runs::{Parts, all_deny, all_have, all_print, certificate, prints, refuses, stops};
+use super::runs::{Parts, all_deny, all_have, certificate, each_prints, prints, refuses, stops};
 use std::alloc::Global;
 use std::process::Abort;
 
@@ -188,24 +188,17 @@ fn a_certificate_is_accepted_for_its_own_map(rt: HostRuntime) {
 #[test]
 fn certificates_are_accepted_or_refused_by_name(rt: HostRuntime) {
     let whole = b"0 0x100000000000000 rwx";
-    all_print(
-        &rt,
-        rt.alloc(),
-        &[
-            (
-                &CHECK,
-                whole,
-                b"PMPC\x01\x01\0\0\0\x1F\xFF\xFF\xFF\xFF\xFF\xFF\x1F\0\0\x07",
-                "accepted 1\n",
-            ),
-            (
-                &CHECK,
-                whole,
-                b"PMPC\x02\x40\x01\0\0\0\x1F\xFF\xFF\xFF\xFF\xFF\xFF\x1F\0\0\x07",
-                "accepted 1 of 64\n",
-            ),
-        ],
-    );
+    let right: &[(&[u8], &str)] = &[
+        (
+            b"PMPC\x01\x01\0\0\0\x1F\xFF\xFF\xFF\xFF\xFF\xFF\x1F\0\0\x07",
+            "accepted 1\n",
+        ),
+        (
+            b"PMPC\x02\x40\x01\0\0\0\x1F\xFF\xFF\xFF\xFF\xFF\xFF\x1F\0\0\x07",
+            "accepted 1 of 64\n",
+        ),
+    ];
+    each_prints(&rt, rt.alloc(), &CHECK, whole, right);
     all_deny(
         &rt,
         rt.alloc(),

@@ -1,7 +1,7 @@
 //! `plan` on files in memory.
 
 use super::maps::pages;
-use super::runs::{all_have, all_print, all_refuse, certificate, printed, prints, refuses};
+use super::runs::{all_have, certificate, printed, prints, refuses};
 use std::alloc::Global;
 use std::process::Abort;
 
@@ -11,52 +11,45 @@ const LARGE: [&str; 5] = ["pmpmon", "plan", "map.txt", "--entries", "64"];
 
 const WRITE: [&str; 4] = ["pmpmon", "plan", "map.txt", "map.pmpc"];
 
+/// Each map has this plan.
+fn have_plans(rt: &impl Abort, alloc: Global, rows: &[(&[u8], &str)]) {
+    for (map, out) in rows {
+        prints(rt, alloc, &PLAN, map, b"", out);
+    }
+}
+
 #[test]
 fn plans_print_the_fewest_entries_and_their_words(rt: HostRuntime) {
-    all_print(
+    have_plans(
         &rt,
         rt.alloc(),
         &[
             (
-                &PLAN,
                 b"0x80000000 0x1000 rwx",
-                b"",
                 "entries 1\n0 0x1f 0x00000000200001ff\npmpcfg0 0x000000000000001f\npmpcfg2 0x0000000000000000\n",
             ),
             (
-                &PLAN,
                 b"0x80000000 0x8000000 rwx\n0x80000000 0x200000 none\n0x10000000 0x1000 rw\n",
-                b"",
                 "entries 3\n0 0x1b 0x00000000040001ff\n1 0x18 0x000000002003ffff\n2 0x1f 0x0000000020ffffff\npmpcfg0 0x00000000001f181b\npmpcfg2 0x0000000000000000\n",
             ),
             (
-                &PLAN,
                 b"0x80208000 0x7000 rx\n",
-                b"",
                 "entries 2\n0 0x18 0x0000000020083dff\n1 0x1d 0x0000000020082fff\npmpcfg0 0x0000000000001d18\npmpcfg2 0x0000000000000000\n",
             ),
             (
-                &PLAN,
-                b"",
                 b"",
                 "entries 0\npmpcfg0 0x0000000000000000\npmpcfg2 0x0000000000000000\n",
             ),
             (
-                &PLAN,
                 b"0 0x100000000000000 rwx\r\n",
-                b"",
                 "entries 1\n0 0x1f 0x001fffffffffffff\npmpcfg0 0x000000000000001f\npmpcfg2 0x0000000000000000\n",
             ),
             (
-                &PLAN,
                 b"0x80000000 0x1000 r\n0x80001000 0x1000 rw\n0x80002000 0x2000 r\n",
-                b"",
                 "entries 2\n0 0x1b 0x00000000200005ff\n1 0x19 0x00000000200007ff\npmpcfg0 0x000000000000191b\npmpcfg2 0x0000000000000000\n",
             ),
             (
-                &PLAN,
                 b"# all but a page\n\t0 72057594037927936 rwx # 2^56\n\n0X80000000 4096 none\n",
-                b"",
                 "entries 2\n0 0x18 0x00000000200001ff\n1 0x1f 0x001fffffffffffff\npmpcfg0 0x0000000000001f18\npmpcfg2 0x0000000000000000\n",
             ),
         ],
@@ -125,85 +118,34 @@ fn a_plan_writes_its_certificate(rt: HostRuntime) {
     certifies_nothing(&rt, rt.alloc(), &PLAN, b"")
 }
 
+/// The line of each map is named as the first at fault, and no certificate is written.
+fn are_at_fault(rt: &impl Abort, alloc: Global, rows: &[(&[u8], u64)]) {
+    for (map, line) in rows {
+        let said = format!(in alloc; "pmpmon: map.txt: line {line} is not understood\n").expect(
+            rt, "memory",
+        );
+        refuses(rt, alloc, &WRITE, map, b"", said.as_str());
+    }
+}
+
 #[test]
 fn a_map_at_fault_is_named_with_its_first_line_at_fault(rt: HostRuntime) {
-    let long = [b'#'; 1024];
-    all_refuse(
+    are_at_fault(
         &rt,
         rt.alloc(),
         &[
-            (
-                &WRITE,
-                b"0x80000000 0x1000\n",
-                b"",
-                "pmpmon: map.txt: line 1 is not understood\n",
-            ),
-            (
-                &WRITE,
-                b"\n# none\n0 0x1000 w\n0 0x1000\n",
-                b"",
-                "pmpmon: map.txt: line 3 is not understood\n",
-            ),
-            (
-                &WRITE,
-                b"0 0x1000 RW\n",
-                b"",
-                "pmpmon: map.txt: line 1 is not understood\n",
-            ),
-            (
-                &WRITE,
-                b"0 0x1001 r\n",
-                b"",
-                "pmpmon: map.txt: line 1 is not understood\n",
-            ),
-            (
-                &WRITE,
-                b"0x800 0 r\n",
-                b"",
-                "pmpmon: map.txt: line 1 is not understood\n",
-            ),
-            (
-                &WRITE,
-                b"0x100000000000000 0 r\n0x100000000000000 0x1000 r\n",
-                b"",
-                "pmpmon: map.txt: line 2 is not understood\n",
-            ),
-            (
-                &WRITE,
-                b"0x1000 0xfffffffffffff000 r\n",
-                b"",
-                "pmpmon: map.txt: line 1 is not understood\n",
-            ),
-            (
-                &WRITE,
-                b"0 18446744073709551616 r\n",
-                b"",
-                "pmpmon: map.txt: line 1 is not understood\n",
-            ),
-            (
-                &WRITE,
-                b"0 0x1000 r more\n",
-                b"",
-                "pmpmon: map.txt: line 1 is not understood\n",
-            ),
-            (
-                &WRITE,
-                b"0 0x1000 r\r\r\n",
-                b"",
-                "pmpmon: map.txt: line 1 is not understood\n",
-            ),
-            (
-                &WRITE,
-                b"0 0x1000 r\x0b\n",
-                b"",
-                "pmpmon: map.txt: line 1 is not understood\n",
-            ),
-            (
-                &WRITE,
-                long.as_slice(),
-                b"",
-                "pmpmon: map.txt: line 1 is not understood\n",
-            ),
+            (b"0x80000000 0x1000\n", 1),
+            (b"\n# none\n0 0x1000 w\n0 0x1000\n", 3),
+            (b"0 0x1000 RW\n", 1),
+            (b"0 0x1001 r\n", 1),
+            (b"0x800 0 r\n", 1),
+            (b"0x100000000000000 0 r\n0x100000000000000 0x1000 r\n", 2),
+            (b"0x1000 0xfffffffffffff000 r\n", 1),
+            (b"0 18446744073709551616 r\n", 1),
+            (b"0 0x1000 r more\n", 1),
+            (b"0 0x1000 r\r\r\n", 1),
+            (b"0 0x1000 r\x0b\n", 1),
+            (&[b'#'; 1024], 1),
         ],
     )
 }

@@ -145,6 +145,19 @@ pub fn all_print(rt: &impl Abort, alloc: Global, rows: &[Row<'_>]) {
     }
 }
 
+/// The command line is done with this first input and each second one, and prints its text.
+pub fn each_prints(
+    rt: &impl Abort,
+    alloc: Global,
+    words: &[&str],
+    first: &[u8],
+    rows: &[(&[u8], &str)],
+) {
+    for (second, out) in rows {
+        prints(rt, alloc, words, first, second, out);
+    }
+}
+
 /// The checker or the audit refuses each, and prints its text.
 pub fn all_deny(rt: &impl Abort, alloc: Global, rows: &[Row<'_>]) {
     for (words, first, second, out) in rows {

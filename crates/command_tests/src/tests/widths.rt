@@ -43,6 +43,22 @@ fn registers_of_rv32_are_read(rt: HostRuntime) {
                 ANSWERS,
             ),
             (
+                &["pmpmon", "lint", "--registers", "b", "--xlen", "32"],
+                BOARD,
+                b"",
+                "",
+            ),
+        ],
+    )
+}
+
+#[test]
+fn maps_for_rv32_are_read(rt: HostRuntime) {
+    all_print(
+        &rt,
+        rt.alloc(),
+        &[
+            (
                 &["pmpmon", "judge", "m", "t", "--xlen", "32"],
                 MAP,
                 TRACE,
@@ -59,12 +75,6 @@ fn registers_of_rv32_are_read(rt: HostRuntime) {
                 MAP,
                 b"",
                 "from               to                 size    perm by\n0x0000000080000000 0x0000000080000fff   4 KiB  rw-  0\n0x0000000300000000 0x0000000300000fff   4 KiB  r--  1\nall else                                       ---  no entry\n2 entries: fewest possible; fits 16\n",
-            ),
-            (
-                &["pmpmon", "lint", "--registers", "b", "--xlen", "32"],
-                BOARD,
-                b"",
-                "",
             ),
         ],
     )
