@@ -32,34 +32,39 @@ fn with(rt: &impl Abort, alloc: Global, changes: &[(usize, &[u8])]) -> Vec<u8> {
     bytes
 }
 
-/// The answer to the certificate with other bytes from places on is this no, for each row.
-fn are_refused(rt: &impl Abort, alloc: Global, rows: &[(&[(usize, &[u8])], &str)]) {
-    for (changes, line) in rows {
-        let bytes = with(rt, alloc, changes);
-        denies(rt, alloc, &CHECK, HALF, bytes.as_slice(), line);
+/// The answer to the certificate with other bytes from places on is this no.
+fn is_refused(rt: &impl Abort, alloc: Global, changes: &[(usize, &[u8])], line: &str) {
+    let bytes = with(rt, alloc, changes);
+    denies(rt, alloc, &CHECK, HALF, bytes.as_slice(), line)
+}
+
+/// The answer to the certificate with other bytes from one place on is this no, for each row.
+fn each_is_refused(rt: &impl Abort, alloc: Global, rows: &[(usize, &[u8], &str)]) {
+    for (at, put, line) in rows {
+        is_refused(rt, alloc, &[(*at, *put)], line);
     }
 }
 
 #[test]
 fn each_fault_of_a_certificate_has_its_line(rt: HostRuntime) {
     prints(&rt, rt.alloc(), &CHECK, HALF, CERTIFICATE, "accepted 1\n");
-    are_refused(
+    each_is_refused(
         &rt,
         rt.alloc(),
         &[
-            (&[(0, b"\0")], "refused 1 BadMagic\n"),
-            (&[(4, b"\x03")], "refused 2 BadVersion\n"),
-            (&[(5, b"\0")], "refused 4 BadTag\n"),
-            (&[(46, b"\x02")], "refused 5 BadPerm\n"),
-            (&[(5, b"\x02")], "refused 6 BadEntry\n"),
-            (&[(10, b"\0")], "refused 7 SubPageEntry\n"),
-            (&[(18, b"\0")], "refused 9 LeafNotUniform\n"),
-            (&[(46, b"\x07")], "refused 10 WrongLeaf\n"),
-            (&[(19, b"\xFF\xFF\xFF\xFF")], "refused 11 CostTooHigh\n"),
-            (&[(19, b"\0")], "refused 13 EntriesTooMany\n"),
-            (&[(16, b"\x1F")], "refused 14 WrongMeaning\n"),
-            (&[(47, b"\0")], "refused 15 Trailing\n"),
-            (&[(4, b"\x02\x20")], "refused 16 BadLimit\n"),
+            (0, b"\0", "refused 1 BadMagic\n"),
+            (4, b"\x03", "refused 2 BadVersion\n"),
+            (5, b"\0", "refused 4 BadTag\n"),
+            (46, b"\x02", "refused 5 BadPerm\n"),
+            (5, b"\x02", "refused 6 BadEntry\n"),
+            (10, b"\0", "refused 7 SubPageEntry\n"),
+            (18, b"\0", "refused 9 LeafNotUniform\n"),
+            (46, b"\x07", "refused 10 WrongLeaf\n"),
+            (19, b"\xFF\xFF\xFF\xFF", "refused 11 CostTooHigh\n"),
+            (19, b"\0", "refused 13 EntriesTooMany\n"),
+            (16, b"\x1F", "refused 14 WrongMeaning\n"),
+            (47, b"\0", "refused 15 Trailing\n"),
+            (4, b"\x02\x20", "refused 16 BadLimit\n"),
         ],
     )
 }
@@ -98,17 +103,10 @@ fn a_node_below_a_page_is_too_deep(rt: HostRuntime) {
 
 #[test]
 fn too_many_entries_come_before_their_meaning_and_this_before_bytes_behind(rt: HostRuntime) {
-    are_refused(
-        &rt,
-        rt.alloc(),
-        &[
-            (
-                &[(19, b"\0"), (16, b"\x1F"), (47, b"\0")],
-                "refused 13 EntriesTooMany\n",
-            ),
-            (&[(16, b"\x1F"), (47, b"\0")], "refused 14 WrongMeaning\n"),
-        ],
-    )
+    let more: &[(usize, &[u8])] = &[(19, b"\0"), (16, b"\x1F"), (47, b"\0")];
+    is_refused(&rt, rt.alloc(), more, "refused 13 EntriesTooMany\n");
+    let another: &[(usize, &[u8])] = &[(16, b"\x1F"), (47, b"\0")];
+    is_refused(&rt, rt.alloc(), another, "refused 14 WrongMeaning\n")
 }
 
 #[test]

@@ -16,7 +16,7 @@ fn prints_as(rt: &impl Abort, alloc: Global, words: &[&str], named: &[&str], sec
     let want = run(rt, alloc, named, PAGE, second);
     assert!(rt; !want.out.is_empty(), "{named:?}");
     let out = want.out.as_slice();
-    ends(rt, alloc, words, (PAGE, second), want.status, out, b"");
+    ends(rt, alloc, words, (PAGE, second), want.status, out, b"")
 }
 
 /// Each command whose map is standard input prints what it prints of a map of another name, and says the word where it is at fault.

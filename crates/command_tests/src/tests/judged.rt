@@ -161,7 +161,7 @@ fn a_map_of_sixteen_or_sixty_four_entries_is_judged(rt: HostRuntime) {
     )
 }
 
-/// The certificate of a map is accepted for it and not for another, and the one of the host's map for sixty-four entries too.
+/// A map's certificate is accepted for it and refused for another map, and the large one is accepted for the host's map.
 fn are_accepted(rt: &impl Abort, alloc: Global, small: (&[u8], &[u8]), other: &[u8], large: &[u8]) {
     prints(rt, alloc, &CHECK, small.0, small.1, "accepted 2\n");
     let refused: Parts<'_> = (1, b"refused ", b"", b"");

@@ -150,6 +150,11 @@ fn a_map_at_fault_is_named_with_its_first_line_at_fault(rt: HostRuntime) {
     )
 }
 
+/// The map has a plan.
+fn is_planned(rt: &impl Abort, alloc: Global, map: &[u8]) {
+    all_have(rt, alloc, &[(&PLAN, map, b"", (0, b"", b"", b""))])
+}
+
 #[test]
 fn a_map_has_at_most_4096_ranges_after_each_line(rt: HostRuntime) {
     let most = pages(&rt, rt.alloc(), 4096);
@@ -159,11 +164,6 @@ fn a_map_has_at_most_4096_ranges_after_each_line(rt: HostRuntime) {
         .expect(&rt, "memory");
     let said = "pmpmon: map.txt: too many ranges\n";
     refuses(&rt, rt.alloc(), &PLAN, more.as_slice(), b"", said)
-}
-
-/// The map has a plan.
-fn is_planned(rt: &impl Abort, alloc: Global, map: &[u8]) {
-    all_have(rt, alloc, &[(&PLAN, map, b"", (0, b"", b"", b""))])
 }
 
 #[test]
