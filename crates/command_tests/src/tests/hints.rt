@@ -31,36 +31,42 @@ pub fn all_hint(rt: &impl Abort, alloc: Global, rows: &[Row<'_>]) {
 
 const MAP: &[u8] = b"0x80000000 0x1000 rwx\n";
 
+const WRONG: &[u8] = b"0x80000000 0x8000000 rwx\n0x80000000 0x200400 none\n0x10000000 0x1000 wr\n";
+
+const OF_MAP: &str =
+    "hint: m:2:12: SIZE 0x200400 is not a multiple of 4096; the whole pages are 0x201000\nhint: m:3:19: PERM 'wr' is not written so; write rw\n";
+
+const JUDGE: &[&str] = &["pmpmon", "judge", "m", "t"];
+
+const LISTING: &[u8] = b"pmpcfg0 0\nwhat is this\n";
+
+const OF_LISTING: &str =
+    "hint: r:2:1: the line is not understood; write a register and its value, as 'pmpcfg0 0x1f'\n";
+
+const OF_TRACE: &str = "hint: t:1:1: 'lead' is no event; write load\n";
+
 #[test]
 fn the_first_input_at_fault_has_its_hints(rt: HostRuntime) {
-    let wrong = b"0x80000000 0x8000000 rwx\n0x80000000 0x200400 none\n0x10000000 0x1000 wr\n";
-    let of_map =
-        "hint: m:2:12: SIZE 0x200400 is not a multiple of 4096; the whole pages are 0x201000\nhint: m:3:19: PERM 'wr' is not written so; write rw\n";
-    let judge = &["pmpmon", "judge", "m", "t"];
-    let listing = b"pmpcfg0 0\nwhat is this\n";
-    let of_listing =
-        "hint: r:2:1: the line is not understood; write a register and its value, as 'pmpcfg0 0x1f'\n";
-    let of_trace = "hint: t:1:1: 'lead' is no event; write load\n";
     all_hint(
         &rt,
         rt.alloc(),
         &[
-            (&["pmpmon", "plan", "m"], wrong, b"leap\n", of_map),
+            (&["pmpmon", "plan", "m"], WRONG, b"leap\n", OF_MAP),
             (&["pmpmon", "plan", "m"], MAP, b"", ""),
-            (&["pmpmon", "show", "m"], wrong, b"leap\n", of_map),
+            (&["pmpmon", "show", "m"], WRONG, b"leap\n", OF_MAP),
             (&["pmpmon", "show", "m"], MAP, b"", ""),
-            (&["pmpmon", "check", "m", "c"], wrong, b"leap\n", of_map),
+            (&["pmpmon", "check", "m", "c"], WRONG, b"leap\n", OF_MAP),
             (&["pmpmon", "check", "m", "c"], MAP, b"", ""),
-            (judge, wrong, b"leap\n", of_map),
-            (judge, MAP, b"", ""),
-            (&["pmpmon", "audit", "m", "r"], MAP, listing, of_listing),
-            (&["pmpmon", "map", "r"], listing, b"", of_listing),
-            (judge, MAP, b"lead s 8 0\n", of_trace),
+            (JUDGE, WRONG, b"leap\n", OF_MAP),
+            (JUDGE, MAP, b"", ""),
+            (&["pmpmon", "audit", "m", "r"], MAP, LISTING, OF_LISTING),
+            (&["pmpmon", "map", "r"], LISTING, b"", OF_LISTING),
+            (JUDGE, MAP, b"lead s 8 0\n", OF_TRACE),
             (
                 &["pmpmon", "judge", "--registers", "r", "t"],
                 b"pmpcfg0 0\n",
                 b"lead s 8 0\n",
-                of_trace,
+                OF_TRACE,
             ),
         ],
     )
@@ -113,20 +119,24 @@ fn a_file_that_is_too_large_has_its_limit(rt: HostRuntime) {
     )
 }
 
+const RUN: &[&str] = &["pmpmon", "run", "p", "t"];
+
+const LINT: &[&str] = &["pmpmon", "lint", "--trace", "t", "--platform", "p"];
+
+const OF_HARTS: &str = "hint: t:2:1: '@2' is none of the harts; H is below 2\n";
+
+const OF_PLATFORM: &str = "hint: p: the key monitor is missing\n";
+
 #[test]
 fn a_trace_is_for_the_harts_of_its_platform(rt: HostRuntime) {
-    let run = &["pmpmon", "run", "p", "t"];
-    let lint = &["pmpmon", "lint", "--trace", "t", "--platform", "p"];
-    let of_trace = "hint: t:2:1: '@2' is none of the harts; H is below 2\n";
-    let of_platform = "hint: p: the key monitor is missing\n";
     all_hint(
         &rt,
         rt.alloc(),
         &[
-            (run, PLATFORM, b"@1 irq\n@2 irq\n", of_trace),
-            (run, PLATFORM, b"@1 irq\n", ""),
-            (run, b"harts = 1\n", b"@2 irq\n", of_platform),
-            (lint, b"leap\n", b"harts = 1\n", of_platform),
+            (RUN, PLATFORM, b"@1 irq\n@2 irq\n", OF_HARTS),
+            (RUN, PLATFORM, b"@1 irq\n", ""),
+            (RUN, b"harts = 1\n", b"@2 irq\n", OF_PLATFORM),
+            (LINT, b"leap\n", b"harts = 1\n", OF_PLATFORM),
             (&["pmpmon", "lint", "m"], b"leap\n", b"", ""),
         ],
     )

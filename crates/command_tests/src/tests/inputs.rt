@@ -54,28 +54,32 @@ fn standard_input_serves_as_a_map(rt: HostRuntime) {
     )
 }
 
+const JUDGE: &[&str] = &["pmpmon", "judge", "m", "-"];
+
+const AUDIT: &[&str] = &["pmpmon", "audit", "m", "-"];
+
+const RUN: &[&str] = &["pmpmon", "run", "p", "-"];
+
+const MEANS: &str = "means the map: 1 entry where 1 is enough\n";
+
 #[test]
 fn standard_input_serves_as_a_trace_or_registers(rt: HostRuntime) {
-    let judge = &["pmpmon", "judge", "m", "-"];
-    let audit = &["pmpmon", "audit", "m", "-"];
-    let run = &["pmpmon", "run", "p", "-"];
-    let means = "means the map: 1 entry where 1 is enough\n";
     all_print(
         &rt,
         rt.alloc(),
         &[
-            (judge, PAGE, b"load s 8 0x80000ff8\n", "1 ok\n"),
-            (audit, PAGE, b"0 0x1f 0x200001ff\n", means),
-            (run, PLATFORM, b"irq\n", "1 irq 0 2\n"),
+            (JUDGE, PAGE, b"load s 8 0x80000ff8\n", "1 ok\n"),
+            (AUDIT, PAGE, b"0 0x1f 0x200001ff\n", MEANS),
+            (RUN, PLATFORM, b"irq\n", "1 irq 0 2\n"),
         ],
     );
     all_refuse(
         &rt,
         rt.alloc(),
         &[
-            (judge, PAGE, b"what\n", SAID),
-            (audit, PAGE, b"what\n", SAID),
-            (run, PLATFORM, b"what\n", SAID),
+            (JUDGE, PAGE, b"what\n", SAID),
+            (AUDIT, PAGE, b"what\n", SAID),
+            (RUN, PLATFORM, b"what\n", SAID),
         ],
     )
 }

@@ -90,32 +90,37 @@ fn other_lines_are_not_understood_behind_the_answers_before_them(rt: HostRuntime
     )
 }
 
+const BY_REGISTERS: &[&str] = &["pmpmon", "judge", "--registers", "board.txt", "trace.txt"];
+
+const RESERVED: &[u8] = b"mstatus 0x1800\n1 0x1a 0x400\n";
+
+const OF_RESERVED: &str =
+    "pair 1 0x1a 0x0000000000000400: W without R\n# lines of other registers are passed over, line 1 first\n";
+
+const SMEPMP: &[u8] = b"0 0x1f 0x400\nmseccfg 0x1\n";
+
+const OF_SMEPMP: &str = "mseccfg 0x0000000000000001: no verdict, Smepmp is not modelled\n";
+
 #[test]
 fn accesses_are_judged_by_registers_as_they_stand(rt: HostRuntime) {
-    let words = &["pmpmon", "judge", "--registers", "board.txt", "trace.txt"];
     let tor = b"pmpaddr0 0x400\npmpaddr1 0x800\npmpcfg0 0x8b00\nmstatus 0x1800\n";
     let trace = b"load u 8 0xff8\nload u 8 0x1000\nstore s 4 0x1ffc 1\nfetch s 4 0x1000\n";
     let answers = "1 fault 5\n2 ok\n3 ok\n4 fault 1\n";
-    prints(&rt, rt.alloc(), words, tor, trace, answers);
-    let reserved = b"mstatus 0x1800\n1 0x1a 0x400\n";
-    let of_reserved =
-        "pair 1 0x1a 0x0000000000000400: W without R\n# lines of other registers are passed over, line 1 first\n";
-    let smepmp = b"0 0x1f 0x400\nmseccfg 0x1\n";
-    let of_smepmp = "mseccfg 0x0000000000000001: no verdict, Smepmp is not modelled\n";
+    prints(&rt, rt.alloc(), BY_REGISTERS, tor, trace, answers);
     all_deny(
         &rt,
         rt.alloc(),
         &[
-            (words, reserved, b"what", of_reserved),
-            (words, smepmp, b"what", of_smepmp),
+            (BY_REGISTERS, RESERVED, b"what", OF_RESERVED),
+            (BY_REGISTERS, SMEPMP, b"what", OF_SMEPMP),
         ],
     );
     let map = b"0x80000000 0x1000 rwx\n";
     let said = "pmpmon: board.txt: line 1 is not understood\n";
-    refuses(&rt, rt.alloc(), words, map, trace, said);
+    refuses(&rt, rt.alloc(), BY_REGISTERS, map, trace, said);
     let more = b"load u 8 0x1000\nirq\n";
     let said = "pmpmon: trace.txt: line 2 is not understood\n";
-    stops(&rt, rt.alloc(), words, tor, more, "1 ok\n", said)
+    stops(&rt, rt.alloc(), BY_REGISTERS, tor, more, "1 ok\n", said)
 }
 
 #[test]
@@ -185,9 +190,10 @@ fn a_certificate_is_accepted_for_its_own_map(rt: HostRuntime) {
     )
 }
 
+const WHOLE: &[u8] = b"0 0x100000000000000 rwx";
+
 #[test]
 fn certificates_are_accepted_or_refused_by_name(rt: HostRuntime) {
-    let whole = b"0 0x100000000000000 rwx";
     let right: &[(&[u8], &str)] = &[
         (
             b"PMPC\x01\x01\0\0\0\x1F\xFF\xFF\xFF\xFF\xFF\xFF\x1F\0\0\x07",
@@ -198,23 +204,23 @@ fn certificates_are_accepted_or_refused_by_name(rt: HostRuntime) {
             "accepted 1 of 64\n",
         ),
     ];
-    each_prints(&rt, rt.alloc(), &CHECK, whole, right);
+    each_prints(&rt, rt.alloc(), &CHECK, WHOLE, right);
     all_deny(
         &rt,
         rt.alloc(),
         &[
             (
                 &CHECK,
-                whole,
+                WHOLE,
                 b"PMPC\x02\x20\x01\0\0\0\x1F\xFF\xFF\xFF\xFF\xFF\xFF\x1F\0\0\x07",
                 "refused 16 BadLimit\n",
             ),
-            (&CHECK, whole, b"PMP", "refused 3 Truncated\n"),
-            (&CHECK, whole, b"PMPX", "refused 1 BadMagic\n"),
-            (&CHECK, whole, b"PMPC\x03", "refused 2 BadVersion\n"),
+            (&CHECK, WHOLE, b"PMP", "refused 3 Truncated\n"),
+            (&CHECK, WHOLE, b"PMPX", "refused 1 BadMagic\n"),
+            (&CHECK, WHOLE, b"PMPC\x03", "refused 2 BadVersion\n"),
             (
                 &CHECK,
-                whole,
+                WHOLE,
                 b"PMPC\x01\x01\0\0\0\x1F\xFF\xFF\xFF\xFF\xFF\xFF\x1F\0\0\x07\0",
                 "refused 15 Trailing\n",
             ),

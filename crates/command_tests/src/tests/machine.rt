@@ -1,7 +1,7 @@
 //! `run` on files in memory.
 
 use super::devices::{Failing, Tried, try_on};
-use super::runs::{all_have, all_refuse, all_stop, printed, prints, stops};
+use super::runs::{all_have, all_refuse, all_stop, printed, prints, refuses, stops};
 use std::alloc::Global;
 use std::process::Abort;
 
@@ -198,27 +198,29 @@ fn of_seventeen(rt: &impl Abort, alloc: Global) -> Vec<u8> {
     far
 }
 
+const MANY_HARTS: &[u8] =
+    b"harts = 257\nmonitor = { base = 0, size = 4096 }\nram = [{ base = 0, size = 8192 }]\n";
+
+const NONE: &str = "pmpmon: p.toml: not a platform\n";
+
 #[test]
 fn a_platform_at_fault_is_told_before_the_trace_is_opened(rt: HostRuntime) {
-    let mut large = vec![in rt.alloc(); b'#'; 1 << 20].expect(&rt, "memory");
-    large.push(b'\n').expect(&rt, "memory");
-    let far = of_seventeen(&rt, rt.alloc());
-    let none = "pmpmon: p.toml: not a platform\n";
-    let harts =
-        b"harts = 257\nmonitor = { base = 0, size = 4096 }\nram = [{ base = 0, size = 8192 }]\n";
-    let above = "pmpmon: p.toml: too large\n";
-    let needs = "pmpmon: needs 17 entries\n";
     all_refuse(
         &rt,
         rt.alloc(),
         &[
-            (&RUN, b"", b"what\n", none),
-            (&RUN, b"\xFF", b"what\n", none),
-            (&RUN, harts, b"what\n", none),
-            (&RUN, large.as_slice(), b"what\n", above),
-            (&RUN, far.as_slice(), b"what\n", needs),
+            (&RUN, b"", b"what\n", NONE),
+            (&RUN, b"\xFF", b"what\n", NONE),
+            (&RUN, MANY_HARTS, b"what\n", NONE),
         ],
-    )
+    );
+    let mut large = vec![in rt.alloc(); b'#'; 1 << 20].expect(&rt, "memory");
+    large.push(b'\n').expect(&rt, "memory");
+    let said = "pmpmon: p.toml: too large\n";
+    refuses(&rt, rt.alloc(), &RUN, large.as_slice(), b"what\n", said);
+    let far = of_seventeen(&rt, rt.alloc());
+    let said = "pmpmon: needs 17 entries\n";
+    refuses(&rt, rt.alloc(), &RUN, far.as_slice(), b"what\n", said)
 }
 
 /// What became of a run that a device ended: this was printed and this said.
@@ -243,19 +245,22 @@ fn each_ends_behind(
     }
 }
 
+const TWO: &[u8] = b"irq\nirq\n";
+
+const OUTPUT: &str = "pmpmon: standard output: cannot write\n";
+
+const TRACE: &str = "pmpmon: trace.txt: cannot read\n";
+
 #[test]
 fn a_failing_device_ends_a_run_behind_what_it_took(rt: HostRuntime) {
-    let two = b"irq\nirq\n";
-    let output = "pmpmon: standard output: cannot write\n";
-    let trace = "pmpmon: trace.txt: cannot read\n";
     each_ends_behind(
         &rt,
         rt.alloc(),
         &[
-            (two, None, Some(6), "1 irq 0 3\n2 i", output),
-            (two, None, Some(1), "", output),
-            (b"irq\nir", Some(7), None, "1 irq 0 3\n", trace),
-            (b"irq", Some(4), None, "", trace),
+            (TWO, None, Some(6), "1 irq 0 3\n2 i", OUTPUT),
+            (TWO, None, Some(1), "", OUTPUT),
+            (b"irq\nir", Some(7), None, "1 irq 0 3\n", TRACE),
+            (b"irq", Some(4), None, "", TRACE),
         ],
     )
 }

@@ -5,15 +5,16 @@ use super::runs::{all_have, printed, prints};
 
 const MAP: &[u8] = b"0x80000000 0x8000000 rwx\n0x80000000 0x200000 none\n0x10000000 0x1000 rw\n";
 
+const OF_TWO: &str = "hint: m: needs 3 entries, at most 2\n";
+
 #[test]
 fn the_file_and_the_bound_are_told(rt: HostRuntime) {
-    let of_two = "hint: m: needs 3 entries, at most 2\n";
     all_hint(
         &rt,
         rt.alloc(),
         &[
-            (&["pmpmon", "plan", "m", "--at-most", "2"], MAP, b"", of_two),
-            (&["pmpmon", "show", "m", "--at-most", "2"], MAP, b"", of_two),
+            (&["pmpmon", "plan", "m", "--at-most", "2"], MAP, b"", OF_TWO),
+            (&["pmpmon", "show", "m", "--at-most", "2"], MAP, b"", OF_TWO),
             (&["pmpmon", "show", "m", "--at-most", "3"], MAP, b"", ""),
             (
                 &["pmpmon", "plan", "m", "--first", "14"],
@@ -25,7 +26,7 @@ fn the_file_and_the_bound_are_told(rt: HostRuntime) {
                 &["pmpmon", "plan", "m", "--first", "14", "--format", "c"],
                 MAP,
                 b"",
-                of_two,
+                OF_TWO,
             ),
             (&["pmpmon", "plan", "m", "--first", "13"], MAP, b"", ""),
             (&["pmpmon", "judge", "m", "t"], MAP, b"", ""),

@@ -59,34 +59,39 @@ fn all_end(rt: &(impl Abort + Files), alloc: Global, rows: &[(&[&str], &[u8], Wa
     }
 }
 
+const MAP: &[u8] = b"0x80000000 0x1000 rwx\n";
+
+const PLAN: &str =
+    "entries 1\n0 0x1f 0x00000000200001ff\npmpcfg0 0x000000000000001f\npmpcfg2 0x0000000000000000\n";
+
+const ABSENT: &str = "no-such-folder/map";
+
+const LOST: &str = "pmpmon: no-such-folder/map: cannot read\n";
+
+const WHY: &str =
+    "pmpmon: no-such-folder/map: cannot read\nhint: no-such-folder/map: no such file or folder\n";
+
 #[test]
 fn inputs_stand_at_their_places(rt: HostRuntime) {
-    let map = b"0x80000000 0x1000 rwx\n";
-    let plan =
-        "entries 1\n0 0x1f 0x00000000200001ff\npmpcfg0 0x000000000000001f\npmpcfg2 0x0000000000000000\n";
-    let absent = "no-such-folder/map";
-    let lost = "pmpmon: no-such-folder/map: cannot read\n";
-    let why =
-        "pmpmon: no-such-folder/map: cannot read\nhint: no-such-folder/map: no such file or folder\n";
     all_end(
         &rt,
         rt.alloc(),
         &[
             (
                 &["pmpmon", "plan", "-", "--hints", "always"],
-                map,
-                (0, plan, ""),
+                MAP,
+                (0, PLAN, ""),
             ),
             (
-                &["pmpmon", "plan", absent, "--hints", "always"],
-                map,
-                (3, "", why),
+                &["pmpmon", "plan", ABSENT, "--hints", "always"],
+                MAP,
+                (3, "", WHY),
             ),
-            (&["pmpmon", "plan", absent], map, (3, "", lost)),
+            (&["pmpmon", "plan", ABSENT], MAP, (3, "", LOST)),
             (
-                &["pmpmon", "check", absent, "-", "--hints", "always"],
-                map,
-                (3, "", why),
+                &["pmpmon", "check", ABSENT, "-", "--hints", "always"],
+                MAP,
+                (3, "", WHY),
             ),
         ],
     )

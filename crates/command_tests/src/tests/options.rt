@@ -6,9 +6,10 @@ use std::process::Abort;
 
 const MAP: &[u8] = b"0x80000000 0x8000000 rwx\n0x80000000 0x200000 none\n0x10000000 0x1000 rw\n";
 
+const NEEDS: &str = "pmpmon: needs 3 entries\n";
+
 #[test]
 fn a_plan_of_more_than_was_asked_for_is_refused(rt: HostRuntime) {
-    let said = "pmpmon: needs 3 entries\n";
     all_refuse(
         &rt,
         rt.alloc(),
@@ -17,7 +18,7 @@ fn a_plan_of_more_than_was_asked_for_is_refused(rt: HostRuntime) {
                 &["pmpmon", "plan", "m", "c", "--at-most", "2"],
                 MAP,
                 b"",
-                said,
+                NEEDS,
             ),
             (
                 &[
@@ -32,9 +33,9 @@ fn a_plan_of_more_than_was_asked_for_is_refused(rt: HostRuntime) {
                 ],
                 MAP,
                 b"",
-                said,
+                NEEDS,
             ),
-            (&["pmpmon", "show", "m", "--at-most", "2"], MAP, b"", said),
+            (&["pmpmon", "show", "m", "--at-most", "2"], MAP, b"", NEEDS),
         ],
     )
 }
@@ -162,20 +163,28 @@ fn lint_names_the_line_of_a_listing(rt: HostRuntime) {
     denies(&rt, rt.alloc(), &words, wrong, b"", said)
 }
 
+const ALONE: &[&str] = &["pmpmon", "lint", "--trace", "t"];
+
+const WITH_PLATFORM: &[&str] = &["pmpmon", "lint", "--trace", "t", "--platform", "p.toml"];
+
+const PLATFORM: &[u8] =
+    b"[monitor]\nbase = 0x80000000\nsize = 0x200000\n[[ram]]\nbase = 0x80000000\nsize = 0x8000000\n";
+
 #[test]
 fn lint_takes_the_harts_of_a_platform(rt: HostRuntime) {
-    let alone = &["pmpmon", "lint", "--trace", "t"];
-    let words = &["pmpmon", "lint", "--trace", "t", "--platform", "p.toml"];
-    let platform =
-        b"[monitor]\nbase = 0x80000000\nsize = 0x200000\n[[ram]]\nbase = 0x80000000\nsize = 0x8000000\n";
-    prints(&rt, rt.alloc(), alone, b"@3 irq\n", b"", "");
+    prints(&rt, rt.alloc(), ALONE, b"@3 irq\n", b"", "");
     all_have(
         &rt,
         rt.alloc(),
         &[
-            (alone, b"@4 irq\n", b"", (1, b"", b"", b"")),
-            (words, b"@1 irq\n", platform, (1, b"", b"t:1:1: ", b"")),
-            (words, b"irq\n", b"", (2, b"", b"", b"")),
+            (ALONE, b"@4 irq\n", b"", (1, b"", b"", b"")),
+            (
+                WITH_PLATFORM,
+                b"@1 irq\n",
+                PLATFORM,
+                (1, b"", b"t:1:1: ", b""),
+            ),
+            (WITH_PLATFORM, b"irq\n", b"", (2, b"", b"", b"")),
         ],
     )
 }

@@ -9,6 +9,9 @@ const PLAN: [&str; 3] = ["pmpmon", "plan", "map.txt"];
 
 const LARGE: [&str; 5] = ["pmpmon", "plan", "map.txt", "--entries", "64"];
 
+/// A remark that is longer than a line may be.
+const LONG: [u8; 1024] = [b'#'; 1024];
+
 const WRITE: [&str; 4] = ["pmpmon", "plan", "map.txt", "map.pmpc"];
 
 /// Each map has this plan.
@@ -145,7 +148,7 @@ fn a_map_at_fault_is_named_with_its_first_line_at_fault(rt: HostRuntime) {
             (b"0 0x1000 r more\n", 1),
             (b"0 0x1000 r\r\r\n", 1),
             (b"0 0x1000 r\x0b\n", 1),
-            (&[b'#'; 1024], 1),
+            (&LONG, 1),
         ],
     )
 }
