@@ -38,8 +38,9 @@ fn is_refused(rt: &impl Abort, alloc: Global, changes: &[(usize, &[u8])], line: 
     denies(rt, alloc, &CHECK, HALF, bytes.as_slice(), line)
 }
 
-/// The answer to the certificate with other bytes from one place on is this no, for each row.
+/// The certificate is accepted, and the answer to it with other bytes from one place on is this no, for each row.
 fn each_is_refused(rt: &impl Abort, alloc: Global, rows: &[(usize, &[u8], &str)]) {
+    prints(rt, alloc, &CHECK, HALF, CERTIFICATE, "accepted 1\n");
     for (at, put, line) in rows {
         is_refused(rt, alloc, &[(*at, *put)], line);
     }
@@ -47,7 +48,6 @@ fn each_is_refused(rt: &impl Abort, alloc: Global, rows: &[(usize, &[u8], &str)]
 
 #[test]
 fn each_fault_of_a_certificate_has_its_line(rt: HostRuntime) {
-    prints(&rt, rt.alloc(), &CHECK, HALF, CERTIFICATE, "accepted 1\n");
     each_is_refused(
         &rt,
         rt.alloc(),

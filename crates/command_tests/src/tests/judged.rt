@@ -193,7 +193,7 @@ fn a_certificate_is_accepted_for_its_own_map(rt: HostRuntime) {
 const WHOLE: &[u8] = b"0 0x100000000000000 rwx";
 
 #[test]
-fn certificates_are_accepted_or_refused_by_name(rt: HostRuntime) {
+fn certificates_of_the_whole_space_are_accepted(rt: HostRuntime) {
     let right: &[(&[u8], &str)] = &[
         (
             b"PMPC\x01\x01\0\0\0\x1F\xFF\xFF\xFF\xFF\xFF\xFF\x1F\0\0\x07",
@@ -204,7 +204,11 @@ fn certificates_are_accepted_or_refused_by_name(rt: HostRuntime) {
             "accepted 1 of 64\n",
         ),
     ];
-    each_prints(&rt, rt.alloc(), &CHECK, WHOLE, right);
+    each_prints(&rt, rt.alloc(), &CHECK, WHOLE, right)
+}
+
+#[test]
+fn certificates_at_fault_are_refused_by_name(rt: HostRuntime) {
     all_deny(
         &rt,
         rt.alloc(),
