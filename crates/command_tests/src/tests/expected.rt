@@ -13,34 +13,43 @@ const JUDGE: [&str; 5] = ["pmpmon", "judge", "map.txt", "t.txt", "--expect"];
 
 const RUN: [&str; 5] = ["pmpmon", "run", "p.toml", "t.txt", "--expect"];
 
-#[test]
-fn answers_that_the_comments_say(rt: HostRuntime) {
-    let rows: [&[u8]; 9] = [
-        b"load s 8 0x80000000 # ok\nload s 8 0 # fault 5\n",
-        b"load s 8 0x80000000 # 1 ok\nload s 8 0 # 2 fault 5\n",
-        b"load s 8 0x80000000 #ok: RAM\nload s 8 0 #fault 5, nothing there\n",
-        b"load s 8 0x80000000 # (RAM)\nload s 8 0\t#\tfault\t5\n",
-        b"# fault 7\nload s 8 0x80000000\n\nload s 8 0 # why\n",
-        b"load s 8 0x80000000 # ok # fault 5\nload s 8 0 # 2: fault: 5\n",
-        b"load s 8 0x80000000 # ok 0x5\r\nload s 8 0 # fault 5\r\n",
-        b"load s 8 0x80000000 # 1\nload s 8 0 # okay\n",
-        b"load s 8 0x80000000 #\nload s 8 0 # OK",
-    ];
-    for trace in rows {
-        let words = JUDGE.as_slice();
-        prints(&rt, rt.alloc(), words, MAP, trace, "1 ok\n2 fault 5\n");
+/// Each trace is of a load that is allowed and one that is not, and its comments say so.
+fn each_is_as_expected(rt: &impl Abort, alloc: Global, traces: &[&[u8]]) {
+    for trace in traces {
+        prints(rt, alloc, &JUDGE, MAP, trace, "1 ok\n2 fault 5\n");
     }
 }
 
-/// Of a load that is allowed and one that is not this is told.
-fn tells(rt: &impl Abort, alloc: Global, trace: &[u8], told: &str) {
-    let report = format!(in alloc; "1 ok\n2 fault 5\n{told}").expect(rt, "no memory");
-    denies(rt, alloc, &JUDGE, MAP, trace, report.as_str());
+#[test]
+fn answers_that_the_comments_say(rt: HostRuntime) {
+    each_is_as_expected(
+        &rt,
+        rt.alloc(),
+        &[
+            b"load s 8 0x80000000 # ok\nload s 8 0 # fault 5\n",
+            b"load s 8 0x80000000 # 1 ok\nload s 8 0 # 2 fault 5\n",
+            b"load s 8 0x80000000 #ok: RAM\nload s 8 0 #fault 5, nothing there\n",
+            b"load s 8 0x80000000 # (RAM)\nload s 8 0\t#\tfault\t5\n",
+            b"# fault 7\nload s 8 0x80000000\n\nload s 8 0 # why\n",
+            b"load s 8 0x80000000 # ok # fault 5\nload s 8 0 # 2: fault: 5\n",
+            b"load s 8 0x80000000 # ok 0x5\r\nload s 8 0 # fault 5\r\n",
+            b"load s 8 0x80000000 # 1\nload s 8 0 # okay\n",
+            b"load s 8 0x80000000 #\nload s 8 0 # OK",
+        ],
+    )
+}
+
+/// Of a load that is allowed and one that is not this is told, for each trace.
+fn each_tells(rt: &impl Abort, alloc: Global, rows: &[(&[u8], &str)]) {
+    for (trace, told) in rows {
+        let report = format!(in alloc; "1 ok\n2 fault 5\n{told}").expect(rt, "no memory");
+        denies(rt, alloc, &JUDGE, MAP, trace, report.as_str());
+    }
 }
 
 #[test]
 fn the_first_answer_that_differs_is_told(rt: HostRuntime) {
-    let rows: [(&[u8], &str); 8] = [
+    let rows: &[(&[u8], &str)] = &[
         (
             b"load s 8 0x80000000 # fault 5\nload s 8 0 # ok\n",
             "line 1: answered '1 ok', expected # fault 5\n",
@@ -74,9 +83,7 @@ fn the_first_answer_that_differs_is_told(rt: HostRuntime) {
             "line 2: answered '2 fault 5', expected # ok 444444444444444444444444444444444444444444444444444444444444444444444444444444444444444444444444444444444444444444444444444\n",
         ),
     ];
-    for (trace, told) in rows {
-        tells(&rt, rt.alloc(), trace, told);
-    }
+    each_tells(&rt, rt.alloc(), rows)
 }
 
 #[test]

@@ -1,6 +1,6 @@
 //! `judge --explain` and `run --explain` on files in memory.
 
-use super::runs::prints;
+use super::runs::{each_prints, prints};
 
 const MAP: &[u8] = b"0x80000000 0x8000000 rwx\n0x80000000 0x200000 none\n0x10000000 0x1000 rw\n";
 
@@ -20,57 +20,63 @@ const BY_REGISTERS: [&str; 6] = [
 
 #[test]
 fn the_entry_of_a_map_that_decided(rt: HostRuntime) {
-    let rows: [(&[u8], &str); 6] = [
-        (
-            b"store s 8 0x10000ff8 1",
-            "1 ok # entry 0: 0x10000000-0x10000fff rw-\n",
-        ),
-        (
-            b"fetch s 4 0x10000000",
-            "1 fault 1 # entry 0: 0x10000000-0x10000fff rw-\n",
-        ),
-        (
-            b"load s 8 0x801ffff8",
-            "1 fault 5 # entry 1: 0x80000000-0x801fffff ---\n",
-        ),
-        (
-            b"load u 8 0x10001000 # fault 5",
-            "1 fault 5 # no entry meets it\n",
-        ),
-        (
-            b"load s 8 0x80200004",
-            "1 fault 4 # misaligned, no entry is asked\n",
-        ),
-        (
-            b"# none\n\nstore s 1 0x100000000000000 1",
-            "1 fault 7 # past 2^56, no entry is asked\n",
-        ),
-    ];
-    for (trace, out) in rows {
-        prints(&rt, rt.alloc(), &BY_MAP, MAP, trace, out);
-    }
+    each_prints(
+        &rt,
+        rt.alloc(),
+        &BY_MAP,
+        MAP,
+        &[
+            (
+                b"store s 8 0x10000ff8 1",
+                "1 ok # entry 0: 0x10000000-0x10000fff rw-\n",
+            ),
+            (
+                b"fetch s 4 0x10000000",
+                "1 fault 1 # entry 0: 0x10000000-0x10000fff rw-\n",
+            ),
+            (
+                b"load s 8 0x801ffff8",
+                "1 fault 5 # entry 1: 0x80000000-0x801fffff ---\n",
+            ),
+            (
+                b"load u 8 0x10001000 # fault 5",
+                "1 fault 5 # no entry meets it\n",
+            ),
+            (
+                b"load s 8 0x80200004",
+                "1 fault 4 # misaligned, no entry is asked\n",
+            ),
+            (
+                b"# none\n\nstore s 1 0x100000000000000 1",
+                "1 fault 7 # past 2^56, no entry is asked\n",
+            ),
+        ],
+    )
 }
 
 #[test]
 fn the_entry_of_registers_that_decided(rt: HostRuntime) {
-    let rows: [(&[u8], &str); 4] = [
-        (
-            b"load s 8 0x80000000",
-            "1 fault 5 # entry 0: 0x80000000-0x80000003 ---, which holds only a part\n",
-        ),
-        (
-            b"load s 4 0x80000004",
-            "1 ok # entry 1: 0x80000000-0x80000fff rwx\n",
-        ),
-        (
-            b"store u 8 0x80002000 1",
-            "1 fault 7 # entry 2: 0x80002000-0x80003fff r--\n",
-        ),
-        (b"load s 4 0x80001000", "1 fault 5 # no entry meets it\n"),
-    ];
-    for (trace, out) in rows {
-        prints(&rt, rt.alloc(), &BY_REGISTERS, REGISTERS, trace, out);
-    }
+    each_prints(
+        &rt,
+        rt.alloc(),
+        &BY_REGISTERS,
+        REGISTERS,
+        &[
+            (
+                b"load s 8 0x80000000",
+                "1 fault 5 # entry 0: 0x80000000-0x80000003 ---, which holds only a part\n",
+            ),
+            (
+                b"load s 4 0x80000004",
+                "1 ok # entry 1: 0x80000000-0x80000fff rwx\n",
+            ),
+            (
+                b"store u 8 0x80002000 1",
+                "1 fault 7 # entry 2: 0x80002000-0x80003fff r--\n",
+            ),
+            (b"load s 4 0x80001000", "1 fault 5 # no entry meets it\n"),
+        ],
+    )
 }
 
 const PLATFORM: &[u8] =
@@ -112,17 +118,20 @@ const MEASURED: [&str; 6] = ["pmpmon", "run", "p.toml", "t.txt", "--explain", "-
 
 #[test]
 fn the_summary_stands_behind_the_measurements(rt: HostRuntime) {
-    let rows: [(&[u8], &str); 2] = [
-        (
-            b"# none\n",
-            "# at the end: enclaves live: 0, harts marked: 0\n",
-        ),
-        (
-            b"@1 ecall 0x08454E43 0 0x80200000 1 0 0 0 0",
-            "1 call 0 0x0000000000000001 0 4 # hart 1, host: create 0x80200000, 1 page: id 1\nmeasure 1 47df07106aa9e0812f06d01bdf34ed7bf51a86734399618e52adc5359890ff38\n# events: 1 (calls: 1)\n# calls: 1 (create: 1)\n# most entries loaded: 4\n# at the end: enclaves live: 1, harts marked: 1\n",
-        ),
-    ];
-    for (trace, out) in rows {
-        prints(&rt, rt.alloc(), &MEASURED, TWO_HARTS, trace, out);
-    }
+    each_prints(
+        &rt,
+        rt.alloc(),
+        &MEASURED,
+        TWO_HARTS,
+        &[
+            (
+                b"# none\n",
+                "# at the end: enclaves live: 0, harts marked: 0\n",
+            ),
+            (
+                b"@1 ecall 0x08454E43 0 0x80200000 1 0 0 0 0",
+                "1 call 0 0x0000000000000001 0 4 # hart 1, host: create 0x80200000, 1 page: id 1\nmeasure 1 47df07106aa9e0812f06d01bdf34ed7bf51a86734399618e52adc5359890ff38\n# events: 1 (calls: 1)\n# calls: 1 (create: 1)\n# most entries loaded: 4\n# at the end: enclaves live: 1, harts marked: 1\n",
+            ),
+        ],
+    )
 }

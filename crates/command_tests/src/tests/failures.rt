@@ -1,7 +1,7 @@
 //! Each read and each write fails in turn under each command.
 
 use super::devices::{Failing, Tried, try_on};
-use super::runs::run;
+use super::runs::{certificate, printed};
 use std::alloc::Global;
 use std::process::Abort;
 
@@ -121,16 +121,16 @@ fn a_failing_device_ends_a_judgement_with_its_text(rt: HostRuntime) {
 
 #[test]
 fn a_failing_device_ends_a_check_with_its_text(rt: HostRuntime) {
-    let made = run(&rt, rt.alloc(), &PLAN, MAP, b"");
+    let cert = certificate(&rt, rt.alloc(), &PLAN, MAP);
     let words = ["pmpmon", "check", "m", "s"];
-    each_device_fails(&rt, rt.alloc(), &words, made.cert.as_slice())
+    each_device_fails(&rt, rt.alloc(), &words, cert.as_slice())
 }
 
 #[test]
 fn a_failing_device_ends_an_audit_with_its_text(rt: HostRuntime) {
-    let made = run(&rt, rt.alloc(), &["pmpmon", "plan", "m"], MAP, b"");
+    let listing = printed(&rt, rt.alloc(), &["pmpmon", "plan", "m"], MAP, b"");
     let words = ["pmpmon", "audit", "m", "s"];
-    each_device_fails(&rt, rt.alloc(), &words, made.out.as_slice())
+    each_device_fails(&rt, rt.alloc(), &words, listing.as_slice())
 }
 
 #[test]
@@ -138,63 +138,65 @@ fn a_failing_device_ends_a_table_with_its_text(rt: HostRuntime) {
     each_device_fails(&rt, rt.alloc(), &["pmpmon", "show", "m"], b"")
 }
 
+/// What a command leaves behind: its status and what it says, whether it prints, and whether a certificate is in its place.
+type Left<'a> = (u8, &'a str, bool, bool);
+
+/// A command left this behind. It ended with 3 if a device failed, and the second input was not read.
+fn is_left(rt: &impl Abort, tried: &Tried, left: Left<'_>) {
+    assert!(rt; tried.status == left.0);
+    assert!(rt; tried.err.as_slice() == left.1.as_bytes());
+    assert!(rt; tried.out.is_empty() != left.2);
+    assert!(rt; tried.is_placed == left.3);
+    assert!(rt; tried.has_failed == (tried.status == 3));
+    assert!(rt; tried.second_reads == 0);
+}
+
+/// Each command line leaves this behind of a first input, where a call of a device fails.
+fn each_leaves(rt: &impl Abort, alloc: Global, rows: &[(&[&str], &[u8], Failing, Left<'_>)]) {
+    for (words, first, failing, left) in rows {
+        let tried = try_on(rt, alloc, words, first, b"", *failing);
+        is_left(rt, &tried, *left);
+    }
+}
+
 #[test]
 fn a_certificate_is_put_in_its_place_before_the_plan_is_printed(rt: HostRuntime) {
-    let ample = try_on(&rt, rt.alloc(), &PLAN, MAP, b"", Failing::none(9));
-    assert!(rt; ample.is_placed);
-    let cut = try_on(
+    let none = Failing::none(9);
+    let cut = Device::Output.failing_at(1);
+    let said = Device::Output.said();
+    each_leaves(
         &rt,
         rt.alloc(),
-        &PLAN,
-        MAP,
-        b"",
-        Device::Output.failing_at(1),
-    );
-    assert!(rt; cut.is_placed);
-    assert!(rt; cut.out.len() == 0);
-    let unasked = try_on(
-        &rt,
-        rt.alloc(),
-        &["pmpmon", "plan", "m"],
-        MAP,
-        b"",
-        Failing::none(9),
-    );
-    assert!(rt; !unasked.is_placed);
+        &[
+            (&PLAN, MAP, none, (0, "", true, true)),
+            (&PLAN, MAP, cut, (3, said, false, true)),
+            (&["pmpmon", "plan", "m"], MAP, none, (0, "", true, false)),
+        ],
+    )
 }
 
 #[test]
 fn a_certificate_that_is_not_put_in_its_place_ends_a_plan(rt: HostRuntime) {
     // The certificate of the empty map is one write of eleven bytes, and the second call puts it in its place.
-    let tried = try_on(
+    let second = Device::Certificate.failing_at(2);
+    each_leaves(
         &rt,
         rt.alloc(),
-        &PLAN,
-        b"",
-        b"",
-        Device::Certificate.failing_at(2),
-    );
-    assert!(rt; tried.has_failed);
-    assert!(rt; tried.status == 3);
-    assert!(rt; tried.err.as_slice() == CERTIFICATE.as_bytes());
-    assert!(rt; tried.out.len() == 0);
-    assert!(rt; !tried.is_placed);
+        &[(&PLAN, b"", second, (3, CERTIFICATE, false, false))],
+    )
 }
 
 #[test]
 fn a_map_at_fault_is_told_before_the_second_file_is_opened(rt: HostRuntime) {
-    for command in ["check", "judge", "audit"] {
-        let words = ["pmpmon", command, "m", "s"];
-        let tried = try_on(
-            &rt,
-            rt.alloc(),
-            &words,
-            b"what\n",
-            b"",
-            Device::Second.failing_at(1),
-        );
-        assert!(rt; tried.status == 2);
-        assert!(rt; tried.err.as_slice() == b"pmpmon: m: line 1 is not understood\n".as_slice());
-        assert!(rt; tried.second_reads == 0);
-    }
+    let second = Device::Second.failing_at(1);
+    let left = (2, "pmpmon: m: line 1 is not understood\n", false, false);
+    each_leaves(
+        &rt,
+        rt.alloc(),
+        &[
+            (&["pmpmon", "check", "m", "s"], b"what\n", second, left),
+            (&["pmpmon", "judge", "m", "s"], b"what\n", second, left),
+            (&["pmpmon", "audit", "m", "s"], b"what\n", second, left),
+        ],
+    )
 }

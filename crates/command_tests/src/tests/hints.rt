@@ -1,5 +1,6 @@
 //! What is said of the inputs of a task that ended for bad input.
 
+use super::runs::Row;
 use byte_streams::Counted;
 use byte_streams::fakes::PieceSource;
 use command_line::command_of;
@@ -10,156 +11,135 @@ use std::process::Abort;
 const PLATFORM: &[u8] =
     b"harts = 2\n[monitor]\nbase = 0x80000000\nsize = 0x200000\n[[ram]]\nbase = 0x80000000\nsize = 0x8000000\n";
 
-/// The hints of a command line's task on these inputs are these.
-fn hints(
-    rt: &impl Abort,
-    alloc: Global,
-    words: &[&str],
-    first: &[u8],
-    second: &[u8],
-    wanted: &str,
-) {
+/// The hints of a command line's task on these inputs.
+fn hints(rt: &impl Abort, alloc: Global, words: &[&str], first: &[u8], second: &[u8]) -> Vec<u8> {
     let task = command_of(alloc, words).expect(rt, "a command line").task;
     let mut first = Counted::new(first);
     let mut second = Counted::new(second);
     let mut err = Counted::new(Vec::new(alloc));
     tell_hints(alloc, &task, &mut first, &mut second, &mut err);
-    let said = err.into_inner();
-    assert!(rt; said.as_slice() == wanted.as_bytes());
+    err.into_inner()
 }
+
+/// The hints of each command line's task on its inputs are its text.
+pub fn all_hint(rt: &impl Abort, alloc: Global, rows: &[Row<'_>]) {
+    for (words, first, second, wanted) in rows {
+        let said = hints(rt, alloc, words, first, second);
+        assert!(rt; said.as_slice() == wanted.as_bytes(), "{words:?}, {wanted}");
+    }
+}
+
+const MAP: &[u8] = b"0x80000000 0x1000 rwx\n";
+
+const WRONG: &[u8] = b"0x80000000 0x8000000 rwx\n0x80000000 0x200400 none\n0x10000000 0x1000 wr\n";
+
+const OF_MAP: &str =
+    "hint: m:2:12: SIZE 0x200400 is not a multiple of 4096; the whole pages are 0x201000\nhint: m:3:19: PERM 'wr' is not written so; write rw\n";
+
+const JUDGE: &[&str] = &["pmpmon", "judge", "m", "t"];
+
+const LISTING: &[u8] = b"pmpcfg0 0\nwhat is this\n";
+
+const OF_LISTING: &str =
+    "hint: r:2:1: the line is not understood; write a register and its value, as 'pmpcfg0 0x1f'\n";
+
+const OF_TRACE: &str = "hint: t:1:1: 'lead' is no event; write load\n";
 
 #[test]
 fn the_first_input_at_fault_has_its_hints(rt: HostRuntime) {
-    let map = b"0x80000000 0x1000 rwx\n";
-    let wrong = b"0x80000000 0x8000000 rwx\n0x80000000 0x200400 none\n0x10000000 0x1000 wr\n";
-    let of_map =
-        "hint: m:2:12: SIZE 0x200400 is not a multiple of 4096; the whole pages are 0x201000\nhint: m:3:19: PERM 'wr' is not written so; write rw\n";
-    let words: [&[&str]; 4] = [
-        &["pmpmon", "plan", "m"],
-        &["pmpmon", "show", "m"],
-        &["pmpmon", "check", "m", "c"],
-        &["pmpmon", "judge", "m", "t"],
-    ];
-    for row in words {
-        hints(&rt, rt.alloc(), row, wrong, b"leap\n", of_map);
-        hints(&rt, rt.alloc(), row, map, b"", "");
-    }
-    let audit = &["pmpmon", "audit", "m", "r"];
-    let of_listing =
-        "hint: r:2:1: the line is not understood; write a register and its value, as 'pmpcfg0 0x1f'\n";
-    hints(
+    all_hint(
         &rt,
         rt.alloc(),
-        audit,
-        map,
-        b"pmpcfg0 0\nwhat is this\n",
-        of_listing,
-    );
-    hints(
-        &rt,
-        rt.alloc(),
-        &["pmpmon", "map", "r"],
-        b"pmpcfg0 0\nwhat is this\n",
-        b"",
-        of_listing,
-    );
-    let judge = &["pmpmon", "judge", "m", "t"];
-    let of_trace = "hint: t:1:1: 'lead' is no event; write load\n";
-    hints(&rt, rt.alloc(), judge, map, b"lead s 8 0\n", of_trace);
-    let by_registers = &["pmpmon", "judge", "--registers", "r", "t"];
-    hints(
-        &rt,
-        rt.alloc(),
-        by_registers,
-        b"pmpcfg0 0\n",
-        b"lead s 8 0\n",
-        of_trace,
-    );
+        &[
+            (&["pmpmon", "plan", "m"], WRONG, b"leap\n", OF_MAP),
+            (&["pmpmon", "plan", "m"], MAP, b"", ""),
+            (&["pmpmon", "show", "m"], WRONG, b"leap\n", OF_MAP),
+            (&["pmpmon", "show", "m"], MAP, b"", ""),
+            (&["pmpmon", "check", "m", "c"], WRONG, b"leap\n", OF_MAP),
+            (&["pmpmon", "check", "m", "c"], MAP, b"", ""),
+            (JUDGE, WRONG, b"leap\n", OF_MAP),
+            (JUDGE, MAP, b"", ""),
+            (&["pmpmon", "audit", "m", "r"], MAP, LISTING, OF_LISTING),
+            (&["pmpmon", "map", "r"], LISTING, b"", OF_LISTING),
+            (JUDGE, MAP, b"lead s 8 0\n", OF_TRACE),
+            (
+                &["pmpmon", "judge", "--registers", "r", "t"],
+                b"pmpcfg0 0\n",
+                b"lead s 8 0\n",
+                OF_TRACE,
+            ),
+        ],
+    )
 }
 
 #[test]
 fn judge_takes_fewer_lines_than_run(rt: HostRuntime) {
-    let map = b"0x80000000 0x1000 rwx\n";
-    let of_trace =
-        "hint: t:2:1: 'irq' is an event of run; judge takes accesses alone\nhint: t:3:1: '@0' names a hart; judge has none\n";
-    hints(
+    all_hint(
         &rt,
         rt.alloc(),
-        &["pmpmon", "judge", "m", "t"],
-        map,
-        b"load s 8 0\nirq\n@0 load s 8 0\n",
-        of_trace,
-    );
+        &[(
+            &["pmpmon", "judge", "m", "t"],
+            MAP,
+            b"load s 8 0\nirq\n@0 load s 8 0\n",
+            "hint: t:2:1: 'irq' is an event of run; judge takes accesses alone\nhint: t:3:1: '@0' names a hart; judge has none\n",
+        )],
+    )
 }
 
 #[test]
 fn a_file_that_is_too_large_has_its_limit(rt: HostRuntime) {
-    let mut large = Vec::new(rt.alloc());
-    let Ok(()) = large.resize((1 << 20) + 1, b'\n') else {
-        return;
-    };
+    let large = vec![in rt.alloc(); b'\n'; (1 << 20) + 1].expect(&rt, "memory");
     let bytes = large.as_slice();
     let of_map = "hint: m: more than 1048576 bytes; a map has at most 1 MiB\n";
-    let rows: [(&[&str], &str); 5] = [
-        (&["pmpmon", "plan", "m"], of_map),
-        (&["pmpmon", "lint", "m"], of_map),
-        (
-            &["pmpmon", "lint", "m.toml"],
-            "hint: m.toml: more than 1048576 bytes; a platform has at most 1 MiB\n",
-        ),
-        (
-            &["pmpmon", "run", "p", "t"],
-            "hint: p: more than 1048576 bytes; a platform has at most 1 MiB\n",
-        ),
-        (
-            &["pmpmon", "judge", "--registers", "r", "t"],
-            "hint: r: more than 1048576 bytes; a listing of registers has at most 1 MiB\n",
-        ),
-    ];
-    for (words, wanted) in rows {
-        hints(&rt, rt.alloc(), words, bytes, b"", wanted);
-    }
+    all_hint(
+        &rt,
+        rt.alloc(),
+        &[
+            (&["pmpmon", "plan", "m"], bytes, b"", of_map),
+            (&["pmpmon", "lint", "m"], bytes, b"", of_map),
+            (
+                &["pmpmon", "lint", "m.toml"],
+                bytes,
+                b"",
+                "hint: m.toml: more than 1048576 bytes; a platform has at most 1 MiB\n",
+            ),
+            (
+                &["pmpmon", "run", "p", "t"],
+                bytes,
+                b"",
+                "hint: p: more than 1048576 bytes; a platform has at most 1 MiB\n",
+            ),
+            (
+                &["pmpmon", "judge", "--registers", "r", "t"],
+                bytes,
+                b"",
+                "hint: r: more than 1048576 bytes; a listing of registers has at most 1 MiB\n",
+            ),
+        ],
+    )
 }
+
+const RUN: &[&str] = &["pmpmon", "run", "p", "t"];
+
+const LINT: &[&str] = &["pmpmon", "lint", "--trace", "t", "--platform", "p"];
+
+const OF_HARTS: &str = "hint: t:2:1: '@2' is none of the harts; H is below 2\n";
+
+const OF_PLATFORM: &str = "hint: p: the key monitor is missing\n";
 
 #[test]
 fn a_trace_is_for_the_harts_of_its_platform(rt: HostRuntime) {
-    let run = &["pmpmon", "run", "p", "t"];
-    let of_trace = "hint: t:2:1: '@2' is none of the harts; H is below 2\n";
-    hints(
+    all_hint(
         &rt,
         rt.alloc(),
-        run,
-        PLATFORM,
-        b"@1 irq\n@2 irq\n",
-        of_trace,
-    );
-    hints(&rt, rt.alloc(), run, PLATFORM, b"@1 irq\n", "");
-    let of_platform = "hint: p: the key monitor is missing\n";
-    hints(
-        &rt,
-        rt.alloc(),
-        run,
-        b"harts = 1\n",
-        b"@2 irq\n",
-        of_platform,
-    );
-    let lint = &["pmpmon", "lint", "--trace", "t", "--platform", "p"];
-    hints(
-        &rt,
-        rt.alloc(),
-        lint,
-        b"leap\n",
-        b"harts = 1\n",
-        of_platform,
-    );
-    hints(
-        &rt,
-        rt.alloc(),
-        &["pmpmon", "lint", "m"],
-        b"leap\n",
-        b"",
-        "",
-    );
+        &[
+            (RUN, PLATFORM, b"@1 irq\n@2 irq\n", OF_HARTS),
+            (RUN, PLATFORM, b"@1 irq\n", ""),
+            (RUN, b"harts = 1\n", b"@2 irq\n", OF_PLATFORM),
+            (LINT, b"leap\n", b"harts = 1\n", OF_PLATFORM),
+            (&["pmpmon", "lint", "m"], b"leap\n", b"", ""),
+        ],
+    )
 }
 
 #[test]

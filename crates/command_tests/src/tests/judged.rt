@@ -1,7 +1,7 @@
 //! `judge` and `check` on files in memory.
 
 use super::maps::pages;
-use super::runs::{denies, prints, refuses, run, stops};
+use super::runs::{Parts, all_deny, all_have, certificate, each_prints, prints, refuses, stops};
 use std::alloc::Global;
 use std::process::Abort;
 
@@ -13,31 +13,39 @@ const LARGE: [&str; 6] = ["pmpmon", "judge", "map.txt", "trace.txt", "--entries"
 
 const CHECK: [&str; 4] = ["pmpmon", "check", "map.txt", "map.pmpc"];
 
+/// Each trace has its answers by its map, on a hart of sixteen entries and on one of sixty-four.
+fn each_is_judged(rt: &impl Abort, alloc: Global, rows: &[(&[u8], &[u8], &str)]) {
+    for (map, trace, out) in rows {
+        prints(rt, alloc, &JUDGE, map, trace, out);
+        prints(rt, alloc, &LARGE, map, trace, out);
+    }
+}
+
 #[test]
 fn accesses_are_judged_by_the_entries_of_the_map(rt: HostRuntime) {
-    let rows: [(&[u8], &[u8], &str); 5] = [
-        (
-            b"0x80000000 0x1000 rwx",
-            b"load s 8 0x80000ff8\nload s 8 0x80001000\n",
-            "1 ok\n2 fault 5\n",
-        ),
-        (
-            HOST,
-            b"# all kinds\r\nfetch s 4 0x80200000\nstore s 0x8 2149580808 42\n\n\tload s 08 0x801ffff8 # denied\nstore u 1 0x80000000 0\nfetch s 2 0x10000000\nload u 4 0X10000004\nload s 8 0x80200004\nload s 8 0x88000000",
-            "1 ok\n2 ok\n3 fault 5\n4 fault 7\n5 fault 1\n6 ok\n7 fault 4\n8 fault 5\n",
-        ),
-        (
-            b"",
-            b"load s 8 0x80000004\nload s 1 0x100000000000000\nload s 8 0x100000000000004\nfetch u 2 1\nstore s 2 3 9\nfetch s 4 0\nstore s 1 0xffffffffffffffff 0\n",
-            "1 fault 4\n2 fault 5\n3 fault 4\n4 fault 0\n5 fault 6\n6 fault 1\n7 fault 7\n",
-        ),
-        (HOST, b"", ""),
-        (HOST, b"# only a remark", ""),
-    ];
-    for (map, trace, out) in rows {
-        prints(&rt, rt.alloc(), &JUDGE, map, trace, out);
-        prints(&rt, rt.alloc(), &LARGE, map, trace, out);
-    }
+    each_is_judged(
+        &rt,
+        rt.alloc(),
+        &[
+            (
+                b"0x80000000 0x1000 rwx",
+                b"load s 8 0x80000ff8\nload s 8 0x80001000\n",
+                "1 ok\n2 fault 5\n",
+            ),
+            (
+                HOST,
+                b"# all kinds\r\nfetch s 4 0x80200000\nstore s 0x8 2149580808 42\n\n\tload s 08 0x801ffff8 # denied\nstore u 1 0x80000000 0\nfetch s 2 0x10000000\nload u 4 0X10000004\nload s 8 0x80200004\nload s 8 0x88000000",
+                "1 ok\n2 ok\n3 fault 5\n4 fault 7\n5 fault 1\n6 ok\n7 fault 4\n8 fault 5\n",
+            ),
+            (
+                b"",
+                b"load s 8 0x80000004\nload s 1 0x100000000000000\nload s 8 0x100000000000004\nfetch u 2 1\nstore s 2 3 9\nfetch s 4 0\nstore s 1 0xffffffffffffffff 0\n",
+                "1 fault 4\n2 fault 5\n3 fault 4\n4 fault 0\n5 fault 6\n6 fault 1\n7 fault 7\n",
+            ),
+            (HOST, b"", ""),
+            (HOST, b"# only a remark", ""),
+        ],
+    );
     refuses(
         &rt,
         rt.alloc(),
@@ -48,77 +56,71 @@ fn accesses_are_judged_by_the_entries_of_the_map(rt: HostRuntime) {
     )
 }
 
-#[test]
-fn other_lines_are_not_understood_behind_the_answers_before_them(rt: HostRuntime) {
-    let lines: [&[u8]; 13] = [
-        b"irq",
-        b"reg x1 5",
-        b"ecall",
-        b"@0 load s 8 0",
-        b"@0",
-        b"load m 8 0",
-        b"load s 3 0",
-        b"fetch s 8 0",
-        b"load s 8",
-        b"load s 8 0 0",
-        b"store s 8 0",
-        b"Load s 8 0",
-        b"load s 8 0\r\r",
-    ];
+/// Each line is not understood behind an access and an empty line, of which there are the answers.
+fn are_not_understood(rt: &impl Abort, alloc: Global, lines: &[&str]) {
+    let said = "pmpmon: trace.txt: line 3 is not understood\n";
     for line in lines {
-        let mut trace = Vec::from_slice(rt.alloc(), b"fetch s 4 0x80200000\n\n").expect(
-            &rt, "memory",
+        let trace = format!(in alloc; "fetch s 4 0x80200000\n\n{line}\nload s 8 0\n").expect(
+            rt, "memory",
         );
-        trace.extend_from_slice(line).expect(&rt, "memory");
-        trace
-            .extend_from_slice(b"\nload s 8 0\n")
-            .expect(&rt, "memory");
-        let said = "pmpmon: trace.txt: line 3 is not understood\n";
-        stops(
-            &rt,
-            rt.alloc(),
-            &JUDGE,
-            HOST,
-            trace.as_slice(),
-            "1 ok\n",
-            said,
-        );
+        stops(rt, alloc, &JUDGE, HOST, trace.as_bytes(), "1 ok\n", said);
     }
 }
 
 #[test]
+fn other_lines_are_not_understood_behind_the_answers_before_them(rt: HostRuntime) {
+    are_not_understood(
+        &rt,
+        rt.alloc(),
+        &[
+            "irq",
+            "reg x1 5",
+            "ecall",
+            "@0 load s 8 0",
+            "@0",
+            "load m 8 0",
+            "load s 3 0",
+            "fetch s 8 0",
+            "load s 8",
+            "load s 8 0 0",
+            "store s 8 0",
+            "Load s 8 0",
+            "load s 8 0\r\r",
+        ],
+    )
+}
+
+const BY_REGISTERS: &[&str] = &["pmpmon", "judge", "--registers", "board.txt", "trace.txt"];
+
+const RESERVED: &[u8] = b"mstatus 0x1800\n1 0x1a 0x400\n";
+
+const OF_RESERVED: &str =
+    "pair 1 0x1a 0x0000000000000400: W without R\n# lines of other registers are passed over, line 1 first\n";
+
+const SMEPMP: &[u8] = b"0 0x1f 0x400\nmseccfg 0x1\n";
+
+const OF_SMEPMP: &str = "mseccfg 0x0000000000000001: no verdict, Smepmp is not modelled\n";
+
+#[test]
 fn accesses_are_judged_by_registers_as_they_stand(rt: HostRuntime) {
-    let words = ["pmpmon", "judge", "--registers", "board.txt", "trace.txt"];
     let tor = b"pmpaddr0 0x400\npmpaddr1 0x800\npmpcfg0 0x8b00\nmstatus 0x1800\n";
     let trace = b"load u 8 0xff8\nload u 8 0x1000\nstore s 4 0x1ffc 1\nfetch s 4 0x1000\n";
     let answers = "1 fault 5\n2 ok\n3 ok\n4 fault 1\n";
-    prints(&rt, rt.alloc(), &words, tor, trace, answers);
-    let reserved = b"mstatus 0x1800\n1 0x1a 0x400\n";
-    let why =
-        "pair 1 0x1a 0x0000000000000400: W without R\n# lines of other registers are passed over, line 1 first\n";
-    denies(&rt, rt.alloc(), &words, reserved, b"what", why);
-    let smepmp = b"0 0x1f 0x400\nmseccfg 0x1\n";
-    let why = "mseccfg 0x0000000000000001: no verdict, Smepmp is not modelled\n";
-    denies(&rt, rt.alloc(), &words, smepmp, b"what", why);
-    let said = "pmpmon: board.txt: line 1 is not understood\n";
-    refuses(
+    prints(&rt, rt.alloc(), BY_REGISTERS, tor, trace, answers);
+    all_deny(
         &rt,
         rt.alloc(),
-        &words,
-        b"0x80000000 0x1000 rwx\n",
-        trace,
-        said,
+        &[
+            (BY_REGISTERS, RESERVED, b"what", OF_RESERVED),
+            (BY_REGISTERS, SMEPMP, b"what", OF_SMEPMP),
+        ],
     );
+    let map = b"0x80000000 0x1000 rwx\n";
+    let said = "pmpmon: board.txt: line 1 is not understood\n";
+    refuses(&rt, rt.alloc(), BY_REGISTERS, map, trace, said);
+    let more = b"load u 8 0x1000\nirq\n";
     let said = "pmpmon: trace.txt: line 2 is not understood\n";
-    stops(
-        &rt,
-        rt.alloc(),
-        &words,
-        tor,
-        b"load u 8 0x1000\nirq\n",
-        "1 ok\n",
-        said,
-    )
+    stops(&rt, rt.alloc(), BY_REGISTERS, tor, more, "1 ok\n", said)
 }
 
 #[test]
@@ -164,49 +166,35 @@ fn a_map_of_sixteen_or_sixty_four_entries_is_judged(rt: HostRuntime) {
     )
 }
 
-/// The certificate of a map.
-fn certificate(rt: &impl Abort, alloc: Global, words: &[&str], map: &[u8]) -> Vec<u8> {
-    let made = run(rt, alloc, words, map, b"");
-    made.cert
+/// A map's certificate is accepted for it and refused for another map, and the large one is accepted for the host's map.
+fn are_accepted(rt: &impl Abort, alloc: Global, small: (&[u8], &[u8]), other: &[u8], large: &[u8]) {
+    prints(rt, alloc, &CHECK, small.0, small.1, "accepted 2\n");
+    let refused: Parts<'_> = (1, b"refused ", b"", b"");
+    all_have(rt, alloc, &[(&CHECK, other, small.1, refused)]);
+    prints(rt, alloc, &CHECK, HOST, large, "accepted 3 of 64\n")
 }
 
 #[test]
 fn a_certificate_is_accepted_for_its_own_map(rt: HostRuntime) {
     let plan = ["pmpmon", "plan", "map.txt", "map.pmpc"];
-    let cert = certificate(&rt, rt.alloc(), &plan, b"0x80208000 0x7000 rx");
-    prints(
-        &rt,
-        rt.alloc(),
-        &CHECK,
-        b"0x80208000 0x7000 rx",
-        cert.as_slice(),
-        "accepted 2\n",
-    );
-    let other = run(
-        &rt,
-        rt.alloc(),
-        &CHECK,
-        b"0x80208000 0x6000 rx",
-        cert.as_slice(),
-    );
-    assert!(rt; other.out.as_slice().starts_with(b"refused "));
-    assert!(rt; other.status == 1);
+    let map = b"0x80208000 0x7000 rx";
+    let cert = certificate(&rt, rt.alloc(), &plan, map);
     let plan = ["pmpmon", "plan", "map.txt", "map.pmpc", "--entries", "64"];
-    let cert = certificate(&rt, rt.alloc(), &plan, HOST);
-    prints(
+    let large = certificate(&rt, rt.alloc(), &plan, HOST);
+    are_accepted(
         &rt,
         rt.alloc(),
-        &CHECK,
-        HOST,
-        cert.as_slice(),
-        "accepted 3 of 64\n",
+        (map, cert.as_slice()),
+        b"0x80208000 0x6000 rx",
+        large.as_slice(),
     )
 }
 
+const WHOLE: &[u8] = b"0 0x100000000000000 rwx";
+
 #[test]
-fn certificates_are_accepted_or_refused_by_name(rt: HostRuntime) {
-    let whole = b"0 0x100000000000000 rwx";
-    let right: [(&[u8], &str); 2] = [
+fn certificates_of_the_whole_space_are_accepted(rt: HostRuntime) {
+    let right: &[(&[u8], &str)] = &[
         (
             b"PMPC\x01\x01\0\0\0\x1F\xFF\xFF\xFF\xFF\xFF\xFF\x1F\0\0\x07",
             "accepted 1\n",
@@ -216,23 +204,30 @@ fn certificates_are_accepted_or_refused_by_name(rt: HostRuntime) {
             "accepted 1 of 64\n",
         ),
     ];
-    for (cert, out) in right {
-        prints(&rt, rt.alloc(), &CHECK, whole, cert, out);
-    }
-    let wrong: [(&[u8], &str); 5] = [
-        (
-            b"PMPC\x02\x20\x01\0\0\0\x1F\xFF\xFF\xFF\xFF\xFF\xFF\x1F\0\0\x07",
-            "refused 16 BadLimit\n",
-        ),
-        (b"PMP", "refused 3 Truncated\n"),
-        (b"PMPX", "refused 1 BadMagic\n"),
-        (b"PMPC\x03", "refused 2 BadVersion\n"),
-        (
-            b"PMPC\x01\x01\0\0\0\x1F\xFF\xFF\xFF\xFF\xFF\xFF\x1F\0\0\x07\0",
-            "refused 15 Trailing\n",
-        ),
-    ];
-    for (cert, out) in wrong {
-        denies(&rt, rt.alloc(), &CHECK, whole, cert, out);
-    }
+    each_prints(&rt, rt.alloc(), &CHECK, WHOLE, right)
+}
+
+#[test]
+fn certificates_at_fault_are_refused_by_name(rt: HostRuntime) {
+    all_deny(
+        &rt,
+        rt.alloc(),
+        &[
+            (
+                &CHECK,
+                WHOLE,
+                b"PMPC\x02\x20\x01\0\0\0\x1F\xFF\xFF\xFF\xFF\xFF\xFF\x1F\0\0\x07",
+                "refused 16 BadLimit\n",
+            ),
+            (&CHECK, WHOLE, b"PMP", "refused 3 Truncated\n"),
+            (&CHECK, WHOLE, b"PMPX", "refused 1 BadMagic\n"),
+            (&CHECK, WHOLE, b"PMPC\x03", "refused 2 BadVersion\n"),
+            (
+                &CHECK,
+                WHOLE,
+                b"PMPC\x01\x01\0\0\0\x1F\xFF\xFF\xFF\xFF\xFF\xFF\x1F\0\0\x07\0",
+                "refused 15 Trailing\n",
+            ),
+        ],
+    )
 }

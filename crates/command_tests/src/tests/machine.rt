@@ -1,66 +1,81 @@
 //! `run` on files in memory.
 
-use super::devices::{Failing, try_on};
-use super::runs::{prints, refuses, run, stops};
+use super::devices::{Failing, Tried, try_on};
+use super::runs::{all_have, all_refuse, all_stop, printed, prints, refuses, stops};
 use std::alloc::Global;
 use std::process::Abort;
 
 const PLATFORM: &[u8] =
     b"[monitor]\nbase = 0x80000000\nsize = 0x200000\n\n[[ram]]\nbase = 0x80000000\nsize = 0x8000000\n\n[[device]]\nbase = 0x10000000\nsize = 0x1000\nperm = \"rw\"\n";
 
+const TWO_HARTS: &[u8] =
+    b"harts = 2\n[monitor]\nbase = 0x80000000\nsize = 0x200000\n\n[[ram]]\nbase = 0x80000000\nsize = 0x8000000\n\n[[device]]\nbase = 0x10000000\nsize = 0x1000\nperm = \"rw\"\n";
+
+const MANY_ENTRIES: &[u8] =
+    b"entries = 64\n[monitor]\nbase = 0x80000000\nsize = 0x200000\n\n[[ram]]\nbase = 0x80000000\nsize = 0x8000000\n\n[[device]]\nbase = 0x10000000\nsize = 0x1000\nperm = \"rw\"\n";
+
 const RUN: [&str; 4] = ["pmpmon", "run", "p.toml", "trace.txt"];
 
 const MEASURE: [&str; 5] = ["pmpmon", "run", "p.toml", "trace.txt", "--measure"];
 
-#[test]
-fn traces_have_their_reports(rt: HostRuntime) {
-    let rows: [(&[u8], &str); 5] = [
-        (
-            b"store s 8 0x80200000 0x1122334455667788\necall 0x08454E43 0 0x80200000 1 0 0 0 0\nload s 8 0x80200000\necall 0x08454E43 2 1\necall 0x08454E43 2 1\nload u 8 0x80200000\nirq\necall 0x08454E43 4 1\necall 0x08454E43 5 7\necall 0x08454E43 4 1\necall 0x08454E43 1 1\necall 0x08454E43 1 1\nload s 8 0x80200000\n",
-            "1 ok\n2 call 0 0x0000000000000001 0 4\n3 fault 5\n4 call 0 0x0000000000000000 1 1\n5 call -101 0x0000000000000000 1 1\n6 ok 0x1122334455667788\n7 irq 0 4\n8 call 0 0x0000000000000000 1 1\n9 call 0 0x0000000000000007 0 4\n10 call -111 0x0000000000000000 0 4\n11 call 0 0x0000000000000000 0 3\n12 call -110 0x0000000000000000 0 3\n13 ok 0x0000000000000000\n",
-        ),
-        (b"irq", "1 irq 0 3\n"),
-        (b"# start\n\n irq # tick\n", "1 irq 0 3\n"),
-        (
-            b"ecall 0x08454E43 7\necall 0x10 0\n",
-            "1 call -2 0x0000000000000000 0 3\n2 call -2 0x0000000000000000 0 3\n",
-        ),
-        (b"", ""),
-    ];
+/// Each trace has its report, which no measurement follows.
+fn each_has_its_report(rt: &impl Abort, alloc: Global, rows: &[(&[u8], &str)]) {
     for (trace, report) in rows {
-        for words in [RUN.as_slice(), MEASURE.as_slice()] {
-            prints(&rt, rt.alloc(), words, PLATFORM, trace, report);
-        }
+        prints(rt, alloc, &RUN, PLATFORM, trace, report);
+        prints(rt, alloc, &MEASURE, PLATFORM, trace, report);
     }
 }
 
 #[test]
+fn traces_have_their_reports(rt: HostRuntime) {
+    each_has_its_report(
+        &rt,
+        rt.alloc(),
+        &[
+            (
+                b"store s 8 0x80200000 0x1122334455667788\necall 0x08454E43 0 0x80200000 1 0 0 0 0\nload s 8 0x80200000\necall 0x08454E43 2 1\necall 0x08454E43 2 1\nload u 8 0x80200000\nirq\necall 0x08454E43 4 1\necall 0x08454E43 5 7\necall 0x08454E43 4 1\necall 0x08454E43 1 1\necall 0x08454E43 1 1\nload s 8 0x80200000\n",
+                "1 ok\n2 call 0 0x0000000000000001 0 4\n3 fault 5\n4 call 0 0x0000000000000000 1 1\n5 call -101 0x0000000000000000 1 1\n6 ok 0x1122334455667788\n7 irq 0 4\n8 call 0 0x0000000000000000 1 1\n9 call 0 0x0000000000000007 0 4\n10 call -111 0x0000000000000000 0 4\n11 call 0 0x0000000000000000 0 3\n12 call -110 0x0000000000000000 0 3\n13 ok 0x0000000000000000\n",
+            ),
+            (b"irq", "1 irq 0 3\n"),
+            (b"# start\n\n irq # tick\n", "1 irq 0 3\n"),
+            (
+                b"ecall 0x08454E43 7\necall 0x10 0\n",
+                "1 call -2 0x0000000000000000 0 3\n2 call -2 0x0000000000000000 0 3\n",
+            ),
+            (b"", ""),
+        ],
+    )
+}
+
+#[test]
 fn a_line_that_is_not_understood_ends_a_run(rt: HostRuntime) {
-    let rows: [(&[u8], &str, &str); 4] = [
-        (
-            b"load s 3 0x80200000",
-            "",
-            "pmpmon: trace.txt: line 1 is not understood\n",
-        ),
-        (
-            b"irq\nfoo\n",
-            "1 irq 0 3\n",
-            "pmpmon: trace.txt: line 2 is not understood\n",
-        ),
-        (
-            b"@0 irq\n@1 irq\n",
-            "1 irq 0 3\n",
-            "pmpmon: trace.txt: line 2 is not understood\n",
-        ),
-        (
-            b"ecall 0x08454E43 0 0x80200000 1 0 0 0 0\nirq\n@0\n",
-            "1 call 0 0x0000000000000001 0 4\n2 irq 0 4\n",
-            "pmpmon: trace.txt: line 3 is not understood\n",
-        ),
-    ];
-    for (trace, report, said) in rows {
-        stops(&rt, rt.alloc(), &MEASURE, PLATFORM, trace, report, said);
-    }
+    all_stop(
+        &rt,
+        rt.alloc(),
+        &[
+            (
+                (&MEASURE, PLATFORM, b"load s 3 0x80200000", ""),
+                "pmpmon: trace.txt: line 1 is not understood\n",
+            ),
+            (
+                (&MEASURE, PLATFORM, b"irq\nfoo\n", "1 irq 0 3\n"),
+                "pmpmon: trace.txt: line 2 is not understood\n",
+            ),
+            (
+                (&MEASURE, PLATFORM, b"@0 irq\n@1 irq\n", "1 irq 0 3\n"),
+                "pmpmon: trace.txt: line 2 is not understood\n",
+            ),
+            (
+                (
+                    &MEASURE,
+                    PLATFORM,
+                    b"ecall 0x08454E43 0 0x80200000 1 0 0 0 0\nirq\n@0\n",
+                    "1 call 0 0x0000000000000001 0 4\n2 irq 0 4\n",
+                ),
+                "pmpmon: trace.txt: line 3 is not understood\n",
+            ),
+        ],
+    )
 }
 
 /// The value of a hexadecimal digit.
@@ -92,59 +107,47 @@ fn word(digits: &[u8], is_little: bool) -> u64 {
     value
 }
 
-/// The digits of the words that the calls after the first answered, and those of the line that is after all answers.
-fn digits(rt: &impl Abort, alloc: Global, plain: &[u8], measured: &[u8]) -> (Vec<u64>, Vec<u64>) {
+/// The words that the calls after the first answered, none of them 0, are those of the line that is after all answers.
+fn are_the_words(rt: &impl Abort, plain: &[u8], line: &[u8]) {
     let answer: &[u8] = b"2 call 0 0x";
-    let line = measured.get(plain.len()..).unwrap_or(&[]);
-    let mut said = Vec::new(alloc);
-    let mut told = Vec::new(alloc);
     for k in 0..4usize {
         let from = 32usize.saturating_add(k.saturating_mul(32));
         let call = plain.get(from.saturating_add(answer.len())..);
-        said.push(word(call.unwrap_or(&[]), false))
-            .expect(rt, "memory");
+        let said = word(call.unwrap_or(&[]), false);
         let at = 10usize.saturating_add(k.saturating_mul(16));
-        told.push(word(line.get(at..).unwrap_or(&[]), true))
-            .expect(rt, "memory");
+        let told = word(line.get(at..).unwrap_or(&[]), true);
+        assert!(rt; said == told, "{k}");
+        assert!(rt; said != 0, "{k}");
     }
-    (said, told)
 }
 
-#[test]
-fn measurements_are_those_that_the_call_answers(rt: HostRuntime) {
-    let trace =
-        b"ecall 0x08454E43 0 0x80200000 1 0 0 0 0\necall 0x08454E43 6 1 0\necall 0x08454E43 6 1 1\necall 0x08454E43 6 1 2\necall 0x08454E43 6 1 3\n";
-    let plain = run(&rt, rt.alloc(), &RUN, PLATFORM, trace);
-    let measured = run(&rt, rt.alloc(), &MEASURE, PLATFORM, trace);
-    let (said, told) = digits(
-        &rt,
-        rt.alloc(),
-        plain.out.as_slice(),
-        measured.out.as_slice(),
-    );
-    assert!(rt; said.as_slice() == told.as_slice());
-    assert!(rt; !said.contains(&0));
-    assert!(rt; measured.out.as_slice().starts_with(plain.out.as_slice()));
-    let line = measured
-        .out
-        .as_slice()
-        .get(plain.out.len()..)
-        .unwrap_or(&[]);
+/// Behind the answers of a run stands one line of its measurement, and it is the one that the calls answered.
+fn is_measured(rt: &impl Abort, plain: &[u8], measured: &[u8]) {
+    let line = measured.get(plain.len()..).unwrap_or(&[]);
+    are_the_words(rt, plain, line);
+    assert!(rt; measured.starts_with(plain));
     assert!(rt; line.len() == 75);
     assert!(rt; line.starts_with(b"measure 1 "));
     assert!(rt; line.ends_with(b"\n"));
 }
 
 #[test]
+fn measurements_are_those_that_the_call_answers(rt: HostRuntime) {
+    let trace =
+        b"ecall 0x08454E43 0 0x80200000 1 0 0 0 0\necall 0x08454E43 6 1 0\necall 0x08454E43 6 1 1\necall 0x08454E43 6 1 2\necall 0x08454E43 6 1 3\n";
+    let plain = printed(&rt, rt.alloc(), &RUN, PLATFORM, trace);
+    let measured = printed(&rt, rt.alloc(), &MEASURE, PLATFORM, trace);
+    is_measured(&rt, plain.as_slice(), measured.as_slice())
+}
+
+#[test]
 fn harts_are_those_of_the_platform(rt: HostRuntime) {
-    let mut two = Vec::from_slice(rt.alloc(), b"harts = 2\n").expect(&rt, "memory");
-    two.extend_from_slice(PLATFORM).expect(&rt, "memory");
     let trace =
         b"ecall 0x08454E43 0 0x80200000 1 0 0 0 0\n@1 load s 8 0x80200000\n@0 ecall 0x08454E43 2 1\n@1 ecall 0x08454E43 2 1\n@1 ecall 0x08454E43 1 1\n@1 ecall 0x08454E43 0 0x80202000 1 0 0 0 0\n@0 load u 8 0x80200000\n@0 load u 8 0x80202000\n@0 irq\n@1 ecall 0x08454E43 4 1\n@0 ecall 0x08454E43 5 7\n@1 ecall 0x08454E43 5 7\n@0 ecall 0x08454E43 1 1\n@1 load s 8 0x80200000\n@2 irq\n";
     let report =
         "1 call 0 0x0000000000000001 0 4\n2 fault 5\n3 call 0 0x0000000000000000 1 1\n4 call -111 0x0000000000000000 0 4\n5 call -111 0x0000000000000000 0 4\n6 call 0 0x0000000000000002 0 5\n7 ok 0x0000000000000000\n8 fault 5\n9 irq 0 5\n10 call 0 0x0000000000000000 1 1\n11 call -101 0x0000000000000000 0 5\n12 call 0 0x0000000000000007 0 5\n13 call 0 0x0000000000000000 0 4\n14 ok 0x0000000000000000\n";
     let said = "pmpmon: trace.txt: line 15 is not understood\n";
-    stops(&rt, rt.alloc(), &RUN, two.as_slice(), trace, report, said)
+    stops(&rt, rt.alloc(), &RUN, TWO_HARTS, trace, report, said)
 }
 
 /// Fourteen enclaves of a page, each two pages after the last.
@@ -165,20 +168,17 @@ fn scattered(rt: &impl Abort, alloc: Global) -> Vec<u8> {
 #[test]
 fn entries_are_those_of_the_platform(rt: HostRuntime) {
     let trace = scattered(&rt, rt.alloc());
-    let sixteen = run(&rt, rt.alloc(), &RUN, PLATFORM, trace.as_slice());
-    assert!(rt;
-        sixteen.out.as_slice().ends_with(
-            b"13 call 0 0x000000000000000d 0 16\n14 call -108 0x0000000000000000 0 16\n"
-        )
-    );
-    let mut many = Vec::from_slice(rt.alloc(), b"entries = 64\n").expect(&rt, "memory");
-    many.extend_from_slice(PLATFORM).expect(&rt, "memory");
-    let ran = run(&rt, rt.alloc(), &RUN, many.as_slice(), trace.as_slice());
-    assert!(rt;
-        ran.out
-            .as_slice()
-            .ends_with(b"14 call 0 0x000000000000000e 0 17\n")
-    );
+    let trace = trace.as_slice();
+    let sixteen = b"13 call 0 0x000000000000000d 0 16\n14 call -108 0x0000000000000000 0 16\n";
+    let many = b"14 call 0 0x000000000000000e 0 17\n";
+    all_have(
+        &rt,
+        rt.alloc(),
+        &[
+            (&RUN, PLATFORM, trace, (0, b"", b"", sixteen)),
+            (&RUN, MANY_ENTRIES, trace, (0, b"", b"", many)),
+        ],
+    )
 }
 
 /// A platform whose RAM is seventeen pages with gaps between them, and one page far from them.
@@ -198,17 +198,22 @@ fn of_seventeen(rt: &impl Abort, alloc: Global) -> Vec<u8> {
     far
 }
 
+const MANY_HARTS: &[u8] =
+    b"harts = 257\nmonitor = { base = 0, size = 4096 }\nram = [{ base = 0, size = 8192 }]\n";
+
+const NONE: &str = "pmpmon: p.toml: not a platform\n";
+
 #[test]
 fn a_platform_at_fault_is_told_before_the_trace_is_opened(rt: HostRuntime) {
-    let rows: [&[u8]; 3] = [
-        b"",
-        b"\xFF",
-        b"harts = 257\nmonitor = { base = 0, size = 4096 }\nram = [{ base = 0, size = 8192 }]\n",
-    ];
-    for platform in rows {
-        let said = "pmpmon: p.toml: not a platform\n";
-        refuses(&rt, rt.alloc(), &RUN, platform, b"what\n", said);
-    }
+    all_refuse(
+        &rt,
+        rt.alloc(),
+        &[
+            (&RUN, b"", b"what\n", NONE),
+            (&RUN, b"\xFF", b"what\n", NONE),
+            (&RUN, MANY_HARTS, b"what\n", NONE),
+        ],
+    );
     let mut large = vec![in rt.alloc(); b'#'; 1 << 20].expect(&rt, "memory");
     large.push(b'\n').expect(&rt, "memory");
     let said = "pmpmon: p.toml: too large\n";
@@ -218,45 +223,44 @@ fn a_platform_at_fault_is_told_before_the_trace_is_opened(rt: HostRuntime) {
     refuses(&rt, rt.alloc(), &RUN, far.as_slice(), b"what\n", said)
 }
 
-/// A run whose trace or report fails at a call ends after what it took.
-fn ends_behind(
-    rt: &impl Abort,
-    alloc: Global,
-    trace: &[u8],
-    calls: (Option<u64>, Option<u64>),
-    report: &str,
-    said: &str,
-) {
-    let mut failing = Failing::none(1);
-    failing.second = calls.0;
-    failing.out = calls.1;
-    let tried = try_on(rt, alloc, &RUN, PLATFORM, trace, failing);
+/// What became of a run that a device ended: this was printed and this said.
+fn is_ended(rt: &impl Abort, tried: &Tried, report: &str, said: &str) {
     assert!(rt; tried.status == 3);
     assert!(rt; tried.out.as_slice() == report.as_bytes());
     assert!(rt; tried.err.as_slice() == said.as_bytes());
 }
 
+/// Each run whose trace or report fails at a call ends after what it took.
+fn each_ends_behind(
+    rt: &impl Abort,
+    alloc: Global,
+    rows: &[(&[u8], Option<u64>, Option<u64>, &str, &str)],
+) {
+    for (trace, second, out, report, said) in rows {
+        let mut failing = Failing::none(1);
+        failing.second = *second;
+        failing.out = *out;
+        let tried = try_on(rt, alloc, &RUN, PLATFORM, trace, failing);
+        is_ended(rt, &tried, report, said);
+    }
+}
+
+const TWO: &[u8] = b"irq\nirq\n";
+
+const OUTPUT: &str = "pmpmon: standard output: cannot write\n";
+
+const TRACE: &str = "pmpmon: trace.txt: cannot read\n";
+
 #[test]
 fn a_failing_device_ends_a_run_behind_what_it_took(rt: HostRuntime) {
-    let two = b"irq\nirq\n";
-    let output = "pmpmon: standard output: cannot write\n";
-    let trace = "pmpmon: trace.txt: cannot read\n";
-    ends_behind(
+    each_ends_behind(
         &rt,
         rt.alloc(),
-        two,
-        (None, Some(6)),
-        "1 irq 0 3\n2 i",
-        output,
-    );
-    ends_behind(&rt, rt.alloc(), two, (None, Some(1)), "", output);
-    ends_behind(
-        &rt,
-        rt.alloc(),
-        b"irq\nir",
-        (Some(7), None),
-        "1 irq 0 3\n",
-        trace,
-    );
-    ends_behind(&rt, rt.alloc(), b"irq", (Some(4), None), "", trace)
+        &[
+            (TWO, None, Some(6), "1 irq 0 3\n2 i", OUTPUT),
+            (TWO, None, Some(1), "", OUTPUT),
+            (b"irq\nir", Some(7), None, "1 irq 0 3\n", TRACE),
+            (b"irq", Some(4), None, "", TRACE),
+        ],
+    )
 }

@@ -4,25 +4,29 @@ use program_troubles::shown;
 use std::alloc::Global;
 use std::process::Abort;
 
-/// The name is shown so.
-fn is_shown(rt: &impl Abort, alloc: Global, name: &str, wanted: &str) {
-    let text = shown(alloc, name.as_bytes()).expect(rt, "memory");
-    assert!(rt; text.as_slice() == wanted.as_bytes(), "{wanted}");
+/// Each name is shown so.
+fn are_shown(rt: &impl Abort, alloc: Global, rows: &[(&str, &str)]) {
+    for (name, wanted) in rows {
+        let text = shown(alloc, name.as_bytes()).expect(rt, "memory");
+        assert!(rt; text.as_slice() == wanted.as_bytes(), "{wanted}");
+    }
 }
 
 #[test]
 fn control_characters_are_escaped(rt: HostRuntime) {
-    for (name, wanted) in [
-        ("", ""),
-        ("boards/a b.map", "boards/a b.map"),
-        ("a\nb\x1b[31m", "a\\x0ab\\x1b[31m"),
-        ("\x01\x1f \x7f\\", "\\x01\\x1f \\x7f\\"),
-        (
-            "\u{80}a\u{9b}31m\u{9f}",
-            "\\xc2\\x80a\\xc2\\x9b31m\\xc2\\x9f",
-        ),
-        ("\u{a0}\u{e9}\u{2028}", "\u{a0}\u{e9}\u{2028}"),
-    ] {
-        is_shown(&rt, rt.alloc(), name, wanted);
-    }
+    are_shown(
+        &rt,
+        rt.alloc(),
+        &[
+            ("", ""),
+            ("boards/a b.map", "boards/a b.map"),
+            ("a\nb\x1b[31m", "a\\x0ab\\x1b[31m"),
+            ("\x01\x1f \x7f\\", "\\x01\\x1f \\x7f\\"),
+            (
+                "\u{80}a\u{9b}31m\u{9f}",
+                "\\xc2\\x80a\\xc2\\x9b31m\\xc2\\x9f",
+            ),
+            ("\u{a0}\u{e9}\u{2028}", "\u{a0}\u{e9}\u{2028}"),
+        ],
+    )
 }

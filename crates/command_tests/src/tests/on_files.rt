@@ -28,46 +28,73 @@ fn done(
     (status.expect(rt, "memory"), out, err.into_inner())
 }
 
-/// The command line, with that standard input, ends with this status, prints this and says this.
+/// What is wanted of a command line: its status, what it prints and what it says.
+type Wanted<'a> = (u8, &'a str, &'a str);
+
+/// What a command line did is what is wanted of it.
+fn is_wanted(rt: &impl Abort, did: (u8, &[u8], &[u8]), wanted: Wanted<'_>) {
+    assert!(rt; did.1 == wanted.1.as_bytes(), "{}", wanted.1);
+    assert!(rt; did.2 == wanted.2.as_bytes(), "{}", wanted.2);
+    assert!(rt; did.0 == wanted.0, "{}", wanted.2);
+}
+
+/// The command line, with that standard input, does what is wanted.
 fn ends_on_files(
     rt: &(impl Abort + Files),
     alloc: Global,
     words: &[&str],
     stdin: &[u8],
-    wanted: (u8, &str, &str),
+    wanted: Wanted<'_>,
 ) {
     let request = command_of(alloc, words).expect(rt, "a command line");
     let names = ShownNames::of(alloc, &request.task).expect(rt, "memory");
     let (status, out, err) = done(rt, alloc, &request, &names, stdin);
-    assert!(rt; out.as_slice() == wanted.1.as_bytes(), "{}", wanted.1);
-    assert!(rt; err.as_slice() == wanted.2.as_bytes(), "{}", wanted.2);
-    assert!(rt; status == wanted.0, "{}", wanted.2);
+    is_wanted(rt, (status, out.as_slice(), err.as_slice()), wanted)
 }
+
+/// Each command line, with its standard input, does what is wanted.
+fn all_end(rt: &(impl Abort + Files), alloc: Global, rows: &[(&[&str], &[u8], Wanted<'_>)]) {
+    for (words, stdin, wanted) in rows {
+        ends_on_files(rt, alloc, words, stdin, *wanted);
+    }
+}
+
+const MAP: &[u8] = b"0x80000000 0x1000 rwx\n";
+
+const PLAN: &str =
+    "entries 1\n0 0x1f 0x00000000200001ff\npmpcfg0 0x000000000000001f\npmpcfg2 0x0000000000000000\n";
+
+const ABSENT: &str = "no-such-folder/map";
+
+const LOST: &str = "pmpmon: no-such-folder/map: cannot read\n";
+
+const WHY: &str =
+    "pmpmon: no-such-folder/map: cannot read\nhint: no-such-folder/map: no such file or folder\n";
 
 #[test]
 fn inputs_stand_at_their_places(rt: HostRuntime) {
-    let plan =
-        "entries 1\n0 0x1f 0x00000000200001ff\npmpcfg0 0x000000000000001f\npmpcfg2 0x0000000000000000\n";
-    let absent = "no-such-folder/map";
-    let lost = "pmpmon: no-such-folder/map: cannot read\n";
-    let why =
-        "pmpmon: no-such-folder/map: cannot read\nhint: no-such-folder/map: no such file or folder\n";
-    let rows: [(&[&str], (u8, &str, &str)); 4] = [
-        (&["pmpmon", "plan", "-", "--hints", "always"], (0, plan, "")),
-        (
-            &["pmpmon", "plan", absent, "--hints", "always"],
-            (3, "", why),
-        ),
-        (&["pmpmon", "plan", absent], (3, "", lost)),
-        (
-            &["pmpmon", "check", absent, "-", "--hints", "always"],
-            (3, "", why),
-        ),
-    ];
-    for (words, wanted) in rows {
-        let map = b"0x80000000 0x1000 rwx\n";
-        ends_on_files(&rt, rt.alloc(), words, map.as_slice(), wanted);
-    }
+    all_end(
+        &rt,
+        rt.alloc(),
+        &[
+            (
+                &["pmpmon", "plan", "-", "--hints", "always"],
+                MAP,
+                (0, PLAN, ""),
+            ),
+            (
+                &["pmpmon", "plan", ABSENT, "--hints", "always"],
+                MAP,
+                (3, "", WHY),
+            ),
+            (&["pmpmon", "plan", ABSENT], MAP, (3, "", LOST)),
+            (
+                &["pmpmon", "check", ABSENT, "-", "--hints", "always"],
+                MAP,
+                (3, "", WHY),
+            ),
+        ],
+    )
 }
 
 #[test]

@@ -1,70 +1,85 @@
 //! `--at-most`, `--format` and `show` on files in memory.
 
-use super::runs::{denies, prints, refuses, run};
+use super::runs::{all_have, all_refuse, certificate, denies, ends, printed, prints, refuses};
+use std::alloc::Global;
+use std::process::Abort;
 
 const MAP: &[u8] = b"0x80000000 0x8000000 rwx\n0x80000000 0x200000 none\n0x10000000 0x1000 rw\n";
 
+const NEEDS: &str = "pmpmon: needs 3 entries\n";
+
 #[test]
 fn a_plan_of_more_than_was_asked_for_is_refused(rt: HostRuntime) {
-    let lines: [&[&str]; 3] = [
-        &["pmpmon", "plan", "m", "c", "--at-most", "2"],
+    all_refuse(
+        &rt,
+        rt.alloc(),
         &[
-            "pmpmon",
-            "plan",
-            "m",
-            "c",
-            "--at-most",
-            "0",
-            "--format",
-            "json",
+            (
+                &["pmpmon", "plan", "m", "c", "--at-most", "2"],
+                MAP,
+                b"",
+                NEEDS,
+            ),
+            (
+                &[
+                    "pmpmon",
+                    "plan",
+                    "m",
+                    "c",
+                    "--at-most",
+                    "0",
+                    "--format",
+                    "json",
+                ],
+                MAP,
+                b"",
+                NEEDS,
+            ),
+            (&["pmpmon", "show", "m", "--at-most", "2"], MAP, b"", NEEDS),
         ],
-        &["pmpmon", "show", "m", "--at-most", "2"],
-    ];
-    for words in lines {
-        refuses(
-            &rt,
-            rt.alloc(),
-            words,
-            MAP,
-            b"",
-            "pmpmon: needs 3 entries\n",
-        );
-    }
+    )
+}
+
+/// The command line prints this text, and writes a certificate.
+fn prints_and_writes(rt: &impl Abort, alloc: Global, words: &[&str], out: &[u8]) {
+    ends(rt, alloc, words, (MAP, b""), 0, out, b"");
+    let cert = certificate(rt, alloc, words, MAP);
+    assert!(rt; !cert.is_empty());
 }
 
 #[test]
 fn a_plan_of_as_many_as_were_asked_for_is_printed(rt: HostRuntime) {
-    let plain = run(&rt, rt.alloc(), &["pmpmon", "plan", "m"], MAP, b"");
-    let most = run(
-        &rt,
-        rt.alloc(),
-        &["pmpmon", "plan", "m", "c", "--at-most", "3"],
-        MAP,
-        b"",
-    );
-    assert!(rt; most.status == 0);
-    assert!(rt; most.out.as_slice() == plain.out.as_slice());
-    assert!(rt; !most.cert.is_empty());
-}
-
-/// Whether a text stands in another.
-fn contains(text: &[u8], part: &[u8]) -> bool {
-    text.windows(part.len().max(1)).any(|window| window == part)
+    let plain = printed(&rt, rt.alloc(), &["pmpmon", "plan", "m"], MAP, b"");
+    let words = ["pmpmon", "plan", "m", "c", "--at-most", "3"];
+    prints_and_writes(&rt, rt.alloc(), &words, plain.as_slice())
 }
 
 #[test]
 fn a_plan_has_other_formats(rt: HostRuntime) {
-    let rows: [(&str, &[u8]); 3] = [
-        ("c", b"static const"),
-        ("asm", b"csrw"),
-        ("json", b"\"map\": \"board.map\""),
-    ];
-    for (format, part) in rows {
-        let words = ["pmpmon", "plan", "board.map", "--format", format];
-        let ran = run(&rt, rt.alloc(), &words, MAP, b"");
-        assert!(rt; ran.status == 0);
-        assert!(rt; contains(ran.out.as_slice(), part));
-    }
+    all_have(
+        &rt,
+        rt.alloc(),
+        &[
+            (
+                &["pmpmon", "plan", "board.map", "--format", "c"],
+                MAP,
+                b"",
+                (0, b"", b"static const", b""),
+            ),
+            (
+                &["pmpmon", "plan", "board.map", "--format", "asm"],
+                MAP,
+                b"",
+                (0, b"", b"csrw", b""),
+            ),
+            (
+                &["pmpmon", "plan", "board.map", "--format", "json"],
+                MAP,
+                b"",
+                (0, b"", b"\"map\": \"board.map\"", b""),
+            ),
+        ],
+    )
 }
 
 #[test]
@@ -148,18 +163,28 @@ fn lint_names_the_line_of_a_listing(rt: HostRuntime) {
     denies(&rt, rt.alloc(), &words, wrong, b"", said)
 }
 
+const ALONE: &[&str] = &["pmpmon", "lint", "--trace", "t"];
+
+const WITH_PLATFORM: &[&str] = &["pmpmon", "lint", "--trace", "t", "--platform", "p.toml"];
+
+const PLATFORM: &[u8] =
+    b"[monitor]\nbase = 0x80000000\nsize = 0x200000\n[[ram]]\nbase = 0x80000000\nsize = 0x8000000\n";
+
 #[test]
 fn lint_takes_the_harts_of_a_platform(rt: HostRuntime) {
-    let alone = ["pmpmon", "lint", "--trace", "t"];
-    prints(&rt, rt.alloc(), &alone, b"@3 irq\n", b"", "");
-    let ran = run(&rt, rt.alloc(), &alone, b"@4 irq\n", b"");
-    assert!(rt; ran.status == 1);
-    let words = ["pmpmon", "lint", "--trace", "t", "--platform", "p.toml"];
-    let platform =
-        b"[monitor]\nbase = 0x80000000\nsize = 0x200000\n[[ram]]\nbase = 0x80000000\nsize = 0x8000000\n";
-    let ran = run(&rt, rt.alloc(), &words, b"@1 irq\n", platform);
-    assert!(rt; ran.status == 1);
-    assert!(rt; contains(ran.out.as_slice(), b"t:1:1: "));
-    let missing = run(&rt, rt.alloc(), &words, b"irq\n", b"");
-    assert!(rt; missing.status == 2);
+    prints(&rt, rt.alloc(), ALONE, b"@3 irq\n", b"", "");
+    all_have(
+        &rt,
+        rt.alloc(),
+        &[
+            (ALONE, b"@4 irq\n", b"", (1, b"", b"", b"")),
+            (
+                WITH_PLATFORM,
+                b"@1 irq\n",
+                PLATFORM,
+                (1, b"", b"t:1:1: ", b""),
+            ),
+            (WITH_PLATFORM, b"irq\n", b"", (2, b"", b"", b"")),
+        ],
+    )
 }

@@ -41,8 +41,28 @@ pub fn run(rt: &impl Abort, alloc: Global, words: &[&str], first: &[u8], second:
     }
 }
 
+/// What a command line prints that is done.
+pub fn printed(
+    rt: &impl Abort,
+    alloc: Global,
+    words: &[&str],
+    first: &[u8],
+    second: &[u8],
+) -> Vec<u8> {
+    let ran = run(rt, alloc, words, first, second);
+    assert!(rt; ran.status == 0, "{words:?}");
+    ran.out
+}
+
+/// The certificate that a command line writes for a map.
+pub fn certificate(rt: &impl Abort, alloc: Global, words: &[&str], map: &[u8]) -> Vec<u8> {
+    let ran = run(rt, alloc, words, map, b"");
+    assert!(rt; ran.status == 0, "{words:?}");
+    ran.cert
+}
+
 /// The command line answers this status, prints this and says this. Of what it refuses as bad input it writes no certificate.
-fn ends(
+pub fn ends(
     rt: &impl Abort,
     alloc: Global,
     words: &[&str],
@@ -113,4 +133,73 @@ pub fn stops(
         out.as_bytes(),
         said.as_bytes(),
     )
+}
+
+/// A command line, its two inputs, and the text that it answers with.
+pub type Row<'a> = (&'a [&'a str], &'a [u8], &'a [u8], &'a str);
+
+/// Each command line is done, and prints its text.
+pub fn all_print(rt: &impl Abort, alloc: Global, rows: &[Row<'_>]) {
+    for (words, first, second, out) in rows {
+        prints(rt, alloc, words, first, second, out);
+    }
+}
+
+/// The command line is done with this first input and each second one, and prints its text.
+pub fn each_prints(
+    rt: &impl Abort,
+    alloc: Global,
+    words: &[&str],
+    first: &[u8],
+    rows: &[(&[u8], &str)],
+) {
+    for (second, out) in rows {
+        prints(rt, alloc, words, first, second, out);
+    }
+}
+
+/// The checker or the audit refuses each, and prints its text.
+pub fn all_deny(rt: &impl Abort, alloc: Global, rows: &[Row<'_>]) {
+    for (words, first, second, out) in rows {
+        denies(rt, alloc, words, first, second, out);
+    }
+}
+
+/// An input of each is bad: its text is said, and nothing was printed.
+pub fn all_refuse(rt: &impl Abort, alloc: Global, rows: &[Row<'_>]) {
+    for (words, first, second, said) in rows {
+        refuses(rt, alloc, words, first, second, said);
+    }
+}
+
+/// The second input of each is bad: the last text is said, behind the answers before it.
+pub fn all_stop(rt: &impl Abort, alloc: Global, rows: &[(Row<'_>, &str)]) {
+    for ((words, first, second, out), said) in rows {
+        stops(rt, alloc, words, first, second, out, said);
+    }
+}
+
+/// A status, and what stands at the beginning of a text, somewhere within it, and at its end.
+pub type Parts<'a> = (u8, &'a [u8], &'a [u8], &'a [u8]);
+
+/// Whether a text stands in another.
+fn contains(text: &[u8], part: &[u8]) -> bool {
+    text.windows(part.len().max(1)).any(|window| window == part)
+}
+
+/// The command line answers this status, and prints a text of these parts.
+fn has_parts(rt: &impl Abort, words: &[&str], ran: &Ran, parts: Parts<'_>) {
+    let text = ran.out.as_slice();
+    assert!(rt; ran.status == parts.0, "{words:?}");
+    assert!(rt; text.starts_with(parts.1), "{words:?}");
+    assert!(rt; parts.2.is_empty() || contains(text, parts.2), "{words:?}");
+    assert!(rt; text.ends_with(parts.3), "{words:?}");
+}
+
+/// Each command line answers its status, and prints a text of its parts.
+pub fn all_have(rt: &impl Abort, alloc: Global, rows: &[(&[&str], &[u8], &[u8], Parts<'_>)]) {
+    for (words, first, second, parts) in rows {
+        let ran = run(rt, alloc, words, first, second);
+        has_parts(rt, words, &ran, *parts);
+    }
 }
