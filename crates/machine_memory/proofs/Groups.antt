@@ -1,5 +1,7 @@
 -- Pages of a group.
-use Rattle.std.proofs.Common.{◌≡◌, ℕ, zero, suc, ◌+◌, ◌-◌, ◌≤◌, ◌==◌, if◌then◌else◌, List, [], ◌∷◌, Option, None, Box, Global, slice_index_or, slice_set, replicate, arith, refl}
+use Rattle.std.proofs.Common.{◌≡◌, ℕ, zero, suc, ◌+◌, ◌-◌, ◌≤◌, ◌==◌, if◌then◌else◌, List, [], ◌∷◌, Option, None, Box, Global, slice_index_or, slice_set, replicate, arith, refl, ap, sym, ◌∙◌}
+use Rattle.std.specs.Box.{with_value}
+use Rattle.std.specs.Prelude.{Result, Ok, Err, OnErr}
 use Rattle.std.proofs.lemmas.Bool.Decides.{nat_tests}
 use Rattle.std.proofs.lemmas.Grind.{common_steps}
 use Rattle.machine_memory.specs.declared.page_group.PageGroup.{PageGroup}
@@ -23,3 +25,18 @@ pub forgets_more : (pages : List (Option (Box (List ℕ) Global))) (old : PageGr
     → ((k : ℕ) → bytes_of (slice_index_or pages k None) ≡ (if in_range from (place - from) k then None else page_at old k))
     → (k : ℕ) → bytes_of (slice_index_or (slice_set pages place None) k None) ≡ (if in_range from (place + 1 - from) k then None else page_at old k)
 forgets_more pages old from place low so k = grind (arith, nat_tests, common_steps, so k, gone pages place k)
+
+-- what stands at a place is put back there
+pub put_back : {X : Type 0} (xs : List (Option X)) (i : ℕ) (x other : Option X) → slice_index_or xs i other ≡ x → slice_set xs i x ≡ xs
+put_back [] i x other is = refl
+put_back (y ∷ ys) zero x other is = ap (λ z. z ∷ ys) (sym is)
+put_back (y ∷ ys) (suc i) x other is = ap (λ zs. y ∷ zs) (put_back ys i x other is)
+
+-- what a clause of an `Err` gives
+pub on_err : {T E P Q : Type 0} (r : Result T E) → (P → Q) → OnErr r P → OnErr r Q
+on_err (Ok x) f p = tt
+on_err (Err e) f p = f p
+
+-- a group that is as it was
+pub same_group : (group : Box PageGroup Global) (new was : PageGroup) → new ≡ was → was ≡ group.value → with_value group new ≡ group
+same_group group new was is from = ap (with_value group) (is ∙ from)

@@ -1,4 +1,4 @@
--- A value that is put into a page of one group.
+-- A value that is put into a page of one span.
 use Rattle.std.proofs.Common.{◌≡◌, ◌≢◌, ℕ, ◌+◌, ◌-◌, ◌/◌, ◌%◌, ◌≤◌, ◌∙◌, inl, inr, if◌then◌else◌, true, false, List, Option, Some, Box, Global, cond, arith, refl, ap, ap₂, sym}
 use Rattle.std.proofs.lemmas.Bool.Decides.{nat_tests, eqb_tells}
 use Rattle.std.proofs.lemmas.Grind.{common_steps}
@@ -6,10 +6,10 @@ use Rattle.std.specs.Ordering.{nat_cmp, is_eq}
 use Rattle.std.specs.BTreeMap.{get}
 use Rattle.std.specs.Prelude.{Result, Ok, Err, OnOk}
 use Rattle.pmp_encoding.specs.Registers.{byte_of}
-use Rattle.machine_memory.specs.declared.page_group.PageGroup.{PageGroup}
+use Rattle.machine_memory.specs.declared.page_span.PageSpan.{PageSpan}
 use Rattle.machine_memory.specs.declared.memory.Memory.{Memory}
 use Rattle.machine_memory.specs.Memory.{in_range, stored, byte_at}
-use Rattle.machine_memory.specs.Groups.{byte_in, page_at, page_in, page_of}
+use Rattle.machine_memory.specs.Groups.{byte_in, page_in, page_on, page_within}
 
 -- an address is in the range of some that lie in its page, by its place there
 in_page : (address size a : ℕ) → address % 4096 + size ≤ 4096 → a / 4096 ≡ address / 4096 → in_range (address % 4096) size (a % 4096) ≡ in_range address size a
@@ -35,8 +35,8 @@ stores old new address size value inside here others a = elim (eqb_tells (a / 40
       ∙ ap (λ t. if t then byte_of value (a - address) else byte_in (old (a / 4096)) (a % 4096)) (sym (in_another address size a inside p.1))
 ]
 
--- another page is in another group, or at another place of the same
-apart : (page other : ℕ) → other ≢ page → other / 64 ≡ page / 64 → other % 64 ≢ page % 64
+-- another page is in another span, or at another place of the same
+apart : (page other : ℕ) → other ≢ page → other / 4096 ≡ page / 4096 → other % 4096 ≢ page % 4096
 apart page other differs same = λ e. differs (omega (arith, same, e))
 
 is_there : (g other : ℕ) → other ≡ g → is_eq (nat_cmp g other) ≡ true
@@ -45,24 +45,25 @@ is_there g other same = grind (arith, nat_tests, common_steps, same)
 is_elsewhere : (g other : ℕ) → other ≢ g → is_eq (nat_cmp g other) ≡ false
 is_elsewhere g other differs = grind (arith, nat_tests, common_steps, differs)
 
--- so it is where the value was put into a page of a group
-pub stores_in : (old new : Memory) (group now : Box PageGroup Global) (address size value : ℕ) → address % 4096 + size ≤ 4096
-    → Some group ≡ get nat_cmp old.groups (address / 4096 / 64)
-    → ((g : ℕ) → get nat_cmp new.groups g ≡ cond (is_eq (nat_cmp (address / 4096 / 64) g)) (Some now) (get nat_cmp old.groups g))
-    → ((k : ℕ) → byte_in (page_at now.value (address / 4096 % 64)) k ≡ (if in_range (address % 4096) size k then byte_of value (k - address % 4096) else byte_in (page_at group.value (address / 4096 % 64)) k))
-    → ((other : ℕ) → other ≢ address / 4096 % 64 → page_at now.value other ≡ page_at group.value other)
+-- so it is where the value was put into a page of a span, which was there or was not
+pub stores_in : (old new : Memory) (before : Option (Box PageSpan Global)) (now : Box PageSpan Global) (address size value : ℕ) → address % 4096 + size ≤ 4096
+    → before ≡ get nat_cmp old.spans (address / 4096 / 4096)
+    → ((g : ℕ) → get nat_cmp new.spans g ≡ cond (is_eq (nat_cmp (address / 4096 / 4096) g)) (Some now) (get nat_cmp old.spans g))
+    → ((k : ℕ) → byte_in (page_on now.value (address / 4096 % 4096)) k
+    ≡ (if in_range (address % 4096) size k then byte_of value (k - address % 4096) else byte_in (page_within before (address / 4096 % 4096)) k))
+    → ((other : ℕ) → other ≢ address / 4096 % 4096 → page_on now.value other ≡ page_within before other)
     → (a : ℕ) → byte_at new a ≡ stored (byte_at old) address size value a
-stores_in old new group now address size value inside there put here others =
+stores_in old new before now address size value inside there put here others =
     let page = address / 4096 in
-    let in_new = λ (g : ℕ) (same : g ≡ page / 64). put g ∙ ap (λ t. cond t (Some now) (get nat_cmp old.groups g)) (is_there (page / 64) g same) in
-    let in_old = λ (g : ℕ) (same : g ≡ page / 64). ap (get nat_cmp old.groups) same ∙ sym there in
-    let its = ap (λ g. page_of g (page % 64)) (in_new (page / 64) refl) in
-    let was = ap (λ g. page_of g (page % 64)) (in_old (page / 64) refl) in
+    let in_new = λ (g : ℕ) (same : g ≡ page / 4096). put g ∙ ap (λ t. cond t (Some now) (get nat_cmp old.spans g)) (is_there (page / 4096) g same) in
+    let in_old = λ (g : ℕ) (same : g ≡ page / 4096). ap (get nat_cmp old.spans) same ∙ sym there in
+    let its = ap (λ g. page_within g (page % 4096)) (in_new (page / 4096) refl) in
+    let was = ap (λ g. page_within g (page % 4096)) (in_old (page / 4096) refl) in
     stores (page_in old) (page_in new) address size value inside
     (λ k. ap (λ p. byte_in p k) its ∙ here k ∙ ap (λ p. if in_range (address % 4096) size k then byte_of value (k - address % 4096) else byte_in p k) (sym was))
-    (λ q differs. elim (eqb_tells (q / 64) (page / 64)) [
-      | inl p ↦ ap (λ g. page_of g (q % 64)) (in_new (q / 64) p.1) ∙ others (q % 64) (apart page q differs p.1) ∙ sym (ap (λ g. page_of g (q % 64)) (in_old (q / 64) p.1))
-      | inr p ↦ ap (λ g. page_of g (q % 64)) (put (q / 64) ∙ ap (λ t. cond t (Some now) (get nat_cmp old.groups (q / 64))) (is_elsewhere (page / 64) (q / 64) p.1))
+    (λ q differs. elim (eqb_tells (q / 4096) (page / 4096)) [
+      | inl p ↦ ap (λ g. page_within g (q % 4096)) (in_new (q / 4096) p.1) ∙ others (q % 4096) (apart page q differs p.1) ∙ sym (ap (λ g. page_within g (q % 4096)) (in_old (q / 4096) p.1))
+      | inr p ↦ ap (λ g. page_within g (q % 4096)) (put (q / 4096) ∙ ap (λ t. cond t (Some now) (get nat_cmp old.spans (q / 4096))) (is_elsewhere (page / 4096) (q / 4096) p.1))
     ])
 
 -- what two clauses of an `Ok` give together

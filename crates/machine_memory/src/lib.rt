@@ -14,5 +14,6 @@
 mod memory;
 mod page_bytes;
 mod page_group;
+mod page_span;
 
 pub use memory::Memory;

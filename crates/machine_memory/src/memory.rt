@@ -1,12 +1,12 @@
-//! The bytes of the physical address space, kept by pages, and these by groups of them that lie side by side. A page that was
+//! The bytes of the physical address space, kept by pages, and these by spans of them that lie side by side. A page that was
 //! not written has no bytes of its own and reads as zero.
 
 ghost use Rattle.std.specs.Prelude.{◌≡◌, ℕ, ◌+◌, ◌-◌, ◌*◌, ◌/◌, ◌%◌, ◌^◌, ◌<◌, ◌≤◌, OnOk, OnErr, IfSome, None, Some, false, true, ◌==◌, ◌&&◌, if◌then◌else◌};
 ghost use Rattle.machine_memory.specs.Memory.{bytes_at, number_of, in_range, stored, zeroed, byte_at, is_written};
-ghost use Rattle.machine_memory.specs.Groups.{has_group, page_in};
+ghost use Rattle.machine_memory.specs.Groups.{has_span, page_in};
 
 use crate::page_bytes::{clear, copy_page, number_at};
-use crate::page_group::{GROUP, PageGroup, group_of};
+use crate::page_span::{PageSpan, SPAN, span_of};
 use enclave_requests::Pages;
 use std::alloc::{AllocError, Global};
 use std::collections::BTreeMap;
@@ -14,10 +14,10 @@ use std::collections::BTreeMap;
 /// The bytes of a page.
 const PAGE: u64 = 4096;
 
-/// The groups of the pages that were written, by their numbers.
+/// The spans of the pages that were written, by their numbers.
 #[derive(Drop)]
 pub struct Memory {
-    groups: BTreeMap<u64, Box<PageGroup>>,
+    spans: BTreeMap<u64, Box<PageSpan>>,
 }
 
 impl Memory {
@@ -27,7 +27,7 @@ impl Memory {
         ensures written { (page : ℕ) → is_written result page ≡ false }
     {
         Memory {
-            groups: BTreeMap::new(alloc),
+            spans: BTreeMap::new(alloc),
         }
     }
 
@@ -37,8 +37,8 @@ impl Memory {
         ensures some { IfSome result (λ bytes. page_in self.now page ≡ Some bytes.now) }
         ensures none { result ≡ None → page_in self.now page ≡ None }
     {
-        match self.groups.get(&(page / GROUP)) {
-            Some(group) => group.page((page % GROUP) as usize),
+        match self.spans.get(&(page / SPAN)) {
+            Some(span) => span.page((page % SPAN) as usize),
             None => None,
         }
     }
@@ -87,48 +87,48 @@ impl Memory {
         ensures new_page { OnErr result (is_written self.old (address / 4096) ≡ false) }
     {
         let page = address / PAGE;
-        let place = (page % GROUP) as usize;
+        let place = (page % SPAN) as usize;
         let at = (address % PAGE) as usize;
-        if let Some(group) = self.groups.get_mut(&(page / GROUP)) {
-            return group.store(alloc, place, at, size, value);
+        if let Some(span) = self.spans.get_mut(&(page / SPAN)) {
+            return span.store(alloc, place, at, size, value);
         }
-        let group = group_of(alloc, place, at, size, value)?;
-        self.groups.insert(page / GROUP, group)?;
+        let span = span_of(alloc, place, at, size, value)?;
+        self.spans.insert(page / SPAN, span)?;
         Ok(())
     }
 
-    /// The first group from one on and before another that is there.
-    fn first_group(&self, from: u64, end: u64) -> Option<u64>
+    /// The first span from one on and before another that is there.
+    fn first_span(&self, from: u64, end: u64) -> Option<u64>
         requires { from ≤ end }
-        ensures found { IfSome result (λ group.
-            (from ≤ group) × (group < end)
-            × ((other : ℕ) → from ≤ other → other < group → has_group self.now other ≡ false)) }
+        ensures found { IfSome result (λ span.
+            (from ≤ span) × (span < end)
+            × ((other : ℕ) → from ≤ other → other < span → has_span self.now other ≡ false)) }
         ensures none { result ≡ None → (other : ℕ) → from ≤ other → other < end
-            → has_group self.now other ≡ false }
+            → has_span self.now other ≡ false }
     {
-        match self.groups.range(from..end).next() {
-            Some((group, _)) => Some(*group),
+        match self.spans.range(from..end).next() {
+            Some((span, _)) => Some(*span),
             None => None,
         }
     }
 
-    /// Makes those pages of a group that lie from one on and before another zero, and not written.
-    fn forget_in(&mut self, group: u64, first: u64, end: u64)
+    /// Makes those pages of a span that lie from one on and before another zero, and not written.
+    fn forget_in(&mut self, span: u64, first: u64, end: u64)
         requires order { first ≤ end }
-        requires inside { group * 64 < end }
+        requires inside { span * 4096 < end }
         ensures { (page : ℕ) → page_in self.new page
-            ≡ (if (page / 64 == group) && in_range first (end - first) page then None
+            ≡ (if (page / 4096 == span) && in_range first (end - first) page then None
             else page_in self.old page) }
     {
-        let base = group * GROUP;
-        let from = first.saturating_sub(base).min(GROUP) as usize;
-        let end = (end - base).min(GROUP) as usize;
-        if let Some(group) = self.groups.get_mut(&group) {
-            group.forget(from, end);
+        let base = span * SPAN;
+        let from = first.saturating_sub(base).min(SPAN) as usize;
+        let end = (end - base).min(SPAN) as usize;
+        if let Some(span) = self.spans.get_mut(&span) {
+            span.forget(from, end);
         }
     }
 
-    /// Makes every byte of some pages zero, and the pages not written. It looks at those groups alone that are there.
+    /// Makes every byte of some pages zero, and the pages not written. It looks at those spans alone that are there.
     pub fn forget(&mut self, first: u64, count: u64)
         requires { first + count < 2 ^ 64 }
         ensures bytes { (a : ℕ)
@@ -138,10 +138,10 @@ impl Memory {
             (if in_range first count page then false else is_written self.old page) }
     {
         let end = first + count;
-        let mut from = first / GROUP;
-        while let Some(group) = self.first_group(from, end.div_ceil(GROUP)) {
-            self.forget_in(group, first, end);
-            from = group + 1;
+        let mut from = first / SPAN;
+        while let Some(span) = self.first_span(from, end.div_ceil(SPAN)) {
+            self.forget_in(span, first, end);
+            from = span + 1;
         }
     }
 

@@ -8,9 +8,6 @@ ghost use Rattle.machine_memory.specs.Groups.{byte_in, page_at};
 use crate::page_bytes::{page_of, put};
 use std::alloc::{AllocError, Global};
 
-/// How many pages a group has.
-pub(crate) const GROUP: u64 = 64;
-
 /// A page that was not written.
 const NO_PAGE: Option<Box<[u8; 4096]>> = None;
 

@@ -3,9 +3,9 @@ use Rattle.std.specs.Ordering.{nat_cmp}
 use Rattle.std.specs.BTreeMap.Range.{IsRangeOf}
 use Rattle.std.specs.declared.ops.Bound.TheVariants.{Included, Excluded}
 use Rattle.machine_memory.proofs.Written.{first_of}
-use Rattle.machine_memory.proofs.memory.Memory.first_group.Goals as goal
+use Rattle.machine_memory.proofs.memory.Memory.first_span.Goals as goal
 
 pub returns-in-Some-clause-found : goal.returns-in-Some-clause-found
 returns-in-Some-clause-found c =
-    first_of c.args.self.now.groups c.args.from c.args.end c.in-Some.group.now _ _
-    (subst (λ xs. IsRangeOf nat_cmp (Included c.args.from) (Excluded c.args.end) c.args.self.now.groups xs) c.in-Some.ensures.steps (c.range.ensures.in_range tt))
+    first_of c.args.self.now.spans c.args.from c.args.end c.in-Some.span.now _ _
+    (subst (λ xs. IsRangeOf nat_cmp (Included c.args.from) (Excluded c.args.end) c.args.self.now.spans xs) c.in-Some.ensures.steps (c.range.ensures.in_range tt))
