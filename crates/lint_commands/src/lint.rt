@@ -8,7 +8,7 @@ ghost use Rattle.lint_commands.specs.Lint.{listing_fault, listing_reason, other_
 use arrayvec::ArrayVec;
 use byte_streams::{DeviceFault, Sink, Source, write_whole};
 use command_inputs::{MAP_BYTES, REGISTER_BYTES, answer_status, bytes_in};
-use map_lint::lint;
+use map_lint::{LintFault, lint};
 use platform_lint::lint_platform;
 use program_troubles::Trouble;
 use register_text::{is_listing, listing_of};
@@ -36,8 +36,8 @@ pub fn lint_map<W: Sink>(
 {
     match lint(alloc, name, bytes, out) {
         Ok(is_map) => Ok(answer_status(is_map)),
-        Err(map_lint::LintFault::Memory) => Err(Trouble::Memory),
-        Err(map_lint::LintFault::Device) => Err(Trouble::Output),
+        Err(LintFault::Memory) => Err(Trouble::Memory),
+        Err(LintFault::Device) => Err(Trouble::Output),
     }
 }
 
@@ -53,8 +53,8 @@ pub fn lint_as_platform<W: Sink>(
 {
     match lint_platform(alloc, name, bytes, out) {
         Ok(is_platform) => Ok(answer_status(is_platform)),
-        Err(platform_lint::LintFault::Memory) => Err(Trouble::Memory),
-        Err(platform_lint::LintFault::Device) => Err(Trouble::Output),
+        Err(LintFault::Memory) => Err(Trouble::Memory),
+        Err(LintFault::Device) => Err(Trouble::Output),
     }
 }
 

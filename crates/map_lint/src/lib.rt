@@ -17,4 +17,5 @@ mod reasons;
 mod report;
 
 pub use idle::{Numbered, map_of_both};
-pub use report::{LintFault, lint};
+pub use lint_texts::LintFault;
+pub use report::lint;

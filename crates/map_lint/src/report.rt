@@ -4,24 +4,16 @@ ghost use Rattle.std.specs.Prelude.{◌≡◌, ◌-◌, ◌^◌, ◌<◌, Bool, 
 ghost use Rattle.byte_streams.specs.Writings.{writing, Breaks, TakesAll};
 ghost use Rattle.permission_map.specs.declared.runs.Run.{Run};
 ghost use Rattle.map_text.specs.MapFile.{Makes};
-ghost use Rattle.map_lint.specs.declared.report.LintFault as LintFault;
+ghost use Rattle.lint_texts.specs.declared.lint_fault.LintFault as LintFault;
 ghost use Rattle.map_lint.specs.Findings.{IsLintText};
 ghost use Rattle.map_lint.specs.Lints.{IsAtFault, IsVerdictOfLines};
 
 use crate::findings::findings;
 use byte_streams::{Sink, write_whole};
+use lint_texts::LintFault;
 use map_text::{MapFileFault, map_of};
 use permission_map::Memory;
 use std::alloc::{AllocError, Global};
-
-/// Why a map file was not looked at to its end.
-#[derive(Clone, Copy, PartialEq, Eq, Debug)]
-pub enum LintFault {
-    /// Memory was refused.
-    Memory,
-    /// The device failed, or took none of some bytes.
-    Device,
-}
 
 /// Whether the file is a map.
 fn is_map(alloc: Global, bytes: &[u8]) -> Result<bool, Memory>

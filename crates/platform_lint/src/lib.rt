@@ -17,4 +17,5 @@ mod rules;
 mod texts;
 
 pub use breach::{Breach, Key, Place, PlacedRange};
-pub use lint::{LintFault, lint_platform};
+pub use lint::lint_platform;
+pub use lint_texts::LintFault;

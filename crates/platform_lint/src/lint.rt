@@ -10,28 +10,19 @@ ghost use Rattle.platform_lint.specs.Breaches.{IsBreach};
 ghost use Rattle.platform_lint.specs.Lints.{IsFinding, IsLintLine, IsSyntaxText, no_text_line, position_after};
 ghost use Rattle.platform_lint.specs.Texts.{breach_text};
 ghost use Rattle.platform_lint.specs.declared.breach.Breach.{Breach};
-ghost use Rattle.platform_lint.specs.declared.lint.LintFault as LintFault;
+ghost use Rattle.lint_texts.specs.declared.lint_fault.LintFault as LintFault;
 
 use crate::breach::Breach;
 use crate::first_breach::form_breach;
 use crate::rules::rule_breach;
 use crate::texts::push_breach;
 use byte_streams::{Sink, write_whole};
-use lint_texts::{push, push_number};
+use lint_texts::{LintFault, push, push_number};
 use platform_file::{TextFault, platform_of};
 use std::alloc::{AllocError, Global};
 use std::str;
 use toml::Table;
 use toml::de::Error;
-
-/// Why a platform file was not looked at to its end.
-#[derive(Clone, Copy, PartialEq, Eq, Debug)]
-pub enum LintFault {
-    /// Memory was refused.
-    Memory,
-    /// The device failed, or took none of some bytes.
-    Device,
-}
 
 /// What a document breaks that tells no platform.
 fn breach_of<'a>(alloc: Global, document: &'a Table) -> Result<Breach<'a>, AllocError>

@@ -18,5 +18,6 @@ mod reason_texts;
 mod registers;
 mod taker;
 
-pub use lint::{LintFault, lint_trace};
+pub use lint::lint_trace;
+pub use lint_texts::LintFault;
 pub use taker::Taker;

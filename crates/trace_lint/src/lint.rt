@@ -2,23 +2,14 @@
 
 ghost use Rattle.std.specs.Prelude.{◌≡◌, ◌-◌, ◌^◌, ◌<◌, Err, IfOk, Ok, ℕ, List, false, length, true};
 ghost use Rattle.byte_streams.specs.Writings.{writing, Breaks, TakesAll};
-ghost use Rattle.trace_lint.specs.declared.lint.LintFault as LintFault;
+ghost use Rattle.lint_texts.specs.declared.lint_fault.LintFault as LintFault;
 ghost use Rattle.trace_lint.specs.Lints.{IsLintText, is_trace};
 
 use crate::reason_texts::push_finding;
 use crate::taker::{Taker, finding, harts_of, takes};
 use byte_streams::{Sink, write_whole};
-use lint_texts::split_line;
+use lint_texts::{LintFault, split_line};
 use std::alloc::{AllocError, Global};
-
-/// Why a trace was not looked at to its end.
-#[derive(Clone, Copy, PartialEq, Eq, Debug)]
-pub enum LintFault {
-    /// Memory was refused.
-    Memory,
-    /// The device failed, or took none of some bytes.
-    Device,
-}
 
 /// A line for each line at fault, and whether there is none.
 fn findings(
