@@ -7,14 +7,11 @@ ghost use Rattle.map_text.specs.declared.map_file.MapFileFault.{MapFileFault};
 ghost use Rattle.program_troubles.specs.Troubles.{map_trouble};
 
 use byte_streams::Source;
-use map_text::map_of;
+use map_text::{MAP_BYTES, map_of};
 use permission_map::PermissionMap;
 use program_files::read_whole;
 use program_troubles::Trouble;
 use std::alloc::Global;
-
-/// How many bytes a map file may have.
-pub const MAP_BYTES: usize = 1 << 20;
 
 /// How many bytes a listing of registers may have.
 pub const REGISTER_BYTES: usize = 1 << 20;

@@ -13,6 +13,7 @@ mod inputs;
 mod platform_inputs;
 mod statuses;
 
-pub use inputs::{CERTIFICATE_BYTES, MAP_BYTES, REGISTER_BYTES, bytes_in, map_by, map_in};
+pub use inputs::{CERTIFICATE_BYTES, REGISTER_BYTES, bytes_in, map_by, map_in};
+pub use map_text::MAP_BYTES;
 pub use platform_inputs::{PLATFORM_BYTES, platform_in, read_platform};
 pub use statuses::answer_status;

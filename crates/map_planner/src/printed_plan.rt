@@ -8,15 +8,12 @@ ghost use Rattle.map_planner.specs.PrintedPlan.{BreaksOff, HasFault, IsPlanOf, I
 
 use byte_streams::{DeviceFault, Sink, Source};
 use entry_planner::{Plan, plan_map};
-use map_text::{MapFileFault, map_of};
+use map_text::{MAP_BYTES, MapFileFault, map_of};
 use pmp_encoding::Limit;
 use printed_lines::print_plan;
 use program_files::{WholeFault, read_whole};
 use register_width::Xlen;
 use std::alloc::Global;
-
-/// How many bytes a map file may have.
-const MAP_BYTES: usize = 1 << 20;
 
 /// Why a plan is not printed whole.
 #[derive(Clone, Copy, Debug, PartialEq, Eq)]

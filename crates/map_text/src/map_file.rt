@@ -11,6 +11,9 @@ use std::alloc::Global;
 use text_lines::{LineReader, ReadFault};
 use thiserror::Error;
 
+/// How many bytes a map file may have.
+pub const MAP_BYTES: usize = 1 << 20;
+
 /// Why a file gives no map.
 #[derive(Clone, Copy, Debug, PartialEq, Eq, Error)]
 pub enum MapFileFault {
