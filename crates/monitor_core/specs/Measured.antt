@@ -9,6 +9,9 @@ use Rattle.enclave_requests.specs.declared.request.Create.{Create}
 use Rattle.worlds.specs.declared.world.World.{World}
 use Rattle.sbi_decode.specs.declared.calls.Call.{Call}
 use Rattle.sbi_decode.specs.declared.calls.Call.TheVariants as calls
+use Rattle.sbi_decode.specs.Calls.{call_of}
+use Rattle.sbi_decode.specs.Registers.{RegisterFile}
+use Rattle.monitor_core.specs.States.{State}
 
 -- what a call asks for, where it is a creation
 abbrev pub asked_in : Option Call → Option Create
@@ -21,9 +24,10 @@ abbrev pub IsMeasuredFor : Option Create → EnclaveTable → World → List ℕ
 IsMeasuredFor None table world digest pages = Unit {0}
 IsMeasuredFor (Some asked) table world digest pages = IsMeasured table world asked digest pages
 
--- the digest is that of some pages, where the call is a creation that passes its checks
-abbrev pub IsOfPages : Option Create → EnclaveTable → World → List ℕ → Type 0
-IsOfPages asked table world digest = (pages : ℕ → List ℕ) × IsMeasuredFor asked table world digest pages
+-- the digest that comes with a call on a hart is that of some pages, where these registers ask for a creation that passes its
+-- checks
+abbrev pub IsOfPages : State → ℕ → RegisterFile → List ℕ → Type 0
+IsOfPages s hart registers digest = (pages : ℕ → List ℕ) × IsMeasuredFor (asked_in (call_of registers)) s.table (s.worlds hart) digest pages
 
 -- a creation with these parts, as they are kept, passes each check but those for entries and memory
 abbrev pub Measures : Option Create → EnclaveTable → World → Create → Type 0

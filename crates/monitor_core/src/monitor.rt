@@ -246,20 +246,16 @@ impl Monitor {
         ensures registers { result.onward.registers
             ≡ running_registers (state_of self.new) hart }
         ensures load { LoadsAnew result.onward.load (state_of self.old) (state_of self.new) hart }
-        ensures others { let s = state_of self.old in
-            IsOfPages (asked_in (call_of (past_call registers.now))) s.table (s.worlds hart) digest.now
-            → KeepsOthers s (state_of self.new) hart }
-        ensures zeroed { let s = state_of self.old in
-            IsOfPages (asked_in (call_of (past_call registers.now))) s.table (s.worlds hart) digest.now
-            → IfSome result.zero (ClearsMemory s.table.layout) }
-        ensures awake { let s = state_of self.old in
-            IsOfPages (asked_in (call_of (past_call registers.now))) s.table (s.worlds hart) digest.now
+        ensures others { IsOfPages (state_of self.old) hart registers.now digest.now
+            → KeepsOthers (state_of self.old) (state_of self.new) hart }
+        ensures zeroed { IsOfPages (state_of self.old) hart registers.now digest.now
+            → IfSome result.zero (ClearsMemory (state_of self.old).table.layout) }
+        ensures awake { IsOfPages (state_of self.old) hart registers.now digest.now
             → (state_of self.new).marked hart ≡ false }
         ensures platform { (state_of self.new).table.layout ≡ (state_of self.old).table.layout }
         ensures lists { (state_of self.new).table ≡ (state_of self.old).table
             → kept_of self.new ≡ kept_of self.old }
-        ensures need { let s = state_of self.old in
-            IsOfPages (asked_in (call_of (past_call registers.now))) s.table (s.worlds hart) digest.now
+        ensures need { let s = state_of self.old in IsOfPages s hart registers.now digest.now
             → IsRefusedByNeed (call_of registers.now) s.table (s.worlds hart)
             (λ refusal. result.answer.status ≡ below_zero (refusal_number refusal)) }
     {
