@@ -8,13 +8,16 @@ ghost use Rattle.machine_memory.specs.Groups.{byte_in, page_at};
 use crate::page_bytes::{page_of, put};
 use std::alloc::{AllocError, Global};
 
+/// How many pages a group has.
+pub(crate) const GROUP: usize = 64;
+
 /// A page that was not written.
 const NO_PAGE: Option<Box<[u8; 4096]>> = None;
 
 /// 64 pages side by side, of 256 KiB. A page that was not written has no bytes of its own and reads as zero.
 #[derive(Drop)]
 pub struct PageGroup {
-    pages: [Option<Box<[u8; 4096]>>; 64],
+    pages: [Option<Box<[u8; 4096]>>; GROUP],
 }
 
 impl PageGroup {
@@ -23,7 +26,7 @@ impl PageGroup {
         ensures { (place : ℕ) → page_at result place ≡ None }
     {
         PageGroup {
-            pages: [NO_PAGE; 64],
+            pages: [NO_PAGE; GROUP],
         }
     }
 

@@ -5,14 +5,11 @@ ghost use Rattle.pmp_encoding.specs.Registers.{byte_of};
 ghost use Rattle.machine_memory.specs.Memory.{in_range};
 ghost use Rattle.machine_memory.specs.Groups.{byte_in, page_on};
 
-use crate::page_group::{PageGroup, group_of};
+use crate::page_group::{GROUP, PageGroup, group_of};
 use std::alloc::{AllocError, Global};
 
 /// How many pages a span has.
 pub(crate) const SPAN: u64 = 4096;
-
-/// How many pages a group has.
-const GROUP: usize = 64;
 
 /// A group that is not there.
 const NO_GROUP: Option<Box<PageGroup>> = None;
