@@ -48,7 +48,7 @@ impl<R: Files> Read for FileToRead<'_, R> {
         }
         match &mut self.file {
             Some(file) => read_again(file, buf),
-            None => Err(io::Error::from(ErrorKind::NotFound)),
+            None => unreachable!(),
         }
     }
 }

@@ -3,8 +3,8 @@
 ghost use Rattle.std.specs.Io.{WritesAtMost};
 ghost use Rattle.std.specs.Io.KnownBytes.{WriteAppends};
 ghost use Rattle.std.specs.IoError.{error_kind};
-ghost use Rattle.std.specs.Prelude.{◌≡◌, ◌≢◌, ◌≤◌, ◌⊎◌, None, length, true, false, IfErr, IfOk, MatchResult, option_and_then, string_bytes};
-ghost use Rattle.byte_streams.specs.Streams.{CountsFailure, CountsStall};
+ghost use Rattle.std.specs.Prelude.{◌≡◌, ◌≢◌, ◌≤◌, ◌⊎◌, None, Some, length, true, false, IfErr, IfOk, MatchResult, option_and_then, string_bytes};
+ghost use Rattle.byte_streams.specs.Streams.{CountsFailure, CountsStall, one_failure_more};
 ghost use Rattle.program_files.specs.Beside.{part_name, short_part_name, IsNumbered};
 ghost use Rattle.program_files.specs.Reasons.{reason_of};
 
@@ -77,6 +77,7 @@ impl<R: Files> PartFile<R> {
     /// no new one.
     fn open(&mut self) -> io::Result<()>
         ensures place { self.new.place ≡ self.old.place }
+        ensures opened { IfOk result (λ _. self.new.file ≢ None) }
         ensures beside { self.new.is_beside ≡ true
             → self.old.is_beside ≡ true
             ⊎ (IsNumbered (string_bytes self.old.beside) (string_bytes self.new.beside)
@@ -102,6 +103,7 @@ impl<R: Files> PartFile<R> {
     /// The same where what stands in the place, if anything does, is a plain file.
     fn open_plain(&mut self, stands: Option<Metadata>) -> io::Result<()>
         ensures place { self.new.place ≡ self.old.place }
+        ensures opened { IfOk result (λ _. self.new.file ≢ None) }
         ensures beside { self.new.is_beside ≡ true
             → self.old.is_beside ≡ true
             ⊎ (IsNumbered (string_bytes self.old.beside) (string_bytes self.new.beside)
@@ -162,7 +164,7 @@ impl<R: Files> PartFile<R> {
         }
         match &mut self.file {
             Some(file) => write_again(file, buf),
-            None => Err(io::Error::from(ErrorKind::NotFound)),
+            None => unreachable!(),
         }
     }
 
@@ -216,23 +218,32 @@ fn why(written: io::Result<usize>) -> Reason
 }
 
 impl<R: Files> PartFile<R> {
-    /// Lets what was written stand in its place.
+    /// Keeps why a write failed, and removes what was written beside the place.
     #[tactic(auto, unfolding(byte_streams::specs::Streams::one_failure_more))]
+    fn fail(&mut self, reason: Reason) -> DeviceFault
+        ensures reason { self.new.reason ≡ Some reason }
+        ensures removed { self.new.is_beside ≡ false }
+        ensures failures { self.new.failures ≡ one_failure_more self.old.failures }
+        ensures stalls { self.new.stalls ≡ self.old.stalls }
+    {
+        self.reason = Some(reason);
+        self.discard();
+        self.failures = self.failures.saturating_add(1);
+        DeviceFault
+    }
+
+    /// Lets what was written stand in its place.
     pub(crate) fn put_in_place(&mut self) -> Result<(), DeviceFault>
         ensures failures { CountsFailure result self.old.failures self.new.failures }
         ensures stalls { self.new.stalls ≡ self.old.stalls }
         ensures well { IfOk result (λ _. (self.new.reason ≡ self.old.reason)
             × (self.new.is_beside ≡ false)) }
-        ensures failed { IfErr result (λ _. self.new.reason ≢ None) }
+        ensures failed { IfErr result (λ _. (self.new.reason ≢ None)
+            × (self.new.is_beside ≡ false)) }
     {
         match self.move_in() {
             Ok(()) => Ok(()),
-            Err(error) => {
-                self.reason = Some(Reason::of(&error));
-                self.discard();
-                self.failures = self.failures.saturating_add(1);
-                Err(DeviceFault)
-            }
+            Err(error) => Err(self.fail(Reason::of(&error))),
         }
     }
 }
@@ -244,23 +255,18 @@ impl<R: Files> Sink for PartFile<R> {
 
     ghost stalls = { λ c. c.stalls };
 
-    #[tactic(auto, unfolding(byte_streams::specs::Streams::one_failure_more))]
     fn write(&mut self, buf: &[u8]) -> Result<usize, DeviceFault>
         ensures bound { IfOk result (λ n. n ≤ length buf.now) }
         ensures bytes { WriteAppends None None result buf.now }
         ensures failures { CountsFailure result self.old.failures self.new.failures }
         ensures stalls { CountsStall result buf.now self.old.stalls self.new.stalls }
         ensures well { IfOk result (λ _. self.new.reason ≡ self.old.reason) }
-        ensures failed { IfErr result (λ _. self.new.reason ≢ None) }
+        ensures failed { IfErr result (λ _. (self.new.reason ≢ None)
+            × (self.new.is_beside ≡ false)) }
     {
         match self.write_some(buf) {
             Ok(n) if n > 0 || buf.is_empty() => Ok(n),
-            other => {
-                self.reason = Some(why(other));
-                self.discard();
-                self.failures = self.failures.saturating_add(1);
-                Err(DeviceFault)
-            }
+            other => Err(self.fail(why(other))),
         }
     }
 }

@@ -2,7 +2,7 @@
 
 ghost use Rattle.std.specs.Prelude.{◌≡◌, IfErr, IfOk, None, Some};
 ghost use Rattle.std.specs.Io.{ReadsAtMost, WritesAtMost};
-ghost use Rattle.std.specs.Io.KnownBytes.{ReadConsumes, WriteAppends};
+ghost use Rattle.std.specs.Io.KnownBytes.{Keeps, ReadConsumes, WriteAppends};
 ghost use Rattle.std.specs.IoError.{error_kind};
 ghost use Rattle.program_files.specs.Reasons.{reason_of, reason_text};
 
@@ -156,7 +156,12 @@ impl<T: Write> Write for Explained<T> {
         }
     }
 
-    fn flush(&mut self) -> io::Result<()> {
+    fn flush(&mut self) -> io::Result<()>
+        ensures bytes { Keeps (T.contents self.old.inner) (T.contents self.new.inner) }
+        ensures well { IfOk result (λ _. self.new.reason ≡ self.old.reason) }
+        ensures failed { IfErr result (λ error.
+            self.new.reason ≡ Some (reason_of (error_kind error))) }
+    {
         match self.inner.flush() {
             Ok(()) => Ok(()),
             Err(error) => {

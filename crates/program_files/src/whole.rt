@@ -21,8 +21,8 @@ pub enum WholeFault {
     Memory,
 }
 
-/// All the bytes of a source that has at most `most`. `Read` is answered only where the device failed in
-/// this call, and nothing else where it did.
+/// All the bytes of a source that has at most `most`. `Read` is answered only where the device failed in this call, and nothing
+/// else where it did; `Memory` only where some bytes came.
 pub fn read_whole<R: Source>(
     alloc: Global,
     source: &mut R,
@@ -40,6 +40,9 @@ pub fn read_whole<R: Source>(
         → R.failures source.new ≡ one_failure_more (R.failures source.old) }
     ensures well { result ≢ Err WholeFault.Read
         → R.failures source.new ≡ R.failures source.old }
+    ensures memory { result ≡ Err WholeFault.Memory
+        → (bytes : List ℕ) × Consumes (R.remaining source.old) (R.remaining source.new) bytes
+        × (0 < length bytes) }
 {
     let mut bytes = Vec::new(alloc);
     let mut piece = [0; PIECE];
