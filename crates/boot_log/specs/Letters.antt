@@ -1,6 +1,6 @@
 -- The letters of a region, as `(R,W)`.
-use Rattle.std.specs.Prelude.{ℕ, ◌-◌, ◌==◌, ◌||◌, ◌&&◌, Bool, true, false, nat_lt, nat_le, if◌then◌else◌, List, length, take, drop, Option, Some, None, codes, bytes_eq}
-use Rattle.std.specs.List.{list_all, position_or_len}
+use Rattle.std.specs.Prelude.{ℕ, ◌-◌, ◌==◌, ◌||◌, ◌&&◌, Bool, true, false, nat_lt, nat_le, if◌then◌else◌, List, [], ◌∷◌, length, take, drop, Option, Some, None, codes, bytes_eq}
+use Rattle.std.specs.List.{position_or_len}
 use Rattle.std.specs.Option.{option_and_then}
 use Rattle.std.specs.Str.{str_eq_ignore_ascii_case}
 use Rattle.pmp_encoding.specs.declared.perm.Perm.{Perm}
@@ -18,13 +18,20 @@ begins_with word name = nat_le (length name) (length word) && str_eq_ignore_asci
 abbrev pub before_end : List ℕ → Option (List ℕ)
 before_end text = if bytes_eq (drop (length text - 1) text) (codes ")") then Some (take (length text - 1) text) else None
 
--- F for firmware, I for a device, M for machine mode too; R, W and X; and commas between them
+-- F for firmware, I for a device, M for machine mode too; R, W and X
 abbrev pub is_letter : ℕ → Bool
-is_letter b = b == 44 || (b == 70 || (b == 73 || (b == 77 || (b == 82 || (b == 87 || b == 88)))))
+is_letter b = b == 70 || (b == 73 || (b == 77 || (b == 82 || (b == 87 || b == 88))))
+
+-- letters with a comma between each two, or none
+abbrev pub are_letters : List ℕ → Bool
+are_letters [] = true
+are_letters (letter ∷ []) = is_letter letter
+are_letters (letter ∷ comma ∷ []) = false
+are_letters (letter ∷ comma ∷ next ∷ rest) = is_letter letter && (comma == 44 && are_letters (next ∷ rest))
 
 -- a text of such letters alone
 abbrev pub of_letters : List ℕ → Option (List ℕ)
-of_letters text = if list_all is_letter text then Some text else None
+of_letters text = if are_letters text then Some text else None
 
 -- the letters in parentheses
 abbrev pub letters_of : List ℕ → Option (List ℕ)

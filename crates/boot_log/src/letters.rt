@@ -1,8 +1,7 @@
 //! The letters of a region.
 
 ghost use Rattle.std.specs.Prelude.{◌≡◌, option_map, bytes_eq};
-ghost use Rattle.std.specs.List.{list_all};
-ghost use Rattle.boot_log.specs.Letters.{before_end, begins_with, behind, has_letter, is_letter, letters_of, perm_by, perm_of};
+ghost use Rattle.boot_log.specs.Letters.{are_letters, before_end, begins_with, behind, has_letter, is_letter, letters_of, perm_by, perm_of};
 
 use lint_texts::len_before;
 use pmp_encoding::Perm;
@@ -47,17 +46,23 @@ fn before_end(text: &[u8]) -> Option<&[u8]>
     }
 }
 
-/// Whether a byte is a letter of a region, or the comma between two.
+/// Whether a byte is a letter of a region.
 fn is_letter(byte: u8) -> bool
     ensures { result ≡ is_letter byte }
 {
-    matches!(byte, b',' | b'F' | b'I' | b'M' | b'R' | b'W' | b'X')
+    matches!(byte, b'F' | b'I' | b'M' | b'R' | b'W' | b'X')
 }
 
+/// Whether a text is letters with a comma between each two, or none. Where a log lost a byte it is not.
 fn are_letters(text: &[u8]) -> bool
-    ensures { result ≡ list_all is_letter text.now }
+    ensures { result ≡ are_letters text.now }
 {
-    text.iter().all(|byte| is_letter(*byte))
+    match text {
+        [] => true,
+        [letter] => is_letter(*letter),
+        [_, _] => false,
+        [letter, comma, rest @ ..] => is_letter(*letter) && *comma == b',' && are_letters(rest),
+    }
 }
 
 /// The letters in parentheses.
