@@ -8,7 +8,7 @@ use std::marker::Model;
 
 /// An entry of whole pages, in eight bytes in place of twenty-four: most of the time of putting entries in order goes by
 /// moving them. Contracts see the entry.
-#[derive(Drop)]
+#[derive(Clone, Copy)]
 pub struct PackedEntry {
     /// The first page, six bits of the size in pages, and three of the permission.
     number: u64,
@@ -25,7 +25,8 @@ impl Model for PackedEntry {
 }
 
 impl PackedEntry {
-    ghost use Rattle.std.specs.Prelude.{◌≡◌, ◌<◌, ◌≤◌, ◌+◌, ◌*◌};
+    ghost use Rattle.std.specs.Prelude.{◌≡◌, ◌<◌, ◌≤◌, ◌+◌, ◌*◌, true};
+    ghost use Rattle.entry_planner.specs.PackedEntries.{is_blank};
     ghost use Rattle.entry_planner.specs.Placement.{ArePages, IsBlockOf};
 
     /// The entry that gives the 2^log2 pages from `first` on a permission.
@@ -37,6 +38,21 @@ impl PackedEntry {
         PackedEntry {
             number: first * 512 + u64::from(log2) * 8 + u64::from(perm.bits()),
         }
+    }
+
+    /// No access to page 0: what stands where no entry has been put.
+    pub fn blank() -> PackedEntry
+        ensures { is_blank result ≡ true }
+    {
+        PackedEntry { number: 0 }
+    }
+
+    /// Whether it is that.
+    #[inline(always)]
+    pub fn is_blank(&self) -> bool
+        ensures { result ≡ true → is_blank self.now ≡ true }
+    {
+        self.number == 0
     }
 
     /// The number of its pages, as a power of two.

@@ -1,2 +1,4 @@
 mod Printed
 mod HexPairs
+mod Numerals
+mod EntryLines

@@ -2,3 +2,4 @@ pub mod Fields
 pub mod Texts
 pub mod Placed
 pub mod Plans
+pub mod Numerals

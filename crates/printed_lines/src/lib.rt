@@ -10,8 +10,10 @@
 #![tactic(auto)]
 
 mod digests;
+mod entry_lines;
 mod fields;
 mod hexadecimal;
+mod numeral;
 mod placed;
 mod plan;
 mod texts;
@@ -21,5 +23,5 @@ pub use fields::{letters, push_size};
 pub use placed::{entry_from, room_from, word_from};
 pub use plan::print_plan;
 pub use texts::{
-    accepted_line, accepted_of_line, count_line, entry_line, push_register, refused_line, word_line,
+    accepted_line, accepted_of_line, count_line, push_register, refused_line, word_line,
 };

@@ -5,12 +5,15 @@ ghost use Rattle.byte_streams.specs.Writings.{writing, Prints, PrintsOne};
 ghost use Rattle.register_width.specs.Widths.{whole_word, AreReached};
 ghost use Rattle.printed_lines.specs.Plans.{IsPlanText, entries_text, list_text, words_text};
 
+use crate::entry_lines::{MOST, put_entries};
 use crate::placed::{room_from, word_from};
-use crate::texts::{count_line, push_entry, word_line};
-use arrayvec::ArrayVec;
+use crate::texts::{count_line, word_line};
 use byte_streams::{DeviceFault, Sink, write_whole};
 use pmp_encoding::{Entry, Limit};
 use register_width::Xlen;
+
+/// How many entries' lines are put together before they go to the sink.
+const LINES: usize = 64;
 
 /// Writes a line for each entry.
 fn print_entries<W: Sink>(
@@ -23,11 +26,15 @@ fn print_entries<W: Sink>(
     ensures { Prints (entries_text xlen first entries.now)
         (writing W.contents W.failures W.stalls out.old out.new) result }
 {
-    for (i, entry) in entries.iter().enumerate() {
-        let (cfg, address) = entry.encode();
-        let mut line = ArrayVec::new();
-        push_entry(&mut line, xlen, u64::from(first) + i as u64, cfg, address);
-        write_whole(out, line.as_slice())?;
+    let mut buffer = [0; LINES * MOST];
+    let mut left = entries;
+    let mut number = u64::from(first);
+    while !left.is_empty() {
+        let (these, others) = left.split_at(left.len().min(LINES));
+        let end = put_entries(buffer.as_mut_slice(), xlen, these, number);
+        write_whole(out, &buffer[..end])?;
+        number += these.len() as u64;
+        left = others;
     }
     Ok(())
 }

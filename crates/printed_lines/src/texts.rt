@@ -2,9 +2,9 @@
 
 ghost use Rattle.std.specs.Prelude.{◌≡◌, ◌+◌, ◌≤◌, ◌++◌, length};
 ghost use Rattle.arrayvec.specs.ArrayVec.{array_vec_len};
-ghost use Rattle.printed_lines.specs.Texts.{accepted_of_text, accepted_text, count_text, entry_text, refused_text, register_text, word_text};
+ghost use Rattle.printed_lines.specs.Texts.{accepted_of_text, accepted_text, count_text, refused_text, register_text, word_text};
 
-use crate::hexadecimal::{byte_digits, word_digits};
+use crate::hexadecimal::word_digits;
 use arrayvec::ArrayVec;
 use register_width::Xlen;
 use text_lines::{Line, push_decimal, push_hex, push_text};
@@ -31,28 +31,6 @@ pub fn push_register(line: &mut Line, xlen: Xlen, value: u64)
         Xlen::Rv32 => push_hex(line, value, 8),
         Xlen::Rv64 => push_text(line, word_digits(value).as_slice()),
     }
-}
-
-/// Appends `I 0xCC 0xAAAAAAAAAAAAAAAA`, or an address register of 32 bits.
-pub fn push_entry(line: &mut Line, xlen: Xlen, i: u64, cfg: u8, addr: u64)
-    requires { array_vec_len line.old + 45 ≤ 128 }
-    ensures { line.new.items ≡ line.old.items ++ entry_text xlen i cfg addr }
-{
-    push_decimal(line, i);
-    push_text(line, b" 0x");
-    push_text(line, byte_digits(cfg).as_slice());
-    push_text(line, b" 0x");
-    push_register(line, xlen, addr);
-    line.push(b'\n');
-}
-
-/// `I 0xCC 0xAAAAAAAAAAAAAAAA`, or with an address register of 32 bits.
-pub fn entry_line(xlen: Xlen, i: u64, cfg: u8, addr: u64) -> Line
-    ensures { result.items ≡ entry_text xlen i cfg addr }
-{
-    let mut line = ArrayVec::new();
-    push_entry(&mut line, xlen, i, cfg, addr);
-    line
 }
 
 /// `pmpcfgK 0xWWWWWWWWWWWWWWWW`, or with a word of 32 bits.

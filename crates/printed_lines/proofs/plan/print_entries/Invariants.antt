@@ -1,9 +1,15 @@
-use Rattle.std.proofs.Common.{◌≡◌, ◌+◌, List, ℕ, ◌++◌, drop}
+use Rattle.std.proofs.Common.{◌≡◌, ◌+◌, List, ℕ, ◌++◌, length}
 use Rattle.byte_streams.specs.Writings.{TakesAll, writing}
 use Rattle.printed_lines.specs.Plans.{entries_text}
 use Rattle.printed_lines.proofs.plan.print_entries.Given as goal
 
-abbrev pub invariant-loop-i : goal.invariant-loop-i
-invariant-loop-i g l =
-    (done : List ℕ) × (done ++ entries_text l.xlen (l.first + l.i) (drop l.i l.entries) ≡ entries_text l.xlen l.first l.entries)
-    × TakesAll done (writing g.W.Sink.contents g.W.Sink.failures g.W.Sink.stalls l.initial.out l.out)
+abbrev pub invariant-loop-left : goal.invariant-loop-left
+invariant-loop-left g l = record {
+  room : length l.buffer ≡ 2944;
+  counted : l.number + length l.left ≡ l.first + length l.entries;
+  taken : (done : List ℕ) × (done ++ entries_text l.xlen l.number l.left ≡ entries_text l.xlen l.first l.entries)
+      × TakesAll done (writing g.W.Sink.contents g.W.Sink.failures g.W.Sink.stalls l.initial.out l.out);
+}
+
+abbrev pub decreases-loop-left : goal.decreases-loop-left
+decreases-loop-left g l = length l.left
