@@ -67,3 +67,6 @@ region_same n a b = let with_block : HasBlock n → Region = λ x. record { base
 -- the number 0 is a blank
 pub zero_blank : (n : ℕ) (block : HasBlock n) → n ≡ 0 → is_blank (entry_in n block) ≡ true
 zero_blank n block z = ap (λ m. (m / 512 * 4096 == 0) && ((m / 8 % 64 + 12 == 12) && perm_eq NoAccess (perm_for (m % 8)))) z
+
+pub entry_same : (n : ℕ) (a b : HasBlock n) → entry_in n a ≡ entry_in n b
+entry_same n a b = ap (entry_in n) (block_prop n a b)

@@ -8,7 +8,7 @@ use std::marker::Model;
 
 /// An entry of whole pages, in eight bytes in place of twenty-four: most of the time of putting entries in order goes by
 /// moving them. Contracts see the entry.
-#[derive(Clone, Copy)]
+#[derive(Drop)]
 pub struct PackedEntry {
     /// The first page, six bits of the size in pages, and three of the permission.
     number: u64,
@@ -53,6 +53,16 @@ impl PackedEntry {
         ensures { result ≡ true → is_blank self.now ≡ true }
     {
         self.number == 0
+    }
+
+    /// The same entry once more.
+    #[inline(always)]
+    pub fn copied(&self) -> PackedEntry
+        ensures { result ≡ self.now }
+    {
+        PackedEntry {
+            number: self.number,
+        }
     }
 
     /// The number of its pages, as a power of two.
