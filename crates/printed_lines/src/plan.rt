@@ -13,7 +13,7 @@ use pmp_encoding::{Entry, Limit};
 use register_width::Xlen;
 
 /// How many entries' lines are put together before they go to the sink.
-const LINES: usize = 64;
+const LINES: usize = 320;
 
 /// Writes a line for each entry.
 fn print_entries<W: Sink>(

@@ -5,7 +5,7 @@ use Rattle.printed_lines.proofs.plan.print_entries.Given as goal
 
 abbrev pub invariant-loop-left : goal.invariant-loop-left
 invariant-loop-left g l = record {
-  room : length l.buffer ≡ 2944;
+  room : length l.buffer ≡ 14720;
   counted : l.number + length l.left ≡ l.first + length l.entries;
   taken : (done : List ℕ) × (done ++ entries_text l.xlen l.number l.left ≡ entries_text l.xlen l.first l.entries)
       × TakesAll done (writing g.W.Sink.contents g.W.Sink.failures g.W.Sink.stalls l.initial.out l.out);
