@@ -1,14 +1,14 @@
 -- What a packed entry's number has in it.
-use Rattle.std.proofs.Common.{◌≡◌, ℕ, ◌+◌, ◌*◌, ◌/◌, ◌%◌, ◌<◌, ◌∙◌, ◌==◌, ◌&&◌, true, refl, sym, ap, subst, arith}
+use Rattle.std.proofs.Common.{◌≡◌, ℕ, ◌+◌, ◌*◌, ◌/◌, ◌%◌, ◌<◌, ◌∙◌, refl, sym, ap, subst, arith}
 use Rattle.pmp_encoding.specs.declared.perm.Perm.{Perm}
 use Rattle.pmp_encoding.specs.declared.perm.Perm.TheVariants.{NoAccess, Read, ReadWrite, Execute, ReadExecute, ReadWriteExecute}
 use Rattle.std.proofs.Props.{props}
 use Rattle.pmp_encoding.specs.declared.region.Region.{Region}
 use Rattle.pmp_encoding.specs.Block.{IsBlock}
-use Rattle.pmp_encoding.specs.Perms.{bits_of, perm_eq}
+use Rattle.pmp_encoding.specs.Perms.{bits_of}
 use Rattle.permission_map.specs.Points.{perm_for}
 use Rattle.entry_planner.proofs.BlockPages.{pages_block, pages_small}
-use Rattle.entry_planner.specs.PackedEntries.{HasBlock, base_in, log2_in, entry_in, is_blank}
+use Rattle.entry_planner.specs.PackedEntries.{HasBlock, base_in, log2_in, entry_in}
 use Rattle.entry_planner.specs.Placement.{ArePages, IsBlockOf}
 
 pub perm_for-bits : (p : Perm) → perm_for (bits_of p) ≡ p
@@ -63,10 +63,3 @@ block_prop n = hlevel props
 -- which proof a region carries makes no difference
 pub region_same : (n : ℕ) (a b : HasBlock n) → record { base = base_in n; log2 = log2_in n; block = a } ≡ (entry_in n b).region
 region_same n a b = let with_block : HasBlock n → Region = λ x. record { base = base_in n; log2 = log2_in n; block = x } in ap with_block (block_prop n a b)
-
--- the number 0 is a blank
-pub zero_blank : (n : ℕ) (block : HasBlock n) → n ≡ 0 → is_blank (entry_in n block) ≡ true
-zero_blank n block z = ap (λ m. (m / 512 * 4096 == 0) && ((m / 8 % 64 + 12 == 12) && perm_eq NoAccess (perm_for (m % 8)))) z
-
-pub entry_same : (n : ℕ) (a b : HasBlock n) → entry_in n a ≡ entry_in n b
-entry_same n a b = ap (entry_in n) (block_prop n a b)

@@ -1,9 +1,7 @@
 -- An entry of whole pages as one number: three bits of its permission, six of its size in pages, and its first page.
-use Rattle.std.specs.Prelude.{ℕ, ◌+◌, ◌*◌, ◌/◌, ◌%◌, Bool, ◌==◌, ◌&&◌}
+use Rattle.std.specs.Prelude.{ℕ, ◌+◌, ◌*◌, ◌/◌, ◌%◌}
 use Rattle.pmp_encoding.specs.declared.region.Entry.{Entry}
-use Rattle.pmp_encoding.specs.declared.perm.Perm.TheVariants.{NoAccess}
 use Rattle.pmp_encoding.specs.Block.{IsBlock}
-use Rattle.pmp_encoding.specs.Perms.{perm_eq}
 use Rattle.permission_map.specs.Points.{perm_for}
 
 abbrev pub base_in : ℕ → ℕ
@@ -19,7 +17,3 @@ HasBlock n = IsBlock (base_in n) (log2_in n)
 -- the entry
 abbrev pub entry_in : (n : ℕ) → HasBlock n → Entry
 entry_in n block = record { region = record { base = base_in n; log2 = log2_in n; block = block }; perm = perm_for (n % 8) }
-
--- whether an entry gives page 0 no access, as the number 0 does
-abbrev pub is_blank : Entry → Bool
-is_blank e = (e.region.base == 0) && ((e.region.log2 == 12) && perm_eq NoAccess e.perm)

@@ -3,7 +3,7 @@
 ghost use Rattle.std.specs.Prelude.{◌≡◌, ◌<◌};
 ghost use Rattle.entry_planner.specs.PackedEntries.{HasBlock};
 
-use pmp_encoding::{Perm, Region};
+use pmp_encoding::{Entry, Perm, Region};
 use std::marker::Model;
 
 /// An entry of whole pages, in eight bytes in place of twenty-four: most of the time of putting entries in order goes by
@@ -25,8 +25,7 @@ impl Model for PackedEntry {
 }
 
 impl PackedEntry {
-    ghost use Rattle.std.specs.Prelude.{◌≡◌, ◌<◌, ◌≤◌, ◌+◌, ◌*◌, true};
-    ghost use Rattle.entry_planner.specs.PackedEntries.{is_blank};
+    ghost use Rattle.std.specs.Prelude.{◌≡◌, ◌<◌, ◌≤◌, ◌+◌, ◌*◌};
     ghost use Rattle.entry_planner.specs.Placement.{ArePages, IsBlockOf};
 
     /// The entry that gives the 2^log2 pages from `first` on a permission.
@@ -37,31 +36,6 @@ impl PackedEntry {
     {
         PackedEntry {
             number: first * 512 + u64::from(log2) * 8 + u64::from(perm.bits()),
-        }
-    }
-
-    /// No access to page 0: what stands where no entry has been put.
-    pub fn blank() -> PackedEntry
-        ensures { is_blank result ≡ true }
-    {
-        PackedEntry { number: 0 }
-    }
-
-    /// Whether it is that.
-    #[inline(always)]
-    pub fn is_blank(&self) -> bool
-        ensures { result ≡ true → is_blank self.now ≡ true }
-    {
-        self.number == 0
-    }
-
-    /// The same entry once more.
-    #[inline(always)]
-    pub fn copied(&self) -> PackedEntry
-        ensures { result ≡ self.now }
-    {
-        PackedEntry {
-            number: self.number,
         }
     }
 
@@ -91,11 +65,24 @@ impl PackedEntry {
     /// Its region.
     #[inline(always)]
     pub fn region(&self) -> Region
-        ensures { result ≡ self.now.region }
+        ensures value { result ≡ self.now.region }
+        ensures whole_pages { 12 ≤ result.log2 }
     {
         Region {
             base: self.number / 512 * 4096,
             log2: (self.number / 8 % 64) as u32 + 12,
+        }
+    }
+
+    /// The entry as it is listed.
+    #[inline(always)]
+    pub fn entry(&self) -> Entry
+        ensures value { result ≡ self.now }
+        ensures whole_pages { 12 ≤ result.region.log2 }
+    {
+        Entry {
+            region: self.region(),
+            perm: self.perm(),
         }
     }
 }
