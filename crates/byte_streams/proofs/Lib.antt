@@ -1,1 +1,2 @@
 pub mod Writings
+mod Buffered

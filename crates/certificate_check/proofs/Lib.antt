@@ -19,5 +19,4 @@ pub mod OneList
 pub mod OneFault
 pub mod Windows
 pub mod Grown
-pub mod Buffered
 pub mod Listing

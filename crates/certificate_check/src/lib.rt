@@ -25,7 +25,6 @@
 #![tactic(auto)]
 
 mod begun;
-mod buffer;
 mod certificate;
 mod chains;
 mod entries;

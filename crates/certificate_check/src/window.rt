@@ -1,8 +1,7 @@
 //! A window of fixed size through which the bytes of a source are read.
 
-use crate::buffer::Buffer;
 use crate::fault::SourceFault;
-use byte_streams::Source;
+use byte_streams::{BUFFER_SIZE, Buffer, Source};
 
 /// Whether more bytes may come, and why not.
 #[derive(Clone, Copy, PartialEq, Eq, Debug)]
@@ -133,7 +132,7 @@ impl Window {
         if !self.is_open() {
             return;
         }
-        match self.buffer.fill(source) {
+        match self.buffer.fill(source, BUFFER_SIZE) {
             Ok(0) => self.inflow = Inflow::AtEnd,
             Ok(n) => self.count(n),
             Err(_) => self.inflow = Inflow::Failed,

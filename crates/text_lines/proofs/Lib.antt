@@ -1,6 +1,5 @@
 pub mod Splitting
 pub mod Numerals
-pub mod Buffered
 pub mod LinesRead
 pub mod InputLines
 pub mod WordsOfText

@@ -22,7 +22,6 @@
 //! ```
 #![tactic(auto)]
 
-mod buffer;
 mod fault;
 mod laws;
 mod lexical;

@@ -4,9 +4,8 @@ ghost use Rattle.std.specs.Prelude.{◌≡◌, ◌+◌, ◌-◌, ◌^◌, ◌<�
 ghost use Rattle.std.specs.List.{position_or_len};
 ghost use Rattle.text_lines.specs.Lines.{without_return, EndsInput};
 
-use crate::buffer::{Buffer, CAPACITY};
 use crate::fault::ReadFault;
-use byte_streams::Source;
+use byte_streams::{BUFFER_SIZE, Buffer, Source};
 use memchr::memchr;
 
 /// How many bytes may come in all to a reader for which nothing else is said.
@@ -171,7 +170,7 @@ impl LineReader {
     #[inline(never)]
     fn read_more<R: Source>(&mut self, source: &mut R) -> Result<bool, ReadFault>
         requires taken { self.old.taken ≡ 0 }
-        requires room { length self.old.buffer < 65536 }
+        requires room { length self.old.buffer < 16384 }
         ensures read { (bytes : List ℕ)
             × ReadsMore result self.old self.new (R.remaining source.old)
             (R.remaining source.new) bytes }
@@ -185,7 +184,7 @@ impl LineReader {
             read_end(source)?;
             return Ok(false);
         }
-        let room = (self.limit - self.came).min(CAPACITY as u64) as usize;
+        let room = (self.limit - self.came).min(BUFFER_SIZE as u64) as usize;
         let Ok(n) = self.buffer.fill(source, room) else {
             return Err(ReadFault::Device);
         };

@@ -4,16 +4,16 @@ ghost use Rattle.std.specs.Prelude.{◌≡◌, ◌+◌, ◌-◌, ◌^◌, ◌<�
 ghost use Rattle.std.specs.Io.KnownBytes.{Consumes, Keeps, IsAtEnd};
 ghost use Rattle.byte_streams.specs.Streams.{CountsFailure};
 
-use byte_streams::{DeviceFault, Source};
+use crate::streams::{DeviceFault, Source};
 use std::marker::Model;
 
-/// How many bytes the array has room for.
-pub(crate) const CAPACITY: usize = 16384;
+/// How many bytes a [`Buffer`] has room for.
+pub const BUFFER_SIZE: usize = 16384;
 
-/// Bytes that have come and are not yet used.
+/// Bytes that have come and are not yet used, in their order.
 #[derive(Drop)]
-pub(crate) struct Buffer {
-    bytes: [u8; CAPACITY],
+pub struct Buffer {
+    bytes: [u8; BUFFER_SIZE],
     start: usize,
     end: usize,
 }
@@ -30,11 +30,11 @@ impl Model for Buffer {
 
 impl Buffer {
     /// No bytes.
-    pub(crate) fn new() -> Buffer
+    pub fn new() -> Buffer
         ensures { result ≡ [] }
     {
         Buffer {
-            bytes: [0; CAPACITY],
+            bytes: [0; BUFFER_SIZE],
             start: 0,
             end: 0,
         }
@@ -42,7 +42,7 @@ impl Buffer {
 
     /// The bytes.
     #[inline(always)]
-    pub(crate) fn as_slice(&self) -> &[u8]
+    pub fn as_slice(&self) -> &[u8]
         ensures value { result.now ≡ self.now }
         ensures most { length self.now ≤ 16384 }
     {
@@ -51,19 +51,20 @@ impl Buffer {
 
     /// Lets go of the first bytes.
     #[inline(always)]
-    pub(crate) fn consume(&mut self, count: usize)
+    pub fn consume(&mut self, count: usize)
         requires { count ≤ length self.old }
         ensures { self.new ≡ drop count self.old }
     {
         self.start += count;
     }
 
-    /// Reads some bytes after the others, and says how many; none at the end of the source alone. The bytes move to the
-    /// front of the array first.
-    pub(crate) fn fill<R: Source>(&mut self, source: &mut R) -> Result<usize, DeviceFault>
+    /// Reads at most `most` bytes after the others, and says how many; none at the end of the source alone. The bytes move to
+    /// the front of the array first.
+    pub fn fill<R: Source>(&mut self, source: &mut R, most: usize) -> Result<usize, DeviceFault>
         requires room { length self.old < 16384 }
+        requires some { 0 < most }
         ensures read { MatchResult result
-            (λ n. (n ≤ 16384) × ((bytes : List ℕ) × (length bytes ≡ n)
+            (λ n. (n ≤ most) × ((bytes : List ℕ) × (length bytes ≡ n)
             × Consumes (R.remaining source.old) (R.remaining source.new) bytes
             × (self.new ≡ self.old ++ bytes)) × (n ≡ 0 → IsAtEnd (R.remaining source.new)))
             (λ _. Keeps (R.remaining source.old) (R.remaining source.new) × (self.new ≡ self.old)) }
@@ -73,7 +74,7 @@ impl Buffer {
         self.bytes.copy_within(self.start..self.end, 0);
         self.start = 0;
         self.end = held;
-        let room = CAPACITY - self.end;
+        let room = most.min(BUFFER_SIZE - self.end);
         let Ok(n) = source.read(&mut self.bytes[self.end..self.end + room]) else {
             return Err(DeviceFault);
         };
