@@ -14,7 +14,9 @@
 
 mod buffer;
 pub mod fakes;
+mod fault;
 mod streams;
 
 pub use buffer::{BUFFER_SIZE, Buffer};
+pub use fault::SourceFault;
 pub use streams::{Counted, DeviceFault, Sink, Source, write_whole};

@@ -10,7 +10,7 @@ use Rattle.std.proofs.lemmas.Bool.Decides.{nat_tests}
 use Rattle.std.proofs.lemmas.Grind.{common_steps}
 use Rattle.byte_streams.specs.Streams.{one_failure_more}
 use Rattle.certificate_format.specs.declared.fault.ReadFault.{ReadFault}
-use Rattle.certificate_check.specs.declared.fault.SourceFault.TheVariants as faults
+use Rattle.byte_streams.specs.declared.fault.SourceFault.TheVariants as faults
 use Rattle.certificate_check.specs.declared.refusal.CheckRefusal.{CheckRefusal}
 use Rattle.certificate_format.specs.declared.header.Header.{Header}
 use Rattle.page_views.specs.Views.{View}

@@ -3,8 +3,8 @@ use Rattle.std.specs.Prelude.{◌≡◌, ◌≢◌, ℕ, ◌+◌, ◌-◌, ◌^�
 use Rattle.std.specs.Io.KnownBytes.{Consumes, IsAtEnd}
 use Rattle.byte_streams.specs.Streams.{one_failure_more}
 use Rattle.certificate_format.specs.declared.header.Header.{Header}
-use Rattle.certificate_check.specs.declared.fault.SourceFault.{SourceFault}
-use Rattle.certificate_check.specs.declared.fault.SourceFault.TheVariants as faults
+use Rattle.byte_streams.specs.declared.fault.SourceFault.{SourceFault}
+use Rattle.byte_streams.specs.declared.fault.SourceFault.TheVariants as faults
 use Rattle.certificate_check.specs.declared.window.Inflow.{Inflow}
 use Rattle.certificate_check.specs.declared.window.Inflow.TheVariants.{Open, AtEnd, TooLarge, Failed}
 use Rattle.certificate_check.specs.declared.window.Window.{Window}

@@ -29,7 +29,6 @@ mod certificate;
 mod chains;
 mod entries;
 mod entry_list;
-mod fault;
 mod keys;
 mod nodes;
 mod numbers;
@@ -44,6 +43,5 @@ mod sweep;
 mod window;
 
 pub use certificate::check;
-pub use fault::SourceFault;
 pub use refusal::CheckRefusal;
 pub use source::check_source;

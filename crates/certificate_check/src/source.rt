@@ -13,12 +13,11 @@ ghost use Rattle.certificate_check.specs.Windows.{found_of, place, Reads, Stands
 
 use crate::certificate::rest_is_right;
 use crate::entries::Entries;
-use crate::fault::SourceFault;
 use crate::parts::{entry_bytes, header};
 use crate::refusal::CheckRefusal;
 use crate::stop::Stop;
 use crate::window::Window;
-use byte_streams::Source;
+use byte_streams::{Source, SourceFault};
 use certificate_format::Header;
 use permission_map::PermissionMap;
 use std::alloc::Global;

@@ -1,7 +1,6 @@
 //! A window of fixed size through which the bytes of a source are read.
 
-use crate::fault::SourceFault;
-use byte_streams::{BUFFER_SIZE, Buffer, Source};
+use byte_streams::{BUFFER_SIZE, Buffer, Source, SourceFault};
 
 /// Whether more bytes may come, and why not.
 #[derive(Clone, Copy, PartialEq, Eq, Debug)]

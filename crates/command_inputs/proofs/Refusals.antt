@@ -11,20 +11,20 @@ use Rattle.platforms.specs.Platform.{Layout}
 use Rattle.platform_file.specs.Document.{IsPlatformFile}
 use Rattle.program_troubles.specs.declared.trouble.Trouble.{Trouble}
 use Rattle.program_troubles.specs.declared.trouble.Trouble.TheVariants.{NotAPlatform, Memory}
-use Rattle.program_files.specs.declared.whole.WholeFault.{WholeFault}
-use Rattle.program_files.specs.declared.whole.WholeFault.TheVariants as whole
+use Rattle.byte_streams.specs.declared.fault.SourceFault.{SourceFault}
+use Rattle.byte_streams.specs.declared.fault.SourceFault.TheVariants as whole
 use Rattle.command_inputs.specs.Inputs.{HasBytes, HasMap, HasNoBytes, HasNoMap, IsMapFault, Reading, too_large, cannot_read}
 use Rattle.command_inputs.specs.Inputs as inputs
 use Rattle.command_inputs.specs.PlatformInputs.{HasNoPlatform}
 use Rattle.command_inputs.specs.PlatformInputs as platforms
-use Rattle.program_troubles.specs.Troubles.{map_trouble, whole_trouble}
+use Rattle.program_troubles.specs.Troubles.{map_trouble, source_trouble}
 
 pub no_bytes :
-    {R : Type 0} (most : ℕ) (file : Bor (List ℕ)) (source : Reading R) (fault : WholeFault)
+    {R : Type 0} (most : ℕ) (file : Bor (List ℕ)) (source : Reading R) (fault : SourceFault)
     → (fault ≡ whole.TooLarge → (bytes : List ℕ) × Consumes source.before source.after bytes × (most < length bytes))
     → (fault ≡ whole.Read → source.failed ≡ one_failure_more source.failures)
     → (fault ≢ whole.Read → source.failed ≡ source.failures)
-    → HasNoBytes most file source (whole_trouble file fault)
+    → HasNoBytes most file source (source_trouble file fault)
 no_bytes most file source whole.TooLarge large failed well = let b = large refl in too_large b.0 b.1 b.2
 no_bytes most file source whole.Read large failed well = cannot_read (failed refl)
 no_bytes most file source whole.Memory large failed well = inputs.HasNoBytes.memory (well (λ e. cc))

@@ -35,7 +35,7 @@ pub fn bytes_in<'a, R: Source>(
 {
     match read_whole(alloc, source, most) {
         Ok(bytes) => Ok(bytes),
-        Err(fault) => Err(Trouble::of_whole(file, fault)),
+        Err(fault) => Err(Trouble::of_source(file, fault)),
     }
 }
 

@@ -6,12 +6,12 @@ ghost use Rattle.byte_streams.specs.Writings.{writing, IsUnwritten};
 ghost use Rattle.map_text.specs.MapFile.{FaultAt, IsUnknown, MakesFirst, MakesTooMany};
 ghost use Rattle.map_planner.specs.PrintedPlan.{BreaksOff, HasFault, IsPlanOf, IsRead, IsTooLarge, NeedsMore, PrintsPlan};
 
-use byte_streams::{DeviceFault, Sink, Source};
+use byte_streams::{DeviceFault, Sink, Source, SourceFault};
 use entry_planner::{Plan, plan_map};
 use map_text::{MAP_BYTES, MapFileFault, map_of};
 use pmp_encoding::Limit;
 use printed_lines::print_plan;
-use program_files::{WholeFault, read_whole};
+use program_files::read_whole;
 use register_width::Xlen;
 use std::alloc::Global;
 
@@ -19,7 +19,7 @@ use std::alloc::Global;
 #[derive(Clone, Copy, Debug, PartialEq, Eq)]
 pub enum PlanFault {
     /// The source could not be had whole: at most 1 MiB.
-    Source(WholeFault),
+    Source(SourceFault),
     /// Its bytes make no map.
     Map(MapFileFault),
     /// The map needs more than sixteen entries.
@@ -41,7 +41,7 @@ fn plan_of(alloc: Global, bytes: &[u8]) -> Result<Plan, PlanFault>
     ensures first { result ≡ Err (PlanFault.Map MapFileFault.Memory)
         → (n : ℕ) × FaultAt bytes.now n MakesFirst }
     ensures needs { result ≡ Err PlanFault.TooManyEntries → NeedsMore bytes.now }
-    ensures others { (fault : WholeFault) → result ≢ Err (PlanFault.Source fault) }
+    ensures others { (fault : SourceFault) → result ≢ Err (PlanFault.Source fault) }
     ensures unwritten { result ≢ Err PlanFault.NotWritten }
 {
     let map = match map_of(alloc, bytes) {
@@ -66,9 +66,9 @@ pub fn print_plan_in<R: Source, W: Sink>(
 ) -> Result<(), PlanFault>
     ensures printed { OnOk result (PrintsPlan (R.remaining source.old) (R.remaining source.new)
         (writing W.contents W.failures W.stalls out.old out.new)) }
-    ensures large { result ≡ Err (PlanFault.Source WholeFault.TooLarge)
+    ensures large { result ≡ Err (PlanFault.Source SourceFault.TooLarge)
         → IsTooLarge (R.remaining source.old) (R.remaining source.new) }
-    ensures failed { result ≡ Err (PlanFault.Source WholeFault.Read)
+    ensures failed { result ≡ Err (PlanFault.Source SourceFault.Read)
         → R.failures source.new ≡ one_failure_more (R.failures source.old) }
     ensures line { (n : ℕ) → result ≡ Err (PlanFault.Map (MapFileFault.Line n))
         → HasFault (R.remaining source.old) (R.remaining source.new) n IsUnknown }

@@ -26,5 +26,5 @@ pub use part_file::PartFile;
 pub use reason::{Explained, Reason};
 pub use same_file::{is_same_file, is_same_plain_file};
 pub use stream_place::StreamPlace;
-pub use whole::{WholeFault, has_more, read_whole};
+pub use whole::{has_more, read_whole};
 pub use whole_sink::WholeSink;

@@ -4,22 +4,11 @@ ghost use Rattle.std.specs.Prelude.{◌≡◌, ◌≢◌, ℕ, ◌+◌, ◌-◌,
 ghost use Rattle.std.specs.Io.KnownBytes.{Consumes, IsAtEnd};
 ghost use Rattle.byte_streams.specs.Streams.{one_failure_more, CountsFailure};
 
-use byte_streams::{DeviceFault, Source};
+use byte_streams::{DeviceFault, Source, SourceFault};
 use std::alloc::Global;
 
 /// How many bytes are asked of a source at a time.
 const PIECE: usize = 65536;
-
-/// Why a file could not be had whole.
-#[derive(Clone, Copy, Debug, PartialEq, Eq)]
-pub enum WholeFault {
-    /// It has more bytes than are allowed.
-    TooLarge,
-    /// The source failed.
-    Read,
-    /// Memory was refused.
-    Memory,
-}
 
 /// All the bytes of a source that has at most `most`. `Read` is answered only where the device failed in this call, and nothing
 /// else where it did; `Memory` only where some bytes came.
@@ -27,20 +16,20 @@ pub fn read_whole<R: Source>(
     alloc: Global,
     source: &mut R,
     most: usize,
-) -> Result<Vec<u8>, WholeFault>
+) -> Result<Vec<u8>, SourceFault>
     requires most { most < 2 ^ 32 }
     ensures whole { IfOk result (λ bytes.
         Consumes (R.remaining source.old) (R.remaining source.new) bytes.items) }
     ensures at_end { IfOk result (λ bytes. IsAtEnd (R.remaining source.new)) }
     ensures most { IfOk result (λ bytes. length bytes.items ≤ most) }
-    ensures large { result ≡ Err WholeFault.TooLarge
+    ensures large { result ≡ Err SourceFault.TooLarge
         → (bytes : List ℕ) × Consumes (R.remaining source.old) (R.remaining source.new) bytes
         × (most < length bytes) }
-    ensures failed { result ≡ Err WholeFault.Read
+    ensures failed { result ≡ Err SourceFault.Read
         → R.failures source.new ≡ one_failure_more (R.failures source.old) }
-    ensures well { result ≢ Err WholeFault.Read
+    ensures well { result ≢ Err SourceFault.Read
         → R.failures source.new ≡ R.failures source.old }
-    ensures memory { result ≡ Err WholeFault.Memory
+    ensures memory { result ≡ Err SourceFault.Memory
         → (bytes : List ℕ) × Consumes (R.remaining source.old) (R.remaining source.new) bytes
         × (0 < length bytes) }
 {
@@ -48,16 +37,16 @@ pub fn read_whole<R: Source>(
     let mut piece = [0; PIECE];
     while bytes.len() <= most {
         let Ok(n) = source.read(&mut piece) else {
-            return Err(WholeFault::Read);
+            return Err(SourceFault::Read);
         };
         if n == 0 {
             return Ok(bytes);
         }
         let Ok(()) = bytes.extend_from_slice(&piece[..n]) else {
-            return Err(WholeFault::Memory);
+            return Err(SourceFault::Memory);
         };
     }
-    Err(WholeFault::TooLarge)
+    Err(SourceFault::TooLarge)
 }
 
 /// Whether a source has more bytes than `most`. They are read and dropped: none takes memory. The source failed in this call where

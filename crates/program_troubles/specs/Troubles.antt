@@ -9,8 +9,8 @@ use Rattle.platform_file.specs.declared.fault.TextFault.{TextFault}
 use Rattle.platform_file.specs.declared.fault.TextFault.TheVariants as texts
 use Rattle.platforms.specs.declared.boot_fault.BootFault.{BootFault}
 use Rattle.platforms.specs.declared.boot_fault.BootFault.TheVariants as boots
-use Rattle.program_files.specs.declared.whole.WholeFault.{WholeFault}
-use Rattle.program_files.specs.declared.whole.WholeFault.TheVariants as whole
+use Rattle.byte_streams.specs.declared.fault.SourceFault.{SourceFault}
+use Rattle.byte_streams.specs.declared.fault.SourceFault.TheVariants as whole
 use Rattle.program_troubles.specs.declared.trouble.Trouble.{Trouble}
 use Rattle.program_troubles.specs.declared.trouble.Trouble.TheVariants.{NotUnderstood, TooManyRanges, TooLarge, NotAPlatform, TooFar, NeedsEntries, CannotRead, CannotWrite, Output, Memory}
 
@@ -49,11 +49,11 @@ trouble_status (CannotWrite file) = 3
 trouble_status Output = 3
 trouble_status Memory = 4
 
--- a fault of reading a file whole
-abbrev pub whole_trouble : Bor (List ℕ) → WholeFault → Trouble
-whole_trouble file whole.TooLarge = TooLarge file
-whole_trouble file whole.Read = CannotRead file
-whole_trouble file whole.Memory = Memory
+-- a fault of reading a file to its end
+abbrev pub source_trouble : Bor (List ℕ) → SourceFault → Trouble
+source_trouble file whole.TooLarge = TooLarge file
+source_trouble file whole.Read = CannotRead file
+source_trouble file whole.Memory = Memory
 
 -- a fault of a map file
 abbrev pub map_trouble : Bor (List ℕ) → MapFileFault → Trouble

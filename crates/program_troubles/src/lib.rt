@@ -1,6 +1,6 @@
 //! Why a task of the program did not end well: the text for standard error, and the status.
 //!
-//! A [`Trouble`] has the names of the files that were given. For the layer above: `of_whole`, `of_map`, `of_run`, `of_text`
+//! A [`Trouble`] has the names of the files that were given. For the layer above: `of_source`, `of_map`, `of_run`, `of_text`
 //! and `of_boot` say which trouble a fault is, `print` writes its line, and `status` is the one that the program ends with.
 //! [`print_reason`] writes why a device failed; [`shown`] is a name without control
 //! characters, each byte of which [`push_escaped`] writes.

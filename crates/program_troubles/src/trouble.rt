@@ -2,14 +2,13 @@
 
 ghost use Rattle.std.specs.Prelude.{◌≡◌, map};
 ghost use Rattle.byte_streams.specs.Writings.{writing, Prints};
-ghost use Rattle.program_troubles.specs.Troubles.{boot_trouble, file_text, joined, map_trouble, run_trouble, text_trouble, trouble_status, trouble_text, whole_trouble};
+ghost use Rattle.program_troubles.specs.Troubles.{boot_trouble, file_text, joined, map_trouble, run_trouble, text_trouble, trouble_status, trouble_text, source_trouble};
 
-use byte_streams::{DeviceFault, Sink, write_whole};
+use byte_streams::{DeviceFault, Sink, SourceFault, write_whole};
 use itoa::Buffer;
 use map_text::MapFileFault;
 use platform_file::TextFault;
 use platforms::BootFault;
-use program_files::WholeFault;
 use std::alloc::AllocError;
 use text_lines::RunFault;
 
@@ -76,14 +75,14 @@ impl From<AllocError> for Trouble<'_> {
 }
 
 impl<'a> Trouble<'a> {
-    /// What a fault of reading a file whole is for the program.
-    pub fn of_whole(file: &'a str, fault: WholeFault) -> Trouble<'a>
-        ensures { result ≡ whole_trouble file.entry fault }
+    /// What a fault of reading a file to its end is for the program.
+    pub fn of_source(file: &'a str, fault: SourceFault) -> Trouble<'a>
+        ensures { result ≡ source_trouble file.entry fault }
     {
         match fault {
-            WholeFault::TooLarge => Trouble::TooLarge { file },
-            WholeFault::Read => Trouble::CannotRead { file },
-            WholeFault::Memory => Trouble::Memory,
+            SourceFault::TooLarge => Trouble::TooLarge { file },
+            SourceFault::Read => Trouble::CannotRead { file },
+            SourceFault::Memory => Trouble::Memory,
         }
     }
 

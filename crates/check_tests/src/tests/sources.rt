@@ -1,8 +1,9 @@
 //! Certificates that a source gives piece by piece.
 
 use crate::tests::{LOWER_HALF, LOWER_HALF_SPACE, map_of};
+use byte_streams::SourceFault;
 use byte_streams::fakes::PieceSource;
-use certificate_check::{SourceFault, check_source};
+use certificate_check::check_source;
 use permission_map::PermissionMap;
 use std::alloc::Global;
 use std::process::Abort;

@@ -9,7 +9,7 @@ ghost use Rattle.permission_map.specs.Runs.{view_of_runs};
 
 use crate::commands::verdicts::verdict;
 use byte_streams::{DeviceFault, Sink, Source, write_whole};
-use certificate_check::{CheckRefusal, SourceFault, check_source};
+use certificate_check::{CheckRefusal, check_source};
 use certificate_format::Header;
 use command_inputs::{CERTIFICATE_BYTES, map_in};
 use permission_map::PermissionMap;
@@ -31,9 +31,7 @@ fn found_in<'a, R: Source>(
 {
     match check_source(alloc, map, source, CERTIFICATE_BYTES as u32) {
         Ok(found) => Ok(found),
-        Err(SourceFault::TooLarge) => Err(Trouble::TooLarge { file }),
-        Err(SourceFault::Read) => Err(Trouble::CannotRead { file }),
-        Err(SourceFault::Memory) => Err(Trouble::Memory),
+        Err(fault) => Err(Trouble::of_source(file, fault)),
     }
 }
 
