@@ -2,7 +2,7 @@
 
 ghost use Rattle.std.specs.Prelude.{◌≡◌, ◌++◌, List, ℕ, Err, IfOk, IfSome, Ok, OnOk, None, true, false, codes};
 ghost use Rattle.byte_streams.specs.Writings.{writing, Breaks, TakesAll};
-ghost use Rattle.toml.specs.Errors.{IsWithin};
+ghost use Rattle.toml.specs.Errors.{IsMemory, IsWithin, span_start};
 ghost use Rattle.toml.specs.View.{table_view};
 ghost use Rattle.platforms.specs.Platform.{Layout};
 ghost use Rattle.platform_file.specs.Document.{IsPlatformFile, IsPlatformText, Tells};
@@ -56,17 +56,25 @@ fn position_after(before: &[u8]) -> (u64, u64)
     (line, column)
 }
 
+/// How many bytes of a text stand before the place where the library stopped reading it.
+fn start_of(error: &Error) -> usize
+    requires { ¬ IsMemory error.now }
+    ensures { result ≡ span_start error.now }
+{
+    match error.span() {
+        Some(span) => span.start,
+        None => unreachable!(),
+    }
+}
+
 /// Appends where a text stops being a document, and why, in the words of the library that reads it.
 fn push_syntax(line: &mut Vec<u8>, text: &str, error: &Error) -> Result<(), AllocError>
     requires within { IsWithin text.now error.now }
+    requires syntax { ¬ IsMemory error.now }
     ensures { OnOk result ((syntax : List ℕ)
         × IsSyntaxText text.now syntax × (line.new.items ≡ line.old.items ++ syntax)) }
 {
-    let start = match error.span() {
-        Some(span) => span.start,
-        None => 0,
-    };
-    let (row, column) = position_after(&text.as_bytes()[..start]);
+    let (row, column) = position_after(&text.as_bytes()[..start_of(error)]);
     push(line, ":")?;
     push_number(line, row)?;
     push(line, ":")?;
