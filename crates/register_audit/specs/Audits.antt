@@ -8,7 +8,8 @@ use Rattle.register_text.specs.Listings.{listed}
 use Rattle.register_audit.specs.declared.verdict.Verdict.{Verdict}
 use Rattle.register_audit.specs.Differences.{AreDifferences}
 use Rattle.register_audit.specs.Verdicts.{IsVerdict, is_difference, is_meant}
-use Rattle.register_audit.specs.Texts.{passed_text, smepmp_text, verdict_text}
+use Rattle.register_audit.specs.Texts.{verdict_text}
+use Rattle.register_text.specs.Texts.{passed_text, smepmp_text}
 
 -- what is said of a verdict: its line; but where it is a stretch that differs and all are asked for, a line for each
 pub data IsSaid (view : View) (fewest : ℕ) (all : Bool) (registers : Registers) (verdict : Verdict) : List ℕ → Type 0 where

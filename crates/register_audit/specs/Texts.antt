@@ -1,21 +1,12 @@
 -- The line of a verdict.
-use Rattle.std.specs.Prelude.{ℕ, ◌+◌, ◌-◌, ◌==◌, if◌then◌else◌, List, [], ◌++◌, codes, decimal, Option, Some, None}
+use Rattle.std.specs.Prelude.{ℕ, ◌+◌, ◌-◌, ◌==◌, if◌then◌else◌, List, ◌++◌, codes, decimal, Option, Some, None}
 use Rattle.text_lines.specs.Written.{hex}
 use Rattle.printed_lines.specs.Fields.{letters_of}
-use Rattle.register_width.specs.Widths.{register_digits}
 use Rattle.pmp_registers.specs.declared.registers.Registers.{Registers}
-use Rattle.pmp_registers.specs.declared.reserved.Reserved.{Reserved}
-use Rattle.pmp_registers.specs.declared.reserved.ReservedAt.{ReservedAt}
-use Rattle.pmp_registers.specs.declared.reserved.Reserved.TheVariants.{Permission, Bits}
-use Rattle.pmp_registers.specs.Registers.{address_at, cfg_at}
 use Rattle.stretches.specs.declared.stretch.Stretch.{Stretch}
+use Rattle.register_text.specs.Texts.{reserved_text}
 use Rattle.register_audit.specs.declared.verdict.Verdict.{Verdict}
 use Rattle.register_audit.specs.declared.verdict.Verdict.TheVariants as verdicts
-
--- the reserved value of a pair
-abbrev pub reserved_name : Reserved → List ℕ
-reserved_name Permission = codes "W without R"
-reserved_name Bits = codes "reserved bits"
 
 -- `entry N`, or `no entry`
 abbrev pub sayer : Option ℕ → List ℕ
@@ -37,11 +28,6 @@ abbrev pub stretch_text : Stretch → List ℕ
 stretch_text stretch =
     differs_text stretch.first (stretch.end - 1) ++ codes "map " ++ letters_of stretch.wanted ++ codes ", " ++ sayer stretch.entry ++ codes " " ++ letters_of stretch.given ++ codes "\n"
 
--- `pair N 0xCC 0xAAAAAAAAAAAAAAAA: NAME`, an entry that has a reserved value, its address with as many digits as the registers have
-abbrev pub reserved_text : Registers → ReservedAt → List ℕ
-reserved_text registers f =
-    codes "pair " ++ decimal f.place ++ codes " 0x" ++ hex 2 (cfg_at registers f.place) ++ codes " 0x" ++ hex (register_digits registers.xlen) (address_at registers f.place) ++ codes ": " ++ reserved_name f.value ++ codes "\n"
-
 -- the line of a verdict on registers, where `fewest` entries are enough for the map
 abbrev pub verdict_text : ℕ → Registers → Verdict → List ℕ
 verdict_text fewest registers (verdicts.Means count) =
@@ -50,12 +36,3 @@ verdict_text fewest registers (verdicts.Differs stretch) = stretch_text stretch
 verdict_text fewest registers (verdicts.Cuts entry at) =
     differs_text at (at + 7) ++ sayer (Some entry) ++ codes " cuts an access of 8 bytes\n"
 verdict_text fewest registers (verdicts.NoMeaning found) = reserved_text registers found
-
--- what is said of registers beside an mseccfg that is not zero
-abbrev pub smepmp_text : ℕ → List ℕ
-smepmp_text mseccfg = codes "mseccfg 0x" ++ hex 16 mseccfg ++ codes ": no verdict, Smepmp is not modelled\n"
-
--- the comment on lines that are passed over, by the first of them
-abbrev pub passed_text : Option ℕ → List ℕ
-passed_text None = []
-passed_text (Some first) = codes "# lines of other registers are passed over, line " ++ decimal first ++ codes " first\n"

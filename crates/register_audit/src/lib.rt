@@ -4,8 +4,7 @@
 //! map and with how many entries, or the first stretch that differs, or the first access that an entry
 //! cuts, or the first entry that has a reserved value; or, where that is asked for, a line for each stretch that
 //! differs. [`compared`] asks the same of a list of extents,
-//! [`verdict_of`] of registers. [`count_on`] counts the entries that are not OFF, and the lines on registers that mean nothing are
-//! texts of their own.
+//! [`verdict_of`] of registers. [`count_on`] counts the entries that are not OFF.
 //!
 //! ```rust
 //! let means = audit(alloc, &map, 3, Xlen::Rv64, listing, false, &mut out)?;
@@ -22,5 +21,4 @@ mod verdict;
 
 pub use finding::{Finding, compared};
 pub use listing_audit::{AuditFault, audit};
-pub use texts::{passed_line, reserved_line, smepmp_line};
 pub use verdict::{Verdict, count_on, verdict_of};

@@ -8,19 +8,18 @@ ghost use Rattle.register_text.specs.declared.listing.Listing.{Listing};
 ghost use Rattle.register_text.specs.Listings.{IsFirstUnknown, listed};
 ghost use Rattle.register_audit.specs.declared.listing_audit.AuditFault as AuditFault;
 ghost use Rattle.register_audit.specs.Audits.{IsAnswer, IsAudit, IsSaid};
-ghost use Rattle.register_audit.specs.Texts.{passed_text};
+ghost use Rattle.register_text.specs.Texts.{passed_text};
 ghost use Rattle.register_audit.specs.Verdicts.{IsVerdict, is_difference, is_meant};
 
 use crate::differences::differences_of;
-use crate::texts::{passed_line, smepmp_line, verdict_line};
+use crate::texts::verdict_line;
 use crate::verdict::{Verdict, verdict_of};
 use byte_streams::{Sink, write_whole};
 use permission_map::{Memory, PermissionMap};
 use pmp_registers::Registers;
-use register_text::{Listing, listing_of};
+use register_text::{Listing, listing_of, passed_line, smepmp_line, text_of_line};
 use register_width::Xlen;
 use std::alloc::Global;
-use text_lines::Line;
 
 /// Why a listing was not audited.
 #[derive(Clone, Copy, PartialEq, Eq, Debug)]
@@ -51,15 +50,6 @@ fn is_each(all: bool, verdict: &Verdict) -> bool
     ensures { result ≡ (all && is_difference verdict.now) }
 {
     all && matches!(verdict, Verdict::Differs(_))
-}
-
-/// A line as a text of its own. The only error is out of memory.
-fn text_of_line(alloc: Global, line: &Line) -> Result<Vec<u8>, Memory>
-    ensures { IfOk result (λ text. text.items ≡ line.now.items) }
-{
-    let mut text = Vec::new(alloc);
-    text.extend_from_slice(line.as_slice())?;
-    Ok(text)
 }
 
 /// What is said of a verdict. The only error is out of memory.

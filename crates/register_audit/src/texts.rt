@@ -4,25 +4,16 @@ ghost use Rattle.std.specs.Prelude.{◌≡◌, ℕ, ◌+◌, ◌^◌, ◌++◌, 
 ghost use Rattle.pmp_registers.specs.declared.registers.Registers.{Registers};
 ghost use Rattle.register_audit.specs.declared.verdict.Verdict as Verdict;
 ghost use Rattle.arrayvec.specs.ArrayVec.{array_vec_len};
-ghost use Rattle.register_audit.specs.Texts.{differs_text, enough, entries_named, passed_text, reserved_name, reserved_text, sayer, smepmp_text, stretch_text, verdict_text};
+ghost use Rattle.register_audit.specs.Texts.{differs_text, enough, entries_named, sayer, stretch_text, verdict_text};
 ghost use Rattle.register_audit.specs.Verdicts.{IsWritable};
 
 use crate::verdict::Verdict;
 use arrayvec::ArrayVec;
-use pmp_registers::{Registers, Reserved, ReservedAt};
+use pmp_registers::Registers;
 use printed_lines::letters;
+use register_text::reserved_line;
 use stretches::Stretch;
 use text_lines::{Line, push_decimal, push_hex, push_text};
-
-fn reserved_name(value: Reserved) -> &'static str
-    ensures value { result.now ≡ reserved_name value }
-    ensures length { length result.now ≤ 32 }
-{
-    match value {
-        Reserved::Permission => "W without R",
-        Reserved::Bits => "reserved bits",
-    }
-}
 
 fn entries_named(n: u64) -> &'static str
     ensures value { result.now ≡ entries_named n }
@@ -109,28 +100,6 @@ fn cut_line(entry: usize, at: u64) -> Line
     line
 }
 
-/// The line on an entry that has a reserved value.
-pub fn reserved_line(registers: &Registers, found: &ReservedAt) -> Line
-    requires { found.now.place < 64 }
-    ensures { result.items ≡ reserved_text registers.now found.now }
-{
-    let mut line = ArrayVec::new();
-    push_text(&mut line, b"pair ");
-    push_decimal(&mut line, found.place as u64);
-    push_text(&mut line, b" 0x");
-    push_hex(&mut line, u64::from(registers.cfgs[found.place]), 2);
-    push_text(&mut line, b" 0x");
-    push_hex(
-        &mut line,
-        registers.addresses[found.place],
-        registers.xlen.digits(),
-    );
-    push_text(&mut line, b": ");
-    push_text(&mut line, reserved_name(found.value).as_bytes());
-    line.push(b'\n');
-    line
-}
-
 /// The line of a verdict on registers.
 pub(crate) fn verdict_line(fewest: u64, registers: &Registers, verdict: &Verdict) -> Line
     requires { IsWritable verdict.now }
@@ -142,32 +111,4 @@ pub(crate) fn verdict_line(fewest: u64, registers: &Registers, verdict: &Verdict
         Verdict::Cuts { entry, at } => cut_line(*entry, *at),
         Verdict::NoMeaning(found) => reserved_line(registers, found),
     }
-}
-
-/// The line on an `mseccfg` that is not zero.
-pub fn smepmp_line(mseccfg: u64) -> Line
-    ensures { result.items ≡ smepmp_text mseccfg }
-{
-    let mut line = ArrayVec::new();
-    push_text(&mut line, b"mseccfg 0x");
-    push_hex(&mut line, mseccfg, 16);
-    push_text(&mut line, b": no verdict, Smepmp is not modelled\n");
-    line
-}
-
-/// The comment on lines that are passed over.
-pub fn passed_line(passed: Option<u64>) -> Line
-    ensures { result.items ≡ passed_text passed }
-{
-    let mut line = ArrayVec::new();
-    let Some(first) = passed else {
-        return line;
-    };
-    push_text(
-        &mut line,
-        b"# lines of other registers are passed over, line ",
-    );
-    push_decimal(&mut line, first);
-    push_text(&mut line, b" first\n");
-    line
 }

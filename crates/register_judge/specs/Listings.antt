@@ -1,14 +1,12 @@
 -- The registers that a listing leaves, or why they judge nothing.
-use Rattle.std.specs.Prelude.{◌≡◌, ◌≢◌, List, ℕ, ◌++◌, Some}
+use Rattle.std.specs.Prelude.{◌≡◌, List, ℕ, ◌++◌, Some}
 use Rattle.pmp_encoding.specs.declared.extent.Extent.{Extent}
 use Rattle.pmp_registers.specs.declared.registers.Registers.{Registers}
-use Rattle.pmp_registers.specs.declared.reserved.ReservedAt.{ReservedAt}
 use Rattle.pmp_registers.specs.Matching.{AreExtents}
-use Rattle.pmp_registers.specs.Reserved.{IsFirstReserved}
 use Rattle.register_width.specs.declared.xlen.Xlen.{Xlen}
 use Rattle.register_text.specs.declared.listing.Listing.{Listing}
 use Rattle.register_text.specs.Listings.{listed}
-use Rattle.register_audit.specs.Texts.{passed_text, reserved_text, smepmp_text}
+use Rattle.register_text.specs.Texts.{IsRefusal, passed_text}
 use Rattle.register_judge.specs.declared.listing_rules.Ruled.{Ruled}
 use Rattle.register_judge.specs.declared.listing_rules.Ruled.TheVariants as ruled
 
@@ -21,13 +19,7 @@ pub record HasRules (xlen : Xlen) (listing : List ℕ) (registers : Registers) :
   pub extents : List Extent
   pub are_extents : AreExtents leaves.registers extents
 
--- why what a listing leaves judges nothing: the line of the first entry that has a reserved value, or of an mseccfg that is not
--- zero, since its bits change what the entries mean
-pub data IsRefusal (leaves : Listing) : List ℕ → Type 0 where
-  reserved : leaves.mseccfg ≡ 0 → (found : ReservedAt) → IsFirstReserved leaves.registers found → IsRefusal leaves (reserved_text leaves.registers found)
-  unmodelled : leaves.mseccfg ≢ 0 → IsRefusal leaves (smepmp_text leaves.mseccfg)
-
--- the text is that line, and after it a comment on lines that are passed over
+-- the text is the line that says why what a listing leaves judges nothing, and after it a comment on lines that are passed over
 pub record IsRefused (xlen : Xlen) (listing text : List ℕ) : Type 0 where
   pub leaves : Listing
   pub listed_as : listed xlen listing ≡ Some leaves

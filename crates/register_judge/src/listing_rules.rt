@@ -1,15 +1,14 @@
 //! The rules of a listing.
 
 ghost use Rattle.std.specs.Prelude.{◌≡◌, ℕ, ◌-◌, ◌^◌, ◌<◌, ◌++◌, Err, IfOk, List, Some, length};
-ghost use Rattle.register_audit.specs.Texts.{passed_text};
 ghost use Rattle.register_text.specs.Listings.{IsFirstUnknown, listed};
+ghost use Rattle.register_text.specs.Texts.{passed_text};
 ghost use Rattle.register_width.specs.declared.xlen.Xlen.{Xlen};
 ghost use Rattle.register_judge.specs.declared.listing_rules.RulesFault as RulesFault;
 ghost use Rattle.register_judge.specs.Listings.{IsRuled};
 
 use crate::rules::Rules;
-use register_audit::{passed_line, reserved_line, smepmp_line};
-use register_text::{Listing, listing_of};
+use register_text::{Listing, extents_in, listing_of, passed_line, text_of_line};
 use register_width::Xlen;
 use std::alloc::{AllocError, Global};
 use text_lines::Line;
@@ -36,8 +35,7 @@ pub enum Ruled {
 fn text_of(alloc: Global, line: &Line, passed: Option<u64>) -> Result<Vec<u8>, AllocError>
     ensures { IfOk result (λ text. text.items ≡ line.now.items ++ passed_text passed) }
 {
-    let mut text = Vec::new(alloc);
-    text.extend_from_slice(line.as_slice())?;
+    let mut text = text_of_line(alloc, line)?;
     let comment = passed_line(passed);
     text.extend_from_slice(comment.as_slice())?;
     Ok(text)
@@ -48,14 +46,9 @@ fn ruled_by(alloc: Global, listing: &Listing) -> Result<Ruled, AllocError>
     ensures { (xlen : Xlen) (bytes : List ℕ) → listed xlen bytes ≡ Some listing.now
         → IfOk result (IsRuled xlen bytes) }
 {
-    if listing.mseccfg != 0 {
-        let text = text_of(alloc, &smepmp_line(listing.mseccfg), listing.passed)?;
-        return Ok(Ruled::Refused(text));
-    }
-    match Rules::of(&listing.registers) {
-        Ok(rules) => Ok(Ruled::Rules(rules)),
-        Err(found) => {
-            let line = reserved_line(&listing.registers, &found);
+    match extents_in(listing) {
+        Ok(extents) => Ok(Ruled::Rules(Rules::by(&listing.registers, extents))),
+        Err(line) => {
             let text = text_of(alloc, &line, listing.passed)?;
             Ok(Ruled::Refused(text))
         }

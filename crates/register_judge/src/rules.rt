@@ -33,6 +33,17 @@ impl Model for Rules {
 }
 
 impl Rules {
+    /// The rules of registers whose entries match this.
+    pub(crate) fn by(registers: &Registers, extents: [Extent; 64]) -> Rules
+        requires { AreExtents registers.now extents }
+        ensures { result ≡ registers.now }
+    {
+        Rules {
+            registers: *registers,
+            extents,
+        }
+    }
+
     /// The rules of registers, or the first entry that has a reserved value, by which they say nothing.
     pub fn of(registers: &Registers) -> Result<Rules, ReservedAt>
         ensures registers { IfOk result (λ rules. rules ≡ registers.now) }
@@ -41,10 +52,7 @@ impl Rules {
         ensures reserved { IfErr result (IsFirstReserved registers.now) }
     {
         match extents_of(registers) {
-            Ok(extents) => Ok(Rules {
-                registers: *registers,
-                extents,
-            }),
+            Ok(extents) => Ok(Rules::by(registers, extents)),
             Err(found) => Err(found),
         }
     }

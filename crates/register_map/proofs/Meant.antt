@@ -6,7 +6,7 @@ use Rattle.permission_map.specs.Runs.{AreRuns, view_of_runs}
 use Rattle.pmp_registers.specs.Decision.{RegistersMean}
 use Rattle.pmp_registers.specs.Matching.{AreExtents}
 use Rattle.register_text.specs.declared.listing.Listing.{Listing}
-use Rattle.register_map.specs.Maps.{IsMapOf, IsMapOfExtents, below, cut, mapped, reserved, told, unmodelled}
+use Rattle.register_map.specs.Maps.{IsMapOf, IsMapOfExtents, below, cut, mapped, refused, told}
 use Rattle.register_map.specs.Texts.{map_text}
 
 -- what a printed map is
@@ -32,5 +32,4 @@ extents_mean listing xs text is_map none are (cut view first i at c) is_one = ab
 -- where a map is printed the registers mean it
 pub map_meant : (listing : Listing) (text : List ℕ) (is_map : Bool) → IsMapOf listing text is_map → is_map ≡ true → IsMeant listing text
 map_meant listing text is_map (told none xs are said it of) is_one = extents_mean listing xs said it none are of is_one
-map_meant listing text is_map (reserved none found is) is_one = absurd cc
-map_meant listing text is_map (unmodelled other) is_one = absurd cc
+map_meant listing text is_map (refused line is) is_one = absurd cc

@@ -8,10 +8,11 @@ use Rattle.pmp_registers.proofs.EachByte.{each_byte}
 use Rattle.pmp_registers.proofs.Matched.{all_defined, each_words, one_list}
 use Rattle.stretches.specs.declared.stretch.Stretch.{Stretch}
 use Rattle.register_text.specs.declared.listing.Listing.{Listing}
+use Rattle.register_text.specs.Texts.{IsRefusal, reserved, unmodelled}
 use Rattle.register_audit.specs.Findings.{CutsAlone, IsCut, IsFirstDifference}
 use Rattle.register_audit.proofs.Cut.{cut_not}
 use Rattle.register_map.specs.Pages.{HasFirstBytes}
-use Rattle.register_map.specs.Maps.{IsMapOf, IsMapOfExtents, below, cut, mapped, reserved, told, unmodelled}
+use Rattle.register_map.specs.Maps.{IsMapOf, IsMapOfExtents, below, cut, mapped, refused, told}
 use Rattle.pmp_encoding.specs.Perms.{bits_of}
 
 -- a view that extents mean is what they give the first byte of each page
@@ -47,12 +48,16 @@ extents_none xs text is_map other words (mapped runs are means) no_map = absurd 
 extents_none xs text is_map other words (below view first s d) no_map = below_none xs view other s words first d
 extents_none xs text is_map other words (cut view first i at c) no_map = cut_none xs view other i at words first c
 
+-- what a listing leaves that means nothing means no view
+none_refused : (listing : Listing) (line : List ℕ) → IsRefusal listing line → (listing.mseccfg ≢ 0) ⊎ ((view : View) → ¬ RegistersMean listing.registers view)
+none_refused listing line (reserved none found is) =
+    inr (λ view m. all_defined listing.registers m.extents m.are_extents found.place is.inside found.value is.value.has)
+none_refused listing line (unmodelled other) = inl other
+
 -- where no map is printed there is none
 pub none_meant : (listing : Listing) (text : List ℕ) (is_map : Bool) → IsMapOf listing text is_map → is_map ≡ false
     → (listing.mseccfg ≢ 0) ⊎ ((view : View) → ¬ RegistersMean listing.registers view)
 none_meant listing text is_map (told none xs are said it of) no_map =
     inr (λ view m. extents_none xs text is_map view (each_words listing.registers xs are) of no_map
     (subst (λ (ys : List Extent). ExtentsMean ys view) (one_list listing.registers m.extents xs m.are_extents are) m.means))
-none_meant listing text is_map (reserved none found is) no_map =
-    inr (λ view m. all_defined listing.registers m.extents m.are_extents found.place is.inside found.value is.value.has)
-none_meant listing text is_map (unmodelled other) no_map = inl other
+none_meant listing text is_map (refused line is) no_map = none_refused listing line is

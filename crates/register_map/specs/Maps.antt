@@ -1,19 +1,17 @@
 -- The map that a listing of registers means.
-use Rattle.std.specs.Prelude.{◌≡◌, ◌≢◌, ℕ, List, ◌++◌, Bool, true, false, Some}
+use Rattle.std.specs.Prelude.{◌≡◌, ℕ, List, ◌++◌, Bool, true, false, Some}
 use Rattle.pmp_encoding.specs.declared.extent.Extent.{Extent}
 use Rattle.page_views.specs.Views.{View}
 use Rattle.permission_map.specs.declared.runs.Run.{Run}
 use Rattle.permission_map.specs.Runs.{AreRuns, view_of_runs}
-use Rattle.pmp_registers.specs.declared.reserved.ReservedAt.{ReservedAt}
 use Rattle.pmp_registers.specs.Decision.{ExtentsMean}
 use Rattle.pmp_registers.specs.Matching.{AreExtents}
-use Rattle.pmp_registers.specs.Reserved.{IsFirstReserved}
 use Rattle.stretches.specs.declared.stretch.Stretch.{Stretch}
 use Rattle.register_width.specs.declared.xlen.Xlen.{Xlen}
 use Rattle.register_text.specs.declared.listing.Listing.{Listing}
 use Rattle.register_text.specs.Listings.{listed}
 use Rattle.register_audit.specs.Findings.{CutsAlone, IsFirstDifference}
-use Rattle.register_audit.specs.Texts.{passed_text, reserved_text, smepmp_text}
+use Rattle.register_text.specs.Texts.{IsRefusal, passed_text}
 use Rattle.register_map.specs.Pages.{HasFirstBytes, IsTooFine}
 use Rattle.register_map.specs.Texts.{below_text, cut_text, map_text}
 
@@ -24,14 +22,12 @@ pub data IsMapOfExtents (extents : List Extent) : List ℕ → Bool → Type 0 w
   below : (view : View) → HasFirstBytes extents view → (stretch : Stretch) → IsFirstDifference view extents stretch → IsMapOfExtents extents (below_text stretch) false
   cut : (view : View) → HasFirstBytes extents view → (entry at : ℕ) → CutsAlone view extents entry at → IsMapOfExtents extents (cut_text entry at) false
 
--- what is said of what a listing leaves: of the extents of its registers; or the line of the first entry that has a reserved value,
--- or of an mseccfg that is not zero
+-- what is said of what a listing leaves: of the extents of its registers, or the line that says why they mean nothing
 pub data IsMapOf (listing : Listing) : List ℕ → Bool → Type 0 where
   told :
       listing.mseccfg ≡ 0 → (extents : List Extent) → AreExtents listing.registers extents → (text : List ℕ) (is_map : Bool) → IsMapOfExtents extents text is_map
       → IsMapOf listing text is_map
-  reserved : listing.mseccfg ≡ 0 → (found : ReservedAt) → IsFirstReserved listing.registers found → IsMapOf listing (reserved_text listing.registers found) false
-  unmodelled : listing.mseccfg ≢ 0 → IsMapOf listing (smepmp_text listing.mseccfg) false
+  refused : (line : List ℕ) → IsRefusal listing line → IsMapOf listing line false
 
 -- the first bytes of pages change too often under what a listing leaves
 abbrev pub AreTooFine : Listing → Type 0

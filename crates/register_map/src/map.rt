@@ -6,9 +6,9 @@ ghost use Rattle.page_views.specs.Views.{View};
 ghost use Rattle.permission_map.specs.declared.runs.Run.{Run};
 ghost use Rattle.permission_map.specs.Runs.{AreRuns, view_of_runs};
 ghost use Rattle.pmp_registers.specs.Decision.{IsWords, RegistersMean};
-ghost use Rattle.register_audit.specs.Texts.{passed_text};
 ghost use Rattle.register_text.specs.declared.listing.Listing.{Listing};
 ghost use Rattle.register_text.specs.Listings.{IsFirstUnknown, listed};
+ghost use Rattle.register_text.specs.Texts.{passed_text};
 ghost use Rattle.register_map.specs.declared.fault.MapOfFault as MapOfFault;
 ghost use Rattle.register_map.specs.declared.fault.Refusal as Refusal;
 ghost use Rattle.register_map.specs.Maps.{AreTooFine, IsMapFile, IsMapOf, IsMapOfExtents};
@@ -20,27 +20,17 @@ use crate::pages::first_bytes;
 use crate::texts::{below_line, cut_line, map_text};
 use byte_streams::{Sink, write_whole};
 use permission_map::Memory;
-use pmp_registers::{Extent, extents_of};
-use register_audit::{Finding, compared, passed_line, reserved_line, smepmp_line};
-use register_text::{Listing, listing_of};
+use pmp_registers::Extent;
+use register_audit::{Finding, compared};
+use register_text::{Listing, extents_in, listing_of, passed_line, text_of_line};
 use register_width::Xlen;
 use std::alloc::Global;
-use text_lines::Line;
 
 /// What is said of registers, and whether it is a map.
 #[derive(Drop)]
 struct Said {
     text: Vec<u8>,
     is_map: bool,
-}
-
-/// A line as a text. The only error is out of memory.
-fn text_of(alloc: Global, line: &Line) -> Result<Vec<u8>, Memory>
-    ensures { IfOk result (λ text. text.items ≡ line.now.items) }
-{
-    let mut text = Vec::new(alloc);
-    text.extend_from_slice(line.as_slice())?;
-    Ok(text)
 }
 
 /// What is said of extents.
@@ -57,14 +47,14 @@ fn said_of_extents(alloc: Global, extents: &[Extent]) -> Result<Said, Refusal>
             Ok(Said { text, is_map: true })
         }
         Finding::Differs(stretch) => {
-            let text = text_of(alloc, &below_line(&stretch))?;
+            let text = text_of_line(alloc, &below_line(&stretch))?;
             Ok(Said {
                 text,
                 is_map: false,
             })
         }
         Finding::Cuts { entry, at } => {
-            let text = text_of(alloc, &cut_line(entry, at))?;
+            let text = text_of_line(alloc, &cut_line(entry, at))?;
             Ok(Said {
                 text,
                 is_map: false,
@@ -78,17 +68,10 @@ fn said_of(alloc: Global, listing: &Listing) -> Result<Said, Refusal>
     ensures said { IfOk result (λ said. IsMapOf listing.now said.text.items said.is_map) }
     ensures many { result ≡ Err Refusal.TooManyRanges → AreTooFine listing.now }
 {
-    if listing.mseccfg != 0 {
-        let text = text_of(alloc, &smepmp_line(listing.mseccfg))?;
-        return Ok(Said {
-            text,
-            is_map: false,
-        });
-    }
-    let extents = match extents_of(&listing.registers) {
+    let extents = match extents_in(listing) {
         Ok(extents) => extents,
-        Err(found) => {
-            let text = text_of(alloc, &reserved_line(&listing.registers, &found))?;
+        Err(line) => {
+            let text = text_of_line(alloc, &line)?;
             return Ok(Said {
                 text,
                 is_map: false,

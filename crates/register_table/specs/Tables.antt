@@ -1,24 +1,21 @@
 -- The table of what a listing of registers leaves.
-use Rattle.std.specs.Prelude.{◌≡◌, ◌≢◌, ℕ, List, ◌++◌, Bool, true, false, Some}
+use Rattle.std.specs.Prelude.{◌≡◌, ℕ, List, ◌++◌, Bool, true, false, Some}
 use Rattle.pmp_encoding.specs.declared.extent.Extent.{Extent}
-use Rattle.pmp_registers.specs.declared.reserved.ReservedAt.{ReservedAt}
 use Rattle.pmp_registers.specs.Matching.{AreExtents}
-use Rattle.pmp_registers.specs.Reserved.{IsFirstReserved}
 use Rattle.register_width.specs.declared.xlen.Xlen.{Xlen}
 use Rattle.register_text.specs.declared.listing.Listing.{Listing}
 use Rattle.register_text.specs.Listings.{listed}
 use Rattle.register_audit.specs.Registers.{count_on}
-use Rattle.register_audit.specs.Texts.{passed_text, reserved_text, smepmp_text}
+use Rattle.register_text.specs.Texts.{IsRefusal, passed_text}
 use Rattle.map_table.specs.Tables.{IsExtentTable}
 
--- what is said of what a listing leaves, and whether the registers mean something: the table of their extents; or the line of the
--- first entry that has a reserved value, or of an mseccfg that is not zero
+-- what is said of what a listing leaves, and whether the registers mean something: the table of their extents, or the line that
+-- says why they mean nothing
 pub data IsShown (listing : Listing) : List ℕ → Bool → Type 0 where
   shown :
       listing.mseccfg ≡ 0 → (extents : List Extent) → AreExtents listing.registers extents → (text : List ℕ) → IsExtentTable extents (count_on listing.registers.cfgs) text
       → IsShown listing text true
-  reserved : listing.mseccfg ≡ 0 → (found : ReservedAt) → IsFirstReserved listing.registers found → IsShown listing (reserved_text listing.registers found) false
-  unmodelled : listing.mseccfg ≢ 0 → IsShown listing (smepmp_text listing.mseccfg) false
+  refused : (line : List ℕ) → IsRefusal listing line → IsShown listing line false
 
 -- the text is what is said of what the listing of registers of that width leaves, and after it a comment on lines that are passed over
 pub record IsRegisterTable (xlen : Xlen) (listing text : List ℕ) (meant : Bool) : Type 0 where

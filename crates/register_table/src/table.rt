@@ -2,20 +2,18 @@
 
 ghost use Rattle.std.specs.Prelude.{◌≡◌, ◌-◌, ◌^◌, ◌<◌, ◌++◌, ℕ, Bool, Err, IfOk, List, length};
 ghost use Rattle.byte_streams.specs.Writings.{writing, Breaks, TakesAll};
-ghost use Rattle.register_audit.specs.Texts.{passed_text};
 ghost use Rattle.register_text.specs.Listings.{IsFirstUnknown};
+ghost use Rattle.register_text.specs.Texts.{passed_text};
 ghost use Rattle.register_table.specs.declared.table.ListingFault as ListingFault;
 ghost use Rattle.register_table.specs.Tables.{IsRegisterTable, IsShown};
 
 use byte_streams::{Sink, write_whole};
 use map_table::extent_table;
 use permission_map::Memory;
-use pmp_registers::extents_of;
-use register_audit::{count_on, passed_line, reserved_line, smepmp_line};
-use register_text::{Listing, listing_of};
+use register_audit::count_on;
+use register_text::{Listing, extents_in, listing_of, passed_line, text_of_line};
 use register_width::Xlen;
 use std::alloc::Global;
-use text_lines::Line;
 
 /// Why a listing was not shown.
 #[derive(Clone, Copy, PartialEq, Eq, Debug)]
@@ -35,27 +33,14 @@ struct Shown {
     meant: bool,
 }
 
-/// A line as a text. The only error is out of memory.
-fn text_of(alloc: Global, line: &Line) -> Result<Vec<u8>, Memory>
-    ensures { IfOk result (λ text. text.items ≡ line.now.items) }
-{
-    let mut text = Vec::new(alloc);
-    text.extend_from_slice(line.as_slice())?;
-    Ok(text)
-}
-
 /// What is said of what a listing leaves. The only error is out of memory.
 fn said_of(alloc: Global, listing: &Listing) -> Result<Shown, Memory>
     ensures { IfOk result (λ shown. IsShown listing.now shown.text.items shown.meant) }
 {
-    if listing.mseccfg != 0 {
-        let text = text_of(alloc, &smepmp_line(listing.mseccfg))?;
-        return Ok(Shown { text, meant: false });
-    }
-    let extents = match extents_of(&listing.registers) {
+    let extents = match extents_in(listing) {
         Ok(extents) => extents,
-        Err(found) => {
-            let text = text_of(alloc, &reserved_line(&listing.registers, &found))?;
+        Err(line) => {
+            let text = text_of_line(alloc, &line)?;
             return Ok(Shown { text, meant: false });
         }
     };

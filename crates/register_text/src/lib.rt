@@ -4,7 +4,8 @@
 //! has them. A later line overrides an earlier one, and what no line sets is zero. Lines of other registers set nothing, and the
 //! first of them is named. OpenSBI's boot log is a listing too: its lines on regions set entries, and all others nothing. For
 //! the layer above: [`listing_of`] answers the registers of a hart of that width, `mseccfg` and that line, or the number of
-//! the first line that is not understood.
+//! the first line that is not understood; [`extents_in`] answers what the entries match, or the line that says why they mean
+//! nothing.
 //!
 //! ```rust
 //! let listing = listing_of(Xlen::Rv64, b"pmpaddr0 0x200001ff\npmpcfg0 0x1f\n")?;
@@ -12,12 +13,16 @@
 //! ```
 #![tactic(auto)]
 
+mod extents;
 mod listing;
 mod log;
 mod register_lines;
 mod setting;
+mod texts;
 
+pub use extents::extents_in;
 pub use listing::{Listing, is_listing, listing_of};
 pub use pmp_registers::Registers;
 pub use register_lines::line_sets;
 pub use setting::Setting;
+pub use texts::{passed_line, reserved_line, smepmp_line, text_of_line};

@@ -1,5 +1,5 @@
 use Rattle.std.proofs.Common.{◌≡◌, ◌∙◌, ℕ, List, ◌++◌, ap}
-use Rattle.register_audit.specs.Texts.{passed_text}
+use Rattle.register_text.specs.Texts.{passed_text}
 use Rattle.register_map.specs.Texts.{map_text}
 use Rattle.register_map.proofs.Meant.{map_meant}
 use Rattle.register_map.proofs.NoMap.{none_meant}
