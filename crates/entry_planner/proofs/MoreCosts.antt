@@ -1,5 +1,5 @@
 -- How many more entries a block costs under each permission, by the table.
-use Rattle.std.proofs.Common.{◌≡◌, ◌∙◌, ℕ, zero, suc, ◌+◌, ◌-◌, ◌/◌, ◌%◌, ◌<◌, ◌≤◌, Bool, true, false, ◌&&◌, ◌==◌, T, eqb, eqb→eq, List, [], get_or, if◌then◌else◌, eq-zero-or-pos, inl, inr, ap, arith}
+use Rattle.std.proofs.Common.{◌≡◌, ◌∙◌, ℕ, zero, suc, ◌-◌, ◌/◌, ◌%◌, ◌<◌, ◌≤◌, Bool, true, false, ◌&&◌, ◌==◌, T, eqb, eqb→eq, [], get_or, if◌then◌else◌, eq-zero-or-pos, inl, inr, ap, arith}
 use lib.Ieee.Fits.{and_l, and_r}
 use Rattle.pmp_encoding.specs.declared.perm.Perm.{Perm}
 use Rattle.pmp_encoding.specs.declared.perm.Perm.TheVariants.{NoAccess, Read, ReadWrite, Execute, ReadExecute, ReadWriteExecute}

@@ -6,8 +6,8 @@ ghost use Rattle.entry_planner.specs.PackedEntries.{HasBlock};
 use pmp_encoding::{Entry, Perm, Region};
 use std::marker::Model;
 
-/// An entry of whole pages, in eight bytes in place of twenty-four: most of the time of putting entries in order goes by
-/// moving them. Contracts see the entry.
+/// An entry of whole pages, in eight bytes in place of twenty-four: those that wait take new pages of memory beside the list.
+/// Contracts see the entry.
 #[derive(Drop)]
 pub struct PackedEntry {
     /// The first page, six bits of the size in pages, and three of the permission.

@@ -12,7 +12,8 @@ use byte_streams::{DeviceFault, Sink, write_whole};
 use pmp_encoding::{Entry, Limit};
 use register_width::Xlen;
 
-/// How many entries' lines are put together before they go to the sink.
+/// How many entries' lines are put together before they go to the sink: more bytes than a `BufWriter` of std holds, which then
+/// hands them on without a copy.
 const LINES: usize = 320;
 
 /// Writes a line for each entry.
