@@ -5,7 +5,7 @@ use pmp_encoding::{Limit, Perm};
 use std::process::Abort;
 
 /// The lower half of the space with every right, in one entry.
-const LOWER_HALF: [u8; 47] = [
+pub const LOWER_HALF: [u8; 47] = [
     0x50, 0x4D, 0x50, 0x43, 1, 1, 0, 0, 0, // header
     0x1F, 0xFF, 0xFF, 0xFF, 0xFF, 0xFF, 0xFF, 0x0F, 0, // entry
     1, 1, 0, 0, 0, 2, 0, 0, 0, 2, 0, 0, 0, 2, 0, 0, 0, 2, 0, 0, 0, 1, 0, 0, 0, // branch
@@ -13,7 +13,7 @@ const LOWER_HALF: [u8; 47] = [
 ];
 
 /// The header, and how many bytes are left after the root.
-fn read_whole(bytes: &[u8]) -> Result<(Header, usize), ReadFault> {
+pub fn read_whole(bytes: &[u8]) -> Result<(Header, usize), ReadFault> {
     let mut reader = Reader::new(bytes);
     let header = reader.header()?;
     for _ in 0..header.count {
@@ -48,7 +48,7 @@ fn reads_header(rt: &impl Abort, reader: &mut Reader, count: u32) {
 }
 
 /// The reader comes to an entry that is written as this pair.
-fn reads_entry(rt: &impl Abort, reader: &mut Reader, cfg: u8, address: u64) {
+pub fn reads_entry(rt: &impl Abort, reader: &mut Reader, cfg: u8, address: u64) {
     let entry = reader.entry().expect(rt, "an entry");
     assert!(rt; (entry.cfg(), entry.address()) == (cfg, address));
 }
@@ -85,47 +85,49 @@ fn lower_half_reads_part_by_part(rt: HostRuntime) {
     assert!(rt; reader.rest().len() == 0);
 }
 
+/// The bytes are at fault so, or not at all.
+fn come_to(rt: &impl Abort, bytes: &[u8], wanted: Option<ReadFault>) {
+    assert!(rt; fault_of(bytes) == wanted, "{} bytes", bytes.len());
+}
+
 #[test]
 fn each_cut_of_the_lower_half_is_truncated(rt: HostRuntime) {
     for n in 0..47 {
-        assert!(rt;
-            fault_of(&LOWER_HALF[..n]) == Some(ReadFault::Truncated),
-            "{n} bytes"
-        );
+        come_to(&rt, &LOWER_HALF[..n], Some(ReadFault::Truncated));
     }
-    assert!(rt; fault_of(LOWER_HALF.as_slice()) == None);
+    come_to(&rt, &LOWER_HALF, None);
 }
 
 /// The lower half with one byte changed has this fault.
-fn is_told(rt: &impl Abort, place: usize, byte: u8, fault: ReadFault) {
-    let mut bytes = LOWER_HALF;
-    if let Some(there) = bytes.get_mut(place) {
-        *there = byte;
+fn are_told(rt: &impl Abort, rows: &[(usize, u8, ReadFault)]) {
+    for (place, byte, fault) in rows {
+        let mut bytes = LOWER_HALF;
+        if let Some(there) = bytes.get_mut(*place) {
+            *there = *byte;
+        }
+        let found = fault_of(bytes.as_slice());
+        assert!(rt; found == Some(*fault), "{byte} at {place}");
     }
-    assert!(rt;
-        fault_of(bytes.as_slice()) == Some(fault),
-        "{byte} at {place}"
-    );
 }
 
 #[test]
 fn each_fault_is_told(rt: HostRuntime) {
-    let cases = [
-        (0, 1, ReadFault::BadMagic),
-        (3, 0, ReadFault::BadMagic),
-        (4, 0, ReadFault::BadVersion),
-        (4, 3, ReadFault::BadVersion),
-        (4, 2, ReadFault::BadLimit),
-        (5, 0, ReadFault::BadTag),
-        (18, 2, ReadFault::BadTag),
-        (43, 0xFF, ReadFault::BadTag),
-        (44, 2, ReadFault::BadPerm),
-        (46, 8, ReadFault::BadPerm),
-        (5, 5, ReadFault::Truncated),
-    ];
-    for (place, byte, fault) in cases {
-        is_told(&rt, place, byte, fault);
-    }
+    are_told(
+        &rt,
+        &[
+            (0, 1, ReadFault::BadMagic),
+            (3, 0, ReadFault::BadMagic),
+            (4, 0, ReadFault::BadVersion),
+            (4, 3, ReadFault::BadVersion),
+            (4, 2, ReadFault::BadLimit),
+            (5, 0, ReadFault::BadTag),
+            (18, 2, ReadFault::BadTag),
+            (43, 0xFF, ReadFault::BadTag),
+            (44, 2, ReadFault::BadPerm),
+            (46, 8, ReadFault::BadPerm),
+            (5, 5, ReadFault::Truncated),
+        ],
+    );
     let numbers = [
         ReadFault::BadMagic as u8,
         ReadFault::BadVersion as u8,
@@ -137,29 +139,33 @@ fn each_fault_is_told(rt: HostRuntime) {
     assert!(rt; numbers == [1, 2, 3, 4, 5, 16]);
 }
 
-#[test]
-fn second_form_names_its_limit(rt: HostRuntime) -> Result<(), ReadFault> {
-    let bytes = [
-        0x50, 0x4D, 0x50, 0x43, 2, 0x40, 1, 0, 0, 0, 0x1F, 0xFF, 0xFF, 0xFF, 0xFF, 0xFF, 0xFF,
+/// The second form of the whole space, with this byte for its limit.
+fn second_form(limit: u8) -> [u8; 21] {
+    [
+        0x50, 0x4D, 0x50, 0x43, 2, limit, 1, 0, 0, 0, 0x1F, 0xFF, 0xFF, 0xFF, 0xFF, 0xFF, 0xFF,
         0x1F, 0, 0, 7,
-    ];
-    let (header, left) = read_whole(bytes.as_slice())?;
-    assert!(rt; header.version == Version::Two(Limit::SixtyFour));
-    assert!(rt; header.version.limit() == Limit::SixtyFour);
-    assert!(rt; (header.count, left) == (1, 0));
-    let mut sixteen = bytes;
-    sixteen[5] = 0x10;
-    let (header, _) = read_whole(sixteen.as_slice())?;
-    assert!(rt; header.version == Version::Two(Limit::Sixteen));
-    let mut other = bytes;
-    other[5] = 0x20;
-    assert!(rt; fault_of(other.as_slice()) == Some(ReadFault::BadLimit));
-    assert!(rt; fault_of(&bytes[..5]) == Some(ReadFault::Truncated));
-    Ok(())
+    ]
+}
+
+/// The second form with this byte has this limit, and is read to its end with its entry.
+fn has_limit(rt: &impl Abort, byte: u8, limit: Limit) {
+    let bytes = second_form(byte);
+    let (header, left) = read_whole(bytes.as_slice()).expect(rt, "a certificate");
+    assert!(rt; header.version == Version::Two(limit), "{byte:#x}");
+    let read = (header.version.limit(), header.count, left);
+    assert!(rt; read == (limit, 1, 0), "{byte:#x}");
 }
 
 #[test]
-fn a_refusal_leaves_the_cursor_where_it_was(rt: HostRuntime) -> Result<(), ReadFault> {
+fn second_form_names_its_limit(rt: HostRuntime) {
+    has_limit(&rt, 0x40, Limit::SixtyFour);
+    has_limit(&rt, 0x10, Limit::Sixteen);
+    come_to(&rt, &second_form(0x20), Some(ReadFault::BadLimit));
+    come_to(&rt, &second_form(0x40)[..5], Some(ReadFault::Truncated));
+}
+
+#[test]
+fn a_refusal_leaves_the_cursor_where_it_was(rt: HostRuntime) {
     let mut reader = Reader::new(b"PMPC\x01\x00".as_slice());
     assert!(rt; reader.header() == Err(ReadFault::Truncated));
     assert!(rt; reader.rest().len() == 6);
@@ -168,5 +174,4 @@ fn a_refusal_leaves_the_cursor_where_it_was(rt: HostRuntime) -> Result<(), ReadF
     assert!(rt; reader.entry().is_err());
     assert!(rt; reader.costs().is_err());
     assert!(rt; reader.rest().len() == 6);
-    Ok(())
 }

@@ -1,42 +1,15 @@
 //! Certificates, byte by byte.
 
+use crate::certificate_parts::{LOWER_HALF, read_whole, reads_entry};
+use crate::plans::map_of;
 use byte_streams::fakes::PieceSink;
 use entry_planner::{plan, plan_map};
 use permission_map::PermissionMap;
-use plan_certificate::{Header, ReadFault, Reader, Tag, send_map, write, write_map};
+use plan_certificate::{Reader, Tag, send_map, write, write_map};
 use pmp_encoding::{Limit, Perm};
 use prefix_tree::build;
 use std::alloc::Global;
 use std::process::Abort;
-
-/// The lower half of the space with every right, in one entry.
-const LOWER_HALF: [u8; 47] = [
-    0x50, 0x4D, 0x50, 0x43, 1, 1, 0, 0, 0, // header
-    0x1F, 0xFF, 0xFF, 0xFF, 0xFF, 0xFF, 0xFF, 0x0F, 0, // entry
-    1, 1, 0, 0, 0, 2, 0, 0, 0, 2, 0, 0, 0, 2, 0, 0, 0, 2, 0, 0, 0, 1, 0, 0, 0, // branch
-    0, 7, 0, 0, // leaves
-];
-
-/// The header, and how many bytes are left after the root.
-fn read_whole(bytes: &[u8]) -> Result<(Header, usize), ReadFault> {
-    let mut reader = Reader::new(bytes);
-    let header = reader.header()?;
-    for _ in 0..header.count {
-        reader.entry()?;
-    }
-    let mut open = 1usize;
-    while open > 0 {
-        let tag = reader.tag()?;
-        if tag == Tag::Leaf {
-            reader.perm()?;
-            open -= 1;
-        } else {
-            reader.costs()?;
-            open = open.saturating_add(1);
-        }
-    }
-    Ok((header, reader.rest().len()))
-}
 
 /// The certificate of a map, by its tree.
 fn by_tree(rt: &impl Abort, alloc: Global, map: &PermissionMap, limit: Limit) -> Vec<u8> {
@@ -60,8 +33,7 @@ fn certificate(
     perm: Perm,
     limit: Limit,
 ) -> Vec<u8> {
-    let mut map = PermissionMap::new(alloc);
-    map.set_range(first, count, perm).expect(rt, "memory");
+    let map = map_of(rt, alloc, &[(first, count, perm)]);
     let bytes = by_tree(rt, alloc, &map, limit);
     assert!(rt; bytes == by_map(rt, alloc, &map, limit));
     bytes
@@ -84,16 +56,20 @@ fn empty_map_has_eleven_bytes(rt: HostRuntime) {
 #[test]
 fn whole_space_has_twenty_bytes(rt: HostRuntime) {
     let whole = (0, 1 << 44, Perm::ReadWriteExecute);
-    let first = [
-        0x50, 0x4D, 0x50, 0x43, 1, 1, 0, 0, 0, 0x1F, 0xFF, 0xFF, 0xFF, 0xFF, 0xFF, 0xFF, 0x1F, 0,
-        0, 7,
-    ];
-    has_bytes(&rt, rt.alloc(), whole, Limit::Sixteen, &first);
-    let second = [
-        0x50, 0x4D, 0x50, 0x43, 2, 0x40, 1, 0, 0, 0, 0x1F, 0xFF, 0xFF, 0xFF, 0xFF, 0xFF, 0xFF,
-        0x1F, 0, 0, 7,
-    ];
-    has_bytes(&rt, rt.alloc(), whole, Limit::SixtyFour, &second);
+    has_bytes(
+        &rt,
+        rt.alloc(),
+        whole,
+        Limit::Sixteen,
+        b"PMPC\x01\x01\0\0\0\x1F\xFF\xFF\xFF\xFF\xFF\xFF\x1F\0\0\x07",
+    );
+    has_bytes(
+        &rt,
+        rt.alloc(),
+        whole,
+        Limit::SixtyFour,
+        b"PMPC\x02\x40\x01\0\0\0\x1F\xFF\xFF\xFF\xFF\xFF\xFF\x1F\0\0\x07",
+    );
 }
 
 #[test]
@@ -114,12 +90,6 @@ fn one_page_splits_forty_four_blocks(rt: HostRuntime) {
     let all = Perm::ReadWriteExecute;
     let bytes = certificate(&rt, rt.alloc(), 0x80000, 1, all, Limit::Sixteen);
     is_read(&rt, bytes.as_slice(), 1208, 1);
-}
-
-/// The reader comes to an entry that is written as this pair.
-fn reads_entry(rt: &impl Abort, reader: &mut Reader, cfg: u8, address: u64) {
-    let entry = reader.entry().expect(rt, "memory");
-    assert!(rt; (entry.cfg(), entry.address()) == (cfg, address));
 }
 
 /// The reader comes to a split block, which costs so much where nothing is inherited.
@@ -171,9 +141,7 @@ fn sends_what_it_holds(rt: &impl Abort, alloc: Global, map: &PermissionMap) {
 
 #[test]
 fn a_certificate_that_is_sent_is_the_one_that_is_held(rt: HostRuntime) {
-    let mut map = PermissionMap::new(rt.alloc());
-    map.set_range(0x80208, 7, Perm::ReadExecute)
-        .expect(&rt, "memory");
+    let map = map_of(&rt, rt.alloc(), &[(0x80208, 7, Perm::ReadExecute)]);
     sends_what_it_holds(&rt, rt.alloc(), &map);
     is_cut_off(&rt, rt.alloc(), &map, 200);
 }

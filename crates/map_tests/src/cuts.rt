@@ -1,6 +1,6 @@
 //! A map and its fewest entries, cut by hand; and a list that begins and ends inside a page.
 
-use permission_map::PermissionMap;
+use crate::plans::map_of;
 use pmp_encoding::{Entry, Perm, Region, SPACE_SIZE};
 use std::alloc::Global;
 use std::process::Abort;
@@ -25,15 +25,6 @@ fn stretch(first: u64, end: u64, wanted: Perm, given: Perm, entry: Option<usize>
 /// Bytes that no entry has, and on which the map has no permission.
 fn nothing(first: u64, end: u64) -> Stretch {
     stretch(first, end, Perm::NoAccess, Perm::NoAccess, None)
-}
-
-/// The map that gives these ranges their permissions: the first page, the number of pages, the permission.
-fn map_of(rt: &impl Abort, alloc: Global, ranges: &[(u64, u64, Perm)]) -> PermissionMap {
-    let mut map = PermissionMap::new(alloc);
-    for (first, count, perm) in ranges {
-        map.set_range(*first, *count, *perm).expect(rt, "inside");
-    }
-    map
 }
 
 /// The entries cut the map of the ranges so.

@@ -111,32 +111,28 @@ fn one_run_above_the_limit_is_refused(rt: HostRuntime) {
     fills(&rt, &mut map);
 }
 
-/// The range is set or refused so.
-fn sets(
-    rt: &impl Abort,
-    map: &mut PermissionMap,
-    first: u64,
-    count: u64,
-    wanted: Result<(), MapFault>,
-) {
-    let answer = map.set_range(first, count, Perm::Read);
-    assert!(rt; answer == wanted, "{first} {count}");
+/// Ranges are set or refused so, one after another: the first page, the number of pages, the answer.
+fn sets(rt: &impl Abort, map: &mut PermissionMap, rows: &[(u64, u64, Result<(), MapFault>)]) {
+    for (first, count, wanted) in rows {
+        let answer = map.set_range(*first, *count, Perm::Read);
+        assert!(rt; answer == *wanted, "{first} {count}");
+    }
 }
+
+const AT_THE_END: &[(u64, u64, Result<(), MapFault>)] = &[
+    (SPACE - 1, 2, Err(MapFault::PastEnd)),
+    (SPACE + 1, 0, Err(MapFault::PastEnd)),
+    (0, SPACE + 1, Err(MapFault::PastEnd)),
+    (u64::MAX, u64::MAX, Err(MapFault::PastEnd)),
+    (1, u64::MAX, Err(MapFault::PastEnd)),
+    (u64::MAX, 1, Err(MapFault::PastEnd)),
+    (SPACE, 0, Ok(())),
+];
 
 #[test]
 fn ranges_past_the_end_are_refused(rt: HostRuntime) {
     let mut map = PermissionMap::new(rt.alloc());
-    for (first, count) in [
-        (SPACE - 1, 2),
-        (SPACE + 1, 0),
-        (0, SPACE + 1),
-        (u64::MAX, u64::MAX),
-        (1, u64::MAX),
-        (u64::MAX, 1),
-    ] {
-        sets(&rt, &mut map, first, count, Err(MapFault::PastEnd));
-    }
-    sets(&rt, &mut map, SPACE, 0, Ok(()));
+    sets(&rt, &mut map, AT_THE_END);
 }
 
 /// The map of a builder that is given these ranges.

@@ -17,8 +17,14 @@ const PERMS: [Perm; 6] = [
     Perm::ReadWriteExecute,
 ];
 
-/// The map that gives these ranges their permissions: the first page, the number of pages, the permission.
-fn map_of(rt: &impl Abort, alloc: Global, ranges: &[(u64, u64, Perm)]) -> PermissionMap {
+/// A range: the first page, the number of pages, the permission.
+pub type Range = (u64, u64, Perm);
+
+/// An entry as it is written: the configuration byte and the address.
+type Pair = (u8, u64);
+
+/// The map that gives these ranges their permissions.
+pub fn map_of(rt: &impl Abort, alloc: Global, ranges: &[Range]) -> PermissionMap {
     let mut map = PermissionMap::new(alloc);
     for (first, count, perm) in ranges {
         map.set_range(*first, *count, *perm).expect(rt, "memory");
@@ -27,7 +33,7 @@ fn map_of(rt: &impl Abort, alloc: Global, ranges: &[(u64, u64, Perm)]) -> Permis
 }
 
 /// Whether entries are written as these pairs, in this order.
-fn are_written(entries: &[Entry], pairs: &[(u8, u64)]) -> bool {
+fn are_written(entries: &[Entry], pairs: &[Pair]) -> bool {
     for (entry, pair) in entries.iter().zip(pairs) {
         if entry.encode() != *pair {
             return false;
@@ -76,7 +82,7 @@ fn is_of_tree(rt: &impl Abort, alloc: Global, map: &PermissionMap, of_map: &Plan
 
 /// The plan of the ranges has these entries, written as pairs, in this order, and so has that of their map's tree, with
 /// the same costs.
-fn is_planned(rt: &impl Abort, alloc: Global, ranges: &[(u64, u64, Perm)], pairs: &[(u8, u64)]) {
+fn is_planned(rt: &impl Abort, alloc: Global, ranges: &[Range], pairs: &[Pair]) {
     let map = map_of(rt, alloc, ranges);
     let plan = plan_map(alloc, &map).expect(rt, "memory");
     assert!(rt; are_written(plan.entries(), pairs));
@@ -85,7 +91,7 @@ fn is_planned(rt: &impl Abort, alloc: Global, ranges: &[(u64, u64, Perm)], pairs
 }
 
 /// The bank that has the list of the ranges' plan has this first configuration word.
-fn configures(rt: &impl Abort, alloc: Global, ranges: &[(u64, u64, Perm)], word: u64) {
+fn configures(rt: &impl Abort, alloc: Global, ranges: &[Range], word: u64) {
     let map = map_of(rt, alloc, ranges);
     let plan = plan_map(alloc, &map).expect(rt, "memory");
     assert!(rt; plan.entries().len() <= 16);
@@ -93,7 +99,7 @@ fn configures(rt: &impl Abort, alloc: Global, ranges: &[(u64, u64, Perm)], word:
 }
 
 /// The map of the ranges splits as many blocks as there are rows, which have these costs.
-fn costs(rt: &impl Abort, alloc: Global, ranges: &[(u64, u64, Perm)], rows: &[[u32; 6]]) {
+fn costs(rt: &impl Abort, alloc: Global, ranges: &[Range], rows: &[[u32; 6]]) {
     let tree = build(alloc, &map_of(rt, alloc, ranges)).expect(rt, "memory");
     let plan = plan(alloc, &tree).expect(rt, "memory");
     assert!(rt; have_costs(&plan, rows));
@@ -107,88 +113,88 @@ fn empty_map_needs_no_entry(rt: HostRuntime) {
 
 #[test]
 fn the_whole_space_needs_one_entry(rt: HostRuntime) {
-    let ranges = [(0, 1 << 44, Perm::ReadWriteExecute)];
-    let pairs = [(0x1F, 0x001F_FFFF_FFFF_FFFF)];
-    is_planned(&rt, rt.alloc(), &ranges, &pairs);
+    const RANGES: &[Range] = &[(0, 1 << 44, Perm::ReadWriteExecute)];
+    const PAIRS: &[Pair] = &[(0x1F, 0x001F_FFFF_FFFF_FFFF)];
+    is_planned(&rt, rt.alloc(), RANGES, PAIRS);
 }
 
 #[test]
 fn a_page_denied_in_the_whole_space_needs_one_more(rt: HostRuntime) {
-    let ranges = [
+    const RANGES: &[Range] = &[
         (0, 1 << 44, Perm::ReadWriteExecute),
         (0x80000, 1, Perm::NoAccess),
     ];
-    let pairs = [(0x18, 0x2000_01FF), (0x1F, 0x001F_FFFF_FFFF_FFFF)];
-    is_planned(&rt, rt.alloc(), &ranges, &pairs);
+    const PAIRS: &[Pair] = &[(0x18, 0x2000_01FF), (0x1F, 0x001F_FFFF_FFFF_FFFF)];
+    is_planned(&rt, rt.alloc(), RANGES, PAIRS);
 }
 
 #[test]
 fn boot_of_the_example_platform_uses_three_entries(rt: HostRuntime) {
-    let ranges = [
+    const RANGES: &[Range] = &[
         (0x80000, 0x8000, Perm::ReadWriteExecute),
         (0x80000, 0x200, Perm::NoAccess),
         (0x10000, 1, Perm::ReadWrite),
     ];
-    let pairs = [
+    const PAIRS: &[Pair] = &[
         (0x1B, 0x0400_01FF),
         (0x18, 0x2003_FFFF),
         (0x1F, 0x20FF_FFFF),
     ];
-    is_planned(&rt, rt.alloc(), &ranges, &pairs);
-    configures(&rt, rt.alloc(), &ranges, 0x1F_181B);
+    is_planned(&rt, rt.alloc(), RANGES, PAIRS);
+    configures(&rt, rt.alloc(), RANGES, 0x1F_181B);
 }
 
 #[test]
 fn seven_pages_need_two_entries(rt: HostRuntime) {
-    let ranges = [(0x80208, 7, Perm::ReadExecute)];
-    let pairs = [(0x18, 0x2008_3DFF), (0x1D, 0x2008_2FFF)];
-    is_planned(&rt, rt.alloc(), &ranges, &pairs);
-    configures(&rt, rt.alloc(), &ranges, 0x1D18);
+    const RANGES: &[Range] = &[(0x80208, 7, Perm::ReadExecute)];
+    const PAIRS: &[Pair] = &[(0x18, 0x2008_3DFF), (0x1D, 0x2008_2FFF)];
+    is_planned(&rt, rt.alloc(), RANGES, PAIRS);
+    configures(&rt, rt.alloc(), RANGES, 0x1D18);
 }
 
 #[test]
 fn one_page_of_four_is_overridden(rt: HostRuntime) {
-    let ranges = [(0x80000, 4, Perm::Read), (0x80001, 1, Perm::ReadWrite)];
-    let pairs = [(0x1B, 0x2000_05FF), (0x19, 0x2000_07FF)];
-    is_planned(&rt, rt.alloc(), &ranges, &pairs);
+    const RANGES: &[Range] = &[(0x80000, 4, Perm::Read), (0x80001, 1, Perm::ReadWrite)];
+    const PAIRS: &[Pair] = &[(0x1B, 0x2000_05FF), (0x19, 0x2000_07FF)];
+    is_planned(&rt, rt.alloc(), RANGES, PAIRS);
 }
 
 #[test]
 fn the_inherited_permission_stays_where_it_is_best_for_a_half(rt: HostRuntime) {
-    let ranges = [(0x80000, 4, Perm::Read), (0x80001, 1, Perm::NoAccess)];
-    let pairs = [(0x19, 0x2000_01FF), (0x19, 0x2000_0BFF)];
-    is_planned(&rt, rt.alloc(), &ranges, &pairs);
+    const RANGES: &[Range] = &[(0x80000, 4, Perm::Read), (0x80001, 1, Perm::NoAccess)];
+    const PAIRS: &[Pair] = &[(0x19, 0x2000_01FF), (0x19, 0x2000_0BFF)];
+    is_planned(&rt, rt.alloc(), RANGES, PAIRS);
 }
 
 #[test]
 fn the_first_permission_that_is_best_for_both_halves_is_placed(rt: HostRuntime) {
-    let ranges = [
+    const RANGES: &[Range] = &[
         (0x80000, 4, Perm::Read),
         (0x80001, 1, Perm::ReadWrite),
         (0x80003, 1, Perm::ReadWrite),
     ];
-    let pairs = [
+    const PAIRS: &[Pair] = &[
         (0x1B, 0x2000_05FF),
         (0x1B, 0x2000_0DFF),
         (0x19, 0x2000_07FF),
     ];
-    is_planned(&rt, rt.alloc(), &ranges, &pairs);
+    is_planned(&rt, rt.alloc(), RANGES, PAIRS);
 }
 
 #[test]
 fn a_tie_is_settled_as_two_pages(rt: HostRuntime) {
-    let ranges = [
+    const RANGES: &[Range] = &[
         (0x80200, 1, Perm::ReadExecute),
         (0x80201, 1, Perm::ReadWrite),
         (0x80400, 1, Perm::ReadWrite),
     ];
-    let pairs = [
+    const PAIRS: &[Pair] = &[
         (0x1D, 0x2008_01FF),
         (0x1B, 0x2008_05FF),
         (0x1B, 0x2010_01FF),
     ];
-    is_planned(&rt, rt.alloc(), &ranges, &pairs);
-    configures(&rt, rt.alloc(), &ranges, 0x1B_1B1D);
+    is_planned(&rt, rt.alloc(), RANGES, PAIRS);
+    configures(&rt, rt.alloc(), RANGES, 0x1B_1B1D);
 }
 
 /// The map needs that many entries.
@@ -227,23 +233,29 @@ fn thirteen_scattered_pages_fit_sixteen_entries(rt: HostRuntime) {
 }
 
 /// The map of the ranges needs that many entries.
-fn ranges_need(rt: &impl Abort, alloc: Global, ranges: &[(u64, u64, Perm)], wanted: u32) {
+fn ranges_need(rt: &impl Abort, alloc: Global, ranges: &[Range], wanted: u32) {
     let map = map_of(rt, alloc, ranges);
     needs(rt, alloc, &map, wanted);
 }
 
 #[test]
 fn one_shared_page_more_needs_one_entry_more(rt: HostRuntime) {
-    let text = (0x804AB, 170, Perm::ReadExecute);
-    let data = (0x80555, 342, Perm::ReadWrite);
-    let ten = [text, data, (0x81000, 10, Perm::ReadWrite)];
-    ranges_need(&rt, rt.alloc(), &ten, 16);
-    let eleven = [text, data, (0x81000, 11, Perm::ReadWrite)];
-    ranges_need(&rt, rt.alloc(), &eleven, 17);
+    const TEN: &[Range] = &[
+        (0x804AB, 170, Perm::ReadExecute),
+        (0x80555, 342, Perm::ReadWrite),
+        (0x81000, 10, Perm::ReadWrite),
+    ];
+    const ELEVEN: &[Range] = &[
+        (0x804AB, 170, Perm::ReadExecute),
+        (0x80555, 342, Perm::ReadWrite),
+        (0x81000, 11, Perm::ReadWrite),
+    ];
+    ranges_need(&rt, rt.alloc(), TEN, 16);
+    ranges_need(&rt, rt.alloc(), ELEVEN, 17);
 }
 
 #[test]
 fn the_lower_half_costs_one_under_either_permission(rt: HostRuntime) {
-    let ranges = [(0, 1 << 43, Perm::ReadWriteExecute)];
-    costs(&rt, rt.alloc(), &ranges, &[[1, 2, 2, 2, 2, 1]]);
+    const RANGES: &[Range] = &[(0, 1 << 43, Perm::ReadWriteExecute)];
+    costs(&rt, rt.alloc(), RANGES, &[[1, 2, 2, 2, 2, 1]]);
 }

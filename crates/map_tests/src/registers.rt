@@ -81,10 +81,8 @@ fn numbers_of_faults_and_limits(rt: HostRuntime) {
 #[test]
 fn bits_of_permissions(rt: HostRuntime) {
     for bits in [0u8, 1, 3, 4, 5, 7] {
-        assert!(rt;
-            Perm::from_bits(bits).map(|p| p.bits()) == Some(bits),
-            "{bits}"
-        );
+        let perm = Perm::from_bits(bits).expect(&rt, "a permission");
+        assert!(rt; perm.bits() == bits, "{bits}");
     }
     for bits in [2u8, 6, 8, 255] {
         assert!(rt; Perm::from_bits(bits) == None, "{bits}");
@@ -104,8 +102,8 @@ fn indices_and_blanks(rt: HostRuntime) {
 
 #[test]
 fn blocks_are_aligned_and_in_the_space(rt: HostRuntime) {
-    let last = Region::new((1 << 56) - 4, 2).map(|region| (region.base(), region.log2()));
-    assert!(rt; last == Some(((1 << 56) - 4, 2)));
+    let last = Region::new((1 << 56) - 4, 2).expect(&rt, "a block");
+    assert!(rt; (last.base(), last.log2()) == ((1 << 56) - 4, 2));
     for (base, log2) in [(0x1000u64, 13u32), (0, 1), (0, 57), (1 << 56, 12)] {
         assert!(rt; Region::new(base, log2) == None, "{base:#x} {log2}");
     }

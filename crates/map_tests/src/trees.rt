@@ -1,5 +1,6 @@
 //! Trees of maps and their versions.
 
+use crate::plans::map_of;
 use permission_map::{MapFault, PermissionMap};
 use pmp_encoding::Perm;
 use prefix_tree::{Block, Parts, Tree, build};
@@ -21,15 +22,12 @@ fn same(one: &Block, other: &Block, height: u32) -> bool {
 }
 
 /// A page at the bottom, two runs that a page lies between, and the two pages at the top.
-fn example_map(rt: &impl Abort, alloc: Global) -> PermissionMap {
-    let mut map = PermissionMap::new(alloc);
-    map.set_range(0, 1, Perm::Read).expect(rt, "memory");
-    map.set_range(16, 16, Perm::ReadWrite).expect(rt, "memory");
-    map.set_range(33, 8, Perm::ReadWrite).expect(rt, "memory");
-    map.set_range(PAGES - 2, 2, Perm::ReadWriteExecute)
-        .expect(rt, "memory");
-    map
-}
+const EXAMPLE: &[(u64, u64, Perm)] = &[
+    (0, 1, Perm::Read),
+    (16, 16, Perm::ReadWrite),
+    (33, 8, Perm::ReadWrite),
+    (PAGES - 2, 2, Perm::ReadWriteExecute),
+];
 
 /// Whether a version is as the tree that is built of the map.
 fn is_built_of(rt: &impl Abort, alloc: Global, version: &Tree, map: &PermissionMap) -> bool {
@@ -39,7 +37,7 @@ fn is_built_of(rt: &impl Abort, alloc: Global, version: &Tree, map: &PermissionM
 
 /// The version with the range is the tree that is built of the map with the range, and both are refused alike.
 fn versions_agree(alloc: Global, first: u64, count: u64, perm: Perm, rt: &impl Abort) {
-    let mut map = example_map(rt, alloc);
+    let mut map = map_of(rt, alloc, EXAMPLE);
     let old = build(alloc, &map).expect(rt, "memory");
     let wanted = map.set_range(first, count, perm);
     match old.with_range(first, count, perm) {
@@ -53,11 +51,7 @@ fn versions_agree(alloc: Global, first: u64, count: u64, perm: Perm, rt: &impl A
 
 /// The tree of the map in which these ranges were set: the first page, the number of pages, the permission.
 fn tree_of(rt: &impl Abort, alloc: Global, ranges: &[(u64, u64, Perm)]) -> Tree {
-    let mut map = PermissionMap::new(alloc);
-    for (first, count, perm) in ranges {
-        map.set_range(*first, *count, *perm).expect(rt, "memory");
-    }
-    build(alloc, &map).expect(rt, "memory")
+    build(alloc, &map_of(rt, alloc, ranges)).expect(rt, "memory")
 }
 
 /// The tree of the ranges splits that many blocks.
@@ -120,7 +114,7 @@ fn halves_of_the_space_split_it_once(rt: HostRuntime) {
 
 #[test]
 fn versions_are_as_built_afresh(rt: HostRuntime) {
-    let cases = [
+    const CASES: &[(u64, u64, Perm)] = &[
         (5, 0, Perm::Read),
         (PAGES, 0, Perm::Read),
         (1, 1, Perm::Read),
@@ -140,8 +134,8 @@ fn versions_are_as_built_afresh(rt: HostRuntime) {
         (1, PAGES, Perm::Read),
         (u64::MAX, u64::MAX, Perm::Read),
     ];
-    for (first, count, perm) in cases {
-        versions_agree(rt.alloc(), first, count, perm, &rt);
+    for (first, count, perm) in CASES {
+        versions_agree(rt.alloc(), *first, *count, *perm, &rt);
     }
 }
 
@@ -156,15 +150,10 @@ fn share_upper_halves(one: &Tree, other: &Tree) -> Option<bool> {
     Some(Rc::ptr_eq(one, other))
 }
 
-/// The tree of the example map.
-fn example_tree(rt: &impl Abort, alloc: Global) -> Tree {
-    build(alloc, &example_map(rt, alloc)).expect(rt, "memory")
-}
-
 /// Whether the version of the example with the range shares the upper half of the upper half with its tree; both split
 /// it.
 fn shares(rt: &impl Abort, alloc: Global, first: u64, count: u64, wanted: bool) {
-    let tree = example_tree(rt, alloc);
+    let tree = tree_of(rt, alloc, EXAMPLE);
     let version = tree
         .with_range(first, count, Perm::Execute)
         .expect(rt, "memory");
@@ -224,7 +213,7 @@ fn push_next_version(rt: &impl Abort, versions: &mut Vec<Tree>, page: u64) {
 fn many_versions_are_kept_and_let_go(rt: HostRuntime) {
     let mut versions = Vec::new(rt.alloc());
     versions
-        .push(example_tree(&rt, rt.alloc()))
+        .push(tree_of(&rt, rt.alloc(), EXAMPLE))
         .expect(&rt, "memory");
     for i in 0..1000u64 {
         push_next_version(&rt, &mut versions, 64 + i);
