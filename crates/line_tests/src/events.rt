@@ -2,162 +2,177 @@
 
 use hart_trace::{Event, parse_line};
 use pmp_match::{Kind, Mode};
+use std::process::Abort;
 
-fn access(line: &[u8]) -> Option<(Mode, Kind, u8, u64, u64)> {
-    match parse_line(line, 0) {
-        Ok(Some((0, Event::Access(a, value)))) => Some((a.mode, a.kind, a.size, a.address, value)),
-        _ => None,
-    }
+/// What a line says.
+#[derive(Clone, Copy)]
+enum Said<'a> {
+    /// An access: the mode, the kind, the size, the address, and what is stored.
+    Access(Mode, Kind, u8, u64, u64),
+    /// An access by the hart of this number.
+    AccessBy(u8),
+    /// A register, and its value.
+    Register(u8, u64),
+    /// A call with these words.
+    Call(&'a [u64]),
+    /// An interrupt on the hart of this number.
+    Interrupt(u8),
+    Nothing,
 }
 
-fn hart_of_access(line: &[u8]) -> Option<u8> {
-    match parse_line(line, 4) {
-        Ok(Some((hart, Event::Access(..)))) => Some(hart),
-        _ => None,
-    }
-}
+/// A line, how many harts there are, and what it says; none where it is not understood.
+type Row<'a> = (&'a str, u8, Option<Said<'a>>);
 
-fn register(line: &[u8]) -> Option<(u8, u64)> {
-    match parse_line(line, 0) {
-        Ok(Some((0, Event::Reg(n, value)))) => Some((n, value)),
-        _ => None,
-    }
-}
-
-fn calls(line: &[u8], wanted: &[u64]) -> bool {
-    match parse_line(line, 0) {
-        Ok(Some((0, Event::Ecall(numbers)))) => numbers.as_slice() == wanted,
+/// Whether an event is what a line says.
+fn is(hart: u8, event: &Event, said: Said<'_>) -> bool {
+    match (event, said) {
+        (Event::Access(a, value), Said::Access(mode, kind, size, address, stored)) => {
+            hart == 0
+                && (a.mode, a.kind, a.size, a.address) == (mode, kind, size, address)
+                && *value == stored
+        }
+        (Event::Access(..), Said::AccessBy(wanted)) => hart == wanted,
+        (Event::Reg(n, value), Said::Register(number, wanted)) => {
+            hart == 0 && (*n, *value) == (number, wanted)
+        }
+        (Event::Ecall(words), Said::Call(wanted)) => hart == 0 && words.as_slice() == wanted,
+        (Event::Irq, Said::Interrupt(wanted)) => hart == wanted,
         _ => false,
     }
 }
 
-fn interrupted_hart(line: &[u8], harts: u8) -> Option<u8> {
-    match parse_line(line, harts) {
-        Ok(Some((hart, Event::Irq))) => Some(hart),
-        _ => None,
+/// Whether a line says that, with so many harts; none where it is not understood.
+fn says(line: &[u8], harts: u8, said: Option<Said<'_>>) -> bool {
+    match (parse_line(line, harts), said) {
+        (Ok(Some((hart, event))), Some(said)) => is(hart, &event, said),
+        (Ok(None), Some(Said::Nothing)) => true,
+        (Err(_), None) => true,
+        _ => false,
     }
 }
 
-fn is_refused(line: &[u8], harts: u8) -> bool {
-    parse_line(line, harts).is_err()
-}
-
-fn says_nothing(line: &[u8]) -> bool {
-    matches!(parse_line(line, 0), Ok(None))
-}
-
-#[test]
-fn three_forms_are_accesses(rt: HostRuntime) {
-    let load = (Mode::Supervisor, Kind::Load, 8, 0x80000FF8, 0);
-    assert!(rt; access(b"load s 8 0x80000ff8") == Some(load));
-    assert!(rt; access(b"load s 0x8 0x80000ff8") == Some(load));
-    assert!(rt; access(b"  load\ts 08  2147487736 \t# the last eight bytes") == Some(load));
-    let fetch = (Mode::User, Kind::Fetch, 2, 0, 0);
-    assert!(rt; access(b"fetch u 2 0") == Some(fetch));
-    let store = (Mode::User, Kind::Store, 1, 18446744073709551615, 7);
-    assert!(rt; access(b"store u 1 0xffffffffffffffff 7") == Some(store));
-}
-
-#[test]
-fn an_access_is_on_the_hart_that_its_line_names(rt: HostRuntime) {
-    for (line, wanted) in [
-        (b"load s 8 0x80000ff8".as_slice(), 0),
-        (b"@0 load s 8 0x80000ff8", 0),
-        (b"@1 load s 8 0x80000ff8", 1),
-        (b"  @3\tload s 8 0x80000ff8", 3),
-    ] {
-        assert!(rt; hart_of_access(line) == Some(wanted), "hart {wanted}");
+/// Each line, with so many harts, says what stands beside it.
+fn all_say(rt: &impl Abort, rows: &[Row<'_>]) {
+    for (line, harts, said) in rows {
+        assert!(rt; says(line.as_bytes(), *harts, *said), "{line}");
     }
 }
 
+const LOAD: Said = Said::Access(Mode::Supervisor, Kind::Load, 8, 0x80000FF8, 0);
+
+const FETCH: Said = Said::Access(Mode::User, Kind::Fetch, 2, 0, 0);
+
+const STORE: Said = Said::Access(Mode::User, Kind::Store, 1, 18446744073709551615, 7);
+
+const ACCESSES: &[Row<'static>] = &[
+    ("load s 8 0x80000ff8", 0, Some(LOAD)),
+    ("load s 0x8 0x80000ff8", 0, Some(LOAD)),
+    (
+        "  load\ts 08  2147487736 \t# the last eight bytes",
+        0,
+        Some(LOAD),
+    ),
+    ("fetch u 2 0", 0, Some(FETCH)),
+    ("store u 1 0xffffffffffffffff 7", 0, Some(STORE)),
+    ("load s 8 0x80000ff8", 4, Some(Said::AccessBy(0))),
+    ("@0 load s 8 0x80000ff8", 4, Some(Said::AccessBy(0))),
+    ("@1 load s 8 0x80000ff8", 4, Some(Said::AccessBy(1))),
+    ("  @3\tload s 8 0x80000ff8", 4, Some(Said::AccessBy(3))),
+    ("fetch s 1 0", 0, None),
+    ("fetch s 8 0", 0, None),
+    ("load s 3 0", 0, None),
+    ("load s 16 0", 0, None),
+    ("load s 258 0", 0, None),
+    ("load m 8 0", 0, None),
+    ("load s 8", 0, None),
+    ("load s 8 0 0", 0, None),
+    ("store s 8 0", 0, None),
+    ("store s 8 0 1 2", 0, None),
+    ("Load s 8 0", 0, None),
+    ("loads 8 0", 0, None),
+    ("load s 8 0x", 0, None),
+];
+
 #[test]
-fn accesses_of_another_shape_are_not_understood(rt: HostRuntime) {
-    for line in [
-        b"fetch s 1 0".as_slice(),
-        b"fetch s 8 0",
-        b"load s 3 0",
-        b"load s 16 0",
-        b"load s 258 0",
-        b"load m 8 0",
-        b"load s 8",
-        b"load s 8 0 0",
-        b"store s 8 0",
-        b"store s 8 0 1 2",
-        b"Load s 8 0",
-        b"loads 8 0",
-        b"load s 8 0x",
-    ] {
-        assert!(rt; is_refused(line, 0));
-    }
+fn lines_are_accesses_of_three_forms_or_are_not_understood(rt: HostRuntime) {
+    all_say(&rt, ACCESSES);
 }
+
+const REGISTERS: &[Row<'static>] = &[
+    ("reg x0 5", 0, Some(Said::Register(0, 5))),
+    ("reg x9 0x10", 0, Some(Said::Register(9, 16))),
+    ("reg x31 1", 0, Some(Said::Register(31, 1))),
+    ("reg x32 1", 0, None),
+    ("reg x01 1", 0, None),
+    ("reg x00 1", 0, None),
+    ("reg x0x1 1", 0, None),
+    ("reg x 1", 0, None),
+    ("reg X1 1", 0, None),
+    ("reg 1 1", 0, None),
+    ("reg x1", 0, None),
+    ("reg x257 1", 0, None),
+];
 
 #[test]
 fn registers_are_named_without_leading_zeros(rt: HostRuntime) {
-    for (line, wanted) in [
-        (b"reg x0 5".as_slice(), Some((0, 5))),
-        (b"reg x9 0x10", Some((9, 16))),
-        (b"reg x31 1", Some((31, 1))),
-        (b"reg x32 1", None),
-        (b"reg x01 1", None),
-        (b"reg x00 1", None),
-        (b"reg x0x1 1", None),
-        (b"reg x 1", None),
-        (b"reg X1 1", None),
-        (b"reg 1 1", None),
-        (b"reg x1", None),
-        (b"reg x257 1", None),
-    ] {
-        assert!(rt; register(line) == wanted);
-    }
+    all_say(&rt, REGISTERS);
 }
+
+const CALLS: &[Row<'static>] = &[
+    ("ecall", 0, Some(Said::Call(&[]))),
+    (
+        "ecall 0x08454E43 2 1",
+        0,
+        Some(Said::Call(&[0x08454E43, 2, 1])),
+    ),
+    (
+        "ecall 1 2 3 4 5 6 7 8",
+        0,
+        Some(Said::Call(&[1, 2, 3, 4, 5, 6, 7, 8])),
+    ),
+    ("ecall 1 2 3 4 5 6 7 8 9", 0, None),
+    ("ecall 1 x", 0, None),
+    ("ecall 18446744073709551616", 0, None),
+];
 
 #[test]
 fn calls_have_at_most_eight_words(rt: HostRuntime) {
-    assert!(rt; calls(b"ecall", &[]));
-    assert!(rt; calls(b"ecall 0x08454E43 2 1", &[0x08454E43, 2, 1]));
-    assert!(rt; calls(b"ecall 1 2 3 4 5 6 7 8", &[1, 2, 3, 4, 5, 6, 7, 8]));
-    assert!(rt; is_refused(b"ecall 1 2 3 4 5 6 7 8 9", 0));
-    assert!(rt; is_refused(b"ecall 1 x", 0));
-    assert!(rt; is_refused(b"ecall 18446744073709551616", 0));
+    all_say(&rt, CALLS);
 }
+
+const INTERRUPTS: &[Row<'static>] = &[
+    ("irq", 0, Some(Said::Interrupt(0))),
+    ("@0 irq", 0, None),
+    ("@0 irq", 1, Some(Said::Interrupt(0))),
+    ("@3 irq", 4, Some(Said::Interrupt(3))),
+    ("@4 irq", 4, None),
+    ("@00 irq", 4, None),
+    ("@ 0 irq", 4, None),
+    ("@: irq", 200, None),
+    ("@0 @0 irq", 4, None),
+    ("irq @0", 4, None),
+    ("@0 # x", 1, None),
+    ("@0", 1, None),
+];
 
 #[test]
 fn a_hart_is_one_digit_below_their_number(rt: HostRuntime) {
-    for (line, harts, wanted) in [
-        (b"irq".as_slice(), 0, Some(0)),
-        (b"@0 irq", 0, None),
-        (b"@0 irq", 1, Some(0)),
-        (b"@3 irq", 4, Some(3)),
-        (b"@4 irq", 4, None),
-        (b"@00 irq", 4, None),
-        (b"@ 0 irq", 4, None),
-        (b"@: irq", 200, None),
-        (b"@0 @0 irq", 4, None),
-        (b"irq @0", 4, None),
-    ] {
-        assert!(rt; interrupted_hart(line, harts) == wanted);
-    }
-    assert!(rt; is_refused(b"@0 # x", 1));
-    assert!(rt; is_refused(b"@0", 1));
+    all_say(&rt, INTERRUPTS);
 }
+
+const EMPTY: &[Row<'static>] = &[
+    ("", 0, Some(Said::Nothing)),
+    (" \t ", 0, Some(Said::Nothing)),
+    ("# load s 8 0", 0, Some(Said::Nothing)),
+    ("\r", 0, None),
+    ("irq\r", 0, None),
+    ("irq \x00", 0, None),
+    ("\x7F# x", 0, None),
+    ("\u{e4}", 0, None),
+];
 
 #[test]
 fn lines_without_words_say_nothing(rt: HostRuntime) {
-    for line in [
-        b"".as_slice(),
-        b" \t ",
-        b"# load s 8 0",
-        b"  #\x00\xFF\r\x7F any bytes",
-    ] {
-        assert!(rt; says_nothing(line));
-    }
-    for line in [
-        b"\r".as_slice(),
-        b"irq\r",
-        b"irq \x00",
-        b"\x7F# x",
-        b"\xC3\xA4",
-    ] {
-        assert!(rt; is_refused(line, 0));
-    }
+    all_say(&rt, EMPTY);
+    assert!(rt; says(b"  #\x00\xFF\r\x7F any bytes", 0, Some(Said::Nothing)));
 }

@@ -4,71 +4,72 @@ ghost use Rattle.std.specs.Prelude.{◌≡◌};
 
 use byte_streams::fakes::PieceSource;
 use pmp_encoding::Perm;
+use std::process::Abort;
 use text_lines::{LineReader, ReadFault, Words, number};
 
 #[test]
 fn numbers_are_decimal_or_hexadecimal(rt: HostRuntime) {
     for (word, value) in [
-        (b"0".as_slice(), 0),
-        (b"0018", 18),
-        (b"0x0008", 8),
-        (b"0Xff", 255),
-        (b"0xAbCdEf", 0xABCDEF),
-        (b"18446744073709551615", u64::MAX),
-        (b"0xffffffffffffffff", u64::MAX),
-        (b"00000000000000000000000018446744073709551615", u64::MAX),
+        ("0", Some(0)),
+        ("0018", Some(18)),
+        ("0x0008", Some(8)),
+        ("0Xff", Some(255)),
+        ("0xAbCdEf", Some(0xABCDEF)),
+        ("18446744073709551615", Some(u64::MAX)),
+        ("0xffffffffffffffff", Some(u64::MAX)),
+        (
+            "00000000000000000000000018446744073709551615",
+            Some(u64::MAX),
+        ),
+        ("", None),
+        ("0x", None),
+        ("x10", None),
+        ("ff", None),
+        ("0xg", None),
+        ("-1", None),
+        ("+1", None),
+        ("1_000", None),
+        ("1:", None),
+        ("1/", None),
+        ("18446744073709551616", None),
+        ("0x10000000000000000", None),
+        ("99999999999999999999x", None),
     ] {
-        assert!(rt; number(word) == Some(value));
-    }
-}
-
-#[test]
-fn other_words_are_no_numbers(rt: HostRuntime) {
-    for word in [
-        b"".as_slice(),
-        b"0x",
-        b"x10",
-        b"ff",
-        b"0xg",
-        b"-1",
-        b"+1",
-        b"1_000",
-        b"1:",
-        b"1/",
-        b"18446744073709551616",
-        b"0x10000000000000000",
-        b"99999999999999999999x",
-    ] {
-        assert!(rt; number(word) == None);
+        assert!(rt; number(word.as_bytes()) == value, "{word}");
     }
 }
 
 #[test]
 fn six_words_are_permissions(rt: HostRuntime) {
     for (word, perm) in [
-        (b"none".as_slice(), Some(Perm::NoAccess)),
-        (b"r", Some(Perm::Read)),
-        (b"rw", Some(Perm::ReadWrite)),
-        (b"x", Some(Perm::Execute)),
-        (b"rx", Some(Perm::ReadExecute)),
-        (b"rwx", Some(Perm::ReadWriteExecute)),
-        (b"w", None),
-        (b"wx", None),
-        (b"RWX", None),
-        (b"", None),
+        ("none", Some(Perm::NoAccess)),
+        ("r", Some(Perm::Read)),
+        ("rw", Some(Perm::ReadWrite)),
+        ("x", Some(Perm::Execute)),
+        ("rx", Some(Perm::ReadExecute)),
+        ("rwx", Some(Perm::ReadWriteExecute)),
+        ("w", None),
+        ("wx", None),
+        ("RWX", None),
+        ("", None),
     ] {
-        assert!(rt; Perm::from_word(word) == perm);
+        assert!(rt; Perm::from_word(word.as_bytes()) == perm, "{word}");
     }
+}
+
+/// The line has these words and no more, however often it is asked.
+fn has_words(rt: &impl Abort, line: &[u8], wanted: &[&[u8]]) {
+    let mut words = Words::of(line).ok().expect(rt, "allowed");
+    for word in wanted {
+        assert!(rt; words.next_word() == Some(*word));
+    }
+    assert!(rt; words.next_word().is_none());
+    assert!(rt; words.next_word().is_none());
 }
 
 #[test]
 fn words_are_parted_by_blanks_and_end_at_a_comment(rt: HostRuntime) {
-    let mut words = Words::of(b"\t a  bc\td#e f").ok().expect(&rt, "allowed");
-    assert!(rt; words.next_word() == Some(b"a".as_slice()));
-    assert!(rt; words.next_word() == Some(b"bc".as_slice()));
-    assert!(rt; words.next_word() == Some(b"d".as_slice()));
-    assert!(rt; words.next_word().is_none());
-    assert!(rt; words.next_word().is_none());
+    has_words(&rt, b"\t a  bc\td#e f", &[b"a", b"bc", b"d"]);
 }
 
 fn hands_out(input: &[u8], piece: usize, wanted: &[&[u8]]) -> bool {
@@ -85,6 +86,45 @@ fn hands_out(input: &[u8], piece: usize, wanted: &[&[u8]]) -> bool {
     reader.next_line(&mut source) == Ok(false)
 }
 
+/// An input, and the lines that it hands out.
+type Lines<'a> = (&'a [u8], &'a [&'a [u8]]);
+
+/// Each input, in pieces of each of these sizes, hands out its lines.
+fn hand_out(rt: &impl Abort, pieces: &[usize], rows: &[Lines<'_>]) {
+    for piece in pieces {
+        for (row, (input, wanted)) in rows.iter().enumerate() {
+            assert!(rt; hands_out(input, *piece, wanted), "row {row} by {piece}");
+        }
+    }
+}
+
+#[test]
+fn lines_end_with_a_line_feed_which_the_last_may_lack(rt: HostRuntime) {
+    hand_out(
+        &rt,
+        &[1, 2, 3, 4096],
+        &[
+            (b"", &[]),
+            (b"\n", &[b""]),
+            (b"a\nbc", &[b"a", b"bc"]),
+            (b"a\n\nbc\n", &[b"a", b"", b"bc"]),
+        ],
+    );
+}
+
+#[test]
+fn one_carriage_return_at_the_end_of_a_line_is_dropped(rt: HostRuntime) {
+    hand_out(
+        &rt,
+        &[1, 4096],
+        &[
+            (b"a\r\nb\r", &[b"a", b"b"]),
+            (b"a\r\r\n\r\n", &[b"a\r", b""]),
+            (b"a\rb\n\r", &[b"a\rb", b""]),
+        ],
+    );
+}
+
 /// How many lines come before the reader's answer that there is none, or its fault.
 fn ends(source: &mut PieceSource<'_>) -> (u64, Result<bool, ReadFault>)
     requires { source.old.failures ≡ 0 }
@@ -99,22 +139,11 @@ fn ends(source: &mut PieceSource<'_>) -> (u64, Result<bool, ReadFault>)
     (reader.number(), Ok(true))
 }
 
-#[test]
-fn lines_end_with_a_line_feed_which_the_last_may_lack(rt: HostRuntime) {
-    for piece in [1, 2, 3, 4096] {
-        assert!(rt; hands_out(b"", piece, &[]));
-        assert!(rt; hands_out(b"\n", piece, &[b""]));
-        assert!(rt; hands_out(b"a\nbc", piece, &[b"a", b"bc"]));
-        assert!(rt; hands_out(b"a\n\nbc\n", piece, &[b"a", b"", b"bc"]));
-    }
-}
-
-#[test]
-fn one_carriage_return_at_the_end_of_a_line_is_dropped(rt: HostRuntime) {
-    for piece in [1, 4096] {
-        assert!(rt; hands_out(b"a\r\nb\r", piece, &[b"a", b"b"]));
-        assert!(rt; hands_out(b"a\r\r\n\r\n", piece, &[b"a\r", b""]));
-        assert!(rt; hands_out(b"a\rb\n\r", piece, &[b"a\rb", b""]));
+/// The reader ends behind so many lines with that answer, in pieces of a byte, of 1000, and of 4096.
+fn ends_so(rt: &impl Abort, input: &[u8], lines: u64, answer: Result<bool, ReadFault>) {
+    for piece in [1, 1000, 4096] {
+        let mut source = PieceSource::new(input, piece, None);
+        assert!(rt; ends(&mut source) == (lines, answer), "{lines} by {piece}");
     }
 }
 
@@ -122,49 +151,61 @@ fn one_carriage_return_at_the_end_of_a_line_is_dropped(rt: HostRuntime) {
 fn a_line_has_at_most_1023_bytes(rt: HostRuntime) {
     let mut input = [b'#'; 1030];
     input[1023] = b'\n';
-    for piece in [1, 1000, 4096] {
-        let mut source = PieceSource::new(&input, piece, None);
-        assert!(rt; ends(&mut source) == (2, Ok(false)));
-        let mut source = PieceSource::new(&input[..1023], piece, None);
-        assert!(rt; ends(&mut source) == (1, Ok(false)));
-    }
+    ends_so(&rt, &input, 2, Ok(false));
+    ends_so(&rt, &input[..1023], 1, Ok(false));
     input[1023] = b'\r';
     input[1024] = b'\n';
-    for piece in [1, 1000, 4096] {
-        let mut source = PieceSource::new(&input, piece, None);
-        assert!(rt; ends(&mut source) == (0, Err(ReadFault::LongLine(1))));
-        let mut source = PieceSource::new(&input[..1024], piece, None);
-        assert!(rt; ends(&mut source) == (0, Err(ReadFault::LongLine(1))));
-    }
+    ends_so(&rt, &input, 0, Err(ReadFault::LongLine(1)));
+    ends_so(&rt, &input[..1024], 0, Err(ReadFault::LongLine(1)));
+}
+
+/// Where that read fails, the reader ends behind so many lines with that answer, after so many reads.
+fn ends_at(
+    rt: &impl Abort,
+    input: &[u8],
+    piece: usize,
+    failing: u64,
+    wanted: (u64, Result<bool, ReadFault>),
+    reads: u64,
+) {
+    let mut source = PieceSource::new(input, piece, Some(failing));
+    assert!(rt; ends(&mut source) == wanted, "read {failing}");
+    assert!(rt; source.reads() == reads, "read {failing}");
 }
 
 #[test]
 fn the_1024th_byte_is_answered_before_a_further_read(rt: HostRuntime) {
     let input = [b'#'; 1030];
-    let mut source = PieceSource::new(&input, 1, Some(1025));
-    assert!(rt; ends(&mut source) == (0, Err(ReadFault::LongLine(1))));
-    assert!(rt; source.reads() == 1024);
-    let mut source = PieceSource::new(&input, 1, Some(1024));
-    assert!(rt; ends(&mut source) == (0, Err(ReadFault::Device)));
+    ends_at(&rt, &input, 1, 1025, (0, Err(ReadFault::LongLine(1))), 1024);
+    ends_at(&rt, &input, 1, 1024, (0, Err(ReadFault::Device)), 1024);
 }
 
-#[test]
-fn a_byte_past_the_limit_is_too_much(rt: HostRuntime) {
-    for piece in [1, 4096] {
-        let mut source = PieceSource::new(b"a\nbc\nd", piece, None);
-        let mut reader = LineReader::with_limit(5);
-        assert!(rt; reader.next_line(&mut source) == Ok(true));
-        assert!(rt; reader.next_line(&mut source) == Ok(true));
-        assert!(rt; reader.line() == b"bc".as_slice());
-        let too_many = ReadFault::TooManyBytes;
-        assert!(rt; reader.next_line(&mut source) == Err(too_many));
-        assert!(rt; source.rest().len() == 0);
-    }
+/// The reader with a limit of five bytes hands out two lines, and then the sixth byte is too much.
+fn is_too_much(rt: &impl Abort, piece: usize) {
+    let mut source = PieceSource::new(b"a\nbc\nd", piece, None);
+    let mut reader = LineReader::with_limit(5);
+    assert!(rt; reader.next_line(&mut source) == Ok(true));
+    assert!(rt; reader.next_line(&mut source) == Ok(true));
+    assert!(rt; reader.line() == b"bc".as_slice());
+    let too_many = ReadFault::TooManyBytes;
+    assert!(rt; reader.next_line(&mut source) == Err(too_many));
+    assert!(rt; source.rest().len() == 0);
+}
+
+/// Five bytes are not too much.
+fn is_within(rt: &impl Abort) {
     let mut source = b"a\nbc\n".as_slice();
     let mut reader = LineReader::with_limit(5);
     assert!(rt; reader.next_line(&mut source) == Ok(true));
     assert!(rt; reader.next_line(&mut source) == Ok(true));
     assert!(rt; reader.next_line(&mut source) == Ok(false));
+}
+
+#[test]
+fn a_byte_past_the_limit_is_too_much(rt: HostRuntime) {
+    is_too_much(&rt, 1);
+    is_too_much(&rt, 4096);
+    is_within(&rt);
 }
 
 #[test]
@@ -174,13 +215,18 @@ fn lines_that_have_come_are_handed_out_before_a_further_read(rt: HostRuntime) {
     assert!(rt; source.rest().len() == 1);
 }
 
+/// The read of that number, of one byte, fails, and is told behind fewer lines than it has.
+fn is_told(rt: &impl Abort, failing: u64) {
+    let mut source = PieceSource::new(b"a\n\nbc\n", 1, Some(failing));
+    let (lines, end) = ends(&mut source);
+    assert!(rt; end == Err(ReadFault::Device), "read {failing}");
+    assert!(rt; lines < failing, "read {failing}");
+}
+
 #[test]
 fn each_read_that_fails_is_told(rt: HostRuntime) {
-    for k in 1..8 {
-        let mut source = PieceSource::new(b"a\n\nbc\n", 1, Some(k));
-        let (lines, end) = ends(&mut source);
-        assert!(rt; end == Err(ReadFault::Device), "read {k}");
-        assert!(rt; lines < k);
+    for failing in 1..8 {
+        is_told(&rt, failing);
     }
     let mut source = PieceSource::new(b"a\n\nbc\n", 1, Some(8));
     assert!(rt; ends(&mut source) == (3, Ok(false)));

@@ -5,7 +5,7 @@ use pmp_match::{Access, Cause, Kind, Mode};
 use register_judge::{Registers, Reserved, ReservedAt, Ruled, Rules, RulesFault, rules_in};
 use register_width::Xlen;
 use std::alloc::Global;
-use std::test::Fail;
+use std::process::Abort;
 use trace_judge::judge_lines;
 
 /// A page at 0x80000000, as an address register of NAPOT.
@@ -28,156 +28,218 @@ fn two(first: (u8, u64), second: (u8, u64)) -> Registers {
     registers
 }
 
-/// What an access comes to.
-fn outcome(
-    registers: &Registers,
-    mode: Mode,
-    kind: Kind,
-    size: u8,
-    addr: u64,
-) -> Option<Result<(), Cause>> {
-    let rules = Rules::of(registers).ok()?;
-    let access = Access::new(mode, kind, size, addr)?;
-    Some(rules.judge(&access))
+/// An access: the mode, the kind, the size, the address, and what it comes to.
+type Row = (Mode, Kind, u8, u64, Result<(), Cause>);
+
+/// Registers with these two entries judge accesses so.
+fn judge_so(rt: &impl Abort, first: (u8, u64), second: (u8, u64), rows: &[Row]) {
+    let rules = Rules::of(&two(first, second)).ok().expect(rt, "rules");
+    for (mode, kind, size, addr, wanted) in rows {
+        let access = Access::new(*mode, *kind, *size, *addr).expect(rt, "a size");
+        assert!(rt;
+            rules.judge(&access) == *wanted,
+            "{mode:?} {kind:?} {size} {addr:#x}"
+        );
+    }
 }
+
+const IN_A_RANGE: &[Row] = &[
+    (Mode::User, Kind::Load, 8, 0xff8, Err(Cause::LoadFault)),
+    (Mode::User, Kind::Load, 8, 0x1000, Ok(())),
+    (Mode::User, Kind::Store, 8, 0x1ff8, Ok(())),
+    (Mode::User, Kind::Load, 1, 0x2000, Err(Cause::LoadFault)),
+    (Mode::User, Kind::Fetch, 4, 0x1000, Err(Cause::FetchFault)),
+];
 
 #[test]
 fn a_range_is_from_the_register_before_to_before_its_own(rt: HostRuntime) {
-    let registers = two((0, 0x400), (0x0b, 0x800));
-    let rows = [
-        (Kind::Load, 8, 0xff8, Err(Cause::LoadFault)),
-        (Kind::Load, 8, 0x1000, Ok(())),
-        (Kind::Store, 8, 0x1ff8, Ok(())),
-        (Kind::Load, 1, 0x2000, Err(Cause::LoadFault)),
-        (Kind::Fetch, 4, 0x1000, Err(Cause::FetchFault)),
-    ];
-    for (kind, size, addr, wanted) in rows {
-        assert!(rt; outcome(&registers, Mode::User, kind, size, addr) == Some(wanted));
-    }
-    let above = two((0x1f, PAGE), (0x09, 0x2000_1000));
-    let rows = [
-        (Kind::Store, 0x8000_0ff8, Ok(())),
-        (Kind::Load, 0x8000_1000, Ok(())),
-        (Kind::Store, 0x8000_1000, Err(Cause::StoreFault)),
-        (Kind::Load, 0x8000_4000, Err(Cause::LoadFault)),
-    ];
-    for (kind, addr, wanted) in rows {
-        assert!(rt; outcome(&above, Mode::Supervisor, kind, 8, addr) == Some(wanted));
-    }
-    let first = two((0x0c, 0x400), (0, 0));
-    assert!(rt; outcome(&first, Mode::User, Kind::Fetch, 4, 0) == Some(Ok(())));
-    let empty = two((0, 0x800), (0x0f, 0x400));
-    assert!(rt; outcome(&empty, Mode::User, Kind::Load, 8, 0x1000) == Some(Err(Cause::LoadFault)));
+    judge_so(&rt, (0, 0x400), (0x0b, 0x800), IN_A_RANGE);
+    judge_so(
+        &rt,
+        (0x0c, 0x400),
+        (0, 0),
+        &[(Mode::User, Kind::Fetch, 4, 0, Ok(()))],
+    );
+    judge_so(
+        &rt,
+        (0, 0x800),
+        (0x0f, 0x400),
+        &[(Mode::User, Kind::Load, 8, 0x1000, Err(Cause::LoadFault))],
+    );
+}
+
+const ABOVE_A_PAGE: &[Row] = &[
+    (Mode::Supervisor, Kind::Store, 8, 0x8000_0ff8, Ok(())),
+    (Mode::Supervisor, Kind::Load, 8, 0x8000_1000, Ok(())),
+    (
+        Mode::Supervisor,
+        Kind::Store,
+        8,
+        0x8000_1000,
+        Err(Cause::StoreFault),
+    ),
+    (
+        Mode::Supervisor,
+        Kind::Load,
+        8,
+        0x8000_4000,
+        Err(Cause::LoadFault),
+    ),
+];
+
+#[test]
+fn a_range_is_from_a_register_of_another_mode(rt: HostRuntime) {
+    judge_so(&rt, (0x1f, PAGE), (0x09, 0x2000_1000), ABOVE_A_PAGE);
+}
+
+/// A page of this configuration byte alone judges one access of eight bytes in it so.
+fn judges_page(rt: &impl Abort, cfg: u8, mode: Mode, kind: Kind, wanted: Result<(), Cause>) {
+    let row = (mode, kind, 8, 0x8000_0ff8, wanted);
+    judge_so(rt, (cfg, PAGE), (0, 0), &[row]);
 }
 
 #[test]
 fn a_locked_entry_binds_machine_mode(rt: HostRuntime) {
-    let rows = [
-        (0x98, Kind::Load, Err(Cause::LoadFault)),
-        (0x18, Kind::Load, Ok(())),
-        (0x99, Kind::Load, Ok(())),
-        (0x99, Kind::Store, Err(Cause::StoreFault)),
-        (0x19, Kind::Store, Ok(())),
-    ];
-    for (cfg, kind, wanted) in rows {
-        let registers = two((cfg, PAGE), (0, 0));
-        let found = outcome(&registers, Mode::Machine, kind, 8, 0x8000_0ff8);
-        assert!(rt; found == Some(wanted));
-    }
-    let locked = two((0x9d, PAGE), (0, 0));
-    let found = outcome(&locked, Mode::Supervisor, Kind::Fetch, 4, 0x8000_0000);
-    assert!(rt; found == Some(Ok(())));
+    let (load, store) = (Err(Cause::LoadFault), Err(Cause::StoreFault));
+    judges_page(&rt, 0x98, Mode::Machine, Kind::Load, load);
+    judges_page(&rt, 0x18, Mode::Machine, Kind::Load, Ok(()));
+    judges_page(&rt, 0x99, Mode::Machine, Kind::Load, Ok(()));
+    judges_page(&rt, 0x99, Mode::Machine, Kind::Store, store);
+    judges_page(&rt, 0x19, Mode::Machine, Kind::Store, Ok(()));
+    judge_so(
+        &rt,
+        (0x9d, PAGE),
+        (0, 0),
+        &[(Mode::Supervisor, Kind::Fetch, 4, 0x8000_0000, Ok(()))],
+    );
 }
+
+const PARTLY_MATCHED: &[Row] = &[
+    (Mode::Machine, Kind::Load, 8, 0x1000, Err(Cause::LoadFault)),
+    (Mode::Machine, Kind::Load, 4, 0x1000, Ok(())),
+    (Mode::Machine, Kind::Load, 8, 0x1008, Ok(())),
+    (
+        Mode::Supervisor,
+        Kind::Load,
+        8,
+        0x1000,
+        Err(Cause::LoadFault),
+    ),
+    (Mode::Supervisor, Kind::Load, 4, 0x1000, Ok(())),
+    (Mode::Supervisor, Kind::Load, 8, 0x1008, Ok(())),
+    (Mode::User, Kind::Load, 8, 0x1000, Err(Cause::LoadFault)),
+    (Mode::User, Kind::Load, 4, 0x1000, Ok(())),
+    (Mode::User, Kind::Load, 8, 0x1008, Ok(())),
+];
+
+const PARTLY_ABOVE: &[Row] = &[
+    (Mode::Machine, Kind::Load, 8, 0x1000, Err(Cause::LoadFault)),
+    (
+        Mode::Supervisor,
+        Kind::Load,
+        8,
+        0x1000,
+        Err(Cause::LoadFault),
+    ),
+    (Mode::User, Kind::Load, 8, 0x1000, Err(Cause::LoadFault)),
+];
 
 #[test]
 fn a_partial_match_denies_every_mode(rt: HostRuntime) {
-    let registers = two((0x17, 0x400), (0x1f, ALL));
-    let upper = two((0x17, 0x401), (0x1f, ALL));
-    for mode in [Mode::Machine, Mode::Supervisor, Mode::User] {
-        let cut = outcome(&registers, mode, Kind::Load, 8, 0x1000);
-        assert!(rt; cut == Some(Err(Cause::LoadFault)));
-        let cut = outcome(&upper, mode, Kind::Load, 8, 0x1000);
-        assert!(rt; cut == Some(Err(Cause::LoadFault)));
-        assert!(rt; outcome(&registers, mode, Kind::Load, 4, 0x1000) == Some(Ok(())));
-        assert!(rt; outcome(&registers, mode, Kind::Load, 8, 0x1008) == Some(Ok(())));
-    }
+    judge_so(&rt, (0x17, 0x400), (0x1f, ALL), PARTLY_MATCHED);
+    judge_so(&rt, (0x17, 0x401), (0x1f, ALL), PARTLY_ABOVE);
 }
+
+const BEHIND_A_DENIAL: &[Row] = &[
+    (
+        Mode::Supervisor,
+        Kind::Load,
+        8,
+        0x8000_0ff8,
+        Err(Cause::LoadFault),
+    ),
+    (Mode::Supervisor, Kind::Load, 8, 0x8000_1000, Ok(())),
+];
 
 #[test]
 fn the_first_entry_by_number_decides(rt: HostRuntime) {
-    let registers = two((0x18, PAGE), (0x1f, ALL));
-    let denied = outcome(&registers, Mode::Supervisor, Kind::Load, 8, 0x8000_0ff8);
-    assert!(rt; denied == Some(Err(Cause::LoadFault)));
-    let allowed = outcome(&registers, Mode::Supervisor, Kind::Load, 8, 0x8000_1000);
-    assert!(rt; allowed == Some(Ok(())));
+    judge_so(&rt, (0x18, PAGE), (0x1f, ALL), BEHIND_A_DENIAL);
 }
+
+const WITHOUT_ENTRIES: &[Row] = &[
+    (Mode::Machine, Kind::Store, 8, 0, Ok(())),
+    (Mode::Supervisor, Kind::Store, 8, 0, Err(Cause::StoreFault)),
+    (Mode::User, Kind::Store, 8, 0, Err(Cause::StoreFault)),
+    (Mode::Machine, Kind::Load, 1, 1 << 56, Err(Cause::LoadFault)),
+    (Mode::Machine, Kind::Load, 8, 4, Err(Cause::LoadMisaligned)),
+    (
+        Mode::Machine,
+        Kind::Store,
+        4,
+        2,
+        Err(Cause::StoreMisaligned),
+    ),
+];
 
 #[test]
 fn no_entry_leaves_machine_mode_alone(rt: HostRuntime) {
-    let none = two((0, PAGE), (0, ALL));
-    assert!(rt; outcome(&none, Mode::Machine, Kind::Store, 8, 0) == Some(Ok(())));
-    for mode in [Mode::Supervisor, Mode::User] {
-        let denied = outcome(&none, mode, Kind::Store, 8, 0);
-        assert!(rt; denied == Some(Err(Cause::StoreFault)));
-    }
-    let past = outcome(&none, Mode::Machine, Kind::Load, 1, 1 << 56);
-    assert!(rt; past == Some(Err(Cause::LoadFault)));
-    let uneven = outcome(&none, Mode::Machine, Kind::Load, 8, 4);
-    assert!(rt; uneven == Some(Err(Cause::LoadMisaligned)));
-    let uneven = outcome(&none, Mode::Machine, Kind::Store, 4, 2);
-    assert!(rt; uneven == Some(Err(Cause::StoreMisaligned)));
+    judge_so(&rt, (0, PAGE), (0, ALL), WITHOUT_ENTRIES);
 }
 
 #[test]
 fn reserved_values_have_no_rules(rt: HostRuntime) {
-    let rows = [
-        ((0x1f, 0x1a), 1, Reserved::Permission),
-        ((0x06, 0x1a), 0, Reserved::Permission),
-        ((0x3f, 0x1f), 0, Reserved::Bits),
-    ];
-    for ((first, second), place, value) in rows {
+    for (first, second, place, value) in [
+        (0x1f, 0x1a, 1, Reserved::Permission),
+        (0x06, 0x1a, 0, Reserved::Permission),
+        (0x3f, 0x1f, 0, Reserved::Bits),
+    ] {
         let found = Rules::of(&two((first, ALL), (second, ALL))).err();
-        assert!(rt; found == Some(ReservedAt { place, value }));
+        assert!(rt; found == Some(ReservedAt { place, value }), "{first:#x}");
     }
 }
 
-/// What a trace is answered by the registers of a listing, or the text that says why it is not.
-fn answers(alloc: Global, listing: &[u8], trace: &[u8]) -> Result<Vec<u8>, Fail> {
-    let mut source = PieceSource::new(trace, 4096, None);
+const TRACE: &[u8] = b"load u 8 0xff8\nload u 8 0x1000\nstore s 4 0x1ffc 1\nfetch s 4 0x1000\n";
+
+/// The trace is judged by these rules so.
+fn judges_trace(rt: &impl Abort, rules: &Rules, wanted: &str) {
+    let mut source = PieceSource::new(TRACE, 4096, None);
     let mut sink = PieceSink::new(4096, None);
-    let text = match rules_in(alloc, Xlen::Rv64, listing) {
-        Ok(Ruled::Rules(rules)) => {
-            if judge_lines(&rules, &mut source, &mut sink).is_err() {
-                return Ok(Vec::new(alloc));
-            }
-            Vec::from_slice(alloc, sink.written())?
-        }
-        Ok(Ruled::Refused(text)) => text,
-        Err(_) => Vec::new(alloc),
-    };
-    Ok(text)
+    assert!(rt;
+        judge_lines(rules, &mut source, &mut sink).is_ok(),
+        "{wanted}"
+    );
+    assert!(rt; sink.written() == wanted.as_bytes(), "{wanted}");
+}
+
+/// The trace is judged by the registers of a listing so, or this text says why it is not.
+fn answers(rt: &impl Abort, alloc: Global, listing: &[u8], wanted: &str) {
+    match rules_in(alloc, Xlen::Rv64, listing) {
+        Ok(Ruled::Rules(rules)) => judges_trace(rt, &rules, wanted),
+        Ok(Ruled::Refused(text)) => assert!(rt; text.as_slice() == wanted.as_bytes(), "{wanted}"),
+        Err(_) => panic!(rt; "no listing: {wanted}"),
+    }
 }
 
 #[test]
-fn a_listing_judges_a_trace_or_says_why_not(rt: HostRuntime) -> Result<(), Fail> {
-    let trace = b"load u 8 0xff8\nload u 8 0x1000\nstore s 4 0x1ffc 1\nfetch s 4 0x1000\n";
-    let tor = b"pmpaddr0 0x400\npmpaddr1 0x800\npmpcfg0 0xb00\nmstatus 0x0\n";
-    let rows: [(&[u8], &[u8]); 3] = [
-        (tor, b"1 fault 5\n2 ok\n3 ok\n4 fault 1\n"),
-        (
-            b"mstatus 0x0\n0 0x1a 0x400\n",
-            b"pair 0 0x1a 0x0000000000000400: W without R\n# lines of other registers are passed over, line 1 first\n",
-        ),
-        (
-            b"0 0x1f 0x400\nmseccfg 0x1\n",
-            b"mseccfg 0x0000000000000001: no verdict, Smepmp is not modelled\n",
-        ),
-    ];
-    for (listing, wanted) in rows {
-        let written = answers(rt.alloc(), listing, trace)?;
-        assert!(rt; written.as_slice() == wanted);
-    }
+fn a_listing_judges_a_trace_or_says_why_not(rt: HostRuntime) {
+    answers(
+        &rt,
+        rt.alloc(),
+        b"pmpaddr0 0x400\npmpaddr1 0x800\npmpcfg0 0xb00\nmstatus 0x0\n",
+        "1 fault 5\n2 ok\n3 ok\n4 fault 1\n",
+    );
+    answers(
+        &rt,
+        rt.alloc(),
+        b"mstatus 0x0\n0 0x1a 0x400\n",
+        "pair 0 0x1a 0x0000000000000400: W without R\n# lines of other registers are passed over, line 1 first\n",
+    );
+    answers(
+        &rt,
+        rt.alloc(),
+        b"0 0x1f 0x400\nmseccfg 0x1\n",
+        "mseccfg 0x0000000000000001: no verdict, Smepmp is not modelled\n",
+    );
     let fault = rules_in(rt.alloc(), Xlen::Rv64, b"pmpaddr0 1\nwhat\n").err();
     assert!(rt; fault == Some(RulesFault::Line(2)));
-    Ok(())
 }
