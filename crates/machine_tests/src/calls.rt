@@ -1,6 +1,7 @@
 //! Registers, and the calls that they name.
 
 use sbi_decode::{Call, EXTENSION_ID, NotSupported, Registers, decode};
+use std::process::Abort;
 
 const A0: usize = 10;
 
@@ -19,28 +20,41 @@ fn registers_of(extension: u64, function: u64) -> Registers {
     registers
 }
 
-#[test]
-fn each_function_has_its_arguments(rt: HostRuntime) {
-    let wanted = [
-        Call::Create {
+/// An extension, its function, and the call that they are.
+type Row = (u64, u64, Result<Call, NotSupported>);
+
+/// Each extension with its function is that call, or none.
+fn all_are(rt: &impl Abort, rows: &[Row]) {
+    for (extension, function, wanted) in rows {
+        let found = decode(&registers_of(*extension, *function));
+        assert!(rt; found == *wanted, "{extension:#x} {function:#x}");
+    }
+}
+
+const FUNCTIONS: &[Row] = &[
+    (
+        EXTENSION_ID,
+        0,
+        Ok(Call::Create {
             base: 11,
             text_pages: 12,
             data_pages: 13,
             shared_base: 14,
             shared_count: 15,
             entry_offset: 16,
-        },
-        Call::Destroy { id: 11 },
-        Call::Run { id: 11 },
-        Call::Stop,
-        Call::Resume { id: 11 },
-        Call::Exit { value: 11 },
-        Call::Measure { id: 11, k: 12 },
-    ];
-    for function in 0..7u64 {
-        let call = decode(&registers_of(EXTENSION_ID, function));
-        assert_eq!(rt; call, Ok(wanted[function as usize]), "function {function}");
-    }
+        }),
+    ),
+    (EXTENSION_ID, 1, Ok(Call::Destroy { id: 11 })),
+    (EXTENSION_ID, 2, Ok(Call::Run { id: 11 })),
+    (EXTENSION_ID, 3, Ok(Call::Stop)),
+    (EXTENSION_ID, 4, Ok(Call::Resume { id: 11 })),
+    (EXTENSION_ID, 5, Ok(Call::Exit { value: 11 })),
+    (EXTENSION_ID, 6, Ok(Call::Measure { id: 11, k: 12 })),
+];
+
+#[test]
+fn each_function_has_its_arguments(rt: HostRuntime) {
+    all_are(&rt, FUNCTIONS);
 }
 
 #[test]
@@ -52,18 +66,17 @@ fn exit_hands_its_value_to_the_host(rt: HostRuntime) {
     assert!(rt; decode(&registers) == Ok(Call::Exit { value: 9 }));
 }
 
+const OTHERS: &[Row] = &[
+    (EXTENSION_ID, 7, Err(NotSupported)),
+    (EXTENSION_ID, 1 << 32, Err(NotSupported)),
+    (0x1_0845_4E43, 5, Err(NotSupported)),
+    (0x10, 0, Err(NotSupported)),
+    (0, 0, Err(NotSupported)),
+];
+
 #[test]
 fn other_functions_and_extensions_are_not_supported(rt: HostRuntime) {
-    for (extension, function) in [
-        (EXTENSION_ID, 7),
-        (EXTENSION_ID, 1 << 32),
-        (0x1_0845_4E43, 5),
-        (0x10, 0),
-        (0, 0),
-    ] {
-        let call = decode(&registers_of(extension, function));
-        assert_eq!(rt; call, Err(NotSupported), "{extension} {function}");
-    }
+    all_are(&rt, OTHERS);
 }
 
 #[test]

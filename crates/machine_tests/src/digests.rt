@@ -35,7 +35,7 @@ fn words_are_little_endian(rt: HostRuntime) {
         (2, 0x1716_1514_1312_1110),
         (3, 0x1F1E_1D1C_1B1A_1918),
     ] {
-        assert_eq!(rt; word(&digest, k), want, "word {k}");
+        assert!(rt; word(&digest, k) == want, "word {k}");
     }
 }
 

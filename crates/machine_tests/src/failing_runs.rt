@@ -22,38 +22,36 @@ fn fails(
     None
 }
 
-/// The same on a new machine.
-fn fails_anew(
-    rt: &impl Abort,
-    alloc: Global,
-    trace: &[u8],
-    read: Option<u64>,
-    write: Option<u64>,
-    report: &[u8],
-) -> Option<RunFault> {
-    let mut machine = example_machine(rt, alloc, 1);
-    fails(&mut machine, trace, read, write, report)
+/// A run on a new machine: the trace, the read or the write that fails, how the run ends, and its report.
+type Row<'a> = (&'a [u8], Option<u64>, Option<u64>, RunFault, &'a str);
+
+/// The run of each row ends so behind its report.
+fn all_fail(rt: &impl Abort, alloc: Global, rows: &[Row<'_>]) {
+    for (trace, read, write, end, report) in rows {
+        let mut machine = example_machine(rt, alloc, 1);
+        let ended = fails(&mut machine, trace, *read, *write, report.as_bytes());
+        assert!(rt; ended == Some(*end), "behind {report:?}");
+    }
 }
 
 #[test]
 fn a_failing_device_ends_a_run_behind_what_it_took(rt: HostRuntime) {
-    let none: Option<u64> = None;
-    let rows: [(&[u8], Option<u64>, Option<u64>, RunFault, &[u8]); 4] = [
-        (
-            b"irq\nirq\n",
-            none,
-            Some(14),
-            RunFault::Write,
-            b"1 irq 0 3\n2 i",
-        ),
-        (b"irq\nir", Some(7), none, RunFault::Read, b"1 irq 0 3\n"),
-        (b"irq", Some(4), none, RunFault::Read, b""),
-        (b"irq\nirq\n", none, Some(1), RunFault::Write, b""),
-    ];
-    for (trace, read, write, end, report) in rows {
-        let ended = fails_anew(&rt, rt.alloc(), trace, read, write, report);
-        assert!(rt; ended == Some(end));
-    }
+    all_fail(
+        &rt,
+        rt.alloc(),
+        &[
+            (
+                b"irq\nirq\n",
+                None,
+                Some(14),
+                RunFault::Write,
+                "1 irq 0 3\n2 i",
+            ),
+            (b"irq\nir", Some(7), None, RunFault::Read, "1 irq 0 3\n"),
+            (b"irq", Some(4), None, RunFault::Read, ""),
+            (b"irq\nirq\n", None, Some(1), RunFault::Write, ""),
+        ],
+    );
 }
 
 /// The sink fails in the second reply, and the second event has happened.

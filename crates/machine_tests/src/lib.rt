@@ -1,5 +1,5 @@
 //! Worked rows of the machine and of what it is made of, as tests alone: calls, changes of world, measured bytes, and
-//! traces on booted machines with the report of each.
+//! traces on booted machines with the report of each. And how the headline of the machine is used, as two functions.
 //!
 //! They stand apart from the crates that they are of so that the gate proves each of these once, and tries its edits
 //! beside the rows.
@@ -11,6 +11,7 @@ mod calls;
 mod digests;
 #[cfg(test)]
 mod failing_runs;
+mod headline;
 #[cfg(test)]
 mod machines;
 #[cfg(test)]
@@ -25,3 +26,7 @@ mod served;
 mod switches;
 #[cfg(test)]
 mod tallies;
+#[cfg(test)]
+mod two_harts;
+
+pub use headline::{life, runs_on};

@@ -35,21 +35,24 @@ pub fn answers(machine: &mut Machine, trace: &[u8], report: &[u8]) -> bool {
     ends(machine, trace, Ok(()), report)
 }
 
-/// Whether a run of a trace on a new machine ends so, and writes this report.
+/// A run of a trace on a new machine ends so, and writes this report.
 pub fn ends_anew(
     rt: &impl Abort,
     alloc: Global,
     harts: u8,
-    trace: &[u8],
+    trace: &str,
     end: Result<(), RunFault>,
     report: &[u8],
-) -> bool {
+) {
     let mut machine = example_machine(rt, alloc, harts);
-    ends(&mut machine, trace, end, report)
+    assert!(rt;
+        ends(&mut machine, trace.as_bytes(), end, report),
+        "{trace}"
+    );
 }
 
-/// Whether a trace on a new machine, which is understood to its end, is answered by this report.
-pub fn answers_anew(rt: &impl Abort, alloc: Global, trace: &[u8], report: &[u8]) -> bool {
+/// A trace on a new machine, which is understood to its end, is answered by this report.
+pub fn answers_anew(rt: &impl Abort, alloc: Global, trace: &str, report: &[u8]) {
     ends_anew(rt, alloc, 1, trace, Ok(()), report)
 }
 

@@ -60,11 +60,8 @@ fn a_hart_loads_each_of_the_entries(rt: HostRuntime) {
     assert!(rt; hart.bank().addr(1) == 0x2000_05FF);
 }
 
-#[test]
-fn each_host_and_each_enclave_has_its_own_registers(rt: HostRuntime) {
-    let mut contexts = Contexts::new();
-    assert!(rt; contexts.get(3, World::Host) == Registers::new());
-    assert!(rt; contexts.get(0, World::Enclave(64)) == Registers::new());
+/// Each host and each enclave has registers of its own.
+fn keep_apart(rt: &impl Abort, contexts: &mut Contexts) {
     for hart in 0..4u8 {
         contexts.set(hart, World::Host, registers_of(0, 100 + hart as u64));
     }
@@ -79,23 +76,30 @@ fn each_host_and_each_enclave_has_its_own_registers(rt: HostRuntime) {
     }
 }
 
+/// Registers that were never set are all zero.
+fn begin_at_zero(rt: &impl Abort, contexts: &Contexts) {
+    assert!(rt; contexts.get(3, World::Host) == Registers::new());
+    assert!(rt; contexts.get(0, World::Enclave(64)) == Registers::new());
+}
+
 #[test]
-fn a_stopped_enclave_goes_on_where_it_stopped(rt: HostRuntime) {
-    let host_entries = [page(&rt, 0x8000_0000), page(&rt, 0x8000_1000)];
-    let enclave_entries = [page(&rt, 0x8020_0000)];
+fn each_host_and_each_enclave_has_its_own_registers(rt: HostRuntime) {
+    let mut contexts = Contexts::new();
+    begin_at_zero(&rt, &contexts);
+    keep_apart(&rt, &mut contexts);
+}
+
+/// The host of the first hart runs the first enclave, which is stopped and resumed.
+fn goes_on(rt: &impl Abort, contexts: &mut Contexts) {
+    let host_entries = [page(rt, 0x8000_0000), page(rt, 0x8000_1000)];
+    let enclave_entries = [page(rt, 0x8020_0000)];
     let enclave = World::Enclave(1);
     let mut hart = Hart::new(0, host_entries.as_slice(), Limit::Sixteen);
-    let mut contexts = Contexts::new();
 
     // The host runs the enclave.
     *hart.registers_mut() = registers_of(4, 1);
     contexts.set(0, enclave, registers_of(0x8020_0000, 1));
-    switch(
-        &mut hart,
-        &mut contexts,
-        enclave,
-        enclave_entries.as_slice(),
-    );
+    switch(&mut hart, contexts, enclave, enclave_entries.as_slice());
     assert!(rt; hart.world() == enclave);
     assert!(rt; *hart.registers() == registers_of(0x8020_0000, 1));
     assert!(rt; hart.bank().addr(0) == 0x2008_01FF);
@@ -103,72 +107,61 @@ fn a_stopped_enclave_goes_on_where_it_stopped(rt: HostRuntime) {
 
     // It is stopped.
     *hart.registers_mut() = registers_of(0x8020_0040, 7);
-    switch(
-        &mut hart,
-        &mut contexts,
-        World::Host,
-        host_entries.as_slice(),
-    );
+    switch(&mut hart, contexts, World::Host, host_entries.as_slice());
     assert!(rt; hart.world() == World::Host);
     assert!(rt; *hart.registers() == registers_of(4, 1));
     assert!(rt; hart.bank().cfg0() == 0x1F1F);
 
     // It is resumed.
-    switch(
-        &mut hart,
-        &mut contexts,
-        enclave,
-        enclave_entries.as_slice(),
-    );
+    switch(&mut hart, contexts, enclave, enclave_entries.as_slice());
     assert!(rt; *hart.registers() == registers_of(0x8020_0040, 7));
     assert!(rt; contexts.get(0, World::Host) == registers_of(4, 1));
 }
 
 #[test]
-fn an_enclave_resumed_on_another_hart_returns_to_that_harts_host(rt: HostRuntime) {
-    let host_entries = [page(&rt, 0x8000_0000)];
-    let enclave_entries = [page(&rt, 0x8020_0000), page(&rt, 0x8020_1000)];
-    let enclave = World::Enclave(64);
-    let mut first = Hart::new(0, host_entries.as_slice(), Limit::SixtyFour);
-    let mut second = Hart::new(1, host_entries.as_slice(), Limit::SixtyFour);
+fn a_stopped_enclave_goes_on_where_it_stopped(rt: HostRuntime) {
     let mut contexts = Contexts::new();
-    contexts.set(0, enclave, registers_of(0x8020_0000, 64));
+    goes_on(&rt, &mut contexts);
+}
 
-    // The first hart runs the enclave until it stops.
-    *first.registers_mut() = registers_of(4, 10);
-    switch(
-        &mut first,
-        &mut contexts,
-        enclave,
-        enclave_entries.as_slice(),
-    );
-    *first.registers_mut() = registers_of(0x8020_0040, 7);
-    switch(
-        &mut first,
-        &mut contexts,
-        World::Host,
-        host_entries.as_slice(),
-    );
+/// A hart of sixty-four entries, with the host of that number in its registers, goes to the last enclave.
+fn enters(rt: &impl Abort, hart: &mut Hart, contexts: &mut Contexts, host: Registers) {
+    let entries = [page(rt, 0x8020_0000), page(rt, 0x8020_1000)];
+    assert!(rt; hart.bank().limit() == Limit::SixtyFour);
+    *hart.registers_mut() = host;
+    switch(hart, contexts, World::Enclave(64), entries.as_slice());
+}
+
+/// It stops there, with these registers, and goes back to its host.
+fn stops(rt: &impl Abort, hart: &mut Hart, contexts: &mut Contexts, enclave: Registers) {
+    let entries = [page(rt, 0x8000_0000)];
+    assert!(rt; hart.bank().limit() == Limit::SixtyFour);
+    *hart.registers_mut() = enclave;
+    switch(hart, contexts, World::Host, entries.as_slice());
+}
+
+/// The first hart runs the last enclave until it stops. The second one resumes it, until it stops again.
+fn returns_to_its_hart(rt: &impl Abort, contexts: &mut Contexts) {
+    let entries = [page(rt, 0x8000_0000)];
+    let mut first = Hart::new(0, entries.as_slice(), Limit::SixtyFour);
+    let mut second = Hart::new(1, entries.as_slice(), Limit::SixtyFour);
+    contexts.set(0, World::Enclave(64), registers_of(0x8020_0000, 64));
+
+    enters(rt, &mut first, contexts, registers_of(4, 10));
+    stops(rt, &mut first, contexts, registers_of(0x8020_0040, 7));
     assert!(rt; *first.registers() == registers_of(4, 10));
 
-    // The second one resumes it, until it stops again.
-    *second.registers_mut() = registers_of(8, 11);
-    switch(
-        &mut second,
-        &mut contexts,
-        enclave,
-        enclave_entries.as_slice(),
-    );
+    enters(rt, &mut second, contexts, registers_of(8, 11));
     assert!(rt; *second.registers() == registers_of(0x8020_0040, 7));
-    assert!(rt; second.bank().limit() == Limit::SixtyFour);
-    switch(
-        &mut second,
-        &mut contexts,
-        World::Host,
-        host_entries.as_slice(),
-    );
+    stops(rt, &mut second, contexts, registers_of(0x8020_0040, 7));
     assert!(rt; *second.registers() == registers_of(8, 11));
     assert!(rt; second.number() == 1);
     assert!(rt; *first.registers() == registers_of(4, 10));
     assert!(rt; contexts.get(0, World::Host) == registers_of(4, 10));
+}
+
+#[test]
+fn an_enclave_resumed_on_another_hart_returns_to_that_harts_host(rt: HostRuntime) {
+    let mut contexts = Contexts::new();
+    returns_to_its_hart(&rt, &mut contexts);
 }

@@ -1,6 +1,6 @@
 use Rattle.hart_trace.specs.declared.event.Event.TheVariants.{Ecall, Irq}
-use Rattle.headline_tests.proofs.InTurn.{after_six}
-use Rattle.headline_tests.proofs.life.Goals as goal
+use Rattle.machine_tests.proofs.InTurn.{after_six}
+use Rattle.machine_tests.proofs.headline.life.Goals as goal
 
 -- each step goes on by its event, and of the machine after all six the law says the headline
 pub returns : goal.returns

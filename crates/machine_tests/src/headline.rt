@@ -1,6 +1,5 @@
 //! How the headline of the machine is used: an enclave lives on two harts, a machine runs two traces and one event more, and
 //! what is known of the machine after it.
-#![tactic(auto)]
 
 ghost use Rattle.std.specs.Prelude.{◌≡◌, ℕ, List, [], ◌∷◌, ◌++◌};
 ghost use Rattle.platforms.specs.Platform.{Layout};
@@ -9,10 +8,7 @@ ghost use Rattle.hart_sim.specs.After.{After};
 ghost use Rattle.hart_sim.specs.Headline.{Headline};
 ghost use Rattle.hart_sim.specs.Machines.{state_of};
 ghost use Rattle.machine_replies.specs.declared.reply.Reply.{Reply};
-ghost use Rattle.headline_tests.specs.Life.{life_of};
-
-#[cfg(test)]
-mod rows;
+ghost use Rattle.machine_tests.specs.Life.{life_of};
 
 use arrayvec::ArrayVec;
 use hart_sim::{Event, Machine, Reply, Sink, Source, headline_law, run};

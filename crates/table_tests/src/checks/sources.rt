@@ -1,6 +1,6 @@
 //! Certificates that a source gives piece by piece.
 
-use crate::tests::{LOWER_HALF, LOWER_HALF_SPACE, map_of};
+use crate::checks::{LOWER_HALF, LOWER_HALF_SPACE, map_of};
 use byte_streams::SourceFault;
 use byte_streams::fakes::PieceSource;
 use certificate_check::check_source;
