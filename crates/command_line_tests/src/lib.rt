@@ -11,6 +11,8 @@ mod helps;
 #[cfg(test)]
 mod hints;
 #[cfg(test)]
+mod plans;
+#[cfg(test)]
 mod tables;
 #[cfg(test)]
 mod tasks;
