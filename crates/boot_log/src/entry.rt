@@ -1,7 +1,7 @@
 //! The entry of a region.
 
 /// What the line of a region sets: the pair of the entry of its number.
-#[derive(Clone, Copy, Debug, PartialEq, Eq)]
+#[derive(Clone, Copy)]
 pub struct RegionEntry {
     /// The number of the entry, below 64.
     pub place: usize,

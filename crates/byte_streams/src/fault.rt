@@ -1,7 +1,7 @@
 //! Why a source was not read to its end.
 
 /// Why a source was not read to its end.
-#[derive(Clone, Copy, Debug, PartialEq, Eq)]
+#[derive(Clone, Copy, Debug)]
 pub enum SourceFault {
     /// It has more bytes than are allowed.
     TooLarge,

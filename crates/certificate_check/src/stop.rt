@@ -4,7 +4,7 @@ use crate::refusal::CheckRefusal;
 use certificate_format::ReadFault;
 
 /// Why the parts are not read on.
-#[derive(Clone, Copy, PartialEq, Eq, Debug)]
+#[derive(Clone, Copy, PartialEq, Eq)]
 pub(crate) enum Stop {
     /// A part is refused.
     Refused(CheckRefusal),

@@ -3,7 +3,7 @@
 use byte_streams::{BUFFER_SIZE, Buffer, Source, SourceFault};
 
 /// Whether more bytes may come, and why not.
-#[derive(Clone, Copy, PartialEq, Eq, Debug)]
+#[derive(Clone, Copy)]
 pub(crate) enum Inflow {
     /// The source was not read to its end.
     Open,

@@ -4,7 +4,7 @@ use byteorder::{ByteOrder, LittleEndian};
 use pmp_encoding::Perm;
 
 /// A number for each permission: how many entries a block costs at least, where that permission stands around it.
-#[derive(Clone, Copy, PartialEq, Eq, Debug)]
+#[derive(Clone, Copy)]
 pub struct SixCosts {
     pub no_access: u32,
     pub read: u32,

@@ -3,7 +3,7 @@
 use pmp_encoding::Limit;
 
 /// The form of a certificate: the first says no limit and means sixteen, the second names its limit.
-#[derive(Clone, Copy, PartialEq, Eq, Debug)]
+#[derive(Clone, Copy, PartialEq, Eq)]
 pub enum Version {
     One,
     Two(Limit),
@@ -25,7 +25,7 @@ impl Version {
 }
 
 /// What stands before the entries: the form, and the number of entries.
-#[derive(Clone, Copy, PartialEq, Eq, Debug)]
+#[derive(Clone, Copy, PartialEq, Eq)]
 pub struct Header {
     pub version: Version,
     pub count: u32,

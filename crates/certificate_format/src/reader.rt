@@ -20,7 +20,7 @@ use pmp_encoding::{Limit, Perm};
 use std::marker::Model;
 
 /// What kind of node begins here.
-#[derive(Clone, Copy, PartialEq, Eq, Debug)]
+#[derive(Clone, Copy, PartialEq, Eq)]
 pub enum Tag {
     Leaf,
     Branch,

@@ -5,7 +5,7 @@ use worlds::World;
 
 /// The saved registers of each world: one set for the host of each of four harts, and one for each enclave, by its id
 /// from 1 to 64. An enclave's set is the same for every hart.
-#[derive(Clone, PartialEq, Eq, Debug, Drop)]
+#[derive(Clone, Drop)]
 pub struct Contexts {
     hosts: [Registers; 4],
     enclaves: [Registers; 64],

@@ -8,7 +8,7 @@ use sbi_decode::Registers;
 use worlds::World;
 
 /// One of up to four harts: the world that runs on it, and the registers and PMP entries that are loaded there.
-#[derive(Clone, Copy, PartialEq, Eq, Debug)]
+#[derive(Clone, Copy)]
 pub struct Hart {
     number: u8,
     pub(crate) world: World,

@@ -8,7 +8,7 @@ use crate::words::ControlWords;
 use worlds::World;
 
 /// For each of four harts the words with which its host came last; before it came the first time, those with which it begins.
-#[derive(Clone, Copy, Debug, PartialEq, Eq)]
+#[derive(Clone, Copy)]
 pub struct HostWords {
     hosts: [ControlWords; 4],
 }

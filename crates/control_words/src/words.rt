@@ -20,7 +20,7 @@ const SUPERVISOR_MODE: u64 = 0x800;
 
 /// What stands in the control registers of a hart while a world runs there (Privileged Architecture, *Machine-Level ISA* and
 /// *Supervisor-Level ISA*). A register that the hart has not is zero.
-#[derive(Clone, Copy, Debug, PartialEq, Eq)]
+#[derive(Clone, Copy)]
 pub struct ControlWords {
     /// The fields of `mstatus` that supervisor mode sees as `sstatus`.
     pub status: u64,

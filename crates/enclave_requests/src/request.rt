@@ -14,7 +14,7 @@ const MOST_PRIVATE: u64 = 1024;
 const MOST_SHARED: u64 = 256;
 
 /// What the host asks for when it creates an enclave: where its pages lie and where it is entered.
-#[derive(Clone, Copy, PartialEq, Eq, Debug)]
+#[derive(Clone, Copy, PartialEq, Eq)]
 pub struct Create {
     /// The address of its first page of text; its data follows the text.
     pub base: u64,

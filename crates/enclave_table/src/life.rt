@@ -12,7 +12,7 @@ use crate::table::Table;
 use worlds::World;
 
 /// The two ways in which the host enters an enclave.
-#[derive(Clone, Copy, PartialEq, Eq, Debug)]
+#[derive(Clone, Copy)]
 pub enum Entering {
     /// For the first time.
     Run,
@@ -21,7 +21,7 @@ pub enum Entering {
 }
 
 /// The two ways in which an enclave is left.
-#[derive(Clone, Copy, PartialEq, Eq, Debug)]
+#[derive(Clone, Copy)]
 pub enum Leaving {
     /// It may be resumed.
     Stop,

@@ -17,7 +17,7 @@ use pmp_encoding::Perm;
 use worlds::World;
 
 /// How many entries the views after a creation need.
-#[derive(Clone, Copy, PartialEq, Eq, Debug)]
+#[derive(Clone, Copy, PartialEq, Eq)]
 pub struct CreateNeeds {
     /// Those of the host's view, with the new enclave.
     pub host: u32,

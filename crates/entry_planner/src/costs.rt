@@ -8,14 +8,14 @@ use std::alloc::AllocError;
 
 /// What a block costs: the least number of entries, and the permissions under which it costs that.
 /// Under each other permission it costs one more.
-#[derive(Clone, Copy, PartialEq, Eq, Debug)]
+#[derive(Clone, Copy)]
 pub struct BlockCost {
     pub least: u32,
     pub best: PermSet,
 }
 
 /// The permissions that are best for both halves of a split block, and for either.
-#[derive(Clone, Copy, PartialEq, Eq, Debug)]
+#[derive(Clone, Copy)]
 pub struct HalfPerms {
     pub both: PermSet,
     pub either: PermSet,

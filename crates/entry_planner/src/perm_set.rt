@@ -3,7 +3,7 @@
 use pmp_encoding::Perm;
 
 /// A set of permissions: a bit for each, in the fixed order, that of no access lowest.
-#[derive(Clone, Copy, PartialEq, Eq, Debug)]
+#[derive(Clone, Copy)]
 pub struct PermSet {
     pub bits: u8,
 }

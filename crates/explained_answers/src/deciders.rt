@@ -10,7 +10,7 @@ use pmp_encoding::{Bank, Extent};
 use pmp_match::{Access, touches};
 
 /// The entry that decides an access: its number, and what it matches.
-#[derive(Clone, Copy, PartialEq, Eq, Debug)]
+#[derive(Clone, Copy)]
 pub struct Decider {
     /// Its number, from 0.
     pub number: usize,

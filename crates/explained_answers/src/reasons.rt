@@ -13,7 +13,7 @@ use pmp_match::{Access, is_aligned};
 use printed_lines::letters;
 
 /// What decides an access.
-#[derive(Clone, Copy, PartialEq, Eq, Debug)]
+#[derive(Clone, Copy)]
 pub enum Reason {
     /// Its address is no multiple of its size, and no entry is asked.
     Misaligned,

@@ -13,7 +13,7 @@ use sbi_decode::Call;
 use worlds::World;
 
 /// What an event asks.
-#[derive(Clone, Copy, PartialEq, Eq, Debug)]
+#[derive(Clone, Copy)]
 pub enum Deed {
     /// An access, and what decides it.
     Access(Access, Reason),
@@ -26,7 +26,7 @@ pub enum Deed {
 }
 
 /// What an event asks, and of whom.
-#[derive(Clone, Copy, PartialEq, Eq, Debug)]
+#[derive(Clone, Copy)]
 pub struct Asked {
     /// The hart that it happens on.
     pub hart: u8,

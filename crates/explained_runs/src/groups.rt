@@ -8,7 +8,7 @@ ghost use Rattle.explained_runs.specs.Tallies.{IsGroupOf, kind_in, with_one};
 use arrayvec::ArrayVec;
 
 /// What is counted together.
-#[derive(Clone, Copy, PartialEq, Eq, Debug)]
+#[derive(Clone, Copy)]
 pub(crate) enum Subject {
     /// Events, by what they are.
     Events,
@@ -21,7 +21,7 @@ pub(crate) enum Subject {
 }
 
 /// How many are of a kind.
-#[derive(Clone, Copy, PartialEq, Eq, Debug, Default)]
+#[derive(Clone, Copy, Default)]
 pub(crate) struct Count {
     pub(crate) kind: u64,
     pub(crate) number: u64,

@@ -12,7 +12,7 @@ use sbi_decode::Call;
 use worlds::World;
 
 /// What a call came to.
-#[derive(Clone, Copy, PartialEq, Eq, Debug)]
+#[derive(Clone, Copy)]
 pub enum Outcome {
     /// It was done, with this value.
     Done(u64),

@@ -17,7 +17,7 @@ use std::alloc::{AllocError, Global};
 use trace_lint::Taker;
 
 /// What an input should be.
-#[derive(Clone, Copy, Debug, PartialEq, Eq)]
+#[derive(Clone, Copy)]
 pub(crate) enum Form {
     /// A map.
     Map,

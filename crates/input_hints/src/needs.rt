@@ -13,7 +13,7 @@ use std::alloc::{AllocError, Global};
 use text_lines::{Line, push_decimal, push_text};
 
 /// How many entries a map may need.
-#[derive(Clone, Copy, Debug, PartialEq, Eq)]
+#[derive(Clone, Copy)]
 pub(crate) struct Bounds {
     /// So many at most, where there is a bound.
     pub(crate) most: Option<u64>,

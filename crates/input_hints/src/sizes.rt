@@ -14,7 +14,7 @@ use program_troubles::Trouble;
 use std::alloc::{AllocError, Global};
 
 /// What a file is.
-#[derive(Clone, Copy, Debug, PartialEq, Eq)]
+#[derive(Clone, Copy)]
 pub(crate) enum FileKind {
     /// A map.
     Map,

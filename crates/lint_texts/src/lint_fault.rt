@@ -1,7 +1,7 @@
 //! Why a file was not looked at to its end.
 
 /// Why a file was not looked at to its end.
-#[derive(Clone, Copy, PartialEq, Eq, Debug)]
+#[derive(Clone, Copy, Debug)]
 pub enum LintFault {
     /// Memory was refused.
     Memory,

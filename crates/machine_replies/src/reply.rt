@@ -6,7 +6,7 @@ ghost use Rattle.machine_replies.specs.declared.reply.Reply.TheVariants.{NoMemor
 use pmp_match::Cause;
 
 /// What an event is answered with.
-#[derive(Clone, Copy, PartialEq, Eq, Debug)]
+#[derive(Clone, Copy, PartialEq, Eq)]
 pub enum Reply {
     /// A fetch, a store or a setting of a register was done.
     Done,

@@ -15,7 +15,7 @@ use std::alloc::{AllocError, Global};
 const MOST: usize = 512;
 
 /// What a line sets.
-#[derive(Clone, Copy, PartialEq, Eq, Debug)]
+#[derive(Clone, Copy)]
 pub struct Numbered {
     /// Its number, from 1.
     pub line: u64,

@@ -16,7 +16,7 @@ use register_width::Xlen;
 use std::alloc::Global;
 
 /// Why a plan is not printed whole.
-#[derive(Clone, Copy, Debug, PartialEq, Eq)]
+#[derive(Clone, Copy, Debug)]
 pub enum PlanFault {
     /// The source could not be had whole: at most 1 MiB.
     Source(SourceFault),

@@ -2,7 +2,7 @@
 
 /// What is measured of an enclave beside the bytes of its private pages. Its base address is not: the same contents at
 /// another place have the same digest.
-#[derive(Clone, Copy, Debug, PartialEq, Eq)]
+#[derive(Clone, Copy, PartialEq, Eq)]
 pub struct Layout {
     /// How many pages of text (code) it has.
     pub text_pages: u64,

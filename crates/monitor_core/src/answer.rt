@@ -7,7 +7,7 @@ use page_views::PageRange;
 use sbi_decode::Registers;
 
 /// The answer of a call, which its caller finds in a0 and a1 when it goes on.
-#[derive(Clone, Copy, PartialEq, Eq, Debug)]
+#[derive(Clone, Copy)]
 pub struct Answer {
     /// 0 where the call was done; below zero where it was refused.
     pub status: i64,
@@ -16,7 +16,7 @@ pub struct Answer {
 }
 
 /// What goes on on a hart after a call or an interrupt.
-#[derive(Clone, Copy, PartialEq, Eq, Debug)]
+#[derive(Clone, Copy)]
 pub struct Onward {
     /// The registers of the world that runs there now.
     pub registers: Registers,
@@ -25,7 +25,7 @@ pub struct Onward {
 }
 
 /// How a call was served.
-#[derive(Clone, Copy, PartialEq, Eq, Debug)]
+#[derive(Clone, Copy)]
 pub struct Served {
     pub answer: Answer,
     /// The pages whose every byte is to be made zero before any hart goes on.

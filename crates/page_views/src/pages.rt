@@ -17,7 +17,7 @@ pub fn pages_of(log2: u32) -> u64
 }
 
 /// Pages one after another, by their numbers.
-#[derive(Clone, Copy, PartialEq, Eq, Debug)]
+#[derive(Clone, Copy, PartialEq, Eq)]
 pub struct PageRange {
     /// The number of the first page.
     pub first: u64,

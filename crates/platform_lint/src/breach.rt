@@ -6,7 +6,7 @@ ghost use Rattle.platform_lint.specs.Breaches.{key_name};
 use platforms::PlatformFault;
 
 /// A key of a platform file.
-#[derive(Clone, Copy, PartialEq, Eq, Debug)]
+#[derive(Clone, Copy)]
 pub enum Key {
     /// The range of the monitor.
     Monitor,
@@ -45,7 +45,7 @@ impl Key {
 }
 
 /// A table of a platform file.
-#[derive(Clone, Copy, PartialEq, Eq, Debug)]
+#[derive(Clone, Copy)]
 pub enum Place {
     /// The file's own.
     File,
@@ -58,14 +58,14 @@ pub enum Place {
 }
 
 /// A range of memory or of a device: its table, and its base and its size, in bytes.
-#[derive(Clone, Copy, PartialEq, Eq, Debug)]
+#[derive(Clone, Copy)]
 pub struct PlacedRange {
     pub place: Place,
     pub bounds: (u64, u64),
 }
 
 /// What a platform file breaks.
-#[derive(Clone, Copy, PartialEq, Eq, Debug)]
+#[derive(Clone, Copy)]
 pub enum Breach<'a> {
     /// The table may not have this key.
     Unknown(Place, &'a str),

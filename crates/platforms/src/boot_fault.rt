@@ -4,7 +4,7 @@ ghost use Rattle.std.specs.Prelude.{◌≡◌};
 ghost use Rattle.platforms.specs.BootFaults.{boot_fault_number};
 
 /// Why a platform is not booted.
-#[derive(Clone, Copy, PartialEq, Eq, Debug)]
+#[derive(Clone, Copy, Debug)]
 pub enum BootFault {
     /// What it leaves the host needs that many entries, more than a hart has.
     NeedsMoreEntries(u64),

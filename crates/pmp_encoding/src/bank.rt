@@ -15,7 +15,7 @@ use crate::register_pair::decode;
 /// The PMP registers of a hart: eight configuration words pmpcfg0, pmpcfg2, .. pmpcfg14, of eight bytes each, the
 /// lowest byte first, and 64 address registers. No pair that it holds has a fault, and with a limit of sixteen each
 /// pair past the sixteenth is zero, which is OFF. (RISC-V Privileged Architecture, Physical Memory Protection CSRs)
-#[derive(Clone, Copy, PartialEq, Eq, Debug)]
+#[derive(Clone, Copy, PartialEq, Eq)]
 pub struct Bank {
     limit: Limit,
     words: [u64; 8],

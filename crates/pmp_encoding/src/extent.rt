@@ -7,7 +7,7 @@ use crate::perm::Perm;
 use crate::region::{Entry, bytes_of};
 
 /// An entry as accesses are matched against it: the addresses from `base` to before `end`, and its permission.
-#[derive(Clone, Copy, PartialEq, Eq, Debug)]
+#[derive(Clone, Copy, PartialEq, Eq)]
 pub struct Extent {
     /// The lowest address.
     pub base: u64,

@@ -3,7 +3,7 @@
 use register_width::Xlen;
 
 /// How wide the registers are, and the configuration bytes and the address registers of the entries 0 to 63, whatever they hold.
-#[derive(Clone, Copy, PartialEq, Eq, Debug)]
+#[derive(Clone, Copy, PartialEq, Eq)]
 pub struct Registers {
     pub xlen: Xlen,
     pub cfgs: [u8; 64],

@@ -11,7 +11,7 @@ use crate::fault::Fault;
 use crate::given::Values;
 
 /// When hints are told.
-#[derive(Clone, Copy, Debug, PartialEq, Eq)]
+#[derive(Clone, Copy)]
 pub enum Hints {
     /// Where standard error is a terminal.
     Auto,

@@ -5,7 +5,7 @@ ghost use Rattle.program_tasks.specs.declared.subcommand.Subcommand.{Subcommand}
 ghost use Rattle.program_tasks.specs.Subcommands.{subcommand_word, usage_words};
 
 /// A subcommand of the program.
-#[derive(Clone, Copy, Debug, PartialEq, Eq)]
+#[derive(Clone, Copy)]
 pub enum Subcommand {
     /// `run`.
     Run,

@@ -8,7 +8,7 @@ use pmp_encoding::Limit;
 use register_width::Xlen;
 
 /// How a plan is printed.
-#[derive(Clone, Copy, Debug, PartialEq, Eq)]
+#[derive(Clone, Copy, PartialEq, Eq)]
 pub enum Format {
     /// A line for each entry, and the configuration words after them.
     Text,
@@ -21,7 +21,7 @@ pub enum Format {
 }
 
 /// How a table is printed.
-#[derive(Clone, Copy, Debug, PartialEq, Eq)]
+#[derive(Clone, Copy, PartialEq, Eq)]
 pub enum TableFormat {
     /// A row for each stretch.
     Text,
@@ -32,7 +32,7 @@ pub enum TableFormat {
 }
 
 /// What is written of the answers to a trace.
-#[derive(Clone, Copy, Debug, PartialEq, Eq)]
+#[derive(Clone, Copy, PartialEq, Eq)]
 pub enum Answers {
     /// The answers alone.
     Plain,

@@ -13,7 +13,7 @@ use std::alloc::AllocError;
 use text_lines::RunFault;
 
 /// Why a task did not end well. Files have the names that were given.
-#[derive(Clone, Copy, Debug, PartialEq, Eq)]
+#[derive(Clone, Copy)]
 pub enum Trouble<'a> {
     /// A line of the file, counted from 1, is not understood.
     NotUnderstood {

@@ -12,7 +12,7 @@ use std::alloc::Global;
 use stretches::{Stretch, stretches};
 
 /// Whether extents mean a map, and where they do not.
-#[derive(Clone, Copy, PartialEq, Eq, Debug)]
+#[derive(Clone, Copy)]
 pub enum Finding {
     /// They mean the map.
     Means,

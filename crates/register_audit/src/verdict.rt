@@ -12,7 +12,7 @@ use std::alloc::Global;
 use stretches::Stretch;
 
 /// Whether registers mean a map, and where they do not.
-#[derive(Clone, Copy, PartialEq, Eq, Debug)]
+#[derive(Clone, Copy)]
 pub enum Verdict {
     /// They mean it, with so many entries.
     Means {

@@ -3,7 +3,7 @@
 use std::alloc::AllocError;
 
 /// Why there is no map of a listing.
-#[derive(Clone, Copy, PartialEq, Eq, Debug)]
+#[derive(Clone, Copy, Debug)]
 pub enum MapOfFault {
     /// The line of this number, from 1, is not understood.
     Line(u64),

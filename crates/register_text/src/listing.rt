@@ -15,7 +15,7 @@ use register_width::Xlen;
 use text_lines::LineReader;
 
 /// What the lines of a listing leave.
-#[derive(Clone, Copy, Debug, PartialEq, Eq)]
+#[derive(Clone, Copy)]
 pub struct Listing {
     /// The registers of the protection. What no line sets is zero.
     pub registers: Registers,

@@ -6,7 +6,7 @@ pub const EXTENSION_ID: u64 = 0x0845_4E43;
 
 /// A call of the monitor, with its arguments. All numbers are the registers' 64-bit words as they stand: the monitor
 /// checks them.
-#[derive(Clone, Copy, Debug, PartialEq, Eq)]
+#[derive(Clone, Copy, PartialEq, Eq)]
 pub enum Call {
     /// Function 0: makes an enclave. Base and shared base are addresses in bytes, the counts are pages, the entry offset
     /// is in bytes from the base.

@@ -7,7 +7,7 @@ use std::marker::Model;
 
 /// The program counter and the integer registers x0 to x31 of an RV64 hart (RISC-V Unprivileged Architecture, section
 /// Programmers' Model for Base Integer ISA). x0 is always zero.
-#[derive(Clone, Copy, Debug, PartialEq, Eq)]
+#[derive(Clone, Copy, PartialEq, Eq)]
 pub struct Registers {
     pc: u64,
     xs: [u64; 31],

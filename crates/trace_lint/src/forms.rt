@@ -12,7 +12,7 @@ use pmp_match::Kind;
 use text_lines::{number, numeral};
 
 /// What an event is.
-#[derive(Clone, Copy, PartialEq, Eq, Debug)]
+#[derive(Clone, Copy)]
 pub enum EventKind {
     /// An instruction is fetched.
     Fetch,
@@ -29,7 +29,7 @@ pub enum EventKind {
 }
 
 /// What a word of an event says.
-#[derive(Clone, Copy, PartialEq, Eq, Debug)]
+#[derive(Clone, Copy)]
 pub enum Slot {
     /// The mode of an access.
     Mode,

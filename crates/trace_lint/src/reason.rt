@@ -3,7 +3,7 @@
 use crate::forms::{EventKind, Slot};
 
 /// Why a line is not taken.
-#[derive(Clone, Copy, PartialEq, Eq, Debug)]
+#[derive(Clone, Copy)]
 pub enum Reason {
     /// The line has more than 1023 bytes.
     LongLine,

@@ -11,7 +11,7 @@ use lint_texts::{content_of, next_word};
 use text_lines::{LONGEST, without_return};
 
 /// What takes the lines of a trace.
-#[derive(Clone, Copy, PartialEq, Eq, Debug)]
+#[derive(Clone, Copy)]
 pub enum Taker {
     /// `run`, on so many harts.
     Run {

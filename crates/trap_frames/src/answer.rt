@@ -11,7 +11,7 @@ use sbi_decode::Registers;
 use worlds::World;
 
 /// The front of an answer.
-#[derive(Clone, Copy, Debug, PartialEq, Eq)]
+#[derive(Clone, Copy)]
 pub struct Head {
     /// The hart that goes on.
     pub hart: u8,

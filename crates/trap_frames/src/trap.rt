@@ -17,7 +17,7 @@ use sbi_decode::Registers;
 const TRAP_BYTES: usize = 352;
 
 /// What happened to the world that runs on a hart.
-#[derive(Clone, Copy, Debug, PartialEq, Eq)]
+#[derive(Clone, Copy)]
 pub enum Event {
     /// It made a call.
     Call,
@@ -27,7 +27,7 @@ pub enum Event {
 
 /// A trap of a hart, with the registers and control words of the world that ran there; the program counter is that of the
 /// instruction that trapped.
-#[derive(Clone, Copy, Debug, PartialEq, Eq)]
+#[derive(Clone, Copy)]
 pub struct Trap {
     /// What happened.
     pub event: Event,

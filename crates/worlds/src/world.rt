@@ -1,7 +1,7 @@
 //! Who runs on a hart.
 
 /// Who runs on a hart.
-#[derive(Clone, Copy, PartialEq, Eq, Debug)]
+#[derive(Clone, Copy, PartialEq, Eq)]
 pub enum World {
     /// The host: the supervisor and its user programs.
     Host,
