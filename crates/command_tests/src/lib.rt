@@ -1,8 +1,11 @@
-//! Worked rows of the program's commands, as tests alone: what each prints, writes and answers on files in memory, and on
-//! devices that fail.
+//! Worked rows of the program, as tests alone: of the command line, words that are a task and words that are none and how they
+//! fail; of the commands, what each prints, writes and answers on files in memory, and on devices that fail.
 //!
-//! They stand apart from the commands so that these are proved once, and their tests beside other crates.
+//! They stand apart from the commands so that these are proved once, and their tests beside other crates. The proofs of the
+//! command line over `clap` take the longest of all.
 #![tactic(auto)]
 
+#[cfg(test)]
+mod command_lines;
 #[cfg(test)]
 mod tests;

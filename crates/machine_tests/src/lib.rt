@@ -1,5 +1,9 @@
-//! Worked rows of the machine and of what it is made of, as tests alone: calls, changes of world, measured bytes, and
-//! traces on booted machines with the report of each. And how the headline of the machine is used, as two functions.
+//! Worked rows of the machine and of what it is made of, as tests alone: calls, the table of enclaves, changes of world,
+//! measured bytes, and traces on booted machines with the report of each. And how the headline of the machine is used, as two
+//! functions.
+//!
+//! Of the table these are platforms, the life of an enclave, and sequences of calls with the entries that each view then
+//! needs. The table knows nothing of certificates, by which its tree is compared with a new one here.
 //!
 //! They stand apart from the crates that they are of so that the gate proves each of these once, and tries its edits
 //! beside the rows.
@@ -24,6 +28,8 @@ mod runs;
 mod served;
 #[cfg(test)]
 mod switches;
+#[cfg(test)]
+mod table;
 #[cfg(test)]
 mod tallies;
 #[cfg(test)]

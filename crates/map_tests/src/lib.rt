@@ -1,5 +1,8 @@
 //! Worked rows of the way from a map to its entries and their certificate, as tests alone: pairs and banks, judgements,
-//! maps, stretches, trees, plans, and certificates byte by byte.
+//! maps, stretches, trees, plans, certificates byte by byte, and the check of certificates.
+//!
+//! Of the check these are right certificates, each refusal in its place, and entries in any order. The check knows nothing of
+//! the planner, whose trees some rows take.
 //!
 //! They stand apart from the crates that they are of so that the gate proves each of these once.
 #![tactic(auto)]
@@ -10,6 +13,8 @@ mod accesses;
 mod certificate_parts;
 #[cfg(test)]
 mod certificates;
+#[cfg(test)]
+mod checks;
 #[cfg(test)]
 mod cuts;
 mod laws;

@@ -1,5 +1,6 @@
-//! Worked rows of the texts that the program reads and prints, as tests alone: maps and traces at fault, platforms, sizes and
-//! permissions in words, audits, registers as C, assembly and JSON, listings, and boot logs.
+//! Worked rows of the texts that the program reads and prints, as tests alone: streams, lines, events and judged traces, maps
+//! and traces at fault, platforms, sizes and permissions in words, audits, registers as C, assembly and JSON, listings, and
+//! boot logs.
 //!
 //! They stand apart from the crates that they are of so that the gate proves each of these once.
 #![tactic(auto)]
@@ -15,9 +16,15 @@ mod boot_logs;
 #[cfg(test)]
 mod c_arrays;
 #[cfg(test)]
+mod events;
+#[cfg(test)]
+mod failures;
+#[cfg(test)]
 mod formats;
 #[cfg(test)]
 mod json;
+#[cfg(test)]
+mod lines;
 #[cfg(test)]
 mod lints;
 #[cfg(test)]
@@ -37,10 +44,16 @@ mod platform_lints;
 #[cfg(test)]
 mod platform_texts;
 #[cfg(test)]
+mod registers;
+#[cfg(test)]
 mod said;
+#[cfg(test)]
+mod streams;
 #[cfg(test)]
 mod tables;
 #[cfg(test)]
 mod trace_lints;
+#[cfg(test)]
+mod waiting;
 #[cfg(test)]
 mod words;

@@ -1,7 +1,7 @@
 //! Words with a width of registers, and the tasks that they are.
 
-use crate::faults::are_mistaken;
-use crate::tasks::{Row, are_tasks};
+use crate::command_lines::faults::are_mistaken;
+use crate::command_lines::tasks::{Row, are_tasks};
 use command_line::{Answers, LintKind, TableFormat, Task};
 use pmp_encoding::Limit;
 use register_width::Xlen;

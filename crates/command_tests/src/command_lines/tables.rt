@@ -1,7 +1,7 @@
 //! Words that ask for a table in a format, or for what the lines of a map cost.
 
-use crate::faults::are_mistaken;
-use crate::tasks::{Row, are_tasks};
+use crate::command_lines::faults::are_mistaken;
+use crate::command_lines::tasks::{Row, are_tasks};
 use command_line::{TableFormat, Task};
 use pmp_encoding::Limit;
 use register_width::Xlen;

@@ -1,6 +1,6 @@
 use Rattle.enclave_table.specs.declared.life.Entering.TheVariants.{Run}
-use Rattle.table_tests.proofs.Entered.{entered}
-use Rattle.table_tests.proofs.tests.life.refused_inside.Goals as goal
+use Rattle.machine_tests.proofs.Entered.{entered}
+use Rattle.machine_tests.proofs.table.life.refused_inside.Goals as goal
 
 pub create-requires : goal.create-requires
 create-requires c = entered c.args.table.now.table c.enter.new.self.table c.args.id Run c.in-Ok.ensures.done

@@ -1,4 +1,4 @@
-use Rattle.table_tests.proofs.checks.ways.Way.+write.Given as goal
+use Rattle.map_tests.proofs.checks.ways.Way.+write.Given as goal
 
 abbrev pub decreases-write : goal.decreases-write
 decreases-write l = l.log2

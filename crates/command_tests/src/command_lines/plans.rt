@@ -1,6 +1,6 @@
 //! Words that ask for a plan.
 
-use crate::tasks::{Row, are_tasks};
+use crate::command_lines::tasks::{Row, are_tasks};
 use command_line::{Format, Task};
 use pmp_encoding::Limit;
 use register_width::Xlen;
