@@ -3,7 +3,6 @@
 ghost use Rattle.std.specs.Prelude.{◌≡◌, []};
 ghost use Rattle.trace_judge.specs.Answers.{answer_text};
 
-use arrayvec::ArrayVec;
 use pmp_match::Cause;
 use text_lines::{Line, push_decimal, push_text};
 
@@ -22,13 +21,4 @@ pub fn push_answer(line: &mut Line, n: u64, answer: Result<(), Cause>)
             line.push(b'\n');
         }
     }
-}
-
-/// `N ok`, or `N fault CAUSE`.
-pub fn answer_line(n: u64, answer: Result<(), Cause>) -> Line
-    ensures { result.items ≡ answer_text n answer }
-{
-    let mut line = ArrayVec::new();
-    push_answer(&mut line, n, answer);
-    line
 }

@@ -15,5 +15,5 @@ mod answers;
 mod judge;
 
 pub use access_judge::AccessJudge;
-pub use answers::{answer_line, push_answer};
+pub use answers::push_answer;
 pub use judge::{LineJudge, judge_lines, judge_trace};
