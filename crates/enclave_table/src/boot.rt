@@ -54,7 +54,7 @@ impl Table {
         if plan.needed() > platform.limit().number() {
             return Err(BootFault::NeedsMoreEntries(u64::from(plan.needed())));
         }
-        let Ok(list) = EntryList::copied(alloc, plan.entries()) else {
+        let Ok(list) = EntryList::of(alloc, &plan) else {
             return Err(BootFault::Memory);
         };
         let Ok(enclaves) = no_enclaves(alloc) else {

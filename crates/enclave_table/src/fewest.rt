@@ -30,7 +30,7 @@ fn listed(alloc: Global, limit: Limit, plan: &Plan) -> Result<EntryList, Refusal
     if plan.needed() > limit.number() {
         return Err(Refusal::NoEntries);
     }
-    let Ok(list) = EntryList::copied(alloc, plan.entries()) else {
+    let Ok(list) = EntryList::of(alloc, plan) else {
         return Err(Refusal::NoMemory);
     };
     Ok(list)

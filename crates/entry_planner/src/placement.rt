@@ -1,9 +1,8 @@
 //! The pass down the tree: which blocks take an entry.
 
 use crate::costs::HalfPerms;
-use crate::packed_entry::PackedEntry;
-use page_views::pages_of;
-use pmp_encoding::Perm;
+use page_views::{PAGE_SIZE, pages_of};
+use pmp_encoding::{Entry, PackedEntry, Perm, Region};
 use prefix_tree::{Chain, Halving};
 use std::alloc::AllocError;
 
@@ -28,7 +27,7 @@ ghost use Rattle.prefix_tree.specs.Chains.{chained};
 ghost use Rattle.prefix_tree.specs.Trees.{PermTree, Fits};
 ghost use Rattle.entry_planner.specs.declared.costs.HalfPerms.{HalfPerms};
 ghost use Rattle.entry_planner.specs.Choice.{AddsChosen, handed_on};
-ghost use Rattle.entry_planner.specs.Placement.{ArePages, IsOwn};
+ghost use Rattle.entry_planner.specs.Placement.{ArePages, IsBlockOf, IsOwn};
 ghost use Rattle.entry_planner.specs.Plans.{half_perms, half_perms_in};
 
 impl Waiting {
@@ -82,6 +81,21 @@ fn chosen(perms: HalfPerms, inherited: Perm) -> Perm
     }
 }
 
+/// The entry that gives a block a permission.
+#[inline(always)]
+fn entry_of(pages: Pages, perm: Perm) -> Entry
+    requires { ArePages pages.log2 pages.first }
+    ensures { IsBlockOf pages.log2 pages.first perm result }
+{
+    Entry {
+        region: Region {
+            base: pages.first * PAGE_SIZE,
+            log2: pages.log2 + 12,
+        },
+        perm,
+    }
+}
+
 /// Adds the entry that gives a block another permission than the inherited one.
 #[inline(always)]
 fn turn(
@@ -95,7 +109,7 @@ fn turn(
         × IsOwn pages.log2 pages.first inherited perm own) }
 {
     if perm != inherited {
-        entries.push(PackedEntry::new(pages.first, pages.log2, perm))?;
+        entries.push(PackedEntry::new(entry_of(pages, perm)))?;
     }
     Ok(())
 }

@@ -1,14 +1,15 @@
 //! A plan: the fewest entries of a view, with the costs of its blocks.
 
 use crate::packed_cost::PackedCost;
-use pmp_encoding::{Entry, Perm};
+use pmp_encoding::{Entry, PackedEntry, Perm};
+use std::alloc::{AllocError, Global};
 use std::marker::Model;
 
 /// The fewest entries of a tree's view, and what each split block of the tree costs: the numbers that show that no list
 /// of fewer entries means the view.
 #[derive(Drop)]
 pub struct Plan {
-    entries: Vec<Entry>,
+    entries: Vec<PackedEntry>,
     /// The last in preorder comes first.
     costs: Vec<PackedCost>,
 }
@@ -24,12 +25,23 @@ impl Model for Plan {
     ghost invariant = { λ p. AreSmall (record { entries = p.entries.items; costs = reverse p.costs.items }) };
 }
 
-ghost use Rattle.std.specs.Prelude.{◌≡◌, ◌<◌, length, reverse};
+ghost use Rattle.std.specs.Prelude.{◌≡◌, ◌<◌, length, reverse, IfOk};
 ghost use Rattle.entry_planner.specs.Plans.{AreSmall, cost_in};
+
+/// Packed entries, each with its region and its permission.
+fn unpacked(alloc: Global, packed: &[PackedEntry]) -> Result<Vec<Entry>, AllocError>
+    ensures { IfOk result (λ entries. entries.items ≡ packed.now) }
+{
+    let mut entries = Vec::with_capacity(alloc, packed.len())?;
+    for entry in packed {
+        entries.push(entry.entry())?;
+    }
+    Ok(entries)
+}
 
 impl Plan {
     /// A plan of these entries and costs, the last in preorder first.
-    pub(crate) fn new(entries: Vec<Entry>, costs: Vec<PackedCost>) -> Plan
+    pub(crate) fn new(entries: Vec<PackedEntry>, costs: Vec<PackedCost>) -> Plan
         requires { AreSmall (record { entries = entries.items; costs = reverse costs.items }) }
         ensures { result ≡ record { entries = entries.items; costs = reverse costs.items } }
     {
@@ -37,11 +49,19 @@ impl Plan {
     }
 
     /// The entries, in the order in which they go into a bank: the smaller before the larger, and those of one size by
-    /// rising address.
-    pub fn entries(&self) -> &[Entry]
+    /// rising address. Each is kept in eight bytes.
+    pub fn entries(&self) -> &[PackedEntry]
         ensures { result.now ≡ self.now.entries }
     {
         self.entries.as_slice()
+    }
+
+    /// The entries as a list of their own, each with its region and its permission.
+    pub fn listed(&self, alloc: Global) -> Result<Vec<Entry>, AllocError>
+        ensures { IfOk result (λ entries. entries.items ≡ self.now.entries) }
+    {
+        let entries = unpacked(alloc, self.entries.as_slice())?;
+        Ok(entries)
     }
 
     /// How many entries there are.

@@ -18,7 +18,7 @@ use crate::order::in_order;
 use crate::placement::{Pages, place};
 use crate::planned::Plan;
 use permission_map::{Memory, PermissionMap};
-use pmp_encoding::{Entry, Perm};
+use pmp_encoding::{PackedEntry, Perm};
 use prefix_tree::{Halving, MapBlock, Tree};
 use std::alloc::Global;
 
@@ -28,7 +28,7 @@ fn entries_of<H: Halving>(
     root: &H,
     least: u32,
     halves: Vec<HalfPerms>,
-) -> Result<Vec<Entry>, Memory>
+) -> Result<Vec<PackedEntry>, Memory>
     requires fits { Fits 44 (H.shape root.now) }
     requires halves { halves.items ≡ reverse (half_perms_in (H.shape root.now)) }
     ensures chosen { IfOk result (λ v. AreChosen (H.shape root.now) v.items) }
@@ -39,8 +39,7 @@ fn entries_of<H: Halving>(
     let _ = place(root, space, Perm::NoAccess, halves.as_slice(), &mut placed)?;
     // The places that the entries are moved to take memory too.
     drop(halves);
-    let entries = in_order(alloc, placed)?;
-    Ok(entries)
+    Ok(in_order(alloc, placed))
 }
 
 /// The plan of a tree: the fewest entries that mean its view, and what each of its split blocks costs.

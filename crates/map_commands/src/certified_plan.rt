@@ -20,7 +20,7 @@ use command_inputs::map_by;
 use entry_planner::{Plan, plan_map};
 use permission_map::{Memory, PermissionMap};
 use plan_certificate::send_map;
-use pmp_encoding::{Bank, Entry, Limit};
+use pmp_encoding::{Bank, Limit, PackedEntry};
 use program_files::WholeSink;
 use program_troubles::Trouble;
 use register_width::Xlen;
@@ -66,7 +66,7 @@ pub fn needed_by<'a>(alloc: Global, file: &'a str, bytes: &[u8]) -> Result<u64, 
 }
 
 /// The bank of a list of entries; none exactly where there are more than the limit.
-pub fn bank_of(entries: &[Entry], limit: Limit) -> Option<Bank>
+pub fn bank_of(entries: &[PackedEntry], limit: Limit) -> Option<Bank>
     ensures registers { IfSome result (λ bank. IsBankOf bank limit entries.now) }
     ensures list { IfSome result (λ bank. HasList bank entries.now) }
     ensures none { (result ≡ None) ↔ (limit_number limit < length entries.now) }
@@ -74,7 +74,7 @@ pub fn bank_of(entries: &[Entry], limit: Limit) -> Option<Bank>
     if entries.len() > limit.number() as usize {
         return None;
     }
-    Some(Bank::of(entries, limit))
+    Some(Bank::of_packed(entries, limit))
 }
 
 /// The fewest entries of a map, where they are within the bound.

@@ -2,7 +2,7 @@
 
 use entry_planner::{Plan, plan, plan_map};
 use permission_map::PermissionMap;
-use pmp_encoding::{Bank, Entry, Limit, Perm};
+use pmp_encoding::{Bank, Limit, PackedEntry, Perm};
 use prefix_tree::build;
 use std::alloc::Global;
 use std::process::Abort;
@@ -33,13 +33,23 @@ pub fn map_of(rt: &impl Abort, alloc: Global, ranges: &[Range]) -> PermissionMap
 }
 
 /// Whether entries are written as these pairs, in this order.
-fn are_written(entries: &[Entry], pairs: &[Pair]) -> bool {
+fn are_written(entries: &[PackedEntry], pairs: &[Pair]) -> bool {
     for (entry, pair) in entries.iter().zip(pairs) {
         if entry.encode() != *pair {
             return false;
         }
     }
     entries.len() == pairs.len()
+}
+
+/// Whether two plans have the same entries, in the same order.
+fn have_same_entries(one: &Plan, other: &Plan) -> bool {
+    for (entry, same) in one.entries().iter().zip(other.entries()) {
+        if entry.entry() != same.entry() {
+            return false;
+        }
+    }
+    one.entries().len() == other.entries().len()
 }
 
 /// Whether two plans have the same costs of all split blocks under all permissions.
@@ -76,7 +86,7 @@ fn is_of_tree(rt: &impl Abort, alloc: Global, map: &PermissionMap, of_map: &Plan
     let plan = plan(alloc, &tree).expect(rt, "memory");
     plan.branches() == tree.branches()
         && plan.needed() == of_map.needed()
-        && plan.entries() == of_map.entries()
+        && have_same_entries(&plan, of_map)
         && have_same_costs(&plan, of_map)
 }
 
@@ -95,7 +105,7 @@ fn configures(rt: &impl Abort, alloc: Global, ranges: &[Range], word: u64) {
     let map = map_of(rt, alloc, ranges);
     let plan = plan_map(alloc, &map).expect(rt, "memory");
     assert!(rt; plan.entries().len() <= 16);
-    assert!(rt; Bank::of(plan.entries(), Limit::Sixteen).cfg0() == word);
+    assert!(rt; Bank::of_packed(plan.entries(), Limit::Sixteen).cfg0() == word);
 }
 
 /// The map of the ranges splits as many blocks as there are rows, which have these costs.

@@ -1,14 +1,10 @@
 -- A view kept as the points at which it changes.
 use Rattle.std.specs.Prelude.{◌≡◌, ◌≢◌, ℕ, ◌+◌, ◌-◌, ◌/◌, ◌%◌, ◌^◌, ◌<◌, ◌≤◌, ◌⊎◌, Bool, not, ◌==◌, if◌then◌else◌, List, [], ◌∷◌, ◌++◌, length, Option, None, Some, ⊤}
 use Rattle.pmp_encoding.specs.declared.perm.Perm.{Perm}
-use Rattle.pmp_encoding.specs.declared.perm.Perm.TheVariants.{NoAccess, Read, ReadWrite, Execute, ReadExecute, ReadWriteExecute}
+use Rattle.pmp_encoding.specs.declared.perm.Perm.TheVariants.{NoAccess}
+pub use Rattle.pmp_encoding.specs.Perms.{perm_for}
 use Rattle.permission_map.specs.declared.points.Point.{Point}
 use Rattle.permission_map.specs.declared.runs.Run.{Run}
-
--- the permission with these bits R, W and X
-abbrev pub perm_for : ℕ → Perm
-perm_for n =
-    if n == 0 then NoAccess else (if n == 1 then Read else (if n == 3 then ReadWrite else (if n == 4 then Execute else (if n == 5 then ReadExecute else ReadWriteExecute))))
 
 -- a point's page, and the permission that stands from it on
 abbrev pub page_of : Point → ℕ

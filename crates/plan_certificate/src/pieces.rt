@@ -19,7 +19,7 @@ use byte_streams::{DeviceFault, Sink, write_whole};
 use byteorder::{ByteOrder, LittleEndian};
 use certificate_format::{Header, SixCosts, Version};
 use entry_planner::Plan;
-use pmp_encoding::{Entry, Limit, Perm};
+use pmp_encoding::{Limit, PackedEntry, Perm};
 use prefix_tree::{Chain, Halving};
 
 /// How many bytes go to a sink at a time.
@@ -69,7 +69,7 @@ fn header_piece(header: Header) -> ArrayVec<u8, PIECE>
 
 /// An entry's configuration byte and address register.
 #[tactic(auto, unfolding(crate::specs::Spelling::u64_bytes))]
-fn pair_of(entry: &Entry) -> [u8; 9]
+fn pair_of(entry: &PackedEntry) -> [u8; 9]
     ensures { result ≡ entry_bytes entry.now }
 {
     let (cfg, address) = entry.encode();
@@ -160,7 +160,7 @@ fn put<W: Sink>(
 /// Puts the entries.
 fn put_entries<W: Sink>(
     piece: &mut ArrayVec<u8, PIECE>,
-    entries: &[Entry],
+    entries: &[PackedEntry],
     sink: &mut W,
 ) -> Result<(), DeviceFault>
     ensures put { IfOk result (λ _.

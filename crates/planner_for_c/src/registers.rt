@@ -4,7 +4,7 @@ ghost use Rattle.std.specs.Prelude.{◌≡◌, ◌*◌, ◌<◌, ◌≤◌, ℕ,
 ghost use Rattle.pmp_encoding.specs.Banks.{address_at, word_at};
 ghost use Rattle.planner_for_c.specs.Registers.{HoldsList};
 
-use pmp_encoding::{Bank, Entry, Limit};
+use pmp_encoding::{Bank, Limit, PackedEntry};
 
 /// The registers of sixty-four entries. A hart with fewer has the first of them.
 #[repr(C)]
@@ -34,11 +34,11 @@ fn put_addresses(bank: &Bank, addr: &mut [u64; 64])
 
 impl Registers {
     /// Makes them those of the entries, each in its canonical pair, and zero past them.
-    pub(crate) fn put(&mut self, entries: &[Entry])
+    pub(crate) fn put(&mut self, entries: &[PackedEntry])
         requires { length entries.now ≤ 64 }
         ensures { HoldsList self.new entries.now }
     {
-        let bank = Bank::of(entries, Limit::SixtyFour);
+        let bank = Bank::of_packed(entries, Limit::SixtyFour);
         put_words(&bank, &mut self.cfg);
         put_addresses(&bank, &mut self.addr);
     }

@@ -8,6 +8,7 @@ use crate::csr::{Csr, csr_of, fault_of_word};
 use crate::extent::Extent;
 use crate::fault::EncodingFault;
 use crate::limit::Limit;
+use crate::packed_entry::PackedEntry;
 use crate::perm::Perm;
 use crate::region::Entry;
 use crate::register_pair::decode;
@@ -51,6 +52,16 @@ impl Bank {
         let mut bank = Bank::empty(limit);
         bank.load(entries);
         bank
+    }
+
+    /// The bank of entries that are kept packed, as [`Bank::of`] has it.
+    pub fn of_packed(entries: &[PackedEntry], limit: Limit) -> Bank
+        requires { length entries.now ≤ limit_number limit }
+        ensures list { HasList result entries.now }
+        ensures registers { IsBankOf result limit entries.now }
+    {
+        let list = unpacked(entries);
+        Bank::of(&list[..entries.len()], limit)
     }
 
     /// The bank that has no entry.
@@ -279,6 +290,19 @@ fn fill(
         addresses[i] = address;
         extents[i] = Extent::of(entry);
     }
+}
+
+/// Packed entries, each with its region and its permission, at the first of sixty-four places.
+fn unpacked(entries: &[PackedEntry]) -> [Entry; 64]
+    requires { length entries.now ≤ 64 }
+    ensures room { length result ≡ 64 }
+    ensures in_order { take (length entries.now) result ≡ entries.now }
+{
+    let mut list = [Entry::default(); 64];
+    for (i, entry) in entries.iter().enumerate() {
+        list[i] = entry.entry();
+    }
+    list
 }
 
 /// The word with the byte put above all others.

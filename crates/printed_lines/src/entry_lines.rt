@@ -8,7 +8,7 @@ ghost use Rattle.printed_lines.specs.Texts.{entry_text, register_text};
 
 use crate::hexadecimal::{byte_digits, word_digits};
 use crate::numeral::Numeral;
-use pmp_encoding::Entry;
+use pmp_encoding::PackedEntry;
 use register_width::Xlen;
 
 /// The most bytes that are put for an entry: what stands behind a short number is put too, and written over.
@@ -60,7 +60,13 @@ fn put_register(buffer: &mut [u8], at: usize, xlen: Xlen, value: u64) -> usize
 
 /// Puts the line of an entry.
 #[inline(always)]
-fn put_entry(buffer: &mut [u8], at: usize, xlen: Xlen, number: &Numeral, entry: &Entry) -> usize
+fn put_entry(
+    buffer: &mut [u8],
+    at: usize,
+    xlen: Xlen,
+    number: &Numeral,
+    entry: &PackedEntry,
+) -> usize
     requires room { at + 46 ≤ length buffer.old }
     requires len { number.now.len ≤ 20 }
     ensures end { result ≤ at + 46 }
@@ -78,7 +84,7 @@ fn put_entry(buffer: &mut [u8], at: usize, xlen: Xlen, number: &Numeral, entry: 
 }
 
 /// Puts the lines of entries, numbered from `first` on, at the front, and answers the place after them.
-pub fn put_entries(buffer: &mut [u8], xlen: Xlen, entries: &[Entry], first: u64) -> usize
+pub fn put_entries(buffer: &mut [u8], xlen: Xlen, entries: &[PackedEntry], first: u64) -> usize
     requires room { 46 * length entries.now ≤ length buffer.old }
     requires numbers { first + length entries.now < 2 ^ 64 }
     ensures end { result ≤ length buffer.new }

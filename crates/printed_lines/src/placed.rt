@@ -5,22 +5,25 @@ ghost use Rattle.std.specs.Int.{from_le_bytes, w32, w64};
 ghost use Rattle.pmp_encoding.specs.Limits.{limit_number};
 ghost use Rattle.printed_lines.specs.Placed.{cfg_from, entry_from, places_in_word, word_from};
 
-use pmp_encoding::{Entry, Limit};
+use pmp_encoding::{Entry, Limit, PackedEntry};
 use register_width::Xlen;
 
 /// What stands at entry i of the hart.
-pub fn entry_from(entries: &[Entry], first: u8, i: usize) -> Option<Entry>
+pub fn entry_from(entries: &[PackedEntry], first: u8, i: usize) -> Option<Entry>
     ensures { result ≡ entry_from first entries.now i }
 {
     let first = usize::from(first);
     if i < first {
         return None;
     }
-    entries.get(i - first).copied()
+    match entries.get(i - first) {
+        Some(entry) => Some(entry.entry()),
+        None => None,
+    }
 }
 
 /// The configuration byte of entry i of the hart.
-fn cfg_from(entries: &[Entry], first: u8, i: usize) -> u8
+fn cfg_from(entries: &[PackedEntry], first: u8, i: usize) -> u8
     ensures { result ≡ cfg_from first entries.now i }
 {
     match entry_from(entries, first, i) {
@@ -30,7 +33,7 @@ fn cfg_from(entries: &[Entry], first: u8, i: usize) -> u8
 }
 
 /// A word of 32 bits, from that of entry `at` on.
-fn short_word(entries: &[Entry], first: u8, at: usize) -> u64
+fn short_word(entries: &[PackedEntry], first: u8, at: usize) -> u64
     requires { at < 256 }
     ensures { result ≡ from_le_bytes w32 (map (λ j. cfg_from first entries.now (at + j))
         (places_in_word Xlen.Rv32)) }
@@ -44,7 +47,7 @@ fn short_word(entries: &[Entry], first: u8, at: usize) -> u64
 }
 
 /// A word of 64 bits, from that of entry `at` on.
-fn long_word(entries: &[Entry], first: u8, at: usize) -> u64
+fn long_word(entries: &[PackedEntry], first: u8, at: usize) -> u64
     requires { at < 512 }
     ensures { result ≡ from_le_bytes w64 (map (λ j. cfg_from first entries.now (at + j))
         (places_in_word Xlen.Rv64)) }
@@ -62,7 +65,7 @@ fn long_word(entries: &[Entry], first: u8, at: usize) -> u64
 }
 
 /// The i-th configuration word.
-pub fn word_from(xlen: Xlen, entries: &[Entry], first: u8, i: usize) -> u64
+pub fn word_from(xlen: Xlen, entries: &[PackedEntry], first: u8, i: usize) -> u64
     requires { i < 64 }
     ensures { result ≡ word_from xlen first entries.now i }
 {

@@ -9,7 +9,7 @@ use crate::entry_lines::{MOST, put_entries};
 use crate::placed::{room_from, word_from};
 use crate::texts::{count_line, word_line};
 use byte_streams::{DeviceFault, Sink, write_whole};
-use pmp_encoding::{Entry, Limit};
+use pmp_encoding::{Limit, PackedEntry};
 use register_width::Xlen;
 
 /// How many entries' lines are put together before they go to the sink: more bytes than a `BufWriter` of std holds, which then
@@ -19,7 +19,7 @@ const LINES: usize = 320;
 /// Writes a line for each entry.
 fn print_entries<W: Sink>(
     xlen: Xlen,
-    entries: &[Entry],
+    entries: &[PackedEntry],
     first: u8,
     out: &mut W,
 ) -> Result<(), DeviceFault>
@@ -43,7 +43,7 @@ fn print_entries<W: Sink>(
 /// Writes the number of entries, and a line for each.
 fn print_list<W: Sink>(
     xlen: Xlen,
-    entries: &[Entry],
+    entries: &[PackedEntry],
     first: u8,
     out: &mut W,
 ) -> Result<(), DeviceFault>
@@ -60,7 +60,7 @@ fn print_list<W: Sink>(
 /// Writes the words below `end` that have no entry below the first, a line for each.
 fn print_words<W: Sink>(
     xlen: Xlen,
-    entries: &[Entry],
+    entries: &[PackedEntry],
     first: u8,
     end: usize,
     out: &mut W,
@@ -89,7 +89,7 @@ fn print_words<W: Sink>(
 /// this call.
 pub fn print_plan<W: Sink>(
     xlen: Xlen,
-    entries: &[Entry],
+    entries: &[PackedEntry],
     first: u8,
     limit: Limit,
     out: &mut W,

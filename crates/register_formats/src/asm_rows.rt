@@ -7,7 +7,7 @@ use crate::names::{address_or_zero, entry_at, push_note};
 use crate::rows::{Row, Rows};
 use crate::shared::{kept_bits, shared_words};
 use arrayvec::ArrayVec;
-use pmp_encoding::{Entry, Limit};
+use pmp_encoding::{Limit, PackedEntry};
 use printed_lines::{push_register, word_from};
 use register_width::Xlen;
 use text_lines::{Line, push_decimal, push_text};
@@ -80,7 +80,7 @@ pub(crate) fn begin(xlen: Xlen, limit: Limit, first: u8) -> Line
 #[derive(Drop)]
 pub(crate) struct Addresses<'a> {
     pub(crate) xlen: Xlen,
-    pub(crate) entries: &'a [Entry],
+    pub(crate) entries: &'a [PackedEntry],
     pub(crate) first: u8,
 }
 
@@ -123,7 +123,7 @@ fn kept(xlen: Xlen, first: u8) -> Line
 }
 
 /// Those that write them with the bytes of the list.
-fn joined(xlen: Xlen, entries: &[Entry], first: u8) -> Line
+fn joined(xlen: Xlen, entries: &[PackedEntry], first: u8) -> Line
     ensures { result.items ≡ asm_joined xlen first entries.now }
 {
     let word = xlen.word_of(first);
@@ -140,7 +140,7 @@ fn joined(xlen: Xlen, entries: &[Entry], first: u8) -> Line
 #[derive(Drop)]
 pub(crate) struct SharedWords<'a> {
     pub(crate) xlen: Xlen,
-    pub(crate) entries: &'a [Entry],
+    pub(crate) entries: &'a [PackedEntry],
     pub(crate) first: u8,
 }
 
@@ -163,7 +163,7 @@ impl Rows for SharedWords<'_> {
 #[derive(Drop)]
 pub(crate) struct Words<'a> {
     pub(crate) xlen: Xlen,
-    pub(crate) entries: &'a [Entry],
+    pub(crate) entries: &'a [PackedEntry],
     pub(crate) first: u8,
 }
 

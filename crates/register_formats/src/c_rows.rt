@@ -6,7 +6,7 @@ ghost use Rattle.register_formats.specs.CTexts.{c_addresses_size, c_begin, c_bet
 use crate::names::{address_or_zero, push_place};
 use crate::rows::{Row, Rows};
 use arrayvec::ArrayVec;
-use pmp_encoding::{Entry, Limit};
+use pmp_encoding::{Limit, PackedEntry};
 use printed_lines::{entry_from, push_register, word_from};
 use register_width::Xlen;
 use text_lines::{Line, push_decimal, push_text};
@@ -159,7 +159,7 @@ pub(crate) fn load_begin<'a>() -> &'a [u8]
 #[derive(Drop)]
 pub(crate) struct Addresses<'a> {
     pub(crate) xlen: Xlen,
-    pub(crate) entries: &'a [Entry],
+    pub(crate) entries: &'a [PackedEntry],
     pub(crate) first: u8,
 }
 
@@ -190,7 +190,7 @@ impl Rows for Addresses<'_> {
 #[derive(Drop)]
 pub(crate) struct Words<'a> {
     pub(crate) xlen: Xlen,
-    pub(crate) entries: &'a [Entry],
+    pub(crate) entries: &'a [PackedEntry],
     pub(crate) first: u8,
 }
 

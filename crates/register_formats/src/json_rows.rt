@@ -7,7 +7,7 @@ ghost use Rattle.register_formats.specs.JsonTexts.{json_before, json_byte, json_
 use crate::names::{entry_at, power_of_two};
 use crate::rows::{Row, Rows};
 use arrayvec::ArrayVec;
-use pmp_encoding::{Entry, Limit};
+use pmp_encoding::{Entry, Limit, PackedEntry};
 use printed_lines::{push_register, word_from};
 use register_width::Xlen;
 use text_lines::{Line, push_decimal, push_hex, push_text};
@@ -115,7 +115,7 @@ impl Rows for Name<'_> {
 #[derive(Drop)]
 pub(crate) struct Entries<'a> {
     pub(crate) xlen: Xlen,
-    pub(crate) entries: &'a [Entry],
+    pub(crate) entries: &'a [PackedEntry],
     pub(crate) first: u8,
 }
 
@@ -177,7 +177,7 @@ impl Rows for Entries<'_> {
 #[derive(Drop)]
 pub(crate) struct Words<'a> {
     pub(crate) xlen: Xlen,
-    pub(crate) entries: &'a [Entry],
+    pub(crate) entries: &'a [PackedEntry],
     pub(crate) first: u8,
 }
 

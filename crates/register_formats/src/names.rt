@@ -4,7 +4,7 @@ ghost use Rattle.std.specs.Prelude.{◌≡◌, ◌≤◌, ◌<◌, ◌+◌, ◌^
 ghost use Rattle.arrayvec.specs.ArrayVec.{array_vec_len};
 ghost use Rattle.register_formats.specs.Names.{address_or_zero, array_link, base_text, note_text, place_text, prefix_of, region_or_off, region_text, size_and_perm_text};
 
-use pmp_encoding::Entry;
+use pmp_encoding::{Entry, PackedEntry};
 use printed_lines::push_size;
 use text_lines::{Line, push_decimal, push_hex, push_text};
 
@@ -96,10 +96,13 @@ pub(crate) fn address_or_zero(entry: Option<Entry>) -> u64
 }
 
 /// The i-th entry, where there is one.
-pub(crate) fn entry_at(entries: &[Entry], i: usize) -> Option<Entry>
+pub(crate) fn entry_at(entries: &[PackedEntry], i: usize) -> Option<Entry>
     ensures { result ≡ slice_get entries.now i }
 {
-    entries.get(i).copied()
+    match entries.get(i) {
+        Some(entry) => Some(entry.entry()),
+        None => None,
+    }
 }
 
 /// What the names in C begin with: the name that is given, and otherwise `pmp`.

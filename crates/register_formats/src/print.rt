@@ -16,7 +16,7 @@ use crate::rows::{print_both, print_section, print_texts, print_titled};
 use crate::shared::shared_words;
 use crate::{asm_rows, c_rows, c_writes, json_rows};
 use byte_streams::{DeviceFault, Sink, write_whole};
-use pmp_encoding::{Entry, Limit};
+use pmp_encoding::{Limit, PackedEntry};
 use printed_lines::room_from;
 use register_width::Xlen;
 
@@ -25,7 +25,7 @@ fn print_arrays<W: Sink>(
     prefix: &[u8],
     link: &[u8],
     xlen: Xlen,
-    entries: &[Entry],
+    entries: &[PackedEntry],
     first: u8,
     limit: Limit,
     out: &mut W,
@@ -145,7 +145,7 @@ fn print_loader<W: Sink>(
 pub fn print_c<W: Sink>(
     name: Option<&str>,
     xlen: Xlen,
-    entries: &[Entry],
+    entries: &[PackedEntry],
     first: u8,
     limit: Limit,
     out: &mut W,
@@ -191,7 +191,7 @@ fn print_asm_head<W: Sink>(
 /// Writes the instructions for the configuration words.
 fn print_asm_words<W: Sink>(
     xlen: Xlen,
-    entries: &[Entry],
+    entries: &[PackedEntry],
     first: u8,
     limit: Limit,
     out: &mut W,
@@ -224,7 +224,7 @@ fn print_asm_words<W: Sink>(
 pub fn print_asm<W: Sink>(
     name: Option<&str>,
     xlen: Xlen,
-    entries: &[Entry],
+    entries: &[PackedEntry],
     first: u8,
     limit: Limit,
     out: &mut W,
@@ -254,7 +254,7 @@ pub fn print_asm<W: Sink>(
 fn print_object<W: Sink>(
     name: &[u8],
     xlen: Xlen,
-    entries: &[Entry],
+    entries: &[PackedEntry],
     first: u8,
     limit: Limit,
     count: usize,
@@ -305,7 +305,7 @@ fn words_printed(xlen: Xlen, entries: usize, first: u8, limit: Limit) -> usize
 pub fn print_json<W: Sink>(
     map: &str,
     xlen: Xlen,
-    entries: &[Entry],
+    entries: &[PackedEntry],
     first: u8,
     limit: Limit,
     out: &mut W,

@@ -5,7 +5,7 @@ ghost use Rattle.std.specs.List.{list_all};
 ghost use Rattle.pmp_encoding.specs.Limits.{limit_number};
 ghost use Rattle.register_width.specs.Widths.{fits, is_near, register_digits, space_end, whole_word, word_count, word_entries, word_number, AreReached};
 
-use pmp_encoding::{Entry, Limit};
+use pmp_encoding::{Limit, PackedEntry};
 
 /// How many bits the registers of a hart have.
 #[derive(Clone, Copy, PartialEq, Eq, Debug)]
@@ -17,15 +17,14 @@ pub enum Xlen {
 }
 
 /// Whether a region ends where address registers of 32 bits still reach.
-fn is_near(entry: &Entry) -> bool
+fn is_near(entry: &PackedEntry) -> bool
     ensures { result ≡ is_near entry.now }
 {
-    let base = entry.region.base();
-    let log2 = entry.region.log2();
-    base + (1 << log2) <= 1 << 34
+    let region = entry.region();
+    region.base() + (1 << region.log2()) <= 1 << 34
 }
 
-fn are_near(entries: &[Entry]) -> bool
+fn are_near(entries: &[PackedEntry]) -> bool
     ensures { result ≡ list_all is_near entries.now }
 {
     entries.iter().all(|entry| is_near(entry))
@@ -120,7 +119,7 @@ impl Xlen {
     }
 
     /// Whether the hart's address registers reach the regions of all these entries.
-    pub fn reaches(self, entries: &[Entry]) -> bool
+    pub fn reaches(self, entries: &[PackedEntry]) -> bool
         ensures { (result ≡ true) ↔ AreReached self entries.now }
     {
         match self {

@@ -1,7 +1,7 @@
 //! What the rows of formats share: a board, what is said at the head of C and of assembly, and what they assert.
 
 use byte_streams::fakes::PieceSink;
-use pmp_encoding::{Entry, Limit, Perm, Region};
+use pmp_encoding::{Entry, Limit, PackedEntry, Perm, Region};
 use printed_lines::{print_plan, room_from};
 use register_formats::{print_asm, print_c, print_json};
 use register_width::Xlen;
@@ -70,13 +70,22 @@ pub(crate) fn entries_of(rt: &impl Abort, alloc: Global, blocks: &[Block]) -> Ve
     entries
 }
 
+/// The same, packed as a plan has them.
+pub(crate) fn packed_of(rt: &impl Abort, alloc: Global, blocks: &[Block]) -> Vec<PackedEntry> {
+    let mut packed = Vec::new(alloc);
+    for entry in entries_of(rt, alloc, blocks) {
+        packed.push(PackedEntry::new(entry)).expect(rt, "memory");
+    }
+    packed
+}
+
 /// Whether all of the entries, numbered from the first on, could be printed in that form. The address registers have to reach
 /// them.
 pub(crate) fn prints(
     rt: &impl Abort,
     form: Form,
     xlen: Xlen,
-    entries: &[Entry],
+    entries: &[PackedEntry],
     first: u8,
     limit: Limit,
     sink: &mut PieceSink,
@@ -135,7 +144,7 @@ pub(crate) fn expect_text(
     first: u8,
     parts: &[&[u8]],
 ) {
-    let entries = entries_of(rt, alloc, blocks);
+    let entries = packed_of(rt, alloc, blocks);
     for piece in [3, 7, 4096, 8192] {
         let mut sink = PieceSink::new(piece, None);
         assert!(rt;
@@ -170,7 +179,7 @@ pub(crate) fn expect_parts(
     end: &[u8],
     parts: &[(&[u8], usize)],
 ) {
-    let entries = entries_of(rt, alloc, blocks);
+    let entries = packed_of(rt, alloc, blocks);
     for piece in [4096, 8192] {
         let mut sink = PieceSink::new(piece, None);
         assert!(rt; prints(rt, form, xlen, entries.as_slice(), first, limit, &mut sink));

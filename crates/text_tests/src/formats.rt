@@ -1,6 +1,6 @@
 //! A plan as text, and what all formats have: long lists and empty ones, sizes, and writes that fail.
 
-use crate::boards::{BOARD, Block, Form, HEAD, entries_of, expect_parts, expect_text, prints};
+use crate::boards::{BOARD, Block, Form, HEAD, expect_parts, expect_text, packed_of, prints};
 use byte_streams::fakes::PieceSink;
 use pmp_encoding::{Limit, Perm};
 use register_width::Xlen;
@@ -136,7 +136,7 @@ fn sizes_are_told_in_their_largest_unit(rt: HostRuntime) {
 /// That each of the first seven writes that fails ends the printing of the board, and that the printing ends too where a device
 /// takes nothing.
 fn expect_failures(rt: &impl Abort, alloc: Global, form: Form) {
-    let entries = entries_of(rt, alloc, BOARD);
+    let entries = packed_of(rt, alloc, BOARD);
     for k in 1..8u64 {
         let mut sink = PieceSink::new(4096, Some(k));
         let printed = prints(

@@ -1,6 +1,6 @@
 //! The formats for RV32, by hand from their descriptions and the privileged architecture.
 
-use crate::boards::{BOARD, Block, Form, entries_of, expect_parts, expect_text};
+use crate::boards::{BOARD, Block, Form, expect_parts, expect_text, packed_of};
 use pmp_encoding::{Limit, Perm};
 use register_width::Xlen;
 use std::alloc::Global;
@@ -37,7 +37,7 @@ pmpcfg3 0x00000000
 
 /// That address registers of that width reach the blocks or not.
 fn expect_reach(rt: &impl Abort, alloc: Global, xlen: Xlen, blocks: &[Block], reached: bool) {
-    let entries = entries_of(rt, alloc, blocks);
+    let entries = packed_of(rt, alloc, blocks);
     assert!(rt; xlen.reaches(entries.as_slice()) == reached);
 }
 

@@ -10,7 +10,7 @@ ghost use Rattle.register_width.specs.Widths.{AreReached};
 use crate::certified_plan::plan_and_certify;
 use byte_streams::{DeviceFault, Sink, Source};
 use command_inputs::map_in;
-use pmp_encoding::{Entry, Limit};
+use pmp_encoding::{Limit, PackedEntry};
 use printed_lines::{print_plan, room_from};
 use program_files::WholeSink;
 use program_tasks::Format;
@@ -60,7 +60,7 @@ fn print_as<W: Sink>(
     map: &str,
     name: Option<&str>,
     xlen: Xlen,
-    entries: &[Entry],
+    entries: &[PackedEntry],
     first: u8,
     limit: Limit,
     out: &mut W,

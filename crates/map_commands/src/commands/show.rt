@@ -99,8 +99,16 @@ fn do_show<'a, R: Source, W: Sink>(
     let bytes = bytes_in(alloc, file, first, MAP_BYTES)?;
     let map = map_by(alloc, file, bytes.as_slice())?;
     let plan = planned_near(alloc, file, &map, xlen, at_most)?;
-    let entries = plan.entries();
-    let text = shown_as(alloc, format, costs, bytes.as_slice(), &map, entries, limit)?;
+    let entries = plan.listed(alloc)?;
+    let text = shown_as(
+        alloc,
+        format,
+        costs,
+        bytes.as_slice(),
+        &map,
+        entries.as_slice(),
+        limit,
+    )?;
     match write_whole(out, text.as_slice()) {
         Ok(()) => Ok(0),
         Err(DeviceFault) => Err(Trouble::Output),

@@ -1,11 +1,11 @@
-use Rattle.std.proofs.Common.{◌≡◌, ◌∙◌, ◌<◌, length, arith}
+use Rattle.std.proofs.Common.{◌≡◌, ◌<◌, length, arith}
 use Rattle.pmp_encoding.specs.Limits.{limit_number}
 use Rattle.enclave_table.proofs.SameViews.{needs_of}
 use Rattle.enclave_table.proofs.fewest.listed.Goals as goal
 
 pub returns-clause-list : goal.returns-clause-list
 returns-clause-list c = λ view fewest.
-    let is : c.in-Ok.list ≡ c.args.plan.now.entries = c.in-Ok.ensures ∙ c.entries.ensures in
+    let is : c.in-Ok.list ≡ c.args.plan.now.entries = c.in-Ok.ensures in
     record {
       fewest = rw is fewest;
       room = rw is (omega (arith, c.if-needed-number.false, c.needed.ensures, c.number.ensures.value));

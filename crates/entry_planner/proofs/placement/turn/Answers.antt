@@ -8,5 +8,5 @@ returns-in_ok-push c =
     let unless : Bool → ℕ = λ t. if t then 0 else 1 in (
       c.new.result ∷ [],
       c.in_ok-push.ensures.items,
-      (inr (c.new.result, c.new.ensures, refl), sym (ap unless (perm_eq-other c.args.perm c.args.inherited c.ne.result c.ne.ensures c.if-ne.true))),
+      (inr (c.new.result, (rw (sym c.new.ensures) at c.entry_of.ensures), refl), sym (ap unless (perm_eq-other c.args.perm c.args.inherited c.ne.result c.ne.ensures c.if-ne.true))),
     )

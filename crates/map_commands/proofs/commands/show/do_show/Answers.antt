@@ -1,4 +1,4 @@
-use Rattle.std.proofs.Common.{inl, inr, refl}
+use Rattle.std.proofs.Common.{◌∙◌, inl, inr, refl}
 use Rattle.std.proofs.lemmas.Result.{err_from_is_err_and}
 use Rattle.map_commands.specs.Show.{shown}
 use Rattle.command_inputs.specs.Inputs as inputs
@@ -29,6 +29,13 @@ returns-in_err-plan g c =
       ]
     ])
 
+pub returns-in_err-entries : goal.returns-in_err-entries
+returns-in_err-entries g c =
+    let p = err_from_is_err_and c.from_residual-in_err-entries.result c.from_residual-in_err-entries.ensures.1 in
+    let made = rw c.as_slice.ensures.value at c.in_ok-map.ensures.made in
+    let has = map_read _ c.in_ok-bytes.bytes.items _ c.in_ok-bytes.ensures.whole made in
+    rw (p.1, p.2) (shows.Shows.no_memory _ has refl)
+
 pub returns-in_err-text : goal.returns-in_err-text
 returns-in_err-text g c =
     let p = err_from_is_err_and c.from_residual-in_err-text.result c.from_residual-in_err-text.ensures.1 in
@@ -39,11 +46,11 @@ returns-in_err-text g c =
 pub returns-in-Ok : goal.returns-in-Ok
 returns-in-Ok g c =
     let made = rw c.as_slice.ensures.value at c.in_ok-map.ensures.made in
-    let text = rw (c.entries-entries.ensures, c.as_slice-2.ensures.value) at c.in_ok-text.ensures in
-    shown _ _ _ _ c.in_ok-bytes.ensures.whole made c.in_ok-plan.ensures.planned c.in_ok-plan.ensures.reached text (rw c.as_slice-3.ensures.value at c.in-Ok.ensures)
+    let text = rw (c.as_slice-3.ensures.value ∙ c.in_ok-entries.ensures, c.as_slice-2.ensures.value) at c.in_ok-text.ensures in
+    shown _ _ _ _ c.in_ok-bytes.ensures.whole made c.in_ok-plan.ensures.planned c.in_ok-plan.ensures.reached text (rw c.as_slice-4.ensures.value at c.in-Ok.ensures)
 
 pub returns : goal.returns
 returns g c =
     let made = rw c.as_slice.ensures.value at c.in_ok-map.ensures.made in
-    let text = rw (c.entries-entries.ensures, c.as_slice-2.ensures.value) at c.in_ok-text.ensures in
-    shows.Shows.no_output _ _ _ _ c.in_ok-bytes.ensures.whole made c.in_ok-plan.ensures.planned c.in_ok-plan.ensures.reached text (rw c.as_slice-3.ensures.value at c.in-Err.ensures)
+    let text = rw (c.as_slice-3.ensures.value ∙ c.in_ok-entries.ensures, c.as_slice-2.ensures.value) at c.in_ok-text.ensures in
+    shows.Shows.no_output _ _ _ _ c.in_ok-bytes.ensures.whole made c.in_ok-plan.ensures.planned c.in_ok-plan.ensures.reached text (rw c.as_slice-4.ensures.value at c.in-Err.ensures)
