@@ -5,7 +5,8 @@
 //! a fault; TOR, locked entries and reserved bits are faults here. `encode` gives the canonical pair of an entry, and
 //! `decode` answers what a pair means: an entry exactly where it means one, and otherwise why not. A [`Bank`] holds eight
 //! configuration words and 64 address registers, and its entries are those of the pairs below its limit, in order.
-//! Nothing here takes memory. (RISC-V Privileged Architecture, Physical Memory Protection)
+//! A [`PackedEntry`] is an entry in eight bytes, for long lists. Nothing here takes memory.
+//! (RISC-V Privileged Architecture, Physical Memory Protection)
 //!
 //! What the layers above use: `encode` and `decode` are inverse, but for 54 trailing ones, which come back as 53, and a
 //! bank made of a list has that list.
