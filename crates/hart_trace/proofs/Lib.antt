@@ -1,3 +1,4 @@
 mod PlainLines
 mod Calls
 mod PlainEvents
+mod SpacedLines

@@ -44,7 +44,7 @@ pub numeral_letters : (base : ℕ) (digits : List ℕ) (value : ℕ) → base �
 numeral_letters base digits value few h = digits_letters base digits few (numeral_digits base digits value h)
 
 -- letters are no blanks, and plain
-letters_word : (word : List ℕ) → list_all is_letter word ≡ true → list_all (λ b. not (is_blank b)) word ≡ true
+pub letters_word : (word : List ℕ) → list_all is_letter word ≡ true → list_all (λ b. not (is_blank b)) word ≡ true
 letters_word [] h = refl
 letters_word (b ∷ word) h =
     let both = and_parts (is_letter b) (list_all is_letter word) h in
@@ -79,7 +79,7 @@ start_words : (m s x : ℕ) (behind : List ℕ) → is_letter m ≡ true → is_
 start_words m s x behind hm hs = letters_split m [] (s ∷ 32 ∷ 48 ∷ x ∷ behind) (and_from _ _ hm refl) ∙ ap (λ ws. (m ∷ []) ∷ ws) (letters_split s [] (48 ∷ x ∷ behind) (and_from _ _ hs refl))
 
 -- the access that these words say
-access_said : (kind : Kind) (m s a : List ℕ) (words : List (List ℕ)) (mode : Mode) (size address : ℕ) (access : Access) → mode_of m ≡ Some mode → number_of s ≡ Some size → number_of a ≡ Some address → Some access ≡ sized mode kind size address (has_size kind size) refl → access_of kind (m ∷ s ∷ a ∷ words) ≡ Some (access, words)
+pub access_said : (kind : Kind) (m s a : List ℕ) (words : List (List ℕ)) (mode : Mode) (size address : ℕ) (access : Access) → mode_of m ≡ Some mode → number_of s ≡ Some size → number_of a ≡ Some address → Some access ≡ sized mode kind size address (has_size kind size) refl → access_of kind (m ∷ s ∷ a ∷ words) ≡ Some (access, words)
 access_said kind m s a words mode size address access em es ea is = rw (em, es, ea, ← is) refl
 
 start_plain : (m s x : ℕ) (behind : List ℕ) → is_letter m ≡ true → is_letter s ≡ true → is_letter x ≡ true → list_all is_plain behind ≡ true → list_all is_plain (m ∷ 32 ∷ s ∷ 32 ∷ 48 ∷ x ∷ behind) ≡ true

@@ -1,10 +1,10 @@
 -- The plainest spelling of an access.
-use Rattle.std.specs.Prelude.{◌≡◌, ℕ, Bool, true, not, ◌&&◌, ◌||◌, ◌==◌, List, [], ◌∷◌, ◌++◌, Some, codes}
+use Rattle.std.specs.Prelude.{◌≡◌, ℕ, Bool, true, not, ◌&&◌, ◌||◌, ◌==◌, List, [], ◌∷◌, ◌++◌, Some, codes, option_map}
 use Rattle.std.specs.List.{list_all}
 use Rattle.pmp_match.specs.declared.access.Mode.{Mode}
 use Rattle.pmp_match.specs.declared.access.Kind.{Kind}
 use Rattle.pmp_match.specs.declared.access.Kind.TheVariants.{Fetch, Load, Store}
-use Rattle.text_lines.specs.Words.{is_blank, is_plain}
+use Rattle.text_lines.specs.Words.{EndsWord, is_blank, is_plain, words_of}
 use Rattle.text_lines.specs.Numbers.{number_of}
 use Rattle.hart_trace.specs.Events.{mode_of}
 
@@ -29,3 +29,11 @@ abbrev pub keyword : Kind → List ℕ
 keyword Fetch = codes "fetch"
 keyword Load = codes "load"
 keyword Store = codes "store"
+
+-- the first word of a text is this one, and its other words are those of the rest
+abbrev pub Leads : List ℕ → List ℕ → List ℕ → Type 0
+Leads text word rest = words_of text ≡ option_map (λ words. word ∷ words) (words_of rest)
+
+-- a word ends before a text, whose words are those of the rest
+abbrev pub EndsBefore : List ℕ → List ℕ → Type 0
+EndsBefore text rest = EndsWord is_blank text × (words_of text ≡ words_of rest)

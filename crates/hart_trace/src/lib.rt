@@ -14,8 +14,10 @@
 mod event;
 mod plain;
 mod plain_events;
+mod spaced;
 mod trace;
 
 pub use event::Event;
 pub use plain::plain_access;
+pub use spaced::spaced_access;
 pub use trace::{parse_by_words, parse_line};

@@ -18,7 +18,7 @@ use text_lines::{leading_numeral, numeral};
 static MODES: [Option<Mode>; 3] = [Some(Mode::Supervisor), None, Some(Mode::User)];
 
 #[inline(always)]
-fn plain_mode(byte: u8) -> Option<Mode>
+pub(crate) fn plain_mode(byte: u8) -> Option<Mode>
     ensures mode { IfSome result (λ mode. mode_of (byte ∷ []) ≡ Some mode) }
     ensures letter { IfSome result (λ _. is_letter byte ≡ true) }
 {

@@ -65,7 +65,7 @@ fn behind_ecall(line: &[u8]) -> Option<&[u8]>
 }
 
 /// The number that a text begins with, and what stands after it.
-fn plain_number(text: &[u8]) -> Option<(u64, &[u8])>
+pub(crate) fn plain_number(text: &[u8]) -> Option<(u64, &[u8])>
     ensures { IfSome result (λ found. BeginsNumber text.now found.0 found.1.now) }
 {
     if let Some(digits) = behind_mark(text) {

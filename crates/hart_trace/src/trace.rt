@@ -9,6 +9,7 @@ ghost use Rattle.hart_trace.specs.Events.{mode_of, sized, access_of, with_no_val
 use crate::event::Event;
 use crate::plain::plain_on_hart;
 use crate::plain_events::plain_event_on_hart;
+use crate::spaced::spaced_access;
 use arrayvec::ArrayVec;
 use pmp_match::{Access, Kind, Mode};
 use text_lines::{NotUnderstood, Words, number, numeral};
@@ -209,6 +210,9 @@ pub fn parse_line(line: &[u8], harts: u8) -> Result<Option<(u8, Event)>, NotUnde
     }
     if let Some((hart, event)) = plain_event_on_hart(line, harts) {
         return Ok(Some((hart, event)));
+    }
+    if let Some((access, value)) = spaced_access(line) {
+        return Ok(Some((0, Event::Access(access, value))));
     }
     parse_by_words(line, harts)
 }

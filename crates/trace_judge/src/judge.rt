@@ -8,7 +8,7 @@ ghost use Rattle.trace_judge.specs.Answers.{access_on, answered_by, is_no_access
 use crate::access_judge::AccessJudge;
 use crate::answers::push_answer;
 use byte_streams::{Sink, Source};
-use hart_trace::{Event, parse_by_words, plain_access};
+use hart_trace::{Event, parse_by_words, plain_access, spaced_access};
 use pmp_encoding::Bank;
 use pmp_match::{Access, Segments};
 use text_lines::{Interpreter, Line, NotUnderstood, Refusal, RunFault, interpret_lines};
@@ -43,6 +43,9 @@ fn plain_access_in(line: &[u8]) -> Option<Access>
 fn access_in(line: &[u8]) -> Result<Option<Access>, NotUnderstood>
     ensures { result_ok result ≡ access_on line.now }
 {
+    if let Some((access, _)) = spaced_access(line) {
+        return Ok(Some(access));
+    }
     match parse_by_words(line, 0) {
         Ok(None) => Ok(None),
         Ok(Some((_, Event::Access(access, _)))) => Ok(Some(access)),

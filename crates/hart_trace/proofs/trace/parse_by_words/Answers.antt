@@ -1,4 +1,4 @@
-use Rattle.std.proofs.Common.{◌≡◌, ◌∙◌, ℕ, List, ◌∷◌, Option, Some, None, option_map, refl, sym}
+use Rattle.std.proofs.Common.{◌≡◌, ◌∙◌, ℕ, List, ◌∷◌, Option, Some, None, option_map, refl}
 use Rattle.hart_trace.specs.declared.event.Event.{Event}
 use Rattle.text_lines.specs.Words.{split_words, words_of}
 use Rattle.hart_trace.specs.Events.{event_of, hart_of, meaning_of}

@@ -4,3 +4,7 @@ use Rattle.hart_trace.proofs.trace.parse_line.Goals as goal
 -- a plain line is understood as any other
 pub returns-in-Some : goal.returns-in-Some
 returns-in-Some c = sym c.in-Some.ensures
+
+-- and one with other blanks too
+pub returns-in-Some-spaced_access : goal.returns-in-Some-spaced_access
+returns-in-Some-spaced_access c = sym (c.in-Some-spaced_access.ensures c.args.harts)

@@ -1,0 +1,7 @@
+use Rattle.std.proofs.Common.{ap, sym}
+use Rattle.trace_judge.specs.Answers.{only_access}
+use Rattle.trace_judge.proofs.judge.access_in.Goals as goal
+
+-- an access with other blanks than the plainest is one too
+pub returns-in-Some : goal.returns-in-Some
+returns-in-Some c = sym (ap only_access (c.in-Some.ensures 0))
