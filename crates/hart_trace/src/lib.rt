@@ -19,5 +19,5 @@ mod trace;
 
 pub use event::Event;
 pub use plain::plain_access;
-pub use spaced::spaced_access;
+pub use spaced::{is_wordless, spaced_access};
 pub use trace::{parse_by_words, parse_line};

@@ -2,7 +2,7 @@
 //! one or more blanks between two words and at either end, numbers of either base, and a comment behind a blank. They too are
 //! read in one pass. What stands in a comment is not looked at, and no line is refused here.
 
-ghost use Rattle.std.specs.Prelude.{◌≡◌, ℕ, List, ◌∷◌, ◌++◌, [], Some, IfSome, true, option_map};
+ghost use Rattle.std.specs.Prelude.{◌≡◌, ℕ, List, ◌∷◌, ◌++◌, [], None, Some, IfSome, true, option_map};
 ghost use Rattle.text_lines.specs.Words.{is_blank, words_of};
 ghost use Rattle.text_lines.specs.Numbers.{number_of};
 ghost use Rattle.hart_trace.specs.declared.event.Event.TheVariants as events;
@@ -117,6 +117,14 @@ fn is_end(text: &[u8]) -> bool
         [b'#', ..] => true,
         _ => false,
     }
+}
+
+/// Whether a line has blanks alone, and perhaps a comment behind them. False says nothing of the line.
+#[inline(always)]
+pub fn is_wordless(line: &[u8]) -> bool
+    ensures { result ≡ true → (harts : ℕ) → meaning_of harts line.now ≡ Some None }
+{
+    is_end(behind_blanks(line))
 }
 
 /// The access that the first three words of a text say, and what the next word begins.

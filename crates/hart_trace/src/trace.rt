@@ -9,7 +9,7 @@ ghost use Rattle.hart_trace.specs.Events.{mode_of, sized, access_of, with_no_val
 use crate::event::Event;
 use crate::plain::plain_on_hart;
 use crate::plain_events::plain_event_on_hart;
-use crate::spaced::spaced_access;
+use crate::spaced::{is_wordless, spaced_access};
 use arrayvec::ArrayVec;
 use pmp_match::{Access, Kind, Mode};
 use text_lines::{NotUnderstood, Words, number, numeral};
@@ -214,10 +214,14 @@ pub fn parse_line(line: &[u8], harts: u8) -> Result<Option<(u8, Event)>, NotUnde
     if let Some((access, value)) = spaced_access(line) {
         return Ok(Some((0, Event::Access(access, value))));
     }
+    if is_wordless(line) {
+        return Ok(None);
+    }
     parse_by_words(line, harts)
 }
 
 /// The same as [`parse_line`], word by word in any case: for those who know that the line is not plain.
+#[inline(never)]
 pub fn parse_by_words(line: &[u8], harts: u8) -> Result<Option<(u8, Event)>, NotUnderstood>
     ensures { result_ok result ≡ meaning_of harts line.now }
 {

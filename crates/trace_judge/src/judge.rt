@@ -8,7 +8,7 @@ ghost use Rattle.trace_judge.specs.Answers.{access_on, answered_by, is_no_access
 use crate::access_judge::AccessJudge;
 use crate::answers::push_answer;
 use byte_streams::{Sink, Source};
-use hart_trace::{Event, parse_by_words, plain_access, spaced_access};
+use hart_trace::{Event, is_wordless, parse_by_words, plain_access, spaced_access};
 use pmp_encoding::Bank;
 use pmp_match::{Access, Segments};
 use text_lines::{Interpreter, Line, NotUnderstood, Refusal, RunFault, interpret_lines};
@@ -45,6 +45,9 @@ fn access_in(line: &[u8]) -> Result<Option<Access>, NotUnderstood>
 {
     if let Some((access, _)) = spaced_access(line) {
         return Ok(Some(access));
+    }
+    if is_wordless(line) {
+        return Ok(None);
     }
     match parse_by_words(line, 0) {
         Ok(None) => Ok(None),

@@ -8,3 +8,6 @@ returns-in-Some c = sym c.in-Some.ensures
 -- and one with other blanks too
 pub returns-in-Some-spaced_access : goal.returns-in-Some-spaced_access
 returns-in-Some-spaced_access c = sym (c.in-Some-spaced_access.ensures c.args.harts)
+
+pub returns-then-is_wordless : goal.returns-then-is_wordless
+returns-then-is_wordless c = sym (c.is_wordless.ensures c.if-is_wordless.true c.args.harts)

@@ -5,3 +5,6 @@ use Rattle.trace_judge.proofs.judge.access_in.Goals as goal
 -- an access with other blanks than the plainest is one too
 pub returns-in-Some : goal.returns-in-Some
 returns-in-Some c = sym (ap only_access (c.in-Some.ensures 0))
+
+pub returns-then-is_wordless : goal.returns-then-is_wordless
+returns-then-is_wordless c = sym (ap only_access (c.is_wordless.ensures c.if-is_wordless.true 0))
