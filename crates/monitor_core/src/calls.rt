@@ -1,7 +1,6 @@
 //! A call and an interrupt, from the registers of a hart to those that go on.
 
 use crate::answer::{Onward, Served};
-use crate::call_registers::go_past_call;
 use crate::outcome::Outcome;
 use crate::parts::Parts;
 use enclave_requests::{Create, Pages};
@@ -85,9 +84,7 @@ impl Parts {
             ≡ running_registers (state_in self.new) hart }
         ensures load { LoadsAnew result.onward.load (state_in self.old) (state_in self.new) hart }
     {
-        let mut past = *registers;
-        go_past_call(&mut past);
-        self.put_running(hart, past);
+        self.put_past_call(hart, registers);
         let outcome = self.call(hart, pages);
         Served {
             answer: outcome.answer,

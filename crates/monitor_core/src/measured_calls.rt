@@ -1,7 +1,6 @@
 //! A call whose pages were measured before.
 
 use crate::answer::{Answer, Served};
-use crate::call_registers::go_past_call;
 use crate::outcome::Outcome;
 use crate::parts::Parts;
 use enclave_requests::Create;
@@ -109,9 +108,7 @@ impl Parts {
             ≡ running_registers (state_in self.new) hart }
         ensures load { LoadsAnew result.onward.load (state_in self.old) (state_in self.new) hart }
     {
-        let mut past = *registers;
-        go_past_call(&mut past);
-        self.put_running(hart, past);
+        self.put_past_call(hart, registers);
         let outcome = self.call_measured(hart, digest);
         Served {
             answer: outcome.answer,

@@ -1,6 +1,5 @@
 //! The parts of the monitor, and what a call changes of them, one part at a time.
 
-use crate::call_registers::put_answer;
 use crate::register_sets::RegisterSets;
 use enclave_table::{Table, World};
 use sbi_decode::Registers;
@@ -17,7 +16,7 @@ pub(crate) struct Parts {
 impl Parts {
     ghost use Rattle.std.specs.Prelude.{◌≡◌, ◌≤◌, ◌<◌, ℕ, false, slice_set};
     ghost use Rattle.worlds.specs.Runners.{EnclaveOf};
-    ghost use Rattle.monitor_core.specs.Changes.{in_world, is_host, with_registers, with_running, with_x, answering, without_mark, marking_others};
+    ghost use Rattle.monitor_core.specs.Changes.{in_world, is_host, with_registers, with_running, with_x, answering, past_call, without_mark, marking_others};
     ghost use Rattle.monitor_core.specs.Frames.{IsOn};
     ghost use Rattle.monitor_core.specs.Parts.{HoldsTogether, mark_in, state_in, world_in};
     ghost use Rattle.monitor_core.specs.States.{running_registers};
@@ -62,6 +61,21 @@ impl Parts {
         self.registers.set(hart, world, registers);
     }
 
+    /// The registers of the world that runs on a hart are those that made a call, past its instruction.
+    pub(crate) fn put_past_call(&mut self, hart: u8, registers: &Registers)
+        requires hart { hart < 4 }
+        requires whole { HoldsTogether self.old.table self.old.worlds self.old.marked }
+        ensures state { state_in self.new
+            ≡ with_running (state_in self.old) hart (past_call registers.now) }
+        ensures table { self.new.table ≡ self.old.table }
+        ensures worlds { self.new.worlds ≡ self.old.worlds }
+        ensures marks { self.new.marked ≡ self.old.marked }
+    {
+        self.table.cite_invariant();
+        let world = self.world(hart);
+        self.registers.set_past_call(hart, world, registers);
+    }
+
     /// A register of the world that runs on a hart is set.
     pub(crate) fn set_register(&mut self, hart: u8, n: u8, value: u64)
         requires hart { hart < 4 }
@@ -87,9 +101,9 @@ impl Parts {
         ensures worlds { self.new.worlds ≡ self.old.worlds }
         ensures marks { self.new.marked ≡ self.old.marked }
     {
-        let mut registers = *self.running(hart);
-        put_answer(&mut registers, first, second);
-        self.put_running(hart, registers);
+        self.table.cite_invariant();
+        let world = self.world(hart);
+        self.registers.answer(hart, world, first, second);
     }
 
     /// The registers that an enclave is to go on with.

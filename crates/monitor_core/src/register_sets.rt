@@ -3,6 +3,7 @@
 ghost use Rattle.std.specs.Prelude.{◌≡◌, IfOk, length, replicate};
 ghost use Rattle.sbi_decode.specs.Registers.{zeros};
 
+use crate::call_registers::{go_past_call, put_answer};
 use sbi_decode::Registers;
 use std::alloc::{AllocError, Global};
 use worlds::World;
@@ -31,7 +32,7 @@ fn enclave_sets(alloc: Global) -> Result<Vec<Registers>, AllocError>
 impl RegisterSets {
     ghost use Rattle.std.specs.Prelude.{◌<◌, if◌then◌else◌};
     ghost use Rattle.worlds.specs.Runners.{Runner, runner_of, IsWorld};
-    ghost use Rattle.monitor_core.specs.Changes.{is_same, with_x};
+    ghost use Rattle.monitor_core.specs.Changes.{is_same, past_call, with_x};
     ghost use Rattle.monitor_core.specs.RegisterSets.{registers_in};
 
     /// Every set zero.
@@ -85,6 +86,41 @@ impl RegisterSets {
         match world {
             World::Host => self.hosts[hart as usize].set(n as usize, value),
             World::Enclave(id) => self.enclaves[id as usize - 1].set(n as usize, value),
+        }
+    }
+
+    /// Makes the registers of the host on this hart, or of the enclave, those that made a call, past its instruction.
+    pub(crate) fn set_past_call(&mut self, hart: u8, world: World, registers: &Registers)
+        requires hart { hart < 4 }
+        requires world { IsWorld world }
+        ensures { (who : Runner) → registers_in self.new who
+            ≡ (if is_same who (runner_of hart world) then past_call registers.now
+            else registers_in self.old who) }
+    {
+        match world {
+            World::Host => {
+                self.hosts[hart as usize] = *registers;
+                go_past_call(&mut self.hosts[hart as usize]);
+            }
+            World::Enclave(id) => {
+                self.enclaves[id as usize - 1] = *registers;
+                go_past_call(&mut self.enclaves[id as usize - 1]);
+            }
+        }
+    }
+
+    /// Puts an answer into a0 and a1 of the host on this hart, or of the enclave.
+    pub(crate) fn answer(&mut self, hart: u8, world: World, first: u64, second: u64)
+        requires hart { hart < 4 }
+        requires world { IsWorld world }
+        ensures { (who : Runner) → registers_in self.new who
+            ≡ (if is_same who (runner_of hart world)
+            then with_x (with_x (registers_in self.old (runner_of hart world)) 10 first) 11 second
+            else registers_in self.old who) }
+    {
+        match world {
+            World::Host => put_answer(&mut self.hosts[hart as usize], first, second),
+            World::Enclave(id) => put_answer(&mut self.enclaves[id as usize - 1], first, second),
         }
     }
 }

@@ -1,4 +1,4 @@
-use Rattle.std.proofs.Common.{◌≡◌, ◌∙◌, ap, subst}
+use Rattle.std.proofs.Common.{◌≡◌, subst}
 use Rattle.sbi_decode.specs.Calls.{call_of}
 use Rattle.monitor_core.specs.Changes.{past_call, with_running}
 use Rattle.monitor_core.specs.Parts.{state_in}
@@ -13,6 +13,6 @@ returns-clause-step g c =
     let file = past_call c.args.registers.now in
     let said = c.call-outcome.result in
     let new = state_in c.call-outcome.new.self in
-    let put : state_in c.put_running.new.self ≡ with_running s c.args.hart file = c.put_running.ensures.state ∙ ap (λ x. with_running s c.args.hart x) c.go_past_call.ensures in
+    let put : state_in c.put_past_call.new.self ≡ with_running s c.args.hart file = c.put_past_call.ensures.state in
     subst (λ x. DoesCall (call_of x) (g.P.Pages.bytes_of c.args.pages.now) (with_running s c.args.hart file) c.args.hart said.answer said.zero new) (put_there s c.args.hart file)
     (subst (λ x. DoesCall (call_of (running_registers x c.args.hart)) (g.P.Pages.bytes_of c.args.pages.now) x c.args.hart said.answer said.zero new) put c.call-outcome.ensures.step)
