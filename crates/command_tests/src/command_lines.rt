@@ -4,6 +4,4 @@ mod faults;
 mod helps;
 mod hints;
 mod plans;
-mod tables;
 mod tasks;
-mod widths;

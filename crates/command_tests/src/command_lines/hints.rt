@@ -5,7 +5,7 @@ use std::test::Fail;
 
 #[test]
 fn hints_are_told_as_asked(rt: HostRuntime) -> Result<(), Fail> {
-    let rows: [(&[&str], Hints); 6] = [
+    let rows: [(&[&str], Hints); 5] = [
         (&["pmpmon", "plan", "map.txt"], Hints::Auto),
         (
             &["pmpmon", "plan", "map.txt", "--hints", "auto"],
@@ -20,10 +20,6 @@ fn hints_are_told_as_asked(rt: HostRuntime) -> Result<(), Fail> {
         (
             &["pmpmon", "run", "p.toml", "t.txt", "--hints=never"],
             Hints::Never,
-        ),
-        (
-            &["pmpmon", "map", "board.txt", "--hints=always"],
-            Hints::Always,
         ),
         (
             &["pmpmon", "lint", "map.txt", "--hints=never"],

@@ -35,48 +35,12 @@ const RUNS: &[Row<'static>] = &[
         },
     ),
     (
-        &["pmpmon", "run", "p.toml", "t.txt", "--measure"],
-        Task::Run {
-            platform: "p.toml",
-            trace: "t.txt",
-            measure: true,
-            answers: Answers::Plain,
-        },
-    ),
-    (
-        &["pmpmon", "run", "--measure", "p.toml", "t.txt"],
-        Task::Run {
-            platform: "p.toml",
-            trace: "t.txt",
-            measure: true,
-            answers: Answers::Plain,
-        },
-    ),
-    (
-        &["pmpmon", "run", "p.toml", "t.txt", "--expect"],
-        Task::Run {
-            platform: "p.toml",
-            trace: "t.txt",
-            measure: false,
-            answers: Answers::Compared,
-        },
-    ),
-    (
         &["pmpmon", "run", "--expect", "p.toml", "t.txt", "--measure"],
         Task::Run {
             platform: "p.toml",
             trace: "t.txt",
             measure: true,
             answers: Answers::Compared,
-        },
-    ),
-    (
-        &["pmpmon", "run", "p.toml", "--explain", "t.txt"],
-        Task::Run {
-            platform: "p.toml",
-            trace: "t.txt",
-            measure: false,
-            answers: Answers::Explained,
         },
     ),
 ];
@@ -99,47 +63,25 @@ const JUDGED: &[Row<'static>] = &[
         },
     ),
     (
-        &["pmpmon", "judge", "map.txt", "trace.txt", "--entries=16"],
+        &[
+            "pmpmon",
+            "judge",
+            "b",
+            "--registers",
+            "t",
+            "--entries",
+            "64",
+            "--explain",
+            "--xlen",
+            "32",
+        ],
         Task::Judge {
-            map: "map.txt",
-            trace: "trace.txt",
-            limit: Limit::Sixteen,
-            registers: false,
-            answers: Answers::Plain,
-            xlen: Xlen::Rv64,
-        },
-    ),
-    (
-        &["pmpmon", "judge", "map.txt", "trace.txt", "--entries", "64"],
-        Task::Judge {
-            map: "map.txt",
-            trace: "trace.txt",
+            map: "b",
+            trace: "t",
             limit: Limit::SixtyFour,
-            registers: false,
-            answers: Answers::Plain,
-            xlen: Xlen::Rv64,
-        },
-    ),
-    (
-        &["pmpmon", "judge", "map.txt", "trace.txt", "--expect"],
-        Task::Judge {
-            map: "map.txt",
-            trace: "trace.txt",
-            limit: Limit::Sixteen,
-            registers: false,
-            answers: Answers::Compared,
-            xlen: Xlen::Rv64,
-        },
-    ),
-    (
-        &["pmpmon", "judge", "map.txt", "--explain", "trace.txt"],
-        Task::Judge {
-            map: "map.txt",
-            trace: "trace.txt",
-            limit: Limit::Sixteen,
-            registers: false,
+            registers: true,
             answers: Answers::Explained,
-            xlen: Xlen::Rv64,
+            xlen: Xlen::Rv32,
         },
     ),
 ];
@@ -167,10 +109,26 @@ const OF_TWO_FILES: &[Row<'static>] = &[
         },
     ),
     (
+        &["pmpmon", "audit", "m", "b", "--all", "--xlen", "32"],
+        Task::Audit {
+            map: "m",
+            registers: "b",
+            all: true,
+            xlen: Xlen::Rv32,
+        },
+    ),
+    (
         &["pmpmon", "map", "board.txt"],
         Task::Map {
             registers: "board.txt",
             xlen: Xlen::Rv64,
+        },
+    ),
+    (
+        &["pmpmon", "map", "b", "--xlen", "32"],
+        Task::Map {
+            registers: "b",
+            xlen: Xlen::Rv32,
         },
     ),
 ];
@@ -190,19 +148,11 @@ const LINTED: &[Row<'static>] = &[
         },
     ),
     (
-        &["pmpmon", "lint", "--registers", "f"],
+        &["pmpmon", "lint", "--registers", "b", "--xlen", "32"],
         Task::Lint {
-            file: "f",
+            file: "b",
             kind: LintKind::Registers,
-            xlen: Xlen::Rv64,
-        },
-    ),
-    (
-        &["pmpmon", "lint", "f", "--trace"],
-        Task::Lint {
-            file: "f",
-            kind: LintKind::Trace { platform: None },
-            xlen: Xlen::Rv64,
+            xlen: Xlen::Rv32,
         },
     ),
     (
@@ -224,21 +174,37 @@ fn lint_takes_a_kind_of_file(rt: HostRuntime) {
 
 const SHOWN: &[Row<'static>] = &[
     (
-        &[
-            "pmpmon",
-            "show",
-            "map.txt",
-            "--at-most=0x10",
-            "--entries=64",
-        ],
+        &["pmpmon", "show", "m"],
         Task::Show {
-            map: "map.txt",
-            limit: Limit::SixtyFour,
-            at_most: Some(16),
+            map: "m",
+            limit: Limit::Sixteen,
+            at_most: None,
             registers: false,
             xlen: Xlen::Rv64,
             format: TableFormat::Text,
             costs: false,
+        },
+    ),
+    (
+        &[
+            "pmpmon",
+            "show",
+            "m",
+            "--at-most=0x10",
+            "--entries=64",
+            "--xlen=32",
+            "--format",
+            "text",
+            "--costs",
+        ],
+        Task::Show {
+            map: "m",
+            limit: Limit::SixtyFour,
+            at_most: Some(16),
+            registers: false,
+            xlen: Xlen::Rv32,
+            format: TableFormat::Text,
+            costs: true,
         },
     ),
     (
@@ -254,14 +220,14 @@ const SHOWN: &[Row<'static>] = &[
         },
     ),
     (
-        &["pmpmon", "show", "-", "--registers"],
+        &["pmpmon", "show", "m", "--format=svg"],
         Task::Show {
-            map: "-",
+            map: "m",
             limit: Limit::Sixteen,
             at_most: None,
-            registers: true,
+            registers: false,
             xlen: Xlen::Rv64,
-            format: TableFormat::Text,
+            format: TableFormat::Svg,
             costs: false,
         },
     ),

@@ -55,16 +55,12 @@ fn each_fault_of_a_certificate_has_its_line(rt: HostRuntime) {
             (0, b"\0", "refused 1 BadMagic\n"),
             (4, b"\x03", "refused 2 BadVersion\n"),
             (5, b"\0", "refused 4 BadTag\n"),
-            (46, b"\x02", "refused 5 BadPerm\n"),
             (5, b"\x02", "refused 6 BadEntry\n"),
             (10, b"\0", "refused 7 SubPageEntry\n"),
             (18, b"\0", "refused 9 LeafNotUniform\n"),
-            (46, b"\x07", "refused 10 WrongLeaf\n"),
             (19, b"\xFF\xFF\xFF\xFF", "refused 11 CostTooHigh\n"),
             (19, b"\0", "refused 13 EntriesTooMany\n"),
             (16, b"\x1F", "refused 14 WrongMeaning\n"),
-            (47, b"\0", "refused 15 Trailing\n"),
-            (4, b"\x02\x20", "refused 16 BadLimit\n"),
         ],
     )
 }
@@ -98,26 +94,6 @@ fn a_node_below_a_page_is_too_deep(rt: HostRuntime) {
         b"",
         deep.as_slice(),
         "refused 8 TooDeep\n",
-    )
-}
-
-#[test]
-fn too_many_entries_come_before_their_meaning_and_this_before_bytes_behind(rt: HostRuntime) {
-    let more: &[(usize, &[u8])] = &[(19, b"\0"), (16, b"\x1F"), (47, b"\0")];
-    is_refused(&rt, rt.alloc(), more, "refused 13 EntriesTooMany\n");
-    let another: &[(usize, &[u8])] = &[(16, b"\x1F"), (47, b"\0")];
-    is_refused(&rt, rt.alloc(), another, "refused 14 WrongMeaning\n")
-}
-
-#[test]
-fn a_certificate_of_version_2_names_its_limit(rt: HostRuntime) {
-    prints(
-        &rt,
-        rt.alloc(),
-        &CHECK,
-        b"0 0x100000000000000 rwx",
-        b"PMPC\x02\x10\x01\0\0\0\x1F\xFF\xFF\xFF\xFF\xFF\xFF\x1F\0\0\x07",
-        "accepted 1 of 16\n",
     )
 }
 

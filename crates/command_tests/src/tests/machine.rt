@@ -1,7 +1,7 @@
 //! `run` on files in memory.
 
 use super::devices::{Failing, Tried, try_on};
-use super::runs::{all_have, all_refuse, all_stop, printed, prints, refuses, stops};
+use super::runs::{all_have, all_stop, printed, prints, refuses, stops};
 use std::alloc::Global;
 use std::process::Abort;
 
@@ -42,7 +42,6 @@ fn traces_have_their_reports(rt: HostRuntime) {
                 b"ecall 0x08454E43 7\necall 0x10 0\n",
                 "1 call -2 0x0000000000000000 0 3\n2 call -2 0x0000000000000000 0 3\n",
             ),
-            (b"", ""),
         ],
     )
 }
@@ -60,19 +59,6 @@ fn a_line_that_is_not_understood_ends_a_run(rt: HostRuntime) {
             (
                 (&MEASURE, PLATFORM, b"irq\nfoo\n", "1 irq 0 3\n"),
                 "pmpmon: trace.txt: line 2 is not understood\n",
-            ),
-            (
-                (&MEASURE, PLATFORM, b"@0 irq\n@1 irq\n", "1 irq 0 3\n"),
-                "pmpmon: trace.txt: line 2 is not understood\n",
-            ),
-            (
-                (
-                    &MEASURE,
-                    PLATFORM,
-                    b"ecall 0x08454E43 0 0x80200000 1 0 0 0 0\nirq\n@0\n",
-                    "1 call 0 0x0000000000000001 0 4\n2 irq 0 4\n",
-                ),
-                "pmpmon: trace.txt: line 3 is not understood\n",
             ),
         ],
     )
@@ -181,46 +167,12 @@ fn entries_are_those_of_the_platform(rt: HostRuntime) {
     )
 }
 
-/// A platform whose RAM is seventeen pages with gaps between them, and one page far from them.
-fn of_seventeen(rt: &impl Abort, alloc: Global) -> Vec<u8> {
-    let mut far = Vec::from_slice(alloc, b"monitor = { base = 0, size = 4096 }\nram = [").expect(
-        rt, "memory",
-    );
-    for i in 0..17u64 {
-        let range = format!(in alloc;
-            "{{ base = {}, size = 4096 }},",
-            i.saturating_mul(12288)
-        ).expect(rt, "memory");
-        far.extend_from_slice(range.as_bytes()).expect(rt, "memory");
-    }
-    far.extend_from_slice(b"{ base = 409600, size = 4096 }]\n")
-        .expect(rt, "memory");
-    far
-}
-
-const MANY_HARTS: &[u8] =
-    b"harts = 257\nmonitor = { base = 0, size = 4096 }\nram = [{ base = 0, size = 8192 }]\n";
-
-const NONE: &str = "pmpmon: p.toml: not a platform\n";
-
 #[test]
-fn a_platform_at_fault_is_told_before_the_trace_is_opened(rt: HostRuntime) {
-    all_refuse(
-        &rt,
-        rt.alloc(),
-        &[
-            (&RUN, b"", b"what\n", NONE),
-            (&RUN, b"\xFF", b"what\n", NONE),
-            (&RUN, MANY_HARTS, b"what\n", NONE),
-        ],
-    );
+fn a_platform_that_is_too_large_is_told_before_the_trace_is_opened(rt: HostRuntime) {
     let mut large = vec![in rt.alloc(); b'#'; 1 << 20].expect(&rt, "memory");
     large.push(b'\n').expect(&rt, "memory");
     let said = "pmpmon: p.toml: too large\n";
-    refuses(&rt, rt.alloc(), &RUN, large.as_slice(), b"what\n", said);
-    let far = of_seventeen(&rt, rt.alloc());
-    let said = "pmpmon: needs 17 entries\n";
-    refuses(&rt, rt.alloc(), &RUN, far.as_slice(), b"what\n", said)
+    refuses(&rt, rt.alloc(), &RUN, large.as_slice(), b"what\n", said)
 }
 
 /// What became of a run that a device ended: this was printed and this said.

@@ -14,19 +14,12 @@ fn the_file_and_the_bound_are_told(rt: HostRuntime) {
         rt.alloc(),
         &[
             (&["pmpmon", "plan", "m", "--at-most", "2"], MAP, b"", OF_TWO),
-            (&["pmpmon", "show", "m", "--at-most", "2"], MAP, b"", OF_TWO),
             (&["pmpmon", "show", "m", "--at-most", "3"], MAP, b"", ""),
             (
                 &["pmpmon", "plan", "m", "--first", "14"],
                 MAP,
                 b"",
                 "hint: m: needs 3 entries, 2 are there: no configuration words\n",
-            ),
-            (
-                &["pmpmon", "plan", "m", "--first", "14", "--format", "c"],
-                MAP,
-                b"",
-                OF_TWO,
             ),
             (&["pmpmon", "plan", "m", "--first", "13"], MAP, b"", ""),
             (&["pmpmon", "judge", "m", "t"], MAP, b"", ""),

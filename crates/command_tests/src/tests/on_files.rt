@@ -52,54 +52,13 @@ fn ends_on_files(
     is_wanted(rt, (status, out.as_slice(), err.as_slice()), wanted)
 }
 
-/// Each command line, with its standard input, does what is wanted.
-fn all_end(rt: &(impl Abort + Files), alloc: Global, rows: &[(&[&str], &[u8], Wanted<'_>)]) {
-    for (words, stdin, wanted) in rows {
-        ends_on_files(rt, alloc, words, stdin, *wanted);
-    }
-}
-
 const MAP: &[u8] = b"0x80000000 0x1000 rwx\n";
 
 const PLAN: &str =
     "entries 1\n0 0x1f 0x00000000200001ff\npmpcfg0 0x000000000000001f\npmpcfg2 0x0000000000000000\n";
 
-const ABSENT: &str = "no-such-folder/map";
-
-const LOST: &str = "pmpmon: no-such-folder/map: cannot read\n";
-
-const WHY: &str =
-    "pmpmon: no-such-folder/map: cannot read\nhint: no-such-folder/map: no such file or folder\n";
-
 #[test]
-fn inputs_stand_at_their_places(rt: HostRuntime) {
-    all_end(
-        &rt,
-        rt.alloc(),
-        &[
-            (
-                &["pmpmon", "plan", "-", "--hints", "always"],
-                MAP,
-                (0, PLAN, ""),
-            ),
-            (
-                &["pmpmon", "plan", ABSENT, "--hints", "always"],
-                MAP,
-                (3, "", WHY),
-            ),
-            (&["pmpmon", "plan", ABSENT], MAP, (3, "", LOST)),
-            (
-                &["pmpmon", "check", ABSENT, "-", "--hints", "always"],
-                MAP,
-                (3, "", WHY),
-            ),
-        ],
-    )
-}
-
-#[test]
-fn standard_input_has_no_hint_of_its_lines(rt: HostRuntime) {
+fn an_input_stands_at_its_place(rt: HostRuntime) {
     let words = ["pmpmon", "plan", "-", "--hints", "always"];
-    let said = "pmpmon: -: line 1 is not understood\n";
-    ends_on_files(&rt, rt.alloc(), &words, b"what\n", (2, "", said));
+    ends_on_files(&rt, rt.alloc(), &words, MAP, (0, PLAN, ""));
 }

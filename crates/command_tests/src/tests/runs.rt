@@ -165,13 +165,6 @@ pub fn all_deny(rt: &impl Abort, alloc: Global, rows: &[Row<'_>]) {
     }
 }
 
-/// An input of each is bad: its text is said, and nothing was printed.
-pub fn all_refuse(rt: &impl Abort, alloc: Global, rows: &[Row<'_>]) {
-    for (words, first, second, said) in rows {
-        refuses(rt, alloc, words, first, second, said);
-    }
-}
-
 /// The second input of each is bad: the last text is said, behind the answers before it.
 pub fn all_stop(rt: &impl Abort, alloc: Global, rows: &[(Row<'_>, &str)]) {
     for ((words, first, second, out), said) in rows {
