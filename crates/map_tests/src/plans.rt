@@ -1,21 +1,12 @@
 //! Maps, and the fewest entries that mean them.
 
-use entry_planner::{Plan, plan, plan_map};
+use crate::certificates::{by_map, by_tree};
+use entry_planner::{plan, plan_map};
 use permission_map::PermissionMap;
 use pmp_encoding::{Bank, Limit, PackedEntry, Perm};
 use prefix_tree::build;
 use std::alloc::Global;
 use std::process::Abort;
-
-/// All permissions, in the order of their costs.
-const PERMS: [Perm; 6] = [
-    Perm::NoAccess,
-    Perm::Read,
-    Perm::ReadWrite,
-    Perm::Execute,
-    Perm::ReadExecute,
-    Perm::ReadWriteExecute,
-];
 
 /// A range: the first page, the number of pages, the permission.
 pub type Range = (u64, u64, Perm);
@@ -42,49 +33,15 @@ fn are_written(entries: &[PackedEntry], pairs: &[Pair]) -> bool {
     entries.len() == pairs.len()
 }
 
-/// Whether two plans have the same entries, in the same order.
-fn have_same_entries(one: &Plan, other: &Plan) -> bool {
-    for (entry, same) in one.entries().iter().zip(other.entries()) {
-        if entry.entry() != same.entry() {
-            return false;
-        }
-    }
-    one.entries().len() == other.entries().len()
-}
-
-/// Whether two plans have the same costs of all split blocks under all permissions.
-fn have_same_costs(one: &Plan, other: &Plan) -> bool {
-    if one.branches() != other.branches() {
-        return false;
-    }
-    for i in 0..one.branches() {
-        for perm in PERMS {
-            if one.cost(i, perm) != other.cost(i, perm) {
-                return false;
-            }
-        }
-    }
-    true
-}
-
-/// Whether a plan without a tree is that of the map's tree, with the same entries and costs.
-fn is_of_tree(rt: &impl Abort, alloc: Global, map: &PermissionMap, of_map: &Plan) -> bool {
-    let tree = build(alloc, map).expect(rt, "memory");
-    let plan = plan(alloc, &tree).expect(rt, "memory");
-    plan.branches() == tree.branches()
-        && plan.needed() == of_map.needed()
-        && have_same_entries(&plan, of_map)
-        && have_same_costs(&plan, of_map)
-}
-
-/// The plan of the ranges has these entries, written as pairs, in this order, and so has that of their map's tree, with
-/// the same costs.
+/// The plan of the ranges has these entries, written as pairs, in this order. The plan of their map's tree has the same
+/// entries and costs: it has the same certificate.
 fn is_planned(rt: &impl Abort, alloc: Global, ranges: &[Range], pairs: &[Pair]) {
     let map = map_of(rt, alloc, ranges);
     let plan = plan_map(alloc, &map).expect(rt, "memory");
     assert!(rt; are_written(plan.entries(), pairs));
     assert!(rt; plan.needed() as usize == pairs.len());
-    assert!(rt; is_of_tree(rt, alloc, &map, &plan));
+    let bytes = by_map(rt, alloc, &map, Limit::Sixteen);
+    assert!(rt; bytes == by_tree(rt, alloc, &map, Limit::Sixteen));
 }
 
 /// The bank that has the list of the ranges' plan has this first configuration word.
@@ -162,4 +119,15 @@ fn a_tie_is_settled_as_two_pages(rt: HostRuntime) {
     ];
     is_planned(&rt, rt.alloc(), RANGES, PAIRS);
     configures(&rt, rt.alloc(), RANGES, 0x1B_1B1D);
+}
+
+#[test]
+fn the_lower_half_costs_one_where_none_is_inherited(rt: HostRuntime) {
+    let map = map_of(&rt, rt.alloc(), &[(0, 1 << 43, Perm::ReadWriteExecute)]);
+    let tree = build(rt.alloc(), &map).expect(&rt, "memory");
+    let plan = plan(rt.alloc(), &tree).expect(&rt, "memory");
+    assert!(rt; (plan.needed(), plan.branches()) == (1, 1));
+    for i in 0..plan.branches() {
+        assert!(rt; plan.cost(i, Perm::NoAccess) == 1);
+    }
 }

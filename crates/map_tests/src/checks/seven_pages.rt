@@ -1,11 +1,10 @@
-//! Certificates of one page and of seven, whose trees are split down to one page. They are the planner's; their bytes
-//! stand in a transcript of the program.
+//! The planner's certificate of seven pages, whose tree is split down to one page, as it is and with bytes or entries
+//! changed. Its bytes stand in a transcript of the program.
 
 use super::orders::{certificate, planned};
 use super::{SEVEN_PAGES, answers, code, map_of, range_answers};
 use certificate_check::CheckRefusal;
 use permission_map::PermissionMap;
-use pmp_encoding::Perm;
 use std::alloc::Global;
 use std::process::Abort;
 
@@ -47,14 +46,6 @@ fn is_refused_with(
         code(map, changed.as_slice()) == refusal,
         "{byte} at {place}"
     );
-}
-
-#[test]
-fn one_page_needs_one_entry(rt: HostRuntime) {
-    let map = map_of(&rt, rt.alloc(), (0x80000, 1, Perm::ReadWriteExecute));
-    let bytes = planned(&rt, rt.alloc(), &map);
-    assert!(rt; bytes.len() == 1208);
-    answers(&rt, &map, bytes.as_slice(), Ok(1));
 }
 
 /// The certificate of seven pages is right, and what is cut off it anywhere is truncated.
