@@ -4,6 +4,7 @@ use byte_streams::fakes::{PieceSink, PieceSource};
 use pmp_match::{Access, Cause, Kind, Mode};
 use register_judge::{Registers, Ruled, Rules, rules_in};
 use register_width::Xlen;
+use std::alloc::Global;
 use std::process::Abort;
 use trace_judge::judge_lines;
 
@@ -102,16 +103,29 @@ fn no_entry_leaves_machine_mode_alone(rt: HostRuntime) {
 
 const TRACE: &[u8] = b"load u 8 0xff8\nload u 8 0x1000\nstore s 4 0x1ffc 1\nfetch s 4 0x1000\n";
 
+/// The trace is judged by these rules so.
+fn judges_trace(rt: &impl Abort, rules: &Rules, wanted: &str) {
+    let mut source = PieceSource::new(TRACE, 4096, None);
+    let mut sink = PieceSink::new(4096, None);
+    assert!(rt; judge_lines(rules, &mut source, &mut sink).is_ok());
+    assert!(rt; sink.written() == wanted.as_bytes());
+}
+
+/// The trace is judged by the registers of a listing so, or this text says why it is not.
+fn answers(rt: &impl Abort, alloc: Global, listing: &[u8], wanted: &str) {
+    match rules_in(alloc, Xlen::Rv64, listing) {
+        Ok(Ruled::Rules(rules)) => judges_trace(rt, &rules, wanted),
+        Ok(Ruled::Refused(text)) => assert!(rt; text.as_slice() == wanted.as_bytes(), "{wanted}"),
+        Err(_) => panic!(rt; "no listing: {wanted}"),
+    }
+}
+
 #[test]
 fn a_listing_judges_a_trace(rt: HostRuntime) {
-    let listing = b"pmpaddr0 0x400\npmpaddr1 0x800\npmpcfg0 0xb00\nmstatus 0x0\n";
-    match rules_in(rt.alloc(), Xlen::Rv64, listing) {
-        Ok(Ruled::Rules(rules)) => {
-            let mut source = PieceSource::new(TRACE, 4096, None);
-            let mut sink = PieceSink::new(4096, None);
-            assert!(rt; judge_lines(&rules, &mut source, &mut sink).is_ok());
-            assert!(rt; sink.written() == b"1 fault 5\n2 ok\n3 ok\n4 fault 1\n".as_slice());
-        }
-        _ => panic!(rt; "no rules"),
-    }
+    answers(
+        &rt,
+        rt.alloc(),
+        b"pmpaddr0 0x400\npmpaddr1 0x800\npmpcfg0 0xb00\nmstatus 0x0\n",
+        "1 fault 5\n2 ok\n3 ok\n4 fault 1\n",
+    );
 }
