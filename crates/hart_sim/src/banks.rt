@@ -40,7 +40,6 @@ impl Parts {
     }
 
     /// Loads the entries of the world that runs on a hart, and leaves all else.
-    #[inline(always)]
     pub(crate) fn load(&mut self, hart: u8)
         requires hart { hart < 4 }
         requires limited { AreBanks self.old.banks (state_in self.old).table.layout.limit }

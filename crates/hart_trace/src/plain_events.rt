@@ -65,7 +65,6 @@ fn behind_ecall(line: &[u8]) -> Option<&[u8]>
 }
 
 /// The number that a text begins with, and what stands after it.
-#[inline(always)]
 pub(crate) fn plain_number(text: &[u8]) -> Option<(u64, &[u8])>
     ensures { IfSome result (λ found. BeginsNumber text.now found.0 found.1.now) }
 {
@@ -107,7 +106,6 @@ fn plain_setting(line: &[u8]) -> Option<Event>
 }
 
 /// A call with these words, of which there is one at least.
-#[inline(always)]
 fn plain_words(rest: &[u8]) -> Option<Event>
     ensures event { IfSome result (λ event. call_of (split_words rest.now) ≡ Some event) }
     ensures plain { IfSome result (λ _. list_all is_plain rest.now ≡ true) }
@@ -128,7 +126,6 @@ fn plain_words(rest: &[u8]) -> Option<Event>
 }
 
 /// The call of a plain line.
-#[inline(always)]
 fn plain_call(line: &[u8]) -> Option<Event>
     ensures { IfSome result (λ event. (harts : ℕ)
         → meaning_of harts line.now ≡ Some (Some (0, event))) }
@@ -139,7 +136,6 @@ fn plain_call(line: &[u8]) -> Option<Event>
 }
 
 /// The event of a plain line that names no hart.
-#[inline(always)]
 fn plain_event(line: &[u8]) -> Option<Event>
     ensures { IfSome result (λ event. (harts : ℕ)
         → meaning_of harts line.now ≡ Some (Some (0, event))) }
@@ -154,7 +150,6 @@ fn plain_event(line: &[u8]) -> Option<Event>
 
 /// The event of a plain line, and the hart that it happens on: the one that the line names, or hart 0. None says nothing of
 /// the line.
-#[inline(always)]
 pub(crate) fn plain_event_on_hart(line: &[u8], harts: u8) -> Option<(u8, Event)>
     ensures { IfSome result (λ found. meaning_of harts line.now ≡ Some (Some found)) }
 {

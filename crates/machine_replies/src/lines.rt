@@ -22,7 +22,6 @@ fn push_signed(line: &mut Line, n: i64)
 }
 
 /// Appends ` 0x` and 16 digits.
-#[inline(always)]
 fn push_word(line: &mut Line, value: u64)
     requires { array_vec_len line.old + 19 ≤ 128 }
     ensures items { line.new.items ≡ line.old.items ++ codes " 0x" ++ hex 16 value }
@@ -33,7 +32,6 @@ fn push_word(line: &mut Line, value: u64)
 }
 
 /// Appends a world and a number of entries, and ends the line.
-#[inline(always)]
 fn push_end(line: &mut Line, world: u64, used: u64)
     requires { array_vec_len line.old + 43 ≤ 128 }
     ensures items { line.new.items ≡ line.old.items ++ codes " " ++ decimal world ++ codes " "
@@ -49,7 +47,6 @@ fn push_end(line: &mut Line, world: u64, used: u64)
 }
 
 /// Puts the line of the `n`-th event's reply into an empty buffer; nothing for a reply that wanted memory.
-#[inline(always)]
 pub fn push_reply(line: &mut Line, n: u64, reply: &Reply)
     requires { line.old.items ≡ [] }
     ensures { line.new.items ≡ reply_text n reply.now }

@@ -35,7 +35,6 @@ impl Parts {
     }
 
     /// Run and resume: an enclave goes on on a hart.
-    #[inline(always)]
     pub(crate) fn enter(&mut self, hart: u8, id: u64, entering: Entering) -> Outcome
         requires on { IsOn self.old hart }
         requires awake { (state_in self.old).marked hart ≡ false }

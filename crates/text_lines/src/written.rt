@@ -60,7 +60,6 @@ fn word_digits(value: u64) -> [u8; 16]
 }
 
 /// Appends the lowest digits of a number, the highest of them first.
-#[inline(always)]
 pub fn push_hex(line: &mut Line, value: u64, digits: u8)
     requires { array_vec_len line.old + digits ≤ 128 }
     ensures items { line.new.items ≡ line.old.items ++ hex digits value }
