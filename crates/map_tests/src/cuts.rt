@@ -95,3 +95,14 @@ fn next_entry_that_meets_a_piece(rt: HostRuntime) {
     ];
     meet(&rt, rt.alloc(), &entries, &rows);
 }
+
+#[test]
+fn an_entry_behind_those_that_end_before_the_piece(rt: HostRuntime) {
+    let entries = [
+        entry(&rt, 0x1000, 12, Perm::Read),
+        entry(&rt, 0x2000, 12, Perm::Read),
+        entry(&rt, 0x3000, 12, Perm::Read),
+        entry(&rt, 0x8000, 12, Perm::Read),
+    ];
+    meet(&rt, rt.alloc(), &entries, &[(0, 0x3000, 0x3001, Some(2))]);
+}
