@@ -70,6 +70,8 @@ const OTHERS: &[Row] = &[
     (EXTENSION_ID, 7, Err(NotSupported)),
     (EXTENSION_ID, 1 << 32, Err(NotSupported)),
     (0x1_0845_4E43, 5, Err(NotSupported)),
+    (0x10, 0, Err(NotSupported)),
+    (0, 0, Err(NotSupported)),
 ];
 
 #[test]

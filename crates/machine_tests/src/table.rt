@@ -11,7 +11,7 @@ mod scattered;
 mod views;
 
 use enclave_requests::{Create, Pages};
-use enclave_table::{Owner, Refusal, Table, World};
+use enclave_table::{CreateNeeds, Owner, Refusal, Table, World};
 use platforms::Platform;
 use pmp_encoding::{Bank, Entry, Perm};
 use std::alloc::Global;
@@ -115,6 +115,10 @@ enum Step {
     /// How many entries an enclave's list has.
     ListsMany(u64, usize),
     Configures(u64),
+    /// The host's view and the enclave's own would need that many entries after this creation.
+    WouldNeed(Create, u32, u32),
+    /// The host's view would need that many entries after the destruction of this enclave.
+    WouldNeedWithout(u64, u32),
 }
 
 /// Takes the steps, one after the other.
@@ -136,6 +140,10 @@ fn takes(rt: &impl Abort, alloc: Global, table: &mut Table, steps: &[Step]) {
             Step::Owns(page, wanted) => owns(rt, table, page, wanted),
             Step::ListsMany(id, wanted) => views::lists_many(rt, table, id, wanted),
             Step::Configures(wanted) => configures(rt, table, wanted),
+            Step::WouldNeed(asked, host, own) => {
+                needs::of_creation(rt, table, asked, Some(CreateNeeds { host, own }))
+            }
+            Step::WouldNeedWithout(id, host) => needs::of_destruction(rt, table, id, Some(host)),
         }
     }
 }

@@ -134,6 +134,14 @@ const UNEVEN_OR_PAST_THE_SPACE: &[Load] = &[
     (Mode::Machine, 8, 0x8000_0004, Err(Cause::LoadMisaligned)),
     (Mode::Machine, 1, 1 << 56, Err(Cause::LoadFault)),
     (Mode::Machine, 8, (1 << 56) + 4, Err(Cause::LoadMisaligned)),
+    (Mode::Supervisor, 8, 0x8000_0004, Err(Cause::LoadMisaligned)),
+    (Mode::Supervisor, 1, 1 << 56, Err(Cause::LoadFault)),
+    (
+        Mode::Supervisor,
+        8,
+        (1 << 56) + 4,
+        Err(Cause::LoadMisaligned),
+    ),
 ];
 
 #[test]
@@ -158,18 +166,66 @@ fn without_a_match_machine_mode_alone_may(rt: HostRuntime) {
     loads(&rt, rt.alloc(), &[], Limit::SixtyFour, WITHOUT_A_MATCH);
 }
 
+/// Accesses of two bytes by a user fault with the causes of these numbers where no entry matches.
+fn fault(rt: &impl Abort, rows: &[(Kind, u64, u8)]) {
+    let bank = Bank::of([].as_slice(), Limit::Sixteen);
+    for (kind, addr, number) in rows {
+        let access = Access::new(Mode::User, *kind, 2, *addr).expect(rt, "a size");
+        match judge(&bank, &access) {
+            Ok(()) => panic!(rt; "allowed where {number} was wanted"),
+            Err(cause) => assert!(rt; cause.number() == *number, "{number}"),
+        }
+    }
+}
+
 #[test]
-fn an_access_has_its_parts(rt: HostRuntime) {
-    let store = Access::new(Mode::User, Kind::Store, 8, 0x1000).expect(&rt, "a size");
-    let parts = (store.mode(), store.kind(), store.size(), store.addr());
-    assert!(rt; parts == (Mode::User, Kind::Store, 8, 0x1000));
-    assert!(rt; Access::new(Mode::User, Kind::Load, 3, 0x1000).is_none());
-    assert!(rt; Cause::StoreFault.number() == 7);
+fn causes_of_each_kind(rt: HostRuntime) {
+    fault(
+        &rt,
+        &[
+            (Kind::Fetch, 0x1001, 0),
+            (Kind::Fetch, 0x1000, 1),
+            (Kind::Load, 0x1001, 4),
+            (Kind::Load, 0x1000, 5),
+            (Kind::Store, 0x1001, 6),
+            (Kind::Store, 0x1000, 7),
+        ],
+    );
+}
+
+/// Stores of these sizes have their four parts.
+fn have_their_parts(rt: &impl Abort, sizes: &[u8]) {
+    for size in sizes {
+        let store = Access::new(Mode::User, Kind::Store, *size, 0x1000).expect(rt, "a size");
+        let parts = (store.mode(), store.kind(), store.size(), store.addr());
+        assert!(rt; parts == (Mode::User, Kind::Store, *size, 0x1000), "{size}");
+    }
+}
+
+/// No access of the kind has these sizes.
+fn are_no_sizes(rt: &impl Abort, kind: Kind, sizes: &[u8]) {
+    for size in sizes {
+        assert!(rt;
+            Access::new(Mode::User, kind, *size, 0x1000).is_none(),
+            "{size}"
+        );
+    }
+}
+
+#[test]
+fn sizes_of_each_kind(rt: HostRuntime) {
+    have_their_parts(&rt, &[1, 2, 4, 8]);
+    are_no_sizes(&rt, Kind::Load, &[0, 3, 16]);
+    are_no_sizes(&rt, Kind::Fetch, &[1, 8]);
 }
 
 const AT_BOOT: &[Load] = &[
+    (Mode::User, 4, 0x1000_0000, Ok(())),
     (Mode::User, 4, 0x801F_FFFC, Err(Cause::LoadFault)),
     (Mode::Machine, 4, 0x801F_FFFC, Ok(())),
+    (Mode::User, 8, 0x8020_0000, Ok(())),
+    (Mode::User, 8, 0x87FF_FFF8, Ok(())),
+    (Mode::User, 8, 0x8800_0000, Err(Cause::LoadFault)),
 ];
 
 #[test]

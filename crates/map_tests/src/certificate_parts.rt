@@ -85,16 +85,49 @@ fn lower_half_reads_part_by_part(rt: HostRuntime) {
     assert!(rt; reader.rest().len() == 0);
 }
 
-#[test]
-fn entries_that_are_not_there_are_truncated(rt: HostRuntime) {
-    assert!(rt; fault_of(&LOWER_HALF) == None);
-    let mut more = LOWER_HALF;
-    more[5] = 5;
-    assert!(rt; fault_of(&more) == Some(ReadFault::Truncated));
+/// The bytes are at fault so, or not at all.
+fn come_to(rt: &impl Abort, bytes: &[u8], wanted: Option<ReadFault>) {
+    assert!(rt; fault_of(bytes) == wanted, "{} bytes", bytes.len());
 }
 
 #[test]
-fn each_fault_has_its_number(rt: HostRuntime) {
+fn each_cut_of_the_lower_half_is_truncated(rt: HostRuntime) {
+    for n in 0..47 {
+        come_to(&rt, &LOWER_HALF[..n], Some(ReadFault::Truncated));
+    }
+    come_to(&rt, &LOWER_HALF, None);
+}
+
+/// The lower half with one byte changed has this fault.
+fn are_told(rt: &impl Abort, rows: &[(usize, u8, ReadFault)]) {
+    for (place, byte, fault) in rows {
+        let mut bytes = LOWER_HALF;
+        if let Some(there) = bytes.get_mut(*place) {
+            *there = *byte;
+        }
+        let found = fault_of(bytes.as_slice());
+        assert!(rt; found == Some(*fault), "{byte} at {place}");
+    }
+}
+
+#[test]
+fn each_fault_is_told(rt: HostRuntime) {
+    are_told(
+        &rt,
+        &[
+            (0, 1, ReadFault::BadMagic),
+            (3, 0, ReadFault::BadMagic),
+            (4, 0, ReadFault::BadVersion),
+            (4, 3, ReadFault::BadVersion),
+            (4, 2, ReadFault::BadLimit),
+            (5, 0, ReadFault::BadTag),
+            (18, 2, ReadFault::BadTag),
+            (43, 0xFF, ReadFault::BadTag),
+            (44, 2, ReadFault::BadPerm),
+            (46, 8, ReadFault::BadPerm),
+            (5, 5, ReadFault::Truncated),
+        ],
+    );
     let numbers = [
         ReadFault::BadMagic as u8,
         ReadFault::BadVersion as u8,
@@ -106,19 +139,29 @@ fn each_fault_has_its_number(rt: HostRuntime) {
     assert!(rt; numbers == [1, 2, 3, 4, 5, 16]);
 }
 
-/// The second form of the whole space, for sixty-four entries.
-const SECOND_FORM: [u8; 21] = [
-    0x50, 0x4D, 0x50, 0x43, 2, 0x40, 1, 0, 0, 0, // header
-    0x1F, 0xFF, 0xFF, 0xFF, 0xFF, 0xFF, 0xFF, 0x1F, 0, // entry
-    0, 7, // leaf
-];
+/// The second form of the whole space, with this byte for its limit.
+fn second_form(limit: u8) -> [u8; 21] {
+    [
+        0x50, 0x4D, 0x50, 0x43, 2, limit, 1, 0, 0, 0, 0x1F, 0xFF, 0xFF, 0xFF, 0xFF, 0xFF, 0xFF,
+        0x1F, 0, 0, 7,
+    ]
+}
+
+/// The second form with this byte has this limit, and is read to its end with its entry.
+fn has_limit(rt: &impl Abort, byte: u8, limit: Limit) {
+    let bytes = second_form(byte);
+    let (header, left) = read_whole(bytes.as_slice()).expect(rt, "a certificate");
+    assert!(rt; header.version == Version::Two(limit), "{byte:#x}");
+    let read = (header.version.limit(), header.count, left);
+    assert!(rt; read == (limit, 1, 0), "{byte:#x}");
+}
 
 #[test]
 fn second_form_names_its_limit(rt: HostRuntime) {
-    let (header, left) = read_whole(SECOND_FORM.as_slice()).expect(&rt, "a certificate");
-    assert!(rt; header.version == Version::Two(Limit::SixtyFour));
-    let read = (header.version.limit(), header.count, left);
-    assert!(rt; read == (Limit::SixtyFour, 1, 0));
+    has_limit(&rt, 0x40, Limit::SixtyFour);
+    has_limit(&rt, 0x10, Limit::Sixteen);
+    come_to(&rt, &second_form(0x20), Some(ReadFault::BadLimit));
+    come_to(&rt, &second_form(0x40)[..5], Some(ReadFault::Truncated));
 }
 
 #[test]

@@ -1,8 +1,8 @@
 //! What the check of certificates answers, and why.
 
 mod orders;
-mod seven_pages;
 mod sources;
+mod ways;
 
 use certificate_check::{CheckRefusal, check};
 use permission_map::PermissionMap;
@@ -96,6 +96,10 @@ fn whole_space_needs_one_entry(rt: HostRuntime) {
     let mut one_more_one = WHOLE;
     one_more_one[16] = 0x3F;
     range_answers(&rt, rt.alloc(), WHOLE_SPACE, &one_more_one, Ok(1));
+    let wrong_leaf = Err(CheckRefusal::WrongLeaf);
+    range_answers(&rt, rt.alloc(), EMPTY, &WHOLE, wrong_leaf);
+    let not_uniform = Err(CheckRefusal::LeafNotUniform);
+    range_answers(&rt, rt.alloc(), LOWER_HALF_SPACE, &WHOLE, not_uniform);
 }
 
 #[test]
@@ -116,6 +120,8 @@ fn second_version_names_its_limit(rt: HostRuntime) {
         0x1F, 0xFF, 0xFF, 0xFF, 0xFF, 0xFF, 0xFF, 0x1F, 0, // entry
         0, 7, // leaf
     ];
+    range_answers(&rt, rt.alloc(), WHOLE_SPACE, &bytes, Ok(1));
+    bytes[5] = 0x10;
     range_answers(&rt, rt.alloc(), WHOLE_SPACE, &bytes, Ok(1));
     bytes[5] = 0x20;
     let bad_limit = Err(CheckRefusal::BadLimit);

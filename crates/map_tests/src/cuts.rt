@@ -1,4 +1,4 @@
-//! A map and a list whose entries begin and end inside a page, cut by hand.
+//! A map and its fewest entries, cut by hand; and a list that begins and ends inside a page.
 
 use crate::plans::map_of;
 use pmp_encoding::{Entry, Perm, Region, SPACE_SIZE};
@@ -38,6 +38,32 @@ fn cut(
     let map = map_of(rt, alloc, ranges);
     let all = stretches_by_entries(alloc, &map, entries).expect(rt, "memory");
     assert!(rt; all.as_slice() == wanted);
+}
+
+#[test]
+fn host_map_and_its_three_entries(rt: HostRuntime) {
+    let ranges = [
+        (0x80000, 0x8000, Perm::ReadWriteExecute),
+        (0x80000, 0x200, Perm::NoAccess),
+        (0x10000, 1, Perm::ReadWrite),
+    ];
+    let entries = [
+        entry(&rt, 0x1000_0000, 12, Perm::ReadWrite),
+        entry(&rt, 0x8000_0000, 21, Perm::NoAccess),
+        entry(&rt, 0x8000_0000, 27, Perm::ReadWriteExecute),
+    ];
+    let rw = Perm::ReadWrite;
+    let none = Perm::NoAccess;
+    let all = Perm::ReadWriteExecute;
+    let wanted = [
+        nothing(0, 0x1000_0000),
+        stretch(0x1000_0000, 0x1000_1000, rw, rw, Some(0)),
+        nothing(0x1000_1000, 0x8000_0000),
+        stretch(0x8000_0000, 0x8020_0000, none, none, Some(1)),
+        stretch(0x8020_0000, 0x8800_0000, all, all, Some(2)),
+        nothing(0x8800_0000, SPACE_SIZE),
+    ];
+    cut(&rt, rt.alloc(), &ranges, &entries, &wanted);
 }
 
 #[test]

@@ -2,7 +2,7 @@
 //! maps, stretches, trees, plans, certificates byte by byte, and the check of certificates.
 //!
 //! Of the check these are right certificates, each refusal in its place, and entries in any order. The check knows nothing of
-//! the planner, whose certificates many rows take.
+//! the planner, whose trees some rows take.
 //!
 //! They stand apart from the crates that they are of so that the gate proves each of these once.
 #![tactic(auto)]

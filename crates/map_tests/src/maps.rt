@@ -135,6 +135,36 @@ fn ranges_past_the_end_are_refused(rt: HostRuntime) {
     sets(&rt, &mut map, AT_THE_END);
 }
 
+/// The map of a builder that is given these ranges.
+fn built_of(rt: &impl Abort, alloc: Global, ranges: &[Run]) -> PermissionMap {
+    let mut built = MapBuilder::new(alloc);
+    for Run { first, count, perm } in ranges {
+        built.set_range(*first, *count, *perm).expect(rt, "memory");
+    }
+    built.finish().expect(rt, "memory")
+}
+
+/// A builder that is given these ranges gives these runs.
+fn builds(rt: &impl Abort, alloc: Global, ranges: &[Run], wanted: &[Run]) {
+    let built = built_of(rt, alloc, ranges);
+    assert!(rt; built.ranges() == wanted);
+}
+
+#[test]
+fn a_built_map_is_the_map_of_its_ranges(rt: HostRuntime) {
+    let over = [
+        run(0x80000, 0x8000, Perm::ReadWriteExecute),
+        run(0x80000, 0x200, Perm::NoAccess),
+        run(0x80400, 2, Perm::Read),
+        run(0x80401, 3, Perm::Read),
+        run(SPACE - 1, 1, Perm::Execute),
+        run(0x803FF, 1, Perm::ReadWrite),
+    ];
+    let map = map_of(rt.alloc(), &over).expect(&rt, "memory");
+    builds(&rt, rt.alloc(), &over, map.ranges());
+    builds(&rt, rt.alloc(), &[], &[]);
+}
+
 /// Gives a builder as many runs as there may be; one more is refused, and what grows the last is not.
 fn fills_builder(rt: &impl Abort, built: &mut MapBuilder) {
     for i in 0..4096u64 {

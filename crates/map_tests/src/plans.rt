@@ -1,12 +1,21 @@
 //! Maps, and the fewest entries that mean them.
 
-use crate::certificates::{by_map, by_tree};
-use entry_planner::{plan, plan_map};
+use entry_planner::{Plan, plan, plan_map};
 use permission_map::PermissionMap;
 use pmp_encoding::{Bank, Limit, PackedEntry, Perm};
 use prefix_tree::build;
 use std::alloc::Global;
 use std::process::Abort;
+
+/// All permissions, in the order of their costs.
+const PERMS: [Perm; 6] = [
+    Perm::NoAccess,
+    Perm::Read,
+    Perm::ReadWrite,
+    Perm::Execute,
+    Perm::ReadExecute,
+    Perm::ReadWriteExecute,
+];
 
 /// A range: the first page, the number of pages, the permission.
 pub type Range = (u64, u64, Perm);
@@ -33,15 +42,62 @@ fn are_written(entries: &[PackedEntry], pairs: &[Pair]) -> bool {
     entries.len() == pairs.len()
 }
 
-/// The plan of the ranges has these entries, written as pairs, in this order. The plan of their map's tree has the same
-/// entries and costs: it has the same certificate.
+/// Whether two plans have the same entries, in the same order.
+fn have_same_entries(one: &Plan, other: &Plan) -> bool {
+    for (entry, same) in one.entries().iter().zip(other.entries()) {
+        if entry.entry() != same.entry() {
+            return false;
+        }
+    }
+    one.entries().len() == other.entries().len()
+}
+
+/// Whether two plans have the same costs of all split blocks under all permissions.
+fn have_same_costs(one: &Plan, other: &Plan) -> bool {
+    if one.branches() != other.branches() {
+        return false;
+    }
+    for i in 0..one.branches() {
+        for perm in PERMS {
+            if one.cost(i, perm) != other.cost(i, perm) {
+                return false;
+            }
+        }
+    }
+    true
+}
+
+/// Whether the split blocks of a plan have these costs, under all permissions in their order.
+fn have_costs(plan: &Plan, wanted: &[[u32; 6]]) -> bool {
+    for i in 0..plan.branches() {
+        let costs = wanted.get(i).copied().unwrap_or_default();
+        for k in 0..6 {
+            if plan.cost(i, PERMS[k]) != costs[k] {
+                return false;
+            }
+        }
+    }
+    plan.branches() == wanted.len()
+}
+
+/// Whether a plan without a tree is that of the map's tree, with the same entries and costs.
+fn is_of_tree(rt: &impl Abort, alloc: Global, map: &PermissionMap, of_map: &Plan) -> bool {
+    let tree = build(alloc, map).expect(rt, "memory");
+    let plan = plan(alloc, &tree).expect(rt, "memory");
+    plan.branches() == tree.branches()
+        && plan.needed() == of_map.needed()
+        && have_same_entries(&plan, of_map)
+        && have_same_costs(&plan, of_map)
+}
+
+/// The plan of the ranges has these entries, written as pairs, in this order, and so has that of their map's tree, with
+/// the same costs.
 fn is_planned(rt: &impl Abort, alloc: Global, ranges: &[Range], pairs: &[Pair]) {
     let map = map_of(rt, alloc, ranges);
     let plan = plan_map(alloc, &map).expect(rt, "memory");
     assert!(rt; are_written(plan.entries(), pairs));
     assert!(rt; plan.needed() as usize == pairs.len());
-    let bytes = by_map(rt, alloc, &map, Limit::Sixteen);
-    assert!(rt; bytes == by_tree(rt, alloc, &map, Limit::Sixteen));
+    assert!(rt; is_of_tree(rt, alloc, &map, &plan));
 }
 
 /// The bank that has the list of the ranges' plan has this first configuration word.
@@ -52,9 +108,17 @@ fn configures(rt: &impl Abort, alloc: Global, ranges: &[Range], word: u64) {
     assert!(rt; Bank::of_packed(plan.entries(), Limit::Sixteen).cfg0() == word);
 }
 
+/// The map of the ranges splits as many blocks as there are rows, which have these costs.
+fn costs(rt: &impl Abort, alloc: Global, ranges: &[Range], rows: &[[u32; 6]]) {
+    let tree = build(alloc, &map_of(rt, alloc, ranges)).expect(rt, "memory");
+    let plan = plan(alloc, &tree).expect(rt, "memory");
+    assert!(rt; have_costs(&plan, rows));
+}
+
 #[test]
 fn empty_map_needs_no_entry(rt: HostRuntime) {
     is_planned(&rt, rt.alloc(), &[], &[]);
+    costs(&rt, rt.alloc(), &[], &[]);
 }
 
 #[test]
@@ -106,6 +170,28 @@ fn one_page_of_four_is_overridden(rt: HostRuntime) {
 }
 
 #[test]
+fn the_inherited_permission_stays_where_it_is_best_for_a_half(rt: HostRuntime) {
+    const RANGES: &[Range] = &[(0x80000, 4, Perm::Read), (0x80001, 1, Perm::NoAccess)];
+    const PAIRS: &[Pair] = &[(0x19, 0x2000_01FF), (0x19, 0x2000_0BFF)];
+    is_planned(&rt, rt.alloc(), RANGES, PAIRS);
+}
+
+#[test]
+fn the_first_permission_that_is_best_for_both_halves_is_placed(rt: HostRuntime) {
+    const RANGES: &[Range] = &[
+        (0x80000, 4, Perm::Read),
+        (0x80001, 1, Perm::ReadWrite),
+        (0x80003, 1, Perm::ReadWrite),
+    ];
+    const PAIRS: &[Pair] = &[
+        (0x1B, 0x2000_05FF),
+        (0x1B, 0x2000_0DFF),
+        (0x19, 0x2000_07FF),
+    ];
+    is_planned(&rt, rt.alloc(), RANGES, PAIRS);
+}
+
+#[test]
 fn a_tie_is_settled_as_two_pages(rt: HostRuntime) {
     const RANGES: &[Range] = &[
         (0x80200, 1, Perm::ReadExecute),
@@ -121,13 +207,65 @@ fn a_tie_is_settled_as_two_pages(rt: HostRuntime) {
     configures(&rt, rt.alloc(), RANGES, 0x1B_1B1D);
 }
 
-#[test]
-fn the_lower_half_costs_one_where_none_is_inherited(rt: HostRuntime) {
-    let map = map_of(&rt, rt.alloc(), &[(0, 1 << 43, Perm::ReadWriteExecute)]);
-    let tree = build(rt.alloc(), &map).expect(&rt, "memory");
-    let plan = plan(rt.alloc(), &tree).expect(&rt, "memory");
-    assert!(rt; (plan.needed(), plan.branches()) == (1, 1));
-    for i in 0..plan.branches() {
-        assert!(rt; plan.cost(i, Perm::NoAccess) == 1);
+/// The map needs that many entries.
+fn needs(rt: &impl Abort, alloc: Global, map: &PermissionMap, wanted: u32) {
+    let tree = build(alloc, map).expect(rt, "memory");
+    let plan = plan(alloc, &tree).expect(rt, "memory");
+    assert!(rt; plan.needed() == wanted);
+}
+
+/// What the host of the example platform may do where these many single pages, each second one from 0x80200000 on, are
+/// private to enclaves.
+fn host_beside_scattered_pages(rt: &impl Abort, alloc: Global, pages: u32) -> PermissionMap {
+    let ranges = [
+        (0x80000, 0x8000, Perm::ReadWriteExecute),
+        (0x80000, 0x200, Perm::NoAccess),
+        (0x10000, 1, Perm::ReadWrite),
+    ];
+    let mut map = map_of(rt, alloc, &ranges);
+    for i in 0..pages {
+        map.set_range(0x80200 + 2 * u64::from(i), 1, Perm::NoAccess)
+            .expect(rt, "memory");
     }
+    map
+}
+
+/// The host beside so many scattered pages needs that many entries.
+fn scattered_pages_need(rt: &impl Abort, alloc: Global, pages: u32, wanted: u32) {
+    let map = host_beside_scattered_pages(rt, alloc, pages);
+    needs(rt, alloc, &map, wanted);
+}
+
+#[test]
+fn thirteen_scattered_pages_fit_sixteen_entries(rt: HostRuntime) {
+    scattered_pages_need(&rt, rt.alloc(), 13, 16);
+    scattered_pages_need(&rt, rt.alloc(), 14, 17);
+}
+
+/// The map of the ranges needs that many entries.
+fn ranges_need(rt: &impl Abort, alloc: Global, ranges: &[Range], wanted: u32) {
+    let map = map_of(rt, alloc, ranges);
+    needs(rt, alloc, &map, wanted);
+}
+
+#[test]
+fn one_shared_page_more_needs_one_entry_more(rt: HostRuntime) {
+    const TEN: &[Range] = &[
+        (0x804AB, 170, Perm::ReadExecute),
+        (0x80555, 342, Perm::ReadWrite),
+        (0x81000, 10, Perm::ReadWrite),
+    ];
+    const ELEVEN: &[Range] = &[
+        (0x804AB, 170, Perm::ReadExecute),
+        (0x80555, 342, Perm::ReadWrite),
+        (0x81000, 11, Perm::ReadWrite),
+    ];
+    ranges_need(&rt, rt.alloc(), TEN, 16);
+    ranges_need(&rt, rt.alloc(), ELEVEN, 17);
+}
+
+#[test]
+fn the_lower_half_costs_one_under_either_permission(rt: HostRuntime) {
+    const RANGES: &[Range] = &[(0, 1 << 43, Perm::ReadWriteExecute)];
+    costs(&rt, rt.alloc(), RANGES, &[[1, 2, 2, 2, 2, 1]]);
 }

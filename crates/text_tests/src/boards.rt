@@ -37,6 +37,21 @@ pub(crate) const HEAD: &[u8] = b"/*
  */
 ";
 
+/// What is said at the head where entries below are left as they are.
+pub(crate) const HEAD_ABOVE: &[u8] = b"/*
+ * PMP registers, planned by pmpmon. With them a hart lets supervisor and user mode
+ * do exactly what the map says, where all of this holds:
+ *  - the hart is RV64: its configuration words have 64 bits;
+ *  - machine mode writes them, on each hart;
+ *  - no entry is locked (L = 0), and mseccfg is 0 where the hart has it;
+ *  - the hart protects whole pages of 4096 bytes: its grain is no larger;
+ *  - no entry below these says otherwise where it matches: they are left as they are
+ *    and come first, and `pmpmon audit` of all registers tells what all of them mean;
+ *  - the address registers are written first, then the configuration words, 0 to
+ *    each word after these too, and then comes sfence.vma.
+ */
+";
+
 /// A device page, the firmware's 2 MiB in front of 128 MiB of memory.
 pub(crate) const BOARD: &[Block] = &[
     (0x1000_0000, 12, Perm::ReadWrite),
@@ -64,16 +79,17 @@ pub(crate) fn packed_of(rt: &impl Abort, alloc: Global, blocks: &[Block]) -> Vec
     packed
 }
 
-/// Whether all of the entries, numbered from the first on, could be printed in that form for RV64.
+/// Whether all of the entries, numbered from the first on, could be printed in that form. The address registers have to reach
+/// them.
 pub(crate) fn prints(
     rt: &impl Abort,
     form: Form,
+    xlen: Xlen,
     entries: &[PackedEntry],
     first: u8,
     limit: Limit,
     sink: &mut PieceSink,
 ) -> bool {
-    let xlen = Xlen::Rv64;
     assert!(rt; xlen.reaches(entries));
     assert!(rt; entries.len() <= 64);
     let fits = entries.len() <= room_from(first, limit);
@@ -86,7 +102,7 @@ pub(crate) fn prints(
 }
 
 /// How many bytes these parts are, where a text begins with them, one after another.
-pub(crate) fn begins_with(text: &[u8], parts: &[&[u8]]) -> Option<usize> {
+fn begins_with(text: &[u8], parts: &[&[u8]]) -> Option<usize> {
     let mut at: usize = 0;
     for part in parts {
         if !text.get(at..)?.starts_with(*part) {
@@ -97,11 +113,33 @@ pub(crate) fn begins_with(text: &[u8], parts: &[&[u8]]) -> Option<usize> {
     Some(at)
 }
 
+/// How often a text stands in another.
+fn times(text: &[u8], part: &[u8]) -> usize {
+    let mut count: usize = 0;
+    for i in 0..text.len() {
+        if text.get(i..).unwrap_or_default().starts_with(part) {
+            count = count.saturating_add(1);
+        }
+    }
+    count
+}
+
+/// Whether each of these parts stands in a text so many times.
+fn has_each(text: &[u8], parts: &[(&[u8], usize)]) -> bool {
+    for (part, count) in parts {
+        if times(text, *part) != *count {
+            return false;
+        }
+    }
+    true
+}
+
 /// That the blocks, numbered from the first on, are printed as these parts, one after another, whatever a write takes.
 pub(crate) fn expect_text(
     rt: &impl Abort,
     alloc: Global,
     form: Form,
+    xlen: Xlen,
     blocks: &[Block],
     first: u8,
     parts: &[&[u8]],
@@ -113,6 +151,7 @@ pub(crate) fn expect_text(
             prints(
                 rt,
                 form,
+                xlen,
                 entries.as_slice(),
                 first,
                 Limit::Sixteen,
@@ -121,6 +160,33 @@ pub(crate) fn expect_text(
         );
         assert!(rt;
             begins_with(sink.written(), parts) == Some(sink.written().len()),
+            "from {first}, in pieces of {piece}"
+        );
+    }
+}
+
+/// That the blocks, numbered from the first on, are printed with these parts at the begin, one after another, with this end, and
+/// with each of these parts so many times, whatever a write takes.
+pub(crate) fn expect_parts(
+    rt: &impl Abort,
+    alloc: Global,
+    form: Form,
+    xlen: Xlen,
+    blocks: &[Block],
+    first: u8,
+    limit: Limit,
+    begin: &[&[u8]],
+    end: &[u8],
+    parts: &[(&[u8], usize)],
+) {
+    let entries = packed_of(rt, alloc, blocks);
+    for piece in [4096, 8192] {
+        let mut sink = PieceSink::new(piece, None);
+        assert!(rt; prints(rt, form, xlen, entries.as_slice(), first, limit, &mut sink));
+        let has_ends = begins_with(sink.written(), begin).is_some()
+            && sink.written().ends_with(end);
+        assert!(rt;
+            has_ends && has_each(sink.written(), parts),
             "from {first}, in pieces of {piece}"
         );
     }

@@ -1,14 +1,13 @@
-//! A plan as text, and what all formats have: long lists, sizes, what registers reach, and writes that fail.
+//! A plan as text, and what all formats have: long lists and empty ones, sizes, and writes that fail.
 
-use crate::boards::{BOARD, Block, Form, HEAD, begins_with, expect_text, packed_of, prints};
+use crate::boards::{BOARD, Block, Form, HEAD, expect_parts, expect_text, packed_of, prints};
 use byte_streams::fakes::PieceSink;
 use pmp_encoding::{Limit, Perm};
 use register_width::Xlen;
 use std::alloc::Global;
 use std::process::Abort;
 
-/// That the blocks, numbered from 0 on, are printed with these parts at the begin, one after another, and with this end,
-/// whatever a write takes.
+/// That the blocks, numbered from 0 on, are printed for RV64 with this begin and end.
 fn expect_ends(
     rt: &impl Abort,
     alloc: Global,
@@ -18,16 +17,18 @@ fn expect_ends(
     begin: &[&[u8]],
     end: &[u8],
 ) {
-    let entries = packed_of(rt, alloc, blocks);
-    for piece in [4096, 8192] {
-        let mut sink = PieceSink::new(piece, None);
-        assert!(rt; prints(rt, form, entries.as_slice(), 0, limit, &mut sink));
-        let begins = begins_with(sink.written(), begin).is_some();
-        assert!(rt;
-            begins && sink.written().ends_with(end),
-            "in pieces of {piece}"
-        );
-    }
+    expect_parts(
+        rt,
+        alloc,
+        form,
+        Xlen::Rv64,
+        blocks,
+        0,
+        limit,
+        begin,
+        end,
+        &[],
+    );
 }
 
 #[test]
@@ -38,7 +39,7 @@ fn text_from_entry_three_leaves_a_shared_word_out(rt: HostRuntime) {
 5 0x1f 0x0000000020ffffff
 pmpcfg2 0x0000000000000000
 ";
-    expect_text(&rt, rt.alloc(), Form::Plan, BOARD, 3, &[text]);
+    expect_text(&rt, rt.alloc(), Form::Plan, Xlen::Rv64, BOARD, 3, &[text]);
 }
 
 #[test]
@@ -56,6 +57,38 @@ fn a_list_that_fits_no_bank_has_no_words(rt: HostRuntime) {
         Limit::Sixteen,
         &[front],
         back,
+    );
+}
+
+#[test]
+fn no_entries_are_a_list_too(rt: HostRuntime) {
+    let text = b"/* Only t0 is changed. */
+    addiw   zero, zero, 0 /* an assembler for RV32 refuses this */
+    li      t0, 0x0000000000000000
+    csrw    pmpcfg0, t0
+    li      t0, 0x0000000000000000
+    csrw    pmpcfg2, t0
+    sfence.vma
+";
+    expect_text(
+        &rt,
+        rt.alloc(),
+        Form::Assembly(None),
+        Xlen::Rv64,
+        &[],
+        0,
+        &[HEAD, text],
+    );
+    let begin =
+        b"{\n  \"map\": \"m\",\n  \"limit\": 64,\n  \"entries\": [\n  ],\n  \"pmpcfg\": [\n    \"0x0";
+    expect_ends(
+        &rt,
+        rt.alloc(),
+        Form::Json("m"),
+        &[],
+        Limit::SixtyFour,
+        &[begin],
+        b"",
     );
 }
 
@@ -100,32 +133,36 @@ fn sizes_are_told_in_their_largest_unit(rt: HostRuntime) {
     );
 }
 
-/// That the address registers of RV32 reach the block or not.
-fn expect_reach(rt: &impl Abort, alloc: Global, block: Block, reached: bool) {
-    let entries = packed_of(rt, alloc, &[block]);
-    assert!(rt; Xlen::Rv32.reaches(entries.as_slice()) == reached);
-}
-
-#[test]
-fn address_registers_of_32_bits_reach_34(rt: HostRuntime) {
-    expect_reach(&rt, rt.alloc(), (0, 34, Perm::Read), true);
-    expect_reach(&rt, rt.alloc(), (0, 35, Perm::Read), false);
-}
-
 /// That each of the first seven writes that fails ends the printing of the board, and that the printing ends too where a device
 /// takes nothing.
 fn expect_failures(rt: &impl Abort, alloc: Global, form: Form) {
     let entries = packed_of(rt, alloc, BOARD);
     for k in 1..8u64 {
         let mut sink = PieceSink::new(4096, Some(k));
-        let printed = prints(rt, form, entries.as_slice(), 0, Limit::Sixteen, &mut sink);
+        let printed = prints(
+            rt,
+            form,
+            Xlen::Rv64,
+            entries.as_slice(),
+            0,
+            Limit::Sixteen,
+            &mut sink,
+        );
         assert!(rt;
             !printed && sink.failures == 1 && sink.writes() == k,
             "write {k}"
         );
     }
     let mut sink = PieceSink::new(0, None);
-    let printed = prints(rt, form, entries.as_slice(), 0, Limit::Sixteen, &mut sink);
+    let printed = prints(
+        rt,
+        form,
+        Xlen::Rv64,
+        entries.as_slice(),
+        0,
+        Limit::Sixteen,
+        &mut sink,
+    );
     assert!(rt; !printed && sink.written().is_empty());
 }
 

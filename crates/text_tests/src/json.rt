@@ -1,6 +1,51 @@
 //! Registers as JSON, by hand from the format's description and the privileged architecture.
 
-use crate::boards::{BOARD, Form, expect_text};
+use crate::boards::{BOARD, Form, expect_parts, expect_text};
+use pmp_encoding::Limit;
+use register_width::Xlen;
+use std::alloc::Global;
+use std::process::Abort;
+
+/// That the board's registers as JSON, from the first entry on, have this begin and end, and each part so many times.
+fn expect_json(
+    rt: &impl Abort,
+    alloc: Global,
+    first: u8,
+    begin: &[u8],
+    end: &[u8],
+    parts: &[(&[u8], usize)],
+) {
+    let form = Form::Json("m");
+    expect_parts(
+        rt,
+        alloc,
+        form,
+        Xlen::Rv64,
+        BOARD,
+        first,
+        Limit::Sixteen,
+        &[begin],
+        end,
+        parts,
+    );
+}
+
+#[test]
+fn json_from_entry_three_has_real_numbers(rt: HostRuntime) {
+    let begin =
+        b"{\n  \"map\": \"m\",\n  \"limit\": 16,\n  \"first\": 3,\n  \"entries\": [\n    {\"index\": 3, \"cfg\": 27, ";
+    let end =
+        b"\n  \"pmpcfg\": [\n    \"0x00001f181b000000\",\n    \"0x0000000000000000\"\n  ]\n}\n";
+    expect_json(&rt, rt.alloc(), 3, begin, end, &[(b"{\"index\": 5, ", 1)]);
+    expect_json(
+        &rt,
+        rt.alloc(),
+        14,
+        b"",
+        b"\n  ],\n  \"pmpcfg\": [\n  ]\n}\n",
+        &[],
+    );
+}
 
 #[test]
 fn json_of_a_board(rt: HostRuntime) {
@@ -19,5 +64,5 @@ fn json_of_a_board(rt: HostRuntime) {
   ]
 }
 ";
-    expect_text(&rt, rt.alloc(), form, BOARD, 0, &[text]);
+    expect_text(&rt, rt.alloc(), form, Xlen::Rv64, BOARD, 0, &[text]);
 }

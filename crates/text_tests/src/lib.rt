@@ -32,6 +32,10 @@ mod listings;
 #[cfg(test)]
 mod map_tables;
 #[cfg(test)]
+mod maps;
+#[cfg(test)]
+mod narrow_formats;
+#[cfg(test)]
 mod narrow_listings;
 #[cfg(test)]
 mod pictures;

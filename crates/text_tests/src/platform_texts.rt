@@ -33,7 +33,35 @@ fn the_example_is_a_platform(rt: HostRuntime) {
 }
 
 /// Texts that are no platforms.
-const OTHER: &[&str] = &["", "monitor"];
+const OTHER: &[&str] = &[
+    "",
+    "monitor",
+    "ram = [{ base = 0, size = 4096 }]",
+    "monitor = { base = 0, size = 4096 }",
+    "monitor = { base = 0, size = 4096 }\nram = []",
+    "monitor = { base = 0, size = 4096 }\nram = { base = 0, size = 4096 }",
+    "monitor = { base = 0, size = 4096 }\nram = [{ base = 0 }]",
+    "monitor = { base = 0, size = 4096, kind = 1 }\nram = [{ base = 0, size = 4096 }]",
+    "monitor = { base = 0, size = 4096 }\nram = [{ base = 0, size = 4096, perm = \"rwx\" }]",
+    "monitor = { base = 0, size = 4096 }\nram = [{ base = 0, size = 4096 }]\nhart = 1",
+    "monitor = { base = 0.0, size = 4096 }\nram = [{ base = 0, size = 4096 }]",
+    "monitor = { base = \"0\", size = 4096 }\nram = [{ base = 0, size = 4096 }]",
+    "monitor = { base = -4096, size = 4096 }\nram = [{ base = 0, size = 4096 }]",
+    "monitor = { base = 0, size = 4097 }\nram = [{ base = 0, size = 8192 }]",
+    "monitor = { base = 0, size = 0 }\nram = [{ base = 0, size = 8192 }]",
+    "monitor = { base = 4096, size = 4096 }\nram = [{ base = 0, size = 4096 }]",
+    "monitor = { base = 0, size = 4096 }\nram = [{ base = 0, size = 4096 }, { base = 0, size = 4096 }]",
+    "monitor = { base = 0, size = 4096 }\nram = [{ base = 0, size = 4096 }]\ndevice = [{ base = 8192, size = 4096 }]",
+    "monitor = { base = 0, size = 4096 }\nram = [{ base = 0, size = 4096 }]\ndevice = [{ base = 8192, size = 4096, perm = \"w\" }]",
+    "monitor = { base = 0, size = 4096 }\nram = [{ base = 0, size = 4096 }]\ndevice = [{ base = 0, size = 4096, perm = \"r\" }]",
+    "harts = 0\nmonitor = { base = 0, size = 4096 }\nram = [{ base = 0, size = 4096 }]",
+    "harts = 5\nmonitor = { base = 0, size = 4096 }\nram = [{ base = 0, size = 4096 }]",
+    "harts = 257\nmonitor = { base = 0, size = 4096 }\nram = [{ base = 0, size = 4096 }]",
+    "harts = true\nmonitor = { base = 0, size = 4096 }\nram = [{ base = 0, size = 4096 }]",
+    "entries = 32\nmonitor = { base = 0, size = 4096 }\nram = [{ base = 0, size = 4096 }]",
+    "entries = 272\nmonitor = { base = 0, size = 4096 }\nram = [{ base = 0, size = 4096 }]",
+    "entries = 16.0\nmonitor = { base = 0, size = 4096 }\nram = [{ base = 0, size = 4096 }]",
+];
 
 #[test]
 fn other_texts_are_no_platform(rt: HostRuntime) {

@@ -26,15 +26,33 @@ fn expect_words(rt: &impl Abort, rows: &[(Perm, &str, &str)]) {
     }
 }
 
-#[test]
-fn sizes_in_the_largest_unit_that_counts_them_whole(rt: HostRuntime) {
-    expect_sizes(&rt, &[(4, "4 B"), (0x7fff_f000, "2097148 KiB")]);
-}
+/// Sizes, and how they are written.
+const SIZES: &[(u64, &str)] = &[
+    (4, "4 B"),
+    (4096, "4 KiB"),
+    (0x7e0_0000, "126 MiB"),
+    (0x7fff_f000, "2097148 KiB"),
+    (1 << 30, "1 GiB"),
+    (3 << 40, "3 TiB"),
+    (1 << 56, "64 PiB"),
+];
 
 #[test]
-fn names_and_letters_of_permissions(rt: HostRuntime) {
-    expect_words(
-        &rt,
-        &[(Perm::NoAccess, "none", "---"), (Perm::Read, "r", "r--")],
-    );
+fn sizes_in_the_largest_unit_that_counts_them_whole(rt: HostRuntime) {
+    expect_sizes(&rt, SIZES);
+}
+
+/// Permissions, with name and letters.
+const WORDS: &[(Perm, &str, &str)] = &[
+    (Perm::NoAccess, "none", "---"),
+    (Perm::Read, "r", "r--"),
+    (Perm::ReadWrite, "rw", "rw-"),
+    (Perm::Execute, "x", "--x"),
+    (Perm::ReadExecute, "rx", "r-x"),
+    (Perm::ReadWriteExecute, "rwx", "rwx"),
+];
+
+#[test]
+fn names_and_letters_of_the_six_permissions(rt: HostRuntime) {
+    expect_words(&rt, WORDS);
 }

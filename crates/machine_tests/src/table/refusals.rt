@@ -22,3 +22,11 @@ fn checks_come_in_their_order(rt: HostRuntime) {
     ];
     takes_on(&rt, rt.alloc(), 16, 0, 0, steps.as_slice());
 }
+
+#[test]
+fn without_shared_pages_the_shared_base_is_not_read(rt: HostRuntime) {
+    let mut unused = page_at(0x8020_0000);
+    unused.shared_base = 0x1234;
+    let steps = [Step::Creates(unused, Ok(1))];
+    takes_on(&rt, rt.alloc(), 16, 0, 0, steps.as_slice());
+}

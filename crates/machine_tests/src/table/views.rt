@@ -12,6 +12,8 @@ enum Seen<'a> {
     Lists(u64, Option<&'a [u64]>),
     /// How many maximal runs an enclave's view has; none where there is no such enclave.
     Runs(u64, Option<usize>),
+    /// What the host may do with a page.
+    HostPage(u32, Perm),
     /// What an enclave may do with a page.
     Page(u64, u32, Perm),
     /// Where an enclave is entered.
@@ -27,6 +29,7 @@ fn is_so(rt: &impl Abort, table: &Table, seen: Seen) {
         Seen::HostLists(wanted) => assert!(rt; have_addresses(table.host_entries(), wanted)),
         Seen::Lists(id, wanted) => assert!(rt; lists(table, id, wanted)),
         Seen::Runs(id, wanted) => assert!(rt; run_count(rt, table, id) == wanted),
+        Seen::HostPage(page, perm) => host_sees(rt, table, page, perm),
         Seen::Page(id, page, perm) => enclave_sees(rt, table, id, page, perm),
         Seen::EnteredAt(id, wanted) => assert!(rt; table.entry_point(id) == Some(wanted)),
         Seen::Uses(wanted) => uses(rt, table, wanted),
@@ -70,6 +73,12 @@ fn gives(rt: &impl Abort, view: &PermissionMap, page: u32, perm: Perm) {
 fn enclave_sees(rt: &impl Abort, table: &Table, id: u64, page: u32, perm: Perm) {
     let view = table.enclave_view(id).expect(rt, "memory");
     let view = view.expect(rt, "an enclave");
+    gives(rt, &view, page, perm);
+}
+
+/// A page of the host's view has this permission.
+fn host_sees(rt: &impl Abort, table: &Table, page: u32, perm: Perm) {
+    let view = table.host_view().expect(rt, "memory");
     gives(rt, &view, page, perm);
 }
 
@@ -130,6 +139,18 @@ fn view_of_an_enclave_with_text_data_and_shared_pages(rt: HostRuntime) {
 }
 
 #[test]
+fn view_of_the_host_beside_an_enclave(rt: HostRuntime) {
+    let seen = [
+        Seen::HostPage(0x801FF, Perm::NoAccess),
+        Seen::HostPage(0x80200, Perm::NoAccess),
+        Seen::HostPage(0x80201, Perm::NoAccess),
+        Seen::HostPage(0x80202, Perm::ReadWriteExecute),
+        Seen::HostPage(0x80400, Perm::ReadWriteExecute),
+    ];
+    sees(&rt, rt.alloc(), Some(three_pages()), seen.as_slice());
+}
+
+#[test]
 fn an_enclaves_own_view_can_need_too_many(rt: HostRuntime) {
     let too_many = Create {
         base: 0x804A_B000,
@@ -142,6 +163,7 @@ fn an_enclaves_own_view_can_need_too_many(rt: HostRuntime) {
     let mut asked = too_many;
     asked.shared_count = 10;
     let steps = [
+        Step::WouldNeed(too_many, 13, 17),
         Step::Creates(too_many, Err(Refusal::NoEntries)),
         Step::Creates(asked, Ok(1)),
         Step::Uses(13),

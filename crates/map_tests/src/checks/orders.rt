@@ -9,7 +9,7 @@ use std::alloc::{AllocError, Global};
 use std::process::Abort;
 
 /// The planner's certificate of the map.
-pub fn planned(rt: &impl Abort, alloc: Global, map: &PermissionMap) -> Vec<u8> {
+fn planned(rt: &impl Abort, alloc: Global, map: &PermissionMap) -> Vec<u8> {
     let plan = plan_map(alloc, map).expect(rt, "memory");
     write_map(alloc, map, &plan, Limit::Sixteen).expect(rt, "memory")
 }
@@ -25,7 +25,7 @@ fn tree_in(certificate: &[u8]) -> Result<&[u8], ReadFault> {
 }
 
 /// A certificate of that many entries and a tree.
-pub fn certificate(
+fn certificate(
     alloc: Global,
     entries: &[u8],
     count: u32,
