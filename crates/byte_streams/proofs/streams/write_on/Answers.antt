@@ -1,4 +1,4 @@
-use Rattle.std.proofs.Common.{ℕ, List, length, take, drop, ◌≡◌, ◌-◌, ◌∙◌, arith, length-drop, refl}
+use Rattle.std.proofs.Common.{ℕ, List, length, take, drop, ◌≡◌, ◌-◌, ◌∙◌, arith, length-drop, refl, rules}
 use Rattle.std.proofs.lemmas.Grind.{common_steps}
 use Rattle.std.proofs.Math.Seq.{take-add}
 use Rattle.std.proofs.lemmas.Bool.{ne_eqb}
@@ -21,3 +21,6 @@ loop-done-preserved g c =
       within = omega (arith, bound, length-drop c.loop-done.done c.args.bytes.now);
       taken = rw (take-add c.loop-done.done c.in_ok-n.n c.args.bytes.now) (takes_then g.W.Sink.contents g.W.Sink.failures g.W.Sink.stalls c.loop-done.invariant.taken taken);
     }
+
+pub returns-then-n-eq0 : goal.returns-then-n-eq0
+returns-then-n-eq0 g c = search rules

@@ -9,3 +9,6 @@ returns-then-runs-gt-FEW c =
     let passes = λ (run : Run). nat_le run.count (c.args.page - run.first) in
     let point = IsPartitionPoint-from_clause passes _ _ c.partition_point.ensures.partitioned (ended_first c.args.runs.now c.args.page c.requires) (λ a r q k. search rules) in
     sym (point_counts passes c.args.runs.now c.partition_point.result c.partition_point.ensures.bound point)
+
+pub returns : goal.returns
+returns c = search rules

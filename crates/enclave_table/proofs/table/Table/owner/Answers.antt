@@ -1,4 +1,4 @@
-use Rattle.std.proofs.Common.{◌≡◌, ◌∙◌, ⊎_elim, sym, ap, false, arith}
+use Rattle.std.proofs.Common.{◌≡◌, ◌∙◌, ⊎_elim, sym, ap, false, arith, rules}
 use Rattle.std.proofs.lemmas.Bool.{cases_eq, or_from}
 use Rattle.std.proofs.lemmas.Option.{same_Some}
 use Rattle.permission_map.specs.Runs.{in_range}
@@ -22,3 +22,6 @@ loop-id-preserved c = λ other e low live.
     ap (λ (d : Enclave). is_part d.parts c.args.page) is ∙ none)
     (λ differ. c.loop-id.invariant other e (omega (arith, low, differ)) live)
     (cases_eq other c.loop-id.id)
+
+pub returns-then-has-3 : goal.returns-then-has-3
+returns-then-has-3 c = search rules

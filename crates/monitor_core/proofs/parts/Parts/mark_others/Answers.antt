@@ -1,4 +1,4 @@
-use Rattle.std.proofs.Common.{◌≡◌, ◌∙◌, ◌==◌, ◌&&◌, ◌||◌, nat_lt, if◌then◌else◌, refl, ap, sym, arith}
+use Rattle.std.proofs.Common.{◌≡◌, ◌∙◌, ◌==◌, ◌&&◌, ◌||◌, nat_lt, if◌then◌else◌, refl, ap, sym, arith, rules}
 use Rattle.monitor_core.specs.Changes.{is_host}
 use Rattle.monitor_core.specs.Parts.{mark_in, world_in}
 use Rattle.monitor_core.specs.RegisterSets.{registers_in}
@@ -36,3 +36,6 @@ returns-clause-whole c =
     (whole_marked old.table old.worlds old.marked new.marked c.requires.on.whole
     (λ i on. hosted (i == c.args.hart) (nat_lt i c.loop-other.other) (mark_in old.marked i) (world_in old.worlds i) (c.requires.on.whole.hosted i)
     (sym (inv.marks i ∙ mark_is (nat_lt i c.loop-other.other) (i == c.args.hart) (is_host (world_in old.worlds i)) (mark_in old.marked i)) ∙ on)))
+
+pub loop-other-preserved : goal.loop-other-preserved
+loop-other-preserved c = search rules

@@ -1,5 +1,5 @@
 -- The pair is the canonical one, which means the entry.
-use Rattle.std.proofs.Common.{◌≡◌, ◌+◌, ◌-◌, ◌/◌, arith}
+use Rattle.std.proofs.Common.{◌≡◌, ◌+◌, ◌-◌, ◌/◌, arith, rules}
 use Rattle.std.proofs.lemmas.Bool.{ne_eqb}
 use Rattle.pmp_encoding.specs.Encoding.{cfg_of, address_of}
 use Rattle.pmp_encoding.proofs.Pairs.{pair_is}
@@ -11,3 +11,9 @@ returns-else-self-eq2-clause-meaning c =
     let cfg : c.bits-bits.result + 24 ≡ cfg_of c.args.self.now = rw long (omega (arith, c.bits-bits.ensures.value)) in
     let address : c.args.self.now.region.base / 4 + c.bytes_of.result - 1 ≡ address_of c.args.self.now = rw long (omega (arith, c.bytes_of.ensures.value)) in
     rw (cfg, address) (pair_is c.args.self.now)
+
+pub returns-then-self-eq2-clause-meaning : goal.returns-then-self-eq2-clause-meaning
+returns-then-self-eq2-clause-meaning c = search rules
+
+pub returns-then-self-eq2-clause-cfg : goal.returns-then-self-eq2-clause-cfg
+returns-then-self-eq2-clause-cfg c = search rules

@@ -1,0 +1,6 @@
+-- What the prover finds by itself, written down for the edits that break it (docs/DECISIONS.md, 268).
+use Rattle.std.proofs.Common.{rules}
+use Rattle.pmp_match.proofs.judgement.right.Goals as goal
+
+pub returns-in-Store : goal.returns-in-Store
+returns-in-Store c = search rules

@@ -1,0 +1,6 @@
+-- What the prover finds by itself, written down for the edits that break it (docs/DECISIONS.md, 268).
+use Rattle.std.proofs.Common.{rules}
+use Rattle.prefix_tree.proofs.overwrite.overlap_of.Goals as goal
+
+pub returns-then-end-run_end : goal.returns-then-end-run_end
+returns-then-end-run_end c = search rules

@@ -1,0 +1,9 @@
+-- What the prover finds by itself, written down for the edits that break it (docs/DECISIONS.md, 268).
+use Rattle.std.proofs.Common.{rules}
+use Rattle.trap_server.proofs.service.wake_all.Goals as goal
+
+pub returns-clause-marks : goal.returns-clause-marks
+returns-clause-marks c = search rules
+
+pub returns-clause-state : goal.returns-clause-state
+returns-clause-state c = search rules
