@@ -12,14 +12,14 @@ use std::alloc::Global;
 use std::process::Abort;
 
 /// The certificate of a map, by its tree.
-fn by_tree(rt: &impl Abort, alloc: Global, map: &PermissionMap, limit: Limit) -> Vec<u8> {
+pub fn by_tree(rt: &impl Abort, alloc: Global, map: &PermissionMap, limit: Limit) -> Vec<u8> {
     let tree = build(alloc, map).expect(rt, "memory");
     let plan = plan(alloc, &tree).expect(rt, "memory");
     write(alloc, &tree, &plan, limit).expect(rt, "memory")
 }
 
 /// The certificate of a map, without a tree.
-fn by_map(rt: &impl Abort, alloc: Global, map: &PermissionMap, limit: Limit) -> Vec<u8> {
+pub fn by_map(rt: &impl Abort, alloc: Global, map: &PermissionMap, limit: Limit) -> Vec<u8> {
     let plan = plan_map(alloc, map).expect(rt, "memory");
     write_map(alloc, map, &plan, limit).expect(rt, "memory")
 }

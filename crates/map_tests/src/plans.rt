@@ -1,5 +1,6 @@
 //! Maps, and the fewest entries that mean them.
 
+use crate::certificates::{by_map, by_tree};
 use entry_planner::{Plan, plan, plan_map};
 use permission_map::PermissionMap;
 use pmp_encoding::{Bank, Limit, PackedEntry, Perm};
@@ -90,14 +91,21 @@ fn is_of_tree(rt: &impl Abort, alloc: Global, map: &PermissionMap, of_map: &Plan
         && have_same_costs(&plan, of_map)
 }
 
+/// The map has the same certificate by its tree as without it.
+fn is_certified_alike(rt: &impl Abort, alloc: Global, map: &PermissionMap) {
+    let bytes = by_map(rt, alloc, map, Limit::Sixteen);
+    assert!(rt; bytes == by_tree(rt, alloc, map, Limit::Sixteen));
+}
+
 /// The plan of the ranges has these entries, written as pairs, in this order, and so has that of their map's tree, with
-/// the same costs.
+/// the same costs and the same certificate.
 fn is_planned(rt: &impl Abort, alloc: Global, ranges: &[Range], pairs: &[Pair]) {
     let map = map_of(rt, alloc, ranges);
     let plan = plan_map(alloc, &map).expect(rt, "memory");
     assert!(rt; are_written(plan.entries(), pairs));
     assert!(rt; plan.needed() as usize == pairs.len());
     assert!(rt; is_of_tree(rt, alloc, &map, &plan));
+    is_certified_alike(rt, alloc, &map);
 }
 
 /// The bank that has the list of the ranges' plan has this first configuration word.

@@ -9,7 +9,7 @@ use std::alloc::{AllocError, Global};
 use std::process::Abort;
 
 /// The planner's certificate of the map.
-fn planned(rt: &impl Abort, alloc: Global, map: &PermissionMap) -> Vec<u8> {
+pub fn planned(rt: &impl Abort, alloc: Global, map: &PermissionMap) -> Vec<u8> {
     let plan = plan_map(alloc, map).expect(rt, "memory");
     write_map(alloc, map, &plan, Limit::Sixteen).expect(rt, "memory")
 }

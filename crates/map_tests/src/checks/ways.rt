@@ -1,5 +1,6 @@
 //! Certificates of trees that are split down to one page, written by hand.
 
+use super::orders::planned;
 use super::{SEVEN_PAGES, answers, code, map_of, range_answers};
 use certificate_check::CheckRefusal;
 use permission_map::PermissionMap;
@@ -160,10 +161,16 @@ fn are_all_needed(rt: &impl Abort, map: &PermissionMap, bytes: &[u8]) {
     }
 }
 
+/// The planner's certificate of the map has these bytes.
+fn is_the_planners(rt: &impl Abort, alloc: Global, map: &PermissionMap, bytes: &[u8]) {
+    assert!(rt; planned(rt, alloc, map).as_slice() == bytes);
+}
+
 #[test]
 fn seven_pages_need_two_entries_and_all_their_bytes(rt: HostRuntime) {
     let map = map_of(&rt, rt.alloc(), SEVEN_PAGES);
     let bytes = seven_pages(&rt, rt.alloc());
+    is_the_planners(&rt, rt.alloc(), &map, bytes.as_slice());
     are_all_needed(&rt, &map, bytes.as_slice());
 }
 
