@@ -7,18 +7,18 @@ ghost use Rattle.text_lines.specs.Written.{hex};
 ghost use Rattle.machine_replies.specs.Texts.{reply_text};
 
 use crate::reply::Reply;
-use itoa::Buffer;
 use text_lines::{Line, push_decimal, push_hex, push_text};
 
 /// Appends a signed number in decimal.
 fn push_signed(line: &mut Line, n: i64)
-    requires { array_vec_len line.old + 20 ≤ 128 }
+    requires { array_vec_len line.old + 21 ≤ 128 }
     ensures items { line.new.items ≡ line.old.items ++ signed_decimal n }
-    ensures len { array_vec_len line.new ≤ array_vec_len line.old + 20 }
+    ensures len { array_vec_len line.new ≤ array_vec_len line.old + 21 }
 {
-    let mut buffer = Buffer::new();
-    let text = buffer.format(n);
-    push_text(line, text.as_bytes());
+    if n < 0 {
+        line.push(b'-');
+    }
+    push_decimal(line, n.unsigned_abs());
 }
 
 /// Appends ` 0x` and 16 digits.

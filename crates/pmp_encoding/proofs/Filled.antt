@@ -1,8 +1,8 @@
 -- Registers that are filled with entries, place by place, and the list that they then have.
-use Rattle.std.proofs.Common.{add-zero, length-set, replicate, ◌≡◌, ◌≢◌, ℕ, zero, suc, ◌+◌, ◌-◌, ◌*◌, ◌/◌, ◌%◌, ◌^◌, ◌<◌, ◌≤◌, ⊎_elim, List, [], ◌∷◌, length, Some, slice_index, refl, sym, ap, ◌∙◌, subst, arith, lit<, lit≤}
+use Rattle.std.proofs.Common.{add-zero, drop, length-append, length-drop, length-set, ◌++◌, replicate, ◌≡◌, ◌≢◌, ℕ, zero, suc, ◌+◌, ◌-◌, ◌*◌, ◌/◌, ◌%◌, ◌^◌, ◌<◌, ◌≤◌, ⊎_elim, List, [], ◌∷◌, length, Some, slice_index, refl, sym, ap, ◌∙◌, subst, arith, lit<, lit≤}
 use Rattle.std.specs.Prelude.{slice_get, slice_set}
 use Rattle.std.proofs.lemmas.Bool.{cases_lt}
-use Rattle.std.proofs.lemmas.List.{get_or-set_other, get_or-replicate, get_or_past, length-replicate}
+use Rattle.std.proofs.lemmas.List.{get_or-append_right, get_or-drop, get_or-set_other, get_or-replicate, get_or_append_left, get_or_past, length-replicate}
 use Rattle.std.proofs.lemmas.Grind.{get_or-set_at}
 use Rattle.std.proofs.lemmas.Option.{slice_get_cases, slice_get_within}
 use Rattle.pmp_encoding.specs.declared.limit.Limit.{Limit}
@@ -13,7 +13,7 @@ use Rattle.pmp_encoding.specs.Encoding.{IsOff, cfg_of, address_of}
 use Rattle.pmp_encoding.specs.Faults.{IsFaultless}
 use Rattle.pmp_encoding.specs.Limits.{limit_number}
 use Rattle.pmp_encoding.specs.Registers.{byte_of, cfg_byte, pairs_from, AreRegisters}
-pub use Rattle.pmp_encoding.specs.Filled.{IsFilled}
+pub use Rattle.pmp_encoding.specs.Filled.{AreZero, IsFilled}
 use Rattle.pmp_encoding.specs.Banks.{MeansList, done, skip, keep}
 use Rattle.pmp_encoding.proofs.Bytes.{pow_rises, byte_past}
 use Rattle.pmp_encoding.proofs.Faulty.{entry_faultless, off_faultless}
@@ -26,18 +26,52 @@ limit_most SixtyFour = lit≤ tt
 zeros : (n i : ℕ) → slice_index (replicate n 0) i ≡ 0
 zeros n i = ⊎_elim (λ h. get_or-replicate n i 0 0 h) (λ h. get_or_past (replicate n 0) i 0 (omega (arith, length-replicate {A = ℕ} n 0, h))) (cases_lt i n)
 
-pub filled_none : (entries : List Entry) → IsFilled entries (replicate 8 0) (replicate 64 0) 0
-filled_none entries = from 8 64 refl refl
+pub zero_all : AreZero (replicate 64 0)
+zero_all = from 64 refl
   where
-    from : (m n : ℕ) → m ≡ 8 → n ≡ 64 → IsFilled entries (replicate m 0) (replicate n 0) 0
-    from m n eight many =
+    from : (n : ℕ) → n ≡ 64 → AreZero (replicate n 0)
+    from n many = (length-replicate {A = ℕ} n 0 ∙ many, zeros n)
+
+-- the first sixteen of sixty-four made zero, where the others are
+pub zero_sixteen : (addresses : List ℕ) → length addresses ≡ 64 → ((i : ℕ) → 16 ≤ i → i < 64 → slice_index addresses i ≡ 0) → AreZero (replicate 16 0 ++ drop 16 addresses)
+zero_sixteen addresses many unused = from 16 refl
+  where
+    from : (n : ℕ) → n ≡ 16 → AreZero (replicate n 0 ++ drop n addresses)
+    from n is = (omega (arith, length-append (replicate n 0) (drop n addresses), length-replicate {A = ℕ} n 0, length-drop n addresses, many, is), at)
+      where
+        at : (i : ℕ) → slice_index (replicate n 0 ++ drop n addresses) i ≡ 0
+        at i = ⊎_elim below (λ from_on. ⊎_elim (above from_on) past (cases_lt i 64)) (cases_lt i n)
+          where
+            below : i < n → slice_index (replicate n 0 ++ drop n addresses) i ≡ 0
+            below less = get_or_append_left (replicate n 0) (drop n addresses) 0 i (omega (arith, length-replicate {A = ℕ} n 0, less)) ∙ zeros n i
+
+            rest : n ≤ i → slice_index (replicate n 0 ++ drop n addresses) i ≡ slice_index addresses i
+            rest h =
+                let back : n + (i - n) ≡ i = omega arith in
+                get_or-append_right (replicate n 0) (drop n addresses) n i 0 (length-replicate {A = ℕ} n 0) h
+                ∙ get_or-drop n addresses (i - n) 0 ∙ ap (slice_index addresses) back
+
+            above : n ≤ i → i < 64 → slice_index (replicate n 0 ++ drop n addresses) i ≡ 0
+            above h most = rest h ∙ unused i (omega (arith, h, is)) most
+
+            past : 64 ≤ i → slice_index (replicate n 0 ++ drop n addresses) i ≡ 0
+            past h = rest (omega (arith, h, is)) ∙ get_or_past addresses i 0 (omega (arith, h, many))
+
+pub filled_zeros : (entries : List Entry) (addresses : List ℕ) → AreZero addresses → IsFilled entries (replicate 8 0) addresses 0
+filled_zeros entries addresses cleared = from 8 refl
+  where
+    from : (m : ℕ) → m ≡ 8 → IsFilled entries (replicate m 0) addresses 0
+    from m eight =
         record {
           eight = length-replicate {A = ℕ} m 0 ∙ eight;
-          many = length-replicate {A = ℕ} n 0 ∙ many;
+          many = cleared.0;
           canonical = λ i e h is. absurd (omega (arith, h));
           words_above = λ w. let none : 8 * (0 - 8 * w) ≡ 0 = omega arith in omega (arith, zeros m w, ap (λ k. 2 ^ k) none);
-          addresses_above = λ i h. zeros n i;
+          addresses_above = λ i h. cleared.1 i;
         }
+
+pub filled_none : (entries : List Entry) → IsFilled entries (replicate 8 0) (replicate 64 0) 0
+filled_none entries = filled_zeros entries _ zero_all
 
 -- one entry more, its byte put above the others of its word
 module _ (entries : List Entry) (words addresses : List ℕ) (n : ℕ) (filled : IsFilled entries words addresses n) (few : n < 64) (e : Entry) (next : slice_get entries n ≡ Some e) (word : ℕ) (here : byte_of word (n % 8) ≡ cfg_of e) (others : (k : ℕ) → k ≢ n % 8 → byte_of word k ≡ byte_of (slice_index words (n / 8)) k) (small : word < 2 ^ (8 * (n % 8 + 1))) where

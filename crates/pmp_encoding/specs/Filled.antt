@@ -11,3 +11,7 @@ pub record IsFilled (entries : List Entry) (words addresses : List ℕ) (n : ℕ
   pub canonical : (i : ℕ) (e : Entry) → i < n → slice_get entries i ≡ Some e → (cfg_byte words i ≡ cfg_of e) × (slice_index addresses i ≡ address_of e)
   pub words_above : (w : ℕ) → slice_index words w < 2 ^ (8 * (n - 8 * w))
   pub addresses_above : (i : ℕ) → n ≤ i → slice_index addresses i ≡ 0
+
+-- address registers that are all zero
+abbrev pub AreZero : List ℕ → Type 0
+AreZero addresses = (length addresses ≡ 64) × ((i : ℕ) → slice_index addresses i ≡ 0)

@@ -83,6 +83,7 @@ impl Bank {
         ensures list { HasList self.new entries.now }
         ensures registers { IsBankOf self.new self.old.limit entries.now }
     {
+        clear(&mut self.addresses, self.limit);
         fill(
             &mut self.words,
             &mut self.addresses,
@@ -240,10 +241,10 @@ impl Bank {
     }
 }
 
-ghost use Rattle.std.specs.Prelude.{◌≡◌, ◌≢◌, ◌+◌, ◌*◌, ◌^◌, ◌<◌, ◌≤◌, ℕ, length, map, take, MatchOption};
+ghost use Rattle.std.specs.Prelude.{◌≡◌, ◌≢◌, ◌+◌, ◌*◌, ◌^◌, ◌<◌, ◌≤◌, ℕ, length, map, slice_index, take, MatchOption};
 ghost use Rattle.pmp_encoding.specs.Encoding.{IsOff, MeansEntry};
 ghost use Rattle.pmp_encoding.specs.Extents.{extent_of};
-ghost use Rattle.pmp_encoding.specs.Filled.{IsFilled};
+ghost use Rattle.pmp_encoding.specs.Filled.{AreZero, IsFilled};
 ghost use Rattle.pmp_encoding.specs.Faults.{IsFaultless};
 ghost use Rattle.pmp_encoding.specs.Registers.{byte_of};
 
@@ -270,6 +271,18 @@ fn entry_of(cfg: u8, address: u64) -> Option<Entry>
     }
 }
 
+/// Makes the address registers zero. Those from the limit on are zero before.
+fn clear(addresses: &mut [u64; 64], limit: Limit)
+    requires unused { (i : ℕ) → limit_number limit ≤ i → i < 64
+        → slice_index addresses.old i ≡ 0 }
+    ensures { AreZero addresses.new }
+{
+    match limit {
+        Limit::Sixteen => addresses[..16].copy_from_slice(&[0; 16]),
+        Limit::SixtyFour => *addresses = [0; 64],
+    }
+}
+
 /// Fills registers with entries, each in its canonical pair, and zero after them; and decodes each one beside it.
 fn fill(
     words: &mut [u64; 8],
@@ -277,13 +290,13 @@ fn fill(
     extents: &mut [Extent; 64],
     entries: &[Entry],
 )
-    requires { length entries.now ≤ 64 }
+    requires few { length entries.now ≤ 64 }
+    requires cleared { AreZero addresses.old }
     ensures registers { IsFilled entries.now words.new addresses.new (length entries.now) }
     ensures room { length extents.new ≡ 64 }
     ensures in_order { take (length entries.now) extents.new ≡ map extent_of entries.now }
 {
     *words = [0; 8];
-    *addresses = [0; 64];
     for (i, entry) in entries.iter().enumerate() {
         let (cfg, address) = entry.encode();
         words[i / 8] = with_byte(words[i / 8], i % 8, cfg);

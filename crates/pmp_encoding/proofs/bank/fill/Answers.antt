@@ -3,11 +3,11 @@ use Rattle.std.proofs.Common.{◌≡◌, ◌∙◌, ◌++◌, ◌∷◌, [], ref
 use Rattle.std.proofs.lemmas.List.{take_more, take_more_set, map-append, take_all}
 use Rattle.std.proofs.lemmas.Option.{slice_get_read}
 use Rattle.pmp_encoding.specs.Extents.{extent_of}
-use Rattle.pmp_encoding.proofs.Filled.{filled_none, filled_more, filled_all}
+use Rattle.pmp_encoding.proofs.Filled.{filled_zeros, filled_more, filled_all}
 use Rattle.pmp_encoding.proofs.bank.fill.Goals as goal
 
 pub loop-i-init : goal.loop-i-init
-loop-i-init c = record { filled = filled_none c.args.entries.now; room = c.told-extents; in_order = refl }
+loop-i-init c = record { filled = filled_zeros c.args.entries.now c.args.addresses.now c.requires.cleared; room = c.told-extents; in_order = refl }
 
 pub loop-i-preserved : goal.loop-i-preserved
 loop-i-preserved c =
@@ -17,11 +17,11 @@ loop-i-preserved c =
     let here = c.index-entries-i.is in
     record {
       filled = rw c.encode-cfg.ensures.address
-          (filled_more c.args.entries.now c.loop-i.words c.loop-i.addresses c.loop-i.i now.filled (omega (arith, c.requires, c.loop-i-test.true)) entry next c.with_byte.result (c.with_byte.ensures.here ∙ c.encode-cfg.ensures.cfg)
+          (filled_more c.args.entries.now c.loop-i.words c.loop-i.addresses c.loop-i.i now.filled (omega (arith, c.requires.few, c.loop-i-test.true)) entry next c.with_byte.result (c.with_byte.ensures.here ∙ c.encode-cfg.ensures.cfg)
           c.with_byte.ensures.others c.with_byte.ensures.small);
       room = length-set c.loop-i.extents c.loop-i.i c.of.result ∙ now.room;
       in_order =
-          take_more_set c.loop-i.extents c.loop-i.i c.of.result (omega (arith, now.room, c.requires, c.loop-i-test.true)) ∙ ap (λ xs. xs ++ c.of.result ∷ []) now.in_order
+          take_more_set c.loop-i.extents c.loop-i.i c.of.result (omega (arith, now.room, c.requires.few, c.loop-i-test.true)) ∙ ap (λ xs. xs ++ c.of.result ∷ []) now.in_order
           ∙ ap (λ x. map extent_of (take c.loop-i.i c.args.entries.now) ++ x ∷ []) (c.of.ensures ∙ ap extent_of here)
           ∙ sym (ap (map extent_of) (take_more c.args.entries.now c.loop-i.i entry c.loop-i-test.true) ∙ map-append extent_of (take c.loop-i.i c.args.entries.now) _);
     }
