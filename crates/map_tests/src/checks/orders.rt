@@ -1,18 +1,12 @@
 //! Entries in other orders than a planner's, after them the tree that the planner's certificate has.
 
+use crate::certificates::by_map;
 use certificate_check::{CheckRefusal, check};
-use entry_planner::plan_map;
 use permission_map::{MapFault, PermissionMap};
-use plan_certificate::{ReadFault, Reader, write_map};
+use plan_certificate::{ReadFault, Reader};
 use pmp_encoding::{Limit, Perm};
 use std::alloc::{AllocError, Global};
 use std::process::Abort;
-
-/// The planner's certificate of the map.
-pub fn planned(rt: &impl Abort, alloc: Global, map: &PermissionMap) -> Vec<u8> {
-    let plan = plan_map(alloc, map).expect(rt, "memory");
-    write_map(alloc, map, &plan, Limit::Sixteen).expect(rt, "memory")
-}
 
 /// What a certificate has after its entries.
 fn tree_in(certificate: &[u8]) -> Result<&[u8], ReadFault> {
@@ -48,7 +42,7 @@ fn answers(
     count: u32,
     wanted: Result<u32, CheckRefusal>,
 ) {
-    let planned = planned(rt, alloc, map);
+    let planned = by_map(rt, alloc, map, Limit::Sixteen);
     let tree = tree_in(planned.as_slice()).expect(rt, "a certificate");
     let bytes = certificate(alloc, entries, count, tree).expect(rt, "memory");
     assert!(rt; check(map, &bytes) == wanted);
@@ -212,7 +206,7 @@ fn map_of_many_entries(alloc: Global) -> Result<PermissionMap, MapFault> {
 
 /// The planner's entries for the map of many, from the last to the first.
 fn many_reversed(rt: &impl Abort, alloc: Global, map: &PermissionMap) -> Vec<u8> {
-    let planned = planned(rt, alloc, map);
+    let planned = by_map(rt, alloc, map, Limit::Sixteen);
     let entries = planned.get(9..633609).expect(rt, "as many entries");
     reversed(alloc, entries).expect(rt, "memory")
 }

@@ -1,10 +1,10 @@
 //! Certificates of trees that are split down to one page, written by hand.
 
-use super::orders::planned;
 use super::{SEVEN_PAGES, answers, code, map_of, range_answers};
+use crate::certificates::by_map;
 use certificate_check::CheckRefusal;
 use permission_map::PermissionMap;
-use pmp_encoding::Perm;
+use pmp_encoding::{Limit, Perm};
 use std::alloc::{AllocError, Global};
 use std::process::Abort;
 
@@ -163,7 +163,7 @@ fn are_all_needed(rt: &impl Abort, map: &PermissionMap, bytes: &[u8]) {
 
 /// The planner's certificate of the map has these bytes.
 fn is_the_planners(rt: &impl Abort, alloc: Global, map: &PermissionMap, bytes: &[u8]) {
-    assert!(rt; planned(rt, alloc, map).as_slice() == bytes);
+    assert!(rt; by_map(rt, alloc, map, Limit::Sixteen).as_slice() == bytes);
 }
 
 #[test]
