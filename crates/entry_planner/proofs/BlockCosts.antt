@@ -5,7 +5,7 @@ use Rattle.std.proofs.Math.Path.{ap₂, fun_ext}
 use Rattle.std.proofs.lemmas.List.{append-nil, reverse-append}
 use Rattle.pmp_encoding.specs.declared.perm.Perm.{Perm}
 use Rattle.entry_planner.specs.declared.costs.BlockCost.{BlockCost}
-use Rattle.entry_planner.specs.declared.costs.HalfPerms.{HalfPerms}
+use Rattle.entry_planner.specs.declared.costs.SplitCost.{SplitCost}
 use Rattle.entry_planner.specs.declared.perm_set.PermSet.{PermSet}
 use Rattle.prefix_tree.specs.Trees.{PermTree, Uniform, Split}
 use Rattle.prefix_tree.specs.Counts.{splits}
@@ -14,45 +14,54 @@ use Rattle.prefix_tree.specs.Chains.{chained}
 use Rattle.prefix_tree.proofs.Nested.{splits-chained}
 use Rattle.entry_planner.specs.Best.{any_of, is_best, least_cost}
 use Rattle.entry_planner.specs.PermSets.{set_of}
-use Rattle.entry_planner.specs.Plans.{block_cost, half_perms, costs_in, half_perms_in}
-use Rattle.entry_planner.proofs.Sets.{bit_and-sets, bit_or-sets, set_of-empty}
+use Rattle.entry_planner.specs.Plans.{as_block, block_cost, costs_in, split_cost}
+use Rattle.entry_planner.proofs.Sets.{bit_and-sets, bit_or-sets, set_of-empty, set_of-most}
 
-pub half_perms_are :
-    (low high : PermTree) (lower upper : BlockCost) (both either : PermSet) → both.bits ≡ bit_and lower.best.bits upper.best.bits
-    → either.bits ≡ bit_or lower.best.bits upper.best.bits → lower ≡ block_cost low → upper ≡ block_cost high
-    → ◌≡◌ {A = HalfPerms} (record { both = both; either = either }) (half_perms low high)
-half_perms_are low high lower upper both either p q l u =
+-- a split block's cost, from those of its halves, where it is known whether their sets meet
+pub split_cost_is :
+    (low high : PermTree) (lower upper : BlockCost) (least : ℕ) (both either : PermSet) (none : Bool) → both.bits ≡ bit_and lower.best.bits upper.best.bits
+    → either.bits ≡ bit_or lower.best.bits upper.best.bits → none ≡ (both.bits == 0) → least ≡ lower.least + upper.least + (if none then 1 else 0)
+    → lower ≡ block_cost low → upper ≡ block_cost high → ◌≡◌ {A = SplitCost} (record { least = least; both = both; either = either }) (split_cost low high)
+split_cost_is low high lower upper least both either none p q empty sum l u =
     let a : lower.best.bits ≡ set_of (is_best low) = ap (λ c. c.best.bits) l in
     let b : upper.best.bits ≡ set_of (is_best high) = ap (λ c. c.best.bits) u in
-    let make : ℕ → ℕ → HalfPerms = λ x y. record { both = record { bits = x }; either = record { bits = y } } in
-    ap₂ make (p ∙ ap₂ bit_and a b ∙ bit_and-sets (is_best low) (is_best high)) (q ∙ ap₂ bit_or a b ∙ bit_or-sets (is_best low) (is_best high))
-
--- a split block at which it is known whether the halves' sets meet
-met : (low high : PermTree) → any_of (λ q. is_best low q && is_best high q) ≡ true
-    → ◌≡◌ {A = BlockCost} (block_cost (Split low high)) (record { least = least_cost low + least_cost high + 0; best = record { bits = set_of (λ p. is_best low p && is_best high p) } })
-met low high h =
-    let at : Bool → BlockCost =
-    λ t.
-    record {
-      least = least_cost low + least_cost high + (if t then 0 else 1);
-      best = record { bits = set_of (λ p. if t then is_best low p && is_best high p else is_best low p || is_best high p) };
-    } in
-    ap at h
-
-pub split_meets :
-    (low high : PermTree) (together : ℕ) (perms : HalfPerms) → together ≡ least_cost low + least_cost high → perms ≡ half_perms low high
-    → (perms.both.bits == 0) ≡ false → ◌≡◌ {A = BlockCost} (record { least = together; best = perms.both }) (block_cost (Split low high))
-split_meets low high together perms sum are some =
-    let set : perms.both.bits ≡ set_of (λ p. is_best low p && is_best high p) = ap (λ h. h.both.bits) are in
-    let any : any_of (λ q. is_best low q && is_best high q) ≡ true =
-    true_from (any_of (λ q. is_best low q && is_best high q)) (sym (set_of-empty (λ q. is_best low q && is_best high q)) ∙ sym (ap (λ n. n == 0) set) ∙ some) in
-    let number : together ≡ least_cost low + least_cost high + 0 = omega arith in
-    let make : ℕ → ℕ → BlockCost = λ x y. record { least = x; best = record { bits = y } } in
-    ap₂ make number set ∙ sym (met low high any)
+    let met : both.bits ≡ set_of (λ r. is_best low r && is_best high r) = p ∙ ap₂ bit_and a b ∙ bit_and-sets (is_best low) (is_best high) in
+    let any : none ≡ not (any_of (λ r. is_best low r && is_best high r)) =
+    empty ∙ ap (λ n. n == 0) met ∙ set_of-empty (λ r. is_best low r && is_best high r) in
+    let number : least ≡ least_cost (Split low high) =
+    omega (arith, sum, ap (λ c. c.least) l, ap (λ c. c.least) u, ap one_where any, turned (any_of (λ r. is_best low r && is_best high r))) in
+    let make : ℕ → ℕ → ℕ → SplitCost = λ n x y. record { least = n; both = record { bits = x }; either = record { bits = y } } in
+    ap (λ n. make n both.bits either.bits) number
+    ∙ ap₂ (make (least_cost (Split low high))) met (q ∙ ap₂ bit_or a b ∙ bit_or-sets (is_best low) (is_best high))
   where
-    true_from : (b : Bool) → not b ≡ false → b ≡ true
-    true_from true h = refl
-    true_from false h = cc
+    one_where : Bool → ℕ
+    one_where t = if t then 1 else 0
+
+    turned : (t : Bool) → ◌≡◌ {A = ℕ} (if not t then 1 else 0) (if t then 0 else 1)
+    turned true = refl
+    turned false = refl
+
+-- as a block it costs what the block does
+pub split_as_block : (low high : PermTree) → as_block (split_cost low high) ≡ block_cost (Split low high)
+split_as_block low high =
+    let both : Perm → Bool = λ p. is_best low p && is_best high p in
+    let either : Perm → Bool = λ p. is_best low p || is_best high p in
+    let make : ℕ → BlockCost = λ n. record { least = least_cost (Split low high); best = record { bits = n } } in
+    ap (λ t. make (if t then set_of either else set_of both)) (set_of-empty both) ∙ ap make (picked both either (any_of both))
+  where
+    picked : (both either : Perm → Bool) (t : Bool) → (if not t then set_of either else set_of both) ≡ set_of (λ p. if t then both p else either p)
+    picked both either true = refl
+    picked both either false = refl
+
+pub is_split_block : (low high : PermTree) (c : SplitCost) (b : BlockCost) → c ≡ split_cost low high → b ≡ as_block c → b ≡ block_cost (Split low high)
+is_split_block low high c b is own = own ∙ ap as_block is ∙ split_as_block low high
+
+-- its sets have six bits
+pub sets_small : (low high : PermTree) (c : SplitCost) → c ≡ split_cost low high → (c.both.bits < 64) × (c.either.bits < 64)
+sets_small low high c is = (
+  omega (arith, ap (λ x. x.both.bits) is, set_of-most (λ p. is_best low p && is_best high p)),
+  omega (arith, ap (λ x. x.either.bits) is, set_of-most (λ p. is_best low p || is_best high p)),
+)
 
 pub least_le_branches : (tree : PermTree) → least_cost tree ≤ splits tree
 least_le_branches (Uniform q) = omega arith
@@ -65,8 +74,8 @@ least_le_branches (Split lower upper) =
 
 -- so the numbers fit their type
 pub halves_fit :
-    (tree low high : PermTree) (lower upper : BlockCost) → tree ≡ Split low high → splits tree < 2 ^ 24 → lower ≡ block_cost low → upper ≡ block_cost high
-    → lower.least + upper.least + 1 < 2 ^ 24
+    (tree low high : PermTree) (lower upper : BlockCost) → tree ≡ Split low high → splits tree < 2 ^ 20 → lower ≡ block_cost low → upper ≡ block_cost high
+    → lower.least + upper.least + 1 < 2 ^ 20
 halves_fit tree low high lower upper split fit l u =
     let count : splits tree ≡ 1 + (splits low + splits high) = ap splits split in
     let a : lower.least ≡ least_cost low = ap (λ c. c.least) l in
@@ -85,24 +94,15 @@ added_both old low high x =
     ap (λ l. l ++ x ∷ []) (append_assoc old (reverse high) (reverse low) ∙ ap (λ l. old ++ l) (sym (reverse-append low high)))
     ∙ added_first old (low ++ high) x
 
--- so for the costs of a split block, and for its halves' permissions
+-- so for the costs of a split block
 pub costs_added :
-    (tree low high : PermTree) (old mid items all : List BlockCost) → tree ≡ Split low high → mid ≡ old ++ reverse (costs_in high) → items ≡ mid ++ reverse (costs_in low)
-    → all ≡ items ++ block_cost (Split low high) ∷ [] → all ≡ old ++ reverse (costs_in tree)
+    (tree low high : PermTree) (old mid items all : List SplitCost) → tree ≡ Split low high → mid ≡ old ++ reverse (costs_in high) → items ≡ mid ++ reverse (costs_in low)
+    → all ≡ items ++ split_cost low high ∷ [] → all ≡ old ++ reverse (costs_in tree)
 costs_added tree low high old mid items all split m i a =
     a
-    ∙ ap (λ l. l ++ block_cost (Split low high) ∷ []) (i ∙ ap (λ l. l ++ reverse (costs_in low)) m)
-    ∙ added_both old (costs_in low) (costs_in high) (block_cost (Split low high))
+    ∙ ap (λ l. l ++ split_cost low high ∷ []) (i ∙ ap (λ l. l ++ reverse (costs_in low)) m)
+    ∙ added_both old (costs_in low) (costs_in high) (split_cost low high)
     ∙ ap (λ t. old ++ reverse (costs_in t)) (sym split)
-
-pub half_perms_added :
-    (tree low high : PermTree) (old mid items all : List HalfPerms) → tree ≡ Split low high → mid ≡ old ++ reverse (half_perms_in high)
-    → items ≡ mid ++ reverse (half_perms_in low) → all ≡ items ++ half_perms low high ∷ [] → all ≡ old ++ reverse (half_perms_in tree)
-half_perms_added tree low high old mid items all split m i a =
-    a
-    ∙ ap (λ l. l ++ half_perms low high ∷ []) (i ∙ ap (λ l. l ++ reverse (half_perms_in low)) m)
-    ∙ added_both old (half_perms_in low) (half_perms_in high) (half_perms low high)
-    ∙ ap (λ t. old ++ reverse (half_perms_in t)) (sym split)
 
 -- the number of a tree that is not too large fits its type, and one more does
 pub least_small : (tree : PermTree) (c : BlockCost) → splits tree + 1 < 2 ^ 32 → c ≡ block_cost tree → c.least + 1 < 2 ^ 32
@@ -112,7 +112,7 @@ least_small tree c few is =
 
 -- that of a chain's smallest block, with one more for each larger one
 pub chain_small :
-    (shape tree : PermTree) (chain : Chain) (c : BlockCost) → shape ≡ chained chain tree → splits shape < 2 ^ 24 → c ≡ block_cost tree → c.least + chain.levels < 2 ^ 24
+    (shape tree : PermTree) (chain : Chain) (c : BlockCost) → shape ≡ chained chain tree → splits shape < 2 ^ 20 → c ≡ block_cost tree → c.least + chain.levels < 2 ^ 20
 chain_small shape tree chain c is few own =
     omega (arith, ap (λ x. x.least) own, least_le_branches tree, splits-chained shape tree chain is)
 
@@ -129,7 +129,9 @@ turned_cost low high =
     ap (λ n. make n (λ p. is_best low p && is_best high p) (λ p. is_best low p || is_best high p)) sum
     ∙ ap₂ (make (least_cost high + least_cost low)) (fun_ext (λ p. and_comm (is_best low p) (is_best high p))) (fun_ext (λ p. or_comm (is_best low p) (is_best high p)))
 
-pub turned_perms : (low high : PermTree) → half_perms low high ≡ half_perms high low
-turned_perms low high =
-    let make : (Perm → Bool) → (Perm → Bool) → HalfPerms = λ both either. record { both = record { bits = set_of both }; either = record { bits = set_of either } } in
-    ap₂ make (fun_ext (λ p. and_comm (is_best low p) (is_best high p))) (fun_ext (λ p. or_comm (is_best low p) (is_best high p)))
+pub turned_split : (low high : PermTree) → split_cost low high ≡ split_cost high low
+turned_split low high =
+    let make : ℕ → (Perm → Bool) → (Perm → Bool) → SplitCost =
+    λ n both either. record { least = n; both = record { bits = set_of both }; either = record { bits = set_of either } } in
+    ap (λ c. make c.least (λ p. is_best low p && is_best high p) (λ p. is_best low p || is_best high p)) (turned_cost low high)
+    ∙ ap₂ (make (least_cost (Split high low))) (fun_ext (λ p. and_comm (is_best low p) (is_best high p))) (fun_ext (λ p. or_comm (is_best low p) (is_best high p)))

@@ -13,8 +13,8 @@ use Rattle.entry_planner.proofs.SamePerm.{perm_eq-same}
 use Rattle.prefix_tree.specs.declared.chains.Chain.{Chain}
 use Rattle.prefix_tree.specs.Chains.{chained, goes_up, nested}
 use Rattle.prefix_tree.proofs.Nested.{smaller_lower, smaller_upper}
-use Rattle.entry_planner.specs.declared.costs.HalfPerms.{HalfPerms}
-use Rattle.entry_planner.specs.Plans.{half_perms_in}
+use Rattle.entry_planner.specs.declared.costs.SplitCost.{SplitCost}
+use Rattle.entry_planner.specs.Plans.{costs_in}
 use Rattle.entry_planner.proofs.Walked.{AddsOwn, some_left, split_is}
 
 -- with what a block still adds, and with what waits, the entries that were added are chosen for the largest block
@@ -121,12 +121,12 @@ completed top root t whole rest smallest k first p m far r s old a b c is so sma
       IsPermutation-trans _ _ _ g.2 (IsPermutation-append_right added (late.0 ++ es) (its ++ late.0) turned),
     )
 
--- a chain's largest block has its halves' permissions in the list
+-- a chain's largest block has its cost in the list
 pub chain_left :
-    (halves : List HalfPerms) (chain : Chain) (tree : PermTree) → 0 < chain.levels → chain.place < 2 ^ chain.levels
-    → (rest : List HalfPerms) × (halves ≡ rest ++ reverse (half_perms_in (chained chain tree))) → 1 ≤ length halves
-chain_left halves chain tree some placed ends = go (goes_up chain) refl
+    (costs : List SplitCost) (chain : Chain) (tree : PermTree) → 0 < chain.levels → chain.place < 2 ^ chain.levels
+    → (rest : List SplitCost) × (costs ≡ rest ++ reverse (costs_in (chained chain tree))) → 1 ≤ length costs
+chain_left costs chain tree some placed ends = go (goes_up chain) refl
   where
-    go : (t : Bool) → goes_up chain ≡ t → 1 ≤ length halves
-    go true up = some_left halves (chained chain tree) _ _ (smaller_upper chain tree some placed up).0 ends
-    go false down = some_left halves (chained chain tree) _ _ (smaller_lower chain tree some down).0 ends
+    go : (t : Bool) → goes_up chain ≡ t → 1 ≤ length costs
+    go true up = some_left costs (chained chain tree) _ _ (smaller_upper chain tree some placed up).0 ends
+    go false down = some_left costs (chained chain tree) _ _ (smaller_lower chain tree some down).0 ends

@@ -6,13 +6,13 @@ use Rattle.pmp_encoding.specs.declared.perm.Perm.TheVariants.{NoAccess, Read, Re
 use Rattle.pmp_encoding.specs.Perms.{index_of, perm_eq}
 use Rattle.pmp_encoding.specs.declared.region.Entry.{Entry}
 use Rattle.prefix_tree.specs.Trees.{PermTree, Uniform, Split}
-use Rattle.entry_planner.specs.declared.costs.HalfPerms.{HalfPerms}
+use Rattle.entry_planner.specs.declared.costs.SplitCost.{SplitCost}
 use Rattle.entry_planner.specs.Best.{is_best, least_cost}
 use Rattle.entry_planner.specs.Choice.{first_least, halves_cost, handed_on, IsChosenAt}
 use Rattle.entry_planner.specs.Costs.{least_of, cost}
 use Rattle.entry_planner.specs.PermSets.{has}
 use Rattle.entry_planner.proofs.Placements.{IsCheap, IsPlacedAt}
-use Rattle.entry_planner.specs.Plans.{half_perms}
+use Rattle.entry_planner.specs.Plans.{split_cost}
 use Rattle.entry_planner.proofs.BestCosts.{cost_is, sum_at, sum_apart}
 use Rattle.entry_planner.proofs.CostLemmas.{least_le, least_is}
 use Rattle.entry_planner.proofs.SamePerm.{perm_eq-same, perm_eq-false}
@@ -155,37 +155,37 @@ least_apart low high apart =
 stays : (low high : PermTree) (p : Perm) → halves_cost low high p ≤ 1 + least_of (halves_cost low high) → handed_on low high p ≡ p
 stays low high p h = ap (λ t. if t then p else first_least (halves_cost low high)) (le-leb _ _ h)
 
-both_is : (low high : PermTree) (perms : HalfPerms) (q : Perm) (t : Bool) → perms ≡ half_perms low high → has perms.both.bits q ≡ t → (is_best low q && is_best high q) ≡ t
-both_is low high perms q t are is = sym (has-set_of (λ r. is_best low r && is_best high r) q) ∙ ap (λ h. has h.both.bits q) (sym are) ∙ is
+both_is : (low high : PermTree) (c : SplitCost) (q : Perm) (t : Bool) → c ≡ split_cost low high → has c.both.bits q ≡ t → (is_best low q && is_best high q) ≡ t
+both_is low high c q t are is = sym (has-set_of (λ r. is_best low r && is_best high r) q) ∙ ap (λ h. has h.both.bits q) (sym are) ∙ is
 
-either_is : (low high : PermTree) (perms : HalfPerms) (q : Perm) (t : Bool) → perms ≡ half_perms low high → has perms.either.bits q ≡ t → (is_best low q || is_best high q) ≡ t
-either_is low high perms q t are is = sym (has-set_of (λ r. is_best low r || is_best high r) q) ∙ ap (λ h. has h.either.bits q) (sym are) ∙ is
+either_is : (low high : PermTree) (c : SplitCost) (q : Perm) (t : Bool) → c ≡ split_cost low high → has c.either.bits q ≡ t → (is_best low q || is_best high q) ≡ t
+either_is low high c q t are is = sym (has-set_of (λ r. is_best low r || is_best high r) q) ∙ ap (λ h. has h.either.bits q) (sym are) ∙ is
 
 -- the inherited permission is best for a half
-pub kept_handed : (low high : PermTree) (perms : HalfPerms) (p : Perm) → perms ≡ half_perms low high → has perms.either.bits p ≡ true → p ≡ handed_on low high p
-kept_handed low high perms p are inside =
+pub kept_handed : (low high : PermTree) (c : SplitCost) (p : Perm) → c ≡ split_cost low high → has c.either.bits p ≡ true → p ≡ handed_on low high p
+kept_handed low high c p are inside =
     let some : cost low p + cost high p ≤ least_cost low + least_cost high + 1 =
-    sum_some _ _ _ _ _ _ (cost_is low p) (cost_is high p) (either_is low high perms p true are inside) in
+    sum_some _ _ _ _ _ _ (cost_is low p) (cost_is high p) (either_is low high c p true are inside) in
     sym (stays low high p (omega (arith, least_together low high)))
 
 -- no permission is best for both
-pub none_handed : (low high : PermTree) (perms : HalfPerms) (p : Perm) → perms ≡ half_perms low high → ((q : Perm) → has perms.both.bits q ≡ false) → p ≡ handed_on low high p
-none_handed low high perms p are none =
+pub none_handed : (low high : PermTree) (c : SplitCost) (p : Perm) → c ≡ split_cost low high → ((q : Perm) → has c.both.bits q ≡ false) → p ≡ handed_on low high p
+none_handed low high c p are none =
     let two : cost low p + cost high p ≤ least_cost low + least_cost high + 2 = sum_two _ _ _ _ _ _ (cost_is low p) (cost_is high p) in
-    sym (stays low high p (omega (arith, least_apart low high (λ q. both_is low high perms q false are (none q)))))
+    sym (stays low high p (omega (arith, least_apart low high (λ q. both_is low high c q false are (none q)))))
 
 -- the first that is best for both, where the inherited one is best for neither
 pub first_handed :
-    (low high : PermTree) (perms : HalfPerms) (p q : Perm) → perms ≡ half_perms low high → has perms.either.bits p ≡ false → has perms.both.bits q ≡ true
-    → ((r : Perm) → index_of r < index_of q → has perms.both.bits r ≡ false) → q ≡ handed_on low high p
-first_handed low high perms p q are out inside before =
-    let both = both_is low high perms q true are inside in
+    (low high : PermTree) (c : SplitCost) (p q : Perm) → c ≡ split_cost low high → has c.either.bits p ≡ false → has c.both.bits q ≡ true
+    → ((r : Perm) → index_of r < index_of q → has c.both.bits r ≡ false) → q ≡ handed_on low high p
+first_handed low high c p q are out inside before =
+    let both = both_is low high c q true are inside in
     let sum : cost low q + cost high q ≡ least_cost low + least_cost high = sum_at _ _ _ _ _ _ (cost_is low q) (cost_is high q) both in
     let least : least_of (halves_cost low high) ≡ least_cost low + least_cost high = omega (arith, least_together low high, least_le (halves_cost low high) q) in
     let dear : least_cost low + least_cost high + 2 ≤ cost low p + cost high p =
-    sum_none _ _ _ _ _ _ (cost_is low p) (cost_is high p) (either_is low high perms p false are out) in
+    sum_none _ _ _ _ _ _ (cost_is low p) (cost_is high p) (either_is low high c p false are out) in
     let not_before : (r : Perm) → index_of r < index_of q → halves_cost low high r ≡ least_of (halves_cost low high) → ⊥ =
-    λ r h is. (let more = sum_apart _ _ _ _ _ _ (cost_is low r) (cost_is high r) (both_is low high perms r false are (before r h)) in omega arith) in
+    λ r h is. (let more = sum_apart _ _ _ _ _ _ (cost_is low r) (cost_is high r) (both_is low high c r false are (before r h)) in omega arith) in
     sym
     (ap (λ t. if t then p else first_least (halves_cost low high)) (lt-leb (halves_cost low high p) (1 + least_of (halves_cost low high)) (omega arith))
     ∙ first_least-first (halves_cost low high) q (sum ∙ sym least) not_before)

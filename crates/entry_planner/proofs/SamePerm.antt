@@ -1,7 +1,7 @@
 -- When two permissions are the same.
-use Rattle.std.proofs.Common.{◌≡◌, Bool, true, false, not, refl, sym, ap, ◌∙◌}
+use Rattle.std.proofs.Common.{◌≡◌, Bool, true, false, not, refl, sym, ap, ◌∙◌, rules}
 use Rattle.std.proofs.lemmas.Bool.{eqb-true, eq-eqb}
-use denote.Enum.Bare.{sameb}
+use denote.Enum.Bare.{sameb, same_true}
 use Rattle.pmp_encoding.specs.contracts.perm.Perm.{the_type}
 use Rattle.pmp_encoding.specs.declared.perm.Perm.{Perm}
 use Rattle.pmp_encoding.specs.declared.perm.Perm.TheVariants.{NoAccess, Read, ReadWrite, Execute, ReadExecute, ReadWriteExecute}
@@ -21,7 +21,10 @@ perm_eq-false p q differ = go (perm_eq p q) refl
     go true is = absurd (differ (perm_eq-true p q is))
     go false is = is
 
--- the test `!=` of the code
+-- the tests `==` and `!=` of the code
+pub same_perm : (p q : Perm) (t : Bool) → t ≡ sameb the_type p q → t ≡ true → p ≡ q
+same_perm p q t is holds = same_true the_type (search rules) p q (sym is ∙ holds)
+
 sameb-same : (p : Perm) → sameb the_type p p ≡ true
 sameb-same NoAccess = refl
 sameb-same Read = refl

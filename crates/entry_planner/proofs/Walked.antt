@@ -8,10 +8,10 @@ use Rattle.pmp_encoding.specs.declared.perm.Perm.TheVariants.{NoAccess}
 use Rattle.pmp_encoding.specs.declared.region.Entry.{Entry}
 use Rattle.prefix_tree.specs.Trees.{PermTree, Uniform, Split, Fits}
 use Rattle.prefix_tree.specs.Joined.{one_perm}
-use Rattle.entry_planner.specs.declared.costs.HalfPerms.{HalfPerms}
+use Rattle.entry_planner.specs.declared.costs.SplitCost.{SplitCost}
 use Rattle.entry_planner.specs.Choice.{AddsChosen, AreChosen, IsChosenAt, handed_on}
 use Rattle.entry_planner.specs.Placement.{ArePages, IsOwn}
-use Rattle.entry_planner.specs.Plans.{half_perms, half_perms_in}
+use Rattle.entry_planner.specs.Plans.{costs_in, split_cost}
 use Rattle.entry_planner.proofs.BlockCosts.{added_both}
 use Rattle.entry_planner.proofs.BlockPages.{lower_pages, upper_pages}
 
@@ -36,12 +36,12 @@ upper_are_pages k j first height pages =
     let P : ℕ → Type 0 = λ n. ArePages n first in
     upper_pages j first (subst P up pages)
 
--- ---- what the list of the halves' permissions has
+-- ---- what the list of costs has
 
-abbrev EndsWith : List HalfPerms → PermTree → Type 0
-EndsWith halves tree = (rest : List HalfPerms) × (halves ≡ rest ++ reverse (half_perms_in tree))
+abbrev EndsWith : List SplitCost → PermTree → Type 0
+EndsWith costs tree = (rest : List SplitCost) × (costs ≡ rest ++ reverse (costs_in tree))
 
--- the block's own come last
+-- the block's own comes last
 last_apart : {X : Type 0} (xs ys : List X) (x d : X) → xs ≡ ys ++ x ∷ [] → (get_or xs (length xs - 1) d ≡ x) × (take (length xs - 1) xs ≡ ys)
 last_apart xs ys x d is = rw is (last ys, before ys)
   where
@@ -52,52 +52,52 @@ last_apart xs ys x d is = rw is (last ys, before ys)
     before l = grind (arith, common_steps)
 
 halves_apart :
-    (tree low high : PermTree) (rest : List HalfPerms) → tree ≡ Split low high
-    → rest ++ reverse (half_perms_in tree) ≡ ((rest ++ reverse (half_perms_in high)) ++ reverse (half_perms_in low)) ++ half_perms low high ∷ []
+    (tree low high : PermTree) (rest : List SplitCost) → tree ≡ Split low high
+    → rest ++ reverse (costs_in tree) ≡ ((rest ++ reverse (costs_in high)) ++ reverse (costs_in low)) ++ split_cost low high ∷ []
 halves_apart tree low high rest split =
-    ap (λ t. rest ++ reverse (half_perms_in t)) split ∙ sym (added_both rest (half_perms_in low) (half_perms_in high) (half_perms low high))
+    ap (λ t. rest ++ reverse (costs_in t)) split ∙ sym (added_both rest (costs_in low) (costs_in high) (split_cost low high))
 
-pub some_left : (halves : List HalfPerms) (tree low high : PermTree) → tree ≡ Split low high → EndsWith halves tree → 1 ≤ length halves
-some_left halves tree low high split ends =
-    let before = (ends.0 ++ reverse (half_perms_in high)) ++ reverse (half_perms_in low) in
-    omega (arith, ap length (ends.1 ∙ halves_apart tree low high ends.0 split), length-append before (half_perms low high ∷ []))
+pub some_left : (costs : List SplitCost) (tree low high : PermTree) → tree ≡ Split low high → EndsWith costs tree → 1 ≤ length costs
+some_left costs tree low high split ends =
+    let before = (ends.0 ++ reverse (costs_in high)) ++ reverse (costs_in low) in
+    omega (arith, ap length (ends.1 ∙ halves_apart tree low high ends.0 split), length-append before (split_cost low high ∷ []))
 
 pub last_is :
-    (halves : List HalfPerms) (tree low high : PermTree) (d : HalfPerms) → tree ≡ Split low high → EndsWith halves tree
-    → get_or halves (length halves - 1) d ≡ half_perms low high
-last_is halves tree low high d split ends =
-    (last_apart halves ((ends.0 ++ reverse (half_perms_in high)) ++ reverse (half_perms_in low)) (half_perms low high) d (ends.1 ∙ halves_apart tree low high ends.0 split)).0
+    (costs : List SplitCost) (tree low high : PermTree) (d : SplitCost) → tree ≡ Split low high → EndsWith costs tree
+    → get_or costs (length costs - 1) d ≡ split_cost low high
+last_is costs tree low high d split ends =
+    (last_apart costs ((ends.0 ++ reverse (costs_in high)) ++ reverse (costs_in low)) (split_cost low high) d (ends.1 ∙ halves_apart tree low high ends.0 split)).0
 
 others_are :
-    (halves : List HalfPerms) (tree low high : PermTree) → tree ≡ Split low high → (ends : EndsWith halves tree)
-    → take (length halves - 1) halves ≡ (ends.0 ++ reverse (half_perms_in high)) ++ reverse (half_perms_in low)
-others_are halves tree low high split ends =
-    (last_apart halves ((ends.0 ++ reverse (half_perms_in high)) ++ reverse (half_perms_in low)) (half_perms low high) (half_perms low high) (ends.1 ∙ halves_apart tree low high ends.0 split)).1
+    (costs : List SplitCost) (tree low high : PermTree) → tree ≡ Split low high → (ends : EndsWith costs tree)
+    → take (length costs - 1) costs ≡ (ends.0 ++ reverse (costs_in high)) ++ reverse (costs_in low)
+others_are costs tree low high split ends =
+    (last_apart costs ((ends.0 ++ reverse (costs_in high)) ++ reverse (costs_in low)) (split_cost low high) (split_cost low high) (ends.1 ∙ halves_apart tree low high ends.0 split)).1
 
 pub lower_ends :
-    (halves : List HalfPerms) (tree low high : PermTree) → tree ≡ Split low high → EndsWith halves tree → EndsWith (take (length halves - 1) halves) low
-lower_ends halves tree low high split ends = (ends.0 ++ reverse (half_perms_in high), others_are halves tree low high split ends)
+    (costs : List SplitCost) (tree low high : PermTree) → tree ≡ Split low high → EndsWith costs tree → EndsWith (take (length costs - 1) costs) low
+lower_ends costs tree low high split ends = (ends.0 ++ reverse (costs_in high), others_are costs tree low high split ends)
 
 -- what is left once those of the lower half are taken
-left : (halves rest : List HalfPerms) (tree low high : PermTree) → tree ≡ Split low high → (ends : EndsWith halves tree)
-    → take (length halves - 1) halves ≡ rest ++ reverse (half_perms_in low) → rest ≡ ends.0 ++ reverse (half_perms_in high)
-left halves rest tree low high split ends same =
-    append_cancel_right rest (ends.0 ++ reverse (half_perms_in high)) (reverse (half_perms_in low)) (sym same ∙ others_are halves tree low high split ends)
+left : (costs rest : List SplitCost) (tree low high : PermTree) → tree ≡ Split low high → (ends : EndsWith costs tree)
+    → take (length costs - 1) costs ≡ rest ++ reverse (costs_in low) → rest ≡ ends.0 ++ reverse (costs_in high)
+left costs rest tree low high split ends same =
+    append_cancel_right rest (ends.0 ++ reverse (costs_in high)) (reverse (costs_in low)) (sym same ∙ others_are costs tree low high split ends)
 
 pub upper_ends :
-    (halves rest : List HalfPerms) (tree low high : PermTree) → tree ≡ Split low high → EndsWith halves tree
-    → take (length halves - 1) halves ≡ rest ++ reverse (half_perms_in low) → EndsWith rest high
-upper_ends halves rest tree low high split ends same = (ends.0, left halves rest tree low high split ends same)
+    (costs rest : List SplitCost) (tree low high : PermTree) → tree ≡ Split low high → EndsWith costs tree
+    → take (length costs - 1) costs ≡ rest ++ reverse (costs_in low) → EndsWith rest high
+upper_ends costs rest tree low high split ends same = (ends.0, left costs rest tree low high split ends same)
 
 -- and once those of the upper half are taken, too
 pub rest_is :
-    (halves rest before : List HalfPerms) (tree low high : PermTree) → tree ≡ Split low high → EndsWith halves tree
-    → take (length halves - 1) halves ≡ rest ++ reverse (half_perms_in low) → rest ≡ before ++ reverse (half_perms_in high)
-    → halves ≡ before ++ reverse (half_perms_in tree)
-rest_is halves rest before tree low high split ends lower upper =
+    (costs rest before : List SplitCost) (tree low high : PermTree) → tree ≡ Split low high → EndsWith costs tree
+    → take (length costs - 1) costs ≡ rest ++ reverse (costs_in low) → rest ≡ before ++ reverse (costs_in high)
+    → costs ≡ before ++ reverse (costs_in tree)
+rest_is costs rest before tree low high split ends lower upper =
     let same : before ≡ ends.0 =
-    append_cancel_right before ends.0 (reverse (half_perms_in high)) (sym upper ∙ left halves rest tree low high split ends lower) in
-    ends.1 ∙ ap (λ l. l ++ reverse (half_perms_in tree)) (sym same)
+    append_cancel_right before ends.0 (reverse (costs_in high)) (sym upper ∙ left costs rest tree low high split ends lower) in
+    ends.1 ∙ ap (λ l. l ++ reverse (costs_in tree)) (sym same)
 
 -- ---- the entries that are added
 

@@ -13,14 +13,14 @@ use Rattle.pmp_match.specs.Meaning.{View, Means, IsFewest}
 use Rattle.pmp_match.proofs.Meant.{least}
 use Rattle.prefix_tree.specs.Counts.{splits}
 use Rattle.prefix_tree.specs.Trees.{PermTree, Uniform, Split, TreeMeansAt, TreeMeans}
-use Rattle.entry_planner.specs.declared.costs.BlockCost.{BlockCost}
+use Rattle.entry_planner.specs.declared.costs.SplitCost.{SplitCost}
 use Rattle.entry_planner.specs.Best.{is_best, least_cost}
 use Rattle.entry_planner.specs.Costs.{cost, bounds_of}
 use Rattle.entry_planner.specs.Choice.{AreChosen}
 use Rattle.entry_planner.specs.Order.{AreInOrder}
-use Rattle.entry_planner.specs.Plans.{AreSmall, CostsAre, IsMade, Planned, block_cost, cost_in, cost_of, costed, costs_in}
+use Rattle.entry_planner.specs.Plans.{AreSmall, CostsAre, IsMade, Planned, as_block, block_cost, cost_in, cost_of, costed, costs_in, split_cost}
 use Rattle.entry_planner.proofs.BestCosts.{cost_is}
-use Rattle.entry_planner.proofs.BlockCosts.{least_le_branches}
+use Rattle.entry_planner.proofs.BlockCosts.{least_le_branches, split_as_block}
 use Rattle.entry_planner.proofs.Choices.{chosen_placed}
 use Rattle.entry_planner.proofs.CostLemmas.{bound_of-bounds_of, costs_sound, least_le}
 use Rattle.entry_planner.proofs.Placed.{IsPart, AreParts, All_weaker, placed_within, placed_count, placed_means}
@@ -59,10 +59,10 @@ listed_pages tree entries listed =
 
 -- ---- the numbers fit their types
 
-abbrev IsSmall : BlockCost → Type 0
+abbrev IsSmall : SplitCost → Type 0
 IsSmall c = c.least + 1 < 2 ^ 32
 
-both_small : (a b : List BlockCost) → AllByRecursion IsSmall a → AllByRecursion IsSmall b → AllByRecursion IsSmall (a ++ b)
+both_small : (a b : List SplitCost) → AllByRecursion IsSmall a → AllByRecursion IsSmall b → AllByRecursion IsSmall (a ++ b)
 both_small [] b h k = k
 both_small (c ∷ a) b h k = (h.0, both_small a b h.1 k)
 
@@ -74,12 +74,12 @@ costs_small (Split lower upper) few = (
 )
 
 pub are_small :
-    (tree : PermTree) (entries : List Entry) (costs : List BlockCost) → splits tree + 1 < 2 ^ 32 → AreListed tree entries → costs ≡ costs_in tree
+    (tree : PermTree) (entries : List Entry) (costs : List SplitCost) → splits tree + 1 < 2 ^ 32 → AreListed tree entries → costs ≡ costs_in tree
     → AreSmall (record { entries = entries; costs = costs })
 are_small tree entries costs few listed are =
     record {
       entries = omega (arith, listed_count tree entries listed, cost_is tree NoAccess, one (is_best tree NoAccess), least_le_branches tree);
-      costs = (let P : List BlockCost → Type 0 = λ l. All IsSmall l in subst P (sym are) (All-from_recursion IsSmall (costs_in tree) (costs_small tree few)));
+      costs = (let P : List SplitCost → Type 0 = λ l. All IsSmall l in subst P (sym are) (All-from_recursion IsSmall (costs_in tree) (costs_small tree few)));
     }
   where
     one : (b : Bool) → (if b then 0 else 1) ≤ 1
@@ -101,15 +101,15 @@ cost_of-block_cost tree p = ap (λ t. least_cost tree + unless t) (has-set_of (i
     unless t = if t then 0 else 1
 
 -- the list has the costs of the tree's split blocks from the i-th on
-record StandsAt (costs : List BlockCost) (i : ℕ) (tree : PermTree) : Type 0 where
-  before : List BlockCost
-  after : List BlockCost
+record StandsAt (costs : List SplitCost) (i : ℕ) (tree : PermTree) : Type 0 where
+  before : List SplitCost
+  after : List SplitCost
   split : costs ≡ before ++ (costs_in tree ++ after)
   place : length before ≡ i
 
-lower_stands : (costs : List BlockCost) (i : ℕ) (lower upper : PermTree) → StandsAt costs i (Split lower upper) → StandsAt costs (i + 1) lower
+lower_stands : (costs : List SplitCost) (i : ℕ) (lower upper : PermTree) → StandsAt costs i (Split lower upper) → StandsAt costs (i + 1) lower
 lower_stands costs i lower upper s =
-    let own : BlockCost = block_cost (Split lower upper) in
+    let own : SplitCost = split_cost lower upper in
     record {
       before = s.before ++ own ∷ [];
       after = costs_in upper ++ s.after;
@@ -120,7 +120,7 @@ lower_stands costs i lower upper s =
       place = length-append s.before (own ∷ []) ∙ ap (λ n. n + 1) s.place;
     }
 
-upper_stands : (costs : List BlockCost) (i : ℕ) (lower upper : PermTree) → StandsAt costs i (Split lower upper) → StandsAt costs (i + 1 + splits lower) upper
+upper_stands : (costs : List SplitCost) (i : ℕ) (lower upper : PermTree) → StandsAt costs i (Split lower upper) → StandsAt costs (i + 1 + splits lower) upper
 unfolding lower_stands
 upper_stands costs i lower upper s =
     let low = lower_stands costs i lower upper s in
@@ -131,22 +131,23 @@ upper_stands costs i lower upper s =
       place = length-append low.before (costs_in lower) ∙ ap₂ (λ m n. m + n) low.place (length-costs_in lower);
     }
 
-cost_in-stands : (costs : List BlockCost) (i : ℕ) (lower upper : PermTree) (p : Perm) → StandsAt costs i (Split lower upper) → cost_in costs i p ≡ cost (Split lower upper) p
+cost_in-stands : (costs : List SplitCost) (i : ℕ) (lower upper : PermTree) (p : Perm) → StandsAt costs i (Split lower upper) → cost_in costs i p ≡ cost (Split lower upper) p
 cost_in-stands costs i lower upper p s =
     ap₂ (λ l n. cost_in l n p) s.split (sym s.place)
-    ∙ at s.before (block_cost (Split lower upper)) (costs_in lower ++ costs_in upper ++ s.after)
+    ∙ at s.before (split_cost lower upper) (costs_in lower ++ costs_in upper ++ s.after)
+    ∙ ap (λ b. cost_of b p) (split_as_block lower upper)
     ∙ cost_of-block_cost (Split lower upper) p
   where
-    at : (before : List BlockCost) (c : BlockCost) (after : List BlockCost) → cost_in (before ++ c ∷ after) (length before) p ≡ cost_of c p
+    at : (before : List SplitCost) (c : SplitCost) (after : List SplitCost) → cost_in (before ++ c ∷ after) (length before) p ≡ cost_of (as_block c) p
     at [] c after = refl
     at (d ∷ before) c after = at before c after
 
-bound_of-costed : (costs : List BlockCost) (i : ℕ) (tree : PermTree) (p : Perm) → StandsAt costs i tree → bound_of (costed costs i tree) p ≡ cost tree p
+bound_of-costed : (costs : List SplitCost) (i : ℕ) (tree : PermTree) (p : Perm) → StandsAt costs i tree → bound_of (costed costs i tree) p ≡ cost tree p
 bound_of-costed costs i (Uniform q) p s = refl
 bound_of-costed costs i (Split lower upper) p s = cost_in-stands costs i lower upper p s
 
 costed_sound :
-    (view : View) (costs : List BlockCost) (i : ℕ) (tree : PermTree) (k first : ℕ) → StandsAt costs i tree → TreeMeansAt view k first tree
+    (view : View) (costs : List SplitCost) (i : ℕ) (tree : PermTree) (k first : ℕ) → StandsAt costs i tree → TreeMeansAt view k first tree
     → IsSoundAt view k first (costed costs i tree)
 costed_sound view costs i (Uniform q) k first s means = means
 costed_sound view costs i (Split lower upper) zero first s means = absurd means
@@ -161,7 +162,7 @@ costed_sound view costs i (Split lower upper) (suc k) first s means =
           omega (arith, cost_in-stands costs i lower upper p s, bound_of-costed costs (i + 1) lower q low, bound_of-costed costs (i + 1 + splits lower) upper q high, least_le (λ r. cost lower r + cost upper r) q)),
     )
 
-costs_stand : (costs : List BlockCost) (i : ℕ) (tree : PermTree) → StandsAt costs i tree → CostsAre costs i tree
+costs_stand : (costs : List SplitCost) (i : ℕ) (tree : PermTree) → StandsAt costs i tree → CostsAre costs i tree
 costs_stand costs i (Uniform q) s = tt
 costs_stand costs i (Split lower upper) s = (
   (λ p. cost_in-stands costs i lower upper p s),
@@ -169,17 +170,17 @@ costs_stand costs i (Split lower upper) s = (
   costs_stand costs (i + 1 + splits lower) upper (upper_stands costs i lower upper s),
 )
 
-whole_stands : (tree : PermTree) (costs : List BlockCost) → costs ≡ costs_in tree → StandsAt costs 0 tree
+whole_stands : (tree : PermTree) (costs : List SplitCost) → costs ≡ costs_in tree → StandsAt costs 0 tree
 whole_stands tree costs are = record { before = []; after = []; split = are ∙ sym (append-nil (costs_in tree)); place = refl }
 
-pub whole_costs : (tree : PermTree) (costs : List BlockCost) → costs ≡ costs_in tree → CostsAre costs 0 tree
+pub whole_costs : (tree : PermTree) (costs : List SplitCost) → costs ≡ costs_in tree → CostsAre costs 0 tree
 whole_costs tree costs are = costs_stand costs 0 tree (whole_stands tree costs are)
 
-pub whole_sound : (view : View) (tree : PermTree) (costs : List BlockCost) → TreeMeans view tree → costs ≡ costs_in tree → IsSoundAt view 44 0 (costed costs 0 tree)
+pub whole_sound : (view : View) (tree : PermTree) (costs : List SplitCost) → TreeMeans view tree → costs ≡ costs_in tree → IsSoundAt view 44 0 (costed costs 0 tree)
 whole_sound view tree costs means are = costed_sound view costs 0 tree 44 0 (whole_stands tree costs are) means
 
 pub whole_root :
-    (tree : PermTree) (entries : List Entry) (costs : List BlockCost) → costs ≡ costs_in tree → AreListed tree entries
+    (tree : PermTree) (entries : List Entry) (costs : List SplitCost) → costs ≡ costs_in tree → AreListed tree entries
     → bound_of (costed costs 0 tree) NoAccess ≡ length entries
 whole_root tree entries costs are listed =
     bound_of-costed costs 0 tree NoAccess (whole_stands tree costs are) ∙ sym (listed_count tree entries listed)
@@ -187,7 +188,7 @@ whole_root tree entries costs are listed =
 -- ---- the plan
 
 pub made :
-    (tree : PermTree) (entries : List Entry) (none costs : List BlockCost) → AreChosen tree entries → AreInOrder entries → none ≡ [] → costs ≡ none ++ reverse (costs_in tree)
+    (tree : PermTree) (entries : List Entry) (none costs : List SplitCost) → AreChosen tree entries → AreInOrder entries → none ≡ [] → costs ≡ none ++ reverse (costs_in tree)
     → IsMade tree (record { entries = entries; costs = reverse costs })
 made tree entries none costs chosen order empty are = record { chosen = chosen; order = order; costs = ap reverse (are ∙ ap (λ l. l ++ reverse (costs_in tree)) empty) ∙ reverse-reverse (costs_in tree) }
 

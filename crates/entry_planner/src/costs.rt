@@ -14,19 +14,21 @@ pub struct BlockCost {
     pub best: PermSet,
 }
 
-/// The permissions that are best for both halves of a split block, and for either.
+/// What a split block costs: the least number of entries, and the permissions that are best for both of its halves, and for
+/// either. It costs that least under those that are best for both, or, where there is none, under those that are best for either.
 #[derive(Clone, Copy)]
-pub struct HalfPerms {
+pub struct SplitCost {
+    pub least: u32,
     pub both: PermSet,
     pub either: PermSet,
 }
 
 ghost use Rattle.std.specs.Prelude.{◌≡◌, ◌+◌, ◌%◌, ◌<◌, ◌≤◌, ◌^◌, ◌++◌, List, [], ◌∷◌, IfOk, OnOk, reverse, if◌then◌else◌};
 ghost use Rattle.entry_planner.specs.declared.costs.BlockCost.{BlockCost};
-ghost use Rattle.entry_planner.specs.declared.costs.HalfPerms.{HalfPerms};
+ghost use Rattle.entry_planner.specs.declared.costs.SplitCost.{SplitCost};
 ghost use Rattle.entry_planner.specs.Best.{least_cost};
 ghost use Rattle.entry_planner.specs.PermSets.{has};
-ghost use Rattle.entry_planner.specs.Plans.{block_cost, cost_of, half_perms, costs_in, half_perms_in};
+ghost use Rattle.entry_planner.specs.Plans.{as_block, block_cost, cost_of, costs_in, split_cost};
 ghost use Rattle.prefix_tree.specs.Counts.{splits};
 ghost use Rattle.prefix_tree.specs.Chains.{IsChain, chained};
 ghost use Rattle.prefix_tree.specs.Trees.{PermTree, Uniform, Split};
@@ -129,33 +131,44 @@ fn cost_of_uniform(perm: Perm) -> BlockCost
     }
 }
 
-fn perms_of_halves(lower: BlockCost, upper: BlockCost) -> HalfPerms
-    ensures { (low high : PermTree) → lower ≡ block_cost low → upper ≡ block_cost high
-        → result ≡ half_perms low high }
-{
-    HalfPerms {
-        both: lower.best.intersection(upper.best),
-        either: lower.best.union(upper.best),
+impl SplitCost {
+    /// What it costs as a block.
+    #[inline(always)]
+    pub fn as_block(self) -> BlockCost
+        ensures { result ≡ as_block self }
+    {
+        let best = if self.both.is_empty() {
+            self.either
+        } else {
+            self.both
+        };
+        BlockCost {
+            least: self.least,
+            best,
+        }
     }
 }
 
-/// What a split block costs, whose halves cost so many together under their best permissions.
-fn cost_of_split(together: u32, perms: HalfPerms) -> BlockCost
-    requires { together + 1 < 2 ^ 32 }
-    ensures most { result.least ≤ together + 1 }
-    ensures cost { (low high : PermTree) → together ≡ least_cost low + least_cost high
-        → perms ≡ half_perms low high → result ≡ block_cost (Split low high) }
+/// What a split block costs, whose halves cost so much.
+#[inline(always)]
+fn cost_of_split(lower: BlockCost, upper: BlockCost) -> SplitCost
+    requires { lower.least + upper.least + 1 < 2 ^ 32 }
+    ensures most { result.least ≤ lower.least + upper.least + 1 }
+    ensures cost { (low high : PermTree) → lower ≡ block_cost low → upper ≡ block_cost high
+        → result ≡ split_cost low high }
 {
-    if perms.both.is_empty() {
-        BlockCost {
-            least: together + 1,
-            best: perms.either,
-        }
+    let both = lower.best.intersection(upper.best);
+    let either = lower.best.union(upper.best);
+    let together = lower.least + upper.least;
+    let least = if both.is_empty() {
+        together + 1
     } else {
-        BlockCost {
-            least: together,
-            best: perms.both,
-        }
+        together
+    };
+    SplitCost {
+        least,
+        both,
+        either,
     }
 }
 
@@ -165,25 +178,19 @@ fn add_split(
     low: BlockCost,
     high: BlockCost,
     costs: &mut Vec<PackedCost>,
-    halves: &mut Vec<HalfPerms>,
 ) -> Result<BlockCost, AllocError>
-    requires { low.least + high.least + 1 < 2 ^ 24 }
+    requires { low.least + high.least + 1 < 2 ^ 20 }
     ensures own { IfOk result (λ cost.
         (lower upper : PermTree) → low ≡ block_cost lower → high ≡ block_cost upper
         → cost ≡ block_cost (Split lower upper)) }
     ensures costs { OnOk result ((lower upper : PermTree) → low ≡ block_cost lower
         → high ≡ block_cost upper
-        → costs.new.items ≡ costs.old.items ++ block_cost (Split lower upper) ∷ []) }
-    ensures halves { OnOk result ((lower upper : PermTree) → low ≡ block_cost lower
-        → high ≡ block_cost upper
-        → halves.new.items ≡ halves.old.items ++ half_perms lower upper ∷ []) }
+        → costs.new.items ≡ costs.old.items ++ split_cost lower upper ∷ []) }
     ensures most { IfOk result (λ cost. cost.least ≤ low.least + high.least + 1) }
 {
-    let perms = perms_of_halves(low, high);
-    let cost = cost_of_split(low.least + high.least, perms);
+    let cost = cost_of_split(low, high);
     costs.push(PackedCost::new(cost))?;
-    halves.push(perms)?;
-    Ok(cost)
+    Ok(cost.as_block())
 }
 
 /// The cost of the half that a chain's next smaller block is not in, by the place of that block.
@@ -199,20 +206,15 @@ fn add_chain_costs(
     chain: Chain,
     smallest: BlockCost,
     costs: &mut Vec<PackedCost>,
-    halves: &mut Vec<HalfPerms>,
 ) -> Result<BlockCost, AllocError>
     requires chain { IsChain chain }
-    requires small { smallest.least + chain.levels < 2 ^ 24 }
+    requires small { smallest.least + chain.levels < 2 ^ 20 }
     ensures own { IfOk result (λ cost.
         (tree : PermTree) → smallest ≡ block_cost tree → cost ≡ block_cost (chained chain tree)) }
-    ensures costs { OnOk result ((tree : PermTree) (first : List BlockCost)
+    ensures costs { OnOk result ((tree : PermTree) (first : List SplitCost)
         → smallest ≡ block_cost tree
         → costs.old.items ≡ first ++ reverse (costs_in tree)
         → costs.new.items ≡ first ++ reverse (costs_in (chained chain tree))) }
-    ensures halves { OnOk result ((tree : PermTree) (first : List HalfPerms)
-        → smallest ≡ block_cost tree
-        → halves.old.items ≡ first ++ reverse (half_perms_in tree)
-        → halves.new.items ≡ first ++ reverse (half_perms_in (chained chain tree))) }
 {
     let before = cost_of_uniform(chain.before);
     let behind = cost_of_uniform(chain.behind);
@@ -222,36 +224,33 @@ fn add_chain_costs(
         // Which of the halves is the lower makes no difference to what they cost, and a branch on it would often be
         // guessed wrong.
         let beside = cost_beside(rest, before, behind);
-        cost = add_split(beside, cost, costs, halves)?;
+        cost = add_split(beside, cost, costs)?;
         rest /= 2;
     }
     Ok(cost)
 }
 
-/// Appends the costs of the split blocks of a block, and their halves' permissions, the last in preorder first.
+/// Appends the costs of the split blocks of a block, the last in preorder first.
 pub fn add_costs<H: Halving>(
     block: &H,
     costs: &mut Vec<PackedCost>,
-    halves: &mut Vec<HalfPerms>,
 ) -> Result<BlockCost, AllocError>
-    requires { splits (H.shape block.now) < 2 ^ 24 }
+    requires { splits (H.shape block.now) < 2 ^ 20 }
     ensures own { IfOk result (λ cost. cost ≡ block_cost (H.shape block.now)) }
     ensures costs { OnOk result (costs.new.items ≡ costs.old.items
         ++ reverse (costs_in (H.shape block.now))) }
-    ensures halves { OnOk result
-        (halves.new.items ≡ halves.old.items ++ reverse (half_perms_in (H.shape block.now))) }
 {
     if let Some(perm) = block.one_perm() {
         return Ok(cost_of_uniform(perm));
     }
     if let Some((chain, smallest)) = block.chain() {
-        let cost = add_costs(&smallest, costs, halves)?;
-        let cost = add_chain_costs(chain, cost, costs, halves)?;
+        let cost = add_costs(&smallest, costs)?;
+        let cost = add_chain_costs(chain, cost, costs)?;
         return Ok(cost);
     }
     let (lower, upper) = block.halves();
-    let high = add_costs(&upper, costs, halves)?;
-    let low = add_costs(&lower, costs, halves)?;
-    let cost = add_split(low, high, costs, halves)?;
+    let high = add_costs(&upper, costs)?;
+    let low = add_costs(&lower, costs)?;
+    let cost = add_split(low, high, costs)?;
     Ok(cost)
 }

@@ -1,48 +1,53 @@
-//! What a block costs in four bytes, as a plan keeps it.
+//! What a split block costs in four bytes, as a plan keeps it.
 
 ghost use Rattle.std.specs.Prelude.{◌≡◌, ◌^◌, ◌<◌};
 
-use crate::costs::BlockCost;
+use crate::costs::SplitCost;
 use crate::perm_set::PermSet;
 use std::marker::Model;
 
-/// What a block costs, in half of the room of a [`BlockCost`]. Contracts see the cost.
+/// What a split block costs, in half of the room of a [`SplitCost`]. Contracts see the cost.
 #[derive(Drop)]
 pub struct PackedCost {
-    /// Eight bits of the set of the best permissions, and the least number of entries.
+    /// The least number of entries, six bits of the set of both halves' best permissions, and six of that of either's.
     number: u32,
 }
 
 impl Model for PackedCost {
-    ghost use Rattle.entry_planner.specs.declared.costs.BlockCost.{BlockCost};
+    ghost use Rattle.entry_planner.specs.declared.costs.SplitCost.{SplitCost};
     ghost use Rattle.entry_planner.specs.PackedCosts.{cost_in_number};
 
-    ghost Value = { BlockCost };
+    ghost Value = { SplitCost };
 
     ghost view = { λ p. cost_in_number p.number };
 }
 
 impl PackedCost {
-    /// The cost, packed.
+    /// The cost, packed. Each set has six bits.
     #[inline(always)]
-    pub fn new(cost: BlockCost) -> PackedCost
-        requires { cost.least < 2 ^ 24 }
-        ensures { result ≡ cost }
+    pub fn new(cost: SplitCost) -> PackedCost
+        requires { cost.least < 2 ^ 20 }
+        ensures { cost.both.bits < 64 → cost.either.bits < 64 → result ≡ cost }
     {
+        let both = u32::from(cost.both.bits % 64);
+        let either = u32::from(cost.either.bits % 64);
         PackedCost {
-            number: cost.least * 256 + u32::from(cost.best.bits),
+            number: cost.least * 4096 + both * 64 + either,
         }
     }
 
     /// The cost.
     #[inline(always)]
-    pub fn cost(&self) -> BlockCost
+    pub fn cost(&self) -> SplitCost
         ensures { result ≡ self.now }
     {
-        BlockCost {
-            least: self.number / 256,
-            best: PermSet {
-                bits: (self.number % 256) as u8,
+        SplitCost {
+            least: self.number / 4096,
+            both: PermSet {
+                bits: (self.number / 64 % 64) as u8,
+            },
+            either: PermSet {
+                bits: (self.number % 64) as u8,
             },
         }
     }

@@ -1,6 +1,7 @@
 //! The pass down the tree: which blocks take an entry.
 
-use crate::costs::HalfPerms;
+use crate::costs::SplitCost;
+use crate::packed_cost::PackedCost;
 use page_views::{PAGE_SIZE, pages_of};
 use pmp_encoding::{Entry, PackedEntry, Perm, Region};
 use prefix_tree::{Chain, Halving};
@@ -25,10 +26,10 @@ ghost use Rattle.std.specs.Prelude.{◌≡◌, ◌+◌, ◌-◌, ◌*◌, ◌≤
 ghost use Rattle.pmp_encoding.specs.declared.region.Entry.{Entry};
 ghost use Rattle.prefix_tree.specs.Chains.{chained};
 ghost use Rattle.prefix_tree.specs.Trees.{PermTree, Fits};
-ghost use Rattle.entry_planner.specs.declared.costs.HalfPerms.{HalfPerms};
+ghost use Rattle.entry_planner.specs.declared.costs.SplitCost.{SplitCost};
 ghost use Rattle.entry_planner.specs.Choice.{AddsChosen, handed_on};
 ghost use Rattle.entry_planner.specs.Placement.{ArePages, IsBlockOf, IsOwn};
-ghost use Rattle.entry_planner.specs.Plans.{half_perms, half_perms_in};
+ghost use Rattle.entry_planner.specs.Plans.{costs_in, split_cost};
 
 impl Waiting {
     fn new(pages: Pages, from: Perm, perm: Perm) -> Waiting
@@ -52,6 +53,22 @@ impl Pages {
         }
     }
 
+    /// The smallest block of a chain of which this is the largest.
+    fn smallest(self, chain: Chain) -> Pages
+        requires levels { chain.levels ≤ self.log2 }
+        requires place { chain.place < 2 ^ chain.levels }
+        requires pages { ArePages self.log2 self.first }
+        ensures first { result.first ≡ self.first + chain.place * 2 ^ result.log2 }
+        ensures log2 { result.log2 + chain.levels ≡ self.log2 }
+        ensures pages { ArePages result.log2 result.first }
+    {
+        let log2 = self.log2 - chain.levels;
+        Pages {
+            first: self.first + chain.place * pages_of(log2),
+            log2,
+        }
+    }
+
     fn upper(self) -> Pages
         requires split { 0 < self.log2 }
         requires pages { ArePages self.log2 self.first }
@@ -68,14 +85,14 @@ impl Pages {
 
 /// The permission that the halves of a split block inherit: the first that is best for both, where there is one
 /// and the permission that the block inherits is best for neither; otherwise that one.
-fn chosen(perms: HalfPerms, inherited: Perm) -> Perm
-    ensures { (low high : PermTree) → perms ≡ half_perms low high
+fn chosen(cost: SplitCost, inherited: Perm) -> Perm
+    ensures { (low high : PermTree) → cost ≡ split_cost low high
         → result ≡ handed_on low high inherited }
 {
-    if perms.either.contains(inherited) {
+    if cost.either.contains(inherited) {
         return inherited;
     }
-    match perms.both.first() {
+    match cost.both.first() {
         Some(perm) => perm,
         None => inherited,
     }
@@ -122,17 +139,17 @@ fn place_chain<'a, H: Halving>(
     smallest: &H,
     pages: Pages,
     inherited: Perm,
-    halves: &'a [HalfPerms],
+    costs: &'a [PackedCost],
     entries: &mut Vec<PackedEntry>,
-) -> Result<&'a [HalfPerms], AllocError>
+) -> Result<&'a [PackedCost], AllocError>
     requires chain { chain.place < 2 ^ chain.levels }
     requires most { chain.levels ≤ 44 }
     requires fits { Fits pages.log2 (chained chain (H.shape smallest.now)) }
     requires pages { ArePages pages.log2 pages.first }
-    requires halves { (rest : List HalfPerms)
-        × (halves.now ≡ rest ++ reverse (half_perms_in (chained chain (H.shape smallest.now)))) }
+    requires costs { (rest : List SplitCost)
+        × (costs.now ≡ rest ++ reverse (costs_in (chained chain (H.shape smallest.now)))) }
     ensures rest { IfOk result (λ rest.
-        halves.now ≡ rest.now ++ reverse (half_perms_in (chained chain (H.shape smallest.now)))) }
+        costs.now ≡ rest.now ++ reverse (costs_in (chained chain (H.shape smallest.now)))) }
     ensures placed { OnOk result
         (AddsChosen pages.log2 pages.first inherited (chained chain (H.shape smallest.now))
         entries.old.items entries.new.items) }
@@ -140,13 +157,13 @@ fn place_chain<'a, H: Halving>(
     let mut rest = chain;
     let mut block = pages;
     let mut from = inherited;
-    let mut left = halves;
+    let mut left = costs;
     let mut late = Waiting::new(pages, inherited, inherited);
     while rest.levels > 0 {
-        let [others @ .., perms] = left else {
+        let [others @ .., packed] = left else {
             unreachable!();
         };
-        let perm = chosen(*perms, from);
+        let perm = chosen(packed.cost(), from);
         turn(block, from, perm, entries)?;
         turn(late.pages, late.from, late.perm, entries)?;
         let lower = block.lower();
@@ -169,38 +186,44 @@ fn place_chain<'a, H: Halving>(
     Ok(others)
 }
 
-/// Adds the entries of a block that inherits a permission. The halves' permissions of its split blocks
-/// come last in the list, the first in preorder last; what comes before them is handed back.
+/// Adds the entries of a block that inherits a permission. The costs of its split blocks come last in the list, the first in
+/// preorder last; what comes before them is handed back.
 #[cycle(placing)]
 pub fn place<'a, H: Halving>(
     block: &H,
     pages: Pages,
     inherited: Perm,
-    halves: &'a [HalfPerms],
+    costs: &'a [PackedCost],
     entries: &mut Vec<PackedEntry>,
-) -> Result<&'a [HalfPerms], AllocError>
+) -> Result<&'a [PackedCost], AllocError>
     requires fits { Fits pages.log2 (H.shape block.now) }
     requires pages { ArePages pages.log2 pages.first }
-    requires halves { (rest : List HalfPerms)
-        × (halves.now ≡ rest ++ reverse (half_perms_in (H.shape block.now))) }
-    ensures rest { IfOk result (λ rest. halves.now ≡ rest.now
-        ++ reverse (half_perms_in (H.shape block.now))) }
+    requires costs { (rest : List SplitCost)
+        × (costs.now ≡ rest ++ reverse (costs_in (H.shape block.now))) }
+    ensures rest { IfOk result (λ rest. costs.now ≡ rest.now
+        ++ reverse (costs_in (H.shape block.now))) }
     ensures placed { OnOk result (AddsChosen pages.log2 pages.first inherited (H.shape block.now)
         entries.old.items entries.new.items) }
 {
     if let Some(perm) = block.one_perm() {
         turn(pages, inherited, perm, entries)?;
-        return Ok(halves);
+        return Ok(costs);
     }
     if let Some((chain, smallest)) = block.chain() {
-        let rest = place_chain(chain, &smallest, pages, inherited, halves, entries)?;
+        if chain.before == inherited && chain.behind == inherited {
+            // No entry is placed on the way down.
+            let others = &costs[..costs.len() - chain.levels as usize];
+            let rest = place(&smallest, pages.smallest(chain), inherited, others, entries)?;
+            return Ok(rest);
+        }
+        let rest = place_chain(chain, &smallest, pages, inherited, costs, entries)?;
         return Ok(rest);
     }
     let (lower, upper) = block.halves();
-    let [rest @ .., perms] = halves else {
+    let [rest @ .., packed] = costs else {
         unreachable!();
     };
-    let perm = chosen(*perms, inherited);
+    let perm = chosen(packed.cost(), inherited);
     let rest = place(&lower, pages.lower(), perm, rest, entries)?;
     let rest = place(&upper, pages.upper(), perm, rest, entries)?;
     turn(pages, inherited, perm, entries)?;

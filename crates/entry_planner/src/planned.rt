@@ -87,6 +87,6 @@ impl Plan {
         ensures { result ≡ cost_in self.now.costs i perm }
     {
         let last = self.branches() - 1;
-        self.costs[last - i].cost().under(perm)
+        self.costs[last - i].cost().as_block().under(perm)
     }
 }

@@ -9,12 +9,13 @@ ghost use Rattle.prefix_tree.specs.Counts.{splits};
 ghost use Rattle.prefix_tree.specs.Trees.{Fits, view_of_tree};
 ghost use Rattle.entry_planner.specs.Order.{AreInOrder};
 ghost use Rattle.entry_planner.specs.Choice.{AreChosen};
-ghost use Rattle.entry_planner.specs.Plans.{CostsAre, IsMade, costed, half_perms_in};
+ghost use Rattle.entry_planner.specs.Plans.{CostsAre, IsMade, costed, costs_in};
 ghost use Rattle.permission_map.specs.Runs.{view_of_runs};
 ghost use Rattle.prefix_tree.specs.TreeOf.{tree_of};
 
-use crate::costs::{HalfPerms, add_costs};
+use crate::costs::add_costs;
 use crate::order::in_order;
+use crate::packed_cost::PackedCost;
 use crate::placement::{Pages, place};
 use crate::planned::Plan;
 use permission_map::{Memory, PermissionMap};
@@ -27,18 +28,16 @@ fn entries_of<H: Halving>(
     alloc: Global,
     root: &H,
     least: u32,
-    halves: Vec<HalfPerms>,
+    costs: &[PackedCost],
 ) -> Result<Vec<PackedEntry>, Memory>
     requires fits { Fits 44 (H.shape root.now) }
-    requires halves { halves.items ≡ reverse (half_perms_in (H.shape root.now)) }
+    requires costs { costs.now ≡ reverse (costs_in (H.shape root.now)) }
     ensures chosen { IfOk result (λ v. AreChosen (H.shape root.now) v.items) }
     ensures order { IfOk result (λ v. AreInOrder v.items) }
 {
     let mut placed = Vec::with_capacity(alloc, least as usize)?;
     let space = Pages { first: 0, log2: 44 };
-    let _ = place(root, space, Perm::NoAccess, halves.as_slice(), &mut placed)?;
-    // The places that the entries are moved to take memory too.
-    drop(halves);
+    let _ = place(root, space, Perm::NoAccess, costs, &mut placed)?;
     Ok(in_order(alloc, placed))
 }
 
@@ -100,8 +99,7 @@ fn plan_of<H: Halving>(alloc: Global, root: &H, most: usize) -> Result<Plan, Mem
     ensures { IfOk result (λ plan. IsMade (H.shape root.now) plan) }
 {
     let mut costs = Vec::with_capacity(alloc, most)?;
-    let mut halves = Vec::with_capacity(alloc, most)?;
-    let cost = add_costs(root, &mut costs, &mut halves)?;
-    let entries = entries_of(alloc, root, cost.least + 1, halves)?;
+    let cost = add_costs(root, &mut costs)?;
+    let entries = entries_of(alloc, root, cost.least + 1, costs.as_slice())?;
     Ok(Plan::new(entries, costs))
 }

@@ -102,7 +102,7 @@ joined_upper (Uniform p) (Split c d) none = refl
 joined_upper (Split a b) (Split c d) none = refl
 
 -- so many parts of m pages, and more
-parts_below : (place parts m : ℕ) → place < parts → place * m + m ≤ parts * m
+pub parts_below : (place parts m : ℕ) → place < parts → place * m + m ≤ parts * m
 parts_below place parts m less = let more : suc place * m ≤ parts * m = mul-le-mul_right m less in omega (arith, suc-mul place m)
 
 parts_back : (place parts m : ℕ) → parts ≤ place → (place - parts) * m + parts * m ≡ place * m
@@ -139,7 +139,7 @@ nests_lower v n h k first place before behind e low a r =
       ap one_perm whole,
     )
 
-upper_place : (n k first place : ℕ) → 2 ^ n ≤ place → first + 2 ^ (n + k) + (place - 2 ^ n) * 2 ^ k ≡ first + place * 2 ^ k
+pub upper_place : (n k first place : ℕ) → 2 ^ n ≤ place → first + 2 ^ (n + k) + (place - 2 ^ n) * 2 ^ k ≡ first + place * 2 ^ k
 upper_place n k first place high = omega (arith, pow-add 2 n k, parts_back place (2 ^ n) (2 ^ k) high)
 
 nests_upper :

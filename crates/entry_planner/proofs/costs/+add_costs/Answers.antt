@@ -3,7 +3,7 @@ use Rattle.std.proofs.Common.{◌∙◌, sym, ap, arith}
 use Rattle.prefix_tree.specs.Counts.{splits}
 use Rattle.prefix_tree.proofs.Nested.{splits-chained}
 use Rattle.entry_planner.specs.Plans.{block_cost}
-use Rattle.entry_planner.proofs.BlockCosts.{chain_small, halves_fit, costs_added, half_perms_added}
+use Rattle.entry_planner.proofs.BlockCosts.{chain_small, halves_fit, costs_added}
 use Rattle.entry_planner.proofs.costs.+add_costs.Goals as goal
 
 pub add_costs-requires : goal.add_costs-requires
@@ -34,8 +34,3 @@ pub returns-clause-costs : goal.returns-clause-costs
 returns-clause-costs g t c =
     costs_added _ _ _ _ _ _ _ c.halves-lower.ensures c.in_ok-high.ensures.costs c.in_ok-low.ensures.costs
     (c.in_ok-cost-3.ensures.costs _ _ c.in_ok-low.ensures.own c.in_ok-high.ensures.own)
-
-pub returns-clause-halves : goal.returns-clause-halves
-returns-clause-halves g t c =
-    half_perms_added _ _ _ _ _ _ _ c.halves-lower.ensures c.in_ok-high.ensures.halves c.in_ok-low.ensures.halves
-    (c.in_ok-cost-3.ensures.halves _ _ c.in_ok-low.ensures.own c.in_ok-high.ensures.own)

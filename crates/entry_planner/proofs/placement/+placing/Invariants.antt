@@ -3,9 +3,9 @@ use Rattle.std.proofs.Common.{◌≡◌, ◌+◌, ◌-◌, ◌*◌, ◌^◌, ◌
 use Rattle.prefix_tree.specs.Chains.{chained}
 use Rattle.prefix_tree.specs.Counts.{splits}
 use Rattle.prefix_tree.specs.Trees.{Fits}
-use Rattle.entry_planner.specs.declared.costs.HalfPerms.{HalfPerms}
+use Rattle.entry_planner.specs.declared.costs.SplitCost.{SplitCost}
 use Rattle.entry_planner.specs.Placement.{ArePages}
-use Rattle.entry_planner.specs.Plans.{half_perms_in}
+use Rattle.entry_planner.specs.Plans.{costs_in}
 use Rattle.entry_planner.proofs.ChainPlaced.{Completes}
 use Rattle.entry_planner.proofs.placement.+placing.Given as goal
 
@@ -28,9 +28,9 @@ invariant-place_chain-loop-rest g l =
       sides : (l.rest.before ≡ l.fn.chain.before) × (l.rest.behind ≡ l.fn.chain.behind);
       fits : Fits l.block.log2 (chained l.rest tree);
       pages : ArePages l.block.log2 l.block.first;
-      few : length l.left ≤ length l.fn.halves;
+      few : length l.left ≤ length l.fn.costs;
       late : ArePages l.late.pages.log2 l.late.pages.first;
-      ends : (rest : List HalfPerms) × (l.left ≡ rest ++ reverse (half_perms_in (chained l.rest tree)));
-      back : (rest : List HalfPerms) → l.left ≡ rest ++ reverse (half_perms_in (chained l.rest tree)) → l.fn.halves ≡ rest ++ reverse (half_perms_in (chained l.fn.chain tree));
+      ends : (rest : List SplitCost) × (l.left ≡ rest ++ reverse (costs_in (chained l.rest tree)));
+      back : (rest : List SplitCost) → l.left ≡ rest ++ reverse (costs_in (chained l.rest tree)) → l.fn.costs ≡ rest ++ reverse (costs_in (chained l.fn.chain tree));
       placed : Completes l.fn.pages.log2 l.fn.pages.first l.fn.inherited (chained l.fn.chain tree) l.block.log2 l.block.first l.from (chained l.rest tree) l.late.pages.log2 l.late.pages.first l.late.from l.late.perm l.fn.entries.items l.entries.items;
     }
