@@ -91,10 +91,13 @@ fn agreed<'a>(
     Some(rest)
 }
 
-/// Whether entries in any order give the runs' permission at each page of the space. They begin by rising first page.
+/// Whether entries in any order give the runs' permission at each page of the space. They begin by rising first page, so many
+/// keys at a time.
 /// (Out of line, so that the room for the keys is no part of the frame of who calls, which touches all of its pages.)
 #[inline(never)]
-fn agrees_in_any_order(entries: &Entries, runs: &[Run]) -> bool
+fn agrees_in_any_order<const ROOM: usize>(entries: &Entries, runs: &[Run]) -> bool
+    requires some { 2 ≤ ROOM }
+    requires most { ROOM ≤ 2 ^ 19 }
     requires few { count_in entries.now < 2 ^ 19 }
     requires later { AreLaterRuns runs.now }
     ensures { (spans : ℕ → Span) → ReadsAs entries.now spans
@@ -102,7 +105,7 @@ fn agrees_in_any_order(entries: &Entries, runs: &[Run]) -> bool
         ↔ ((page : ℕ) → page < 2 ^ 44
         → Decides spans (count_in entries.now) page (view_of_runs runs.now page)) }
 {
-    let mut keys = Keys::new();
+    let mut keys: Keys<ROOM> = Keys::new();
     let mut slots = [NONE; SIZES];
     let mut sizes = Sizes::new();
     let mut rest = runs;
@@ -124,6 +127,23 @@ fn agrees_in_any_order(entries: &Entries, runs: &[Run]) -> bool
     agreed(&slots, &mut sizes, rest, page, SPACE_PAGES).is_some()
 }
 
+/// The same, with room for the keys of all entries, where they are at most 131,072. The room is part of a frame whose pages are all
+/// touched, so few entries have less of it.
+fn agrees_by_keys(entries: &Entries, runs: &[Run]) -> bool
+    requires few { count_in entries.now < 2 ^ 19 }
+    requires later { AreLaterRuns runs.now }
+    ensures { (spans : ℕ → Span) → ReadsAs entries.now spans
+        → IsTrue result
+        ↔ ((page : ℕ) → page < 2 ^ 44
+        → Decides spans (count_in entries.now) page (view_of_runs runs.now page)) }
+{
+    match entries.len() {
+        0..=8192 => agrees_in_any_order::<8193>(entries, runs),
+        8193..=65536 => agrees_in_any_order::<65537>(entries, runs),
+        _ => agrees_in_any_order::<131073>(entries, runs),
+    }
+}
+
 /// Whether the first entry that covers a page has the runs' permission, at each page of the space.
 pub(crate) fn agrees(entries: &Entries, runs: &[Run]) -> bool
     requires few { count_in entries.now < 2 ^ 19 }
@@ -135,7 +155,7 @@ pub(crate) fn agrees(entries: &Entries, runs: &[Run]) -> bool
 {
     match chains_of(entries) {
         Some(ends) => agrees_in_chains(entries, ends.as_slice(), runs),
-        None => agrees_in_any_order(entries, runs),
+        None => agrees_by_keys(entries, runs),
     }
 }
 

@@ -1,5 +1,6 @@
 -- A chain whose pages before and after the smallest block have the inherited permission: no larger block of it takes an entry, nor do those pages.
-use Rattle.std.proofs.Common.{◌≡◌, ℕ, zero, suc, ◌+◌, ◌-◌, ◌*◌, ◌^◌, ◌<◌, ◌≤◌, ⊎_elim, List, [], ◌∷◌, ◌++◌, length, take, Bool, true, false, ◌||◌, if◌then◌else◌, inl, reverse, refl, sym, ap, subst, ◌∙◌, arith, append_assoc, length-append, pow-add}
+use Rattle.std.proofs.Common.{◌≡◌, ℕ, zero, suc, ◌+◌, ◌-◌, ◌*◌, ◌^◌, ◌<◌, ◌≤◌, ⊎_elim, List, [], ◌∷◌, ◌++◌, length, take, Bool, ◌||◌, if◌then◌else◌, inl, reverse, refl, sym, ap, subst, ◌∙◌, arith, append_assoc, length-append, pow-add}
+use Rattle.std.proofs.Math.Bool.{or-true}
 use Rattle.std.proofs.Math.Seq.{take-append_seam}
 use Rattle.std.proofs.lemmas.Bool.{cases_lt}
 use Rattle.std.proofs.lemmas.List.{append-nil, length-reverse, reverse-append}
@@ -17,6 +18,7 @@ use Rattle.entry_planner.specs.Plans.{costs_in, split_cost}
 use Rattle.entry_planner.proofs.Choices.{kept_handed}
 use Rattle.entry_planner.proofs.SamePerm.{perm_eq-same}
 use Rattle.entry_planner.proofs.Sets.{has-set_of}
+use Rattle.entry_planner.proofs.Walked.{EndsWith}
 
 -- ---- the entries
 
@@ -30,11 +32,7 @@ none_owned k first p =
 kept_low : (low : PermTree) (p : Perm) → p ≡ handed_on low (Uniform p) p
 kept_low low p =
     kept_handed low (Uniform p) (split_cost low (Uniform p)) p refl
-    (has-set_of (λ r. is_best low r || is_best (Uniform p) r) p ∙ ap (λ t. is_best low p || t) (perm_eq-same p) ∙ or_true (is_best low p))
-  where
-    or_true : (t : Bool) → (t || true) ≡ true
-    or_true true = refl
-    or_true false = refl
+    (has-set_of (λ r. is_best low r || is_best (Uniform p) r) p ∙ ap (λ t. is_best low p || t) (perm_eq-same p) ∙ or-true (is_best low p))
 
 kept_high : (high : PermTree) (p : Perm) → p ≡ handed_on (Uniform p) high p
 kept_high high p =
@@ -159,10 +157,7 @@ larger_costs (suc n) place before behind tree =
     ))
     (cases_lt place (2 ^ n))
 
--- a list that ends with a chain's costs: those before its larger blocks' end with its smallest block's
-abbrev EndsWith : List SplitCost → PermTree → Type 0
-EndsWith costs tree = (rest : List SplitCost) × (costs ≡ rest ++ reverse (costs_in tree))
-
+-- in a list that ends with a chain's costs, those before its larger blocks' end with its smallest block's
 pub record AreSmallest (costs : List SplitCost) (n : ℕ) (shape tree : PermTree) : Type 0 where
   pub levels : n ≤ length costs
   pub ends : EndsWith (take (length costs - n) costs) tree

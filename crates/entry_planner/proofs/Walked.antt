@@ -38,7 +38,7 @@ upper_are_pages k j first height pages =
 
 -- ---- what the list of costs has
 
-abbrev EndsWith : List SplitCost → PermTree → Type 0
+abbrev pub EndsWith : List SplitCost → PermTree → Type 0
 EndsWith costs tree = (rest : List SplitCost) × (costs ≡ rest ++ reverse (costs_in tree))
 
 -- the block's own comes last

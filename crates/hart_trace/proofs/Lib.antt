@@ -1,4 +1,5 @@
 mod PlainLines
+mod Keywords
 mod Calls
 mod PlainEvents
 mod SpacedLines

@@ -1,11 +1,13 @@
 -- The plainest spelling of an access.
-use Rattle.std.specs.Prelude.{◌≡◌, ℕ, Bool, true, not, ◌&&◌, ◌||◌, ◌==◌, List, [], ◌∷◌, ◌++◌, Some, codes, option_map}
+use Rattle.std.specs.Prelude.{◌≡◌, ◌≤◌, ◌<◌, ℕ, length, drop, slice_index, bit_and, ◌++◌, Bool, true, not, ◌&&◌, ◌||◌, ◌==◌, List, [], ◌∷◌, Some, codes, option_map}
 use Rattle.std.specs.List.{list_all}
+use Rattle.std.specs.Int.{from_le_bytes, w64}
 use Rattle.pmp_match.specs.declared.access.Mode.{Mode}
 use Rattle.pmp_match.specs.declared.access.Kind.{Kind}
 use Rattle.pmp_match.specs.declared.access.Kind.TheVariants.{Fetch, Load, Store}
 use Rattle.text_lines.specs.Words.{EndsWord, is_blank, is_plain, words_of}
 use Rattle.text_lines.specs.Numbers.{number_of}
+use Rattle.hart_trace.specs.declared.plain.Keyword.{Keyword}
 use Rattle.hart_trace.specs.Events.{mode_of}
 
 -- a byte that may stand outside a comment, begins none and is no blank
@@ -37,3 +39,12 @@ Leads text word rest = words_of text ≡ option_map (λ words. word ∷ words) (
 -- a word ends before a text, whose words are those of the rest
 abbrev pub EndsBefore : List ℕ → List ℕ → Type 0
 EndsBefore text rest = EndsWord is_blank text × (words_of text ≡ words_of rest)
+
+-- the first eight bytes of a text make this number, the first of them lowest
+abbrev pub BeginsWith : List ℕ → ℕ → Type 0
+BeginsWith text number = (8 ≤ length text) × (number ≡ from_le_bytes w64 text) × ((i : ℕ) → slice_index text i < 256)
+
+-- a line whose first bytes under the mask are the number begins with the keyword and a blank
+pub record Tells (k : Keyword) : Type 0 where
+  pub short : k.len ≤ 8
+  pub said : (line : List ℕ) (first : ℕ) → BeginsWith line first → bit_and first k.mask ≡ k.number → line ≡ keyword k.kind ++ 32 ∷ drop k.len line

@@ -6,9 +6,10 @@ ghost use Rattle.std.specs.Prelude.{◌≡◌, ℕ, List, ◌∷◌, ◌++◌, [
 ghost use Rattle.std.specs.List.{list_all};
 ghost use Rattle.text_lines.specs.Words.{is_plain, split_words};
 ghost use Rattle.text_lines.specs.Numbers.{number_of};
+ghost use Rattle.hart_trace.specs.declared.event.Event.{Event};
 ghost use Rattle.hart_trace.specs.declared.event.Event.TheVariants as events;
 ghost use Rattle.hart_trace.specs.Events.{access_of, hart_of, meaning_of, mode_of};
-ghost use Rattle.hart_trace.specs.Plain.{Starts, is_letter, keyword};
+ghost use Rattle.hart_trace.specs.Plain.{BeginsWith, Starts, Tells, is_letter, keyword};
 
 use crate::trace::sized;
 use pmp_match::{Access, Kind, Mode};
@@ -93,17 +94,73 @@ fn plain_store(rest: &[u8]) -> Option<(Access, u64)>
     Some((access, value))
 }
 
+/// The first eight bytes of a line as one number, the first of them lowest.
+#[inline(always)]
+fn first_bytes(line: &[u8]) -> Option<u64>
+    ensures { IfSome result (λ number. BeginsWith line.now number) }
+{
+    let [a, b, c, d, e, f, g, h, ..] = line else {
+        return None;
+    };
+    Some(u64::from_le_bytes([*a, *b, *c, *d, *e, *f, *g, *h]))
+}
+
+/// The keyword of a kind of access, with the blank behind it.
+#[derive(Clone, Copy)]
+struct Keyword {
+    kind: Kind,
+    /// How many bytes it has.
+    len: usize,
+    /// All bits of so many bytes.
+    mask: u64,
+    /// Those bytes as one number, the first of them lowest.
+    number: u64,
+}
+
+const LOAD: Keyword = Keyword {
+    kind: Kind::Load,
+    len: 5,
+    mask: 0xff_ffff_ffff,
+    number: 0x20_6461_6f6c,
+};
+
+const STORE: Keyword = Keyword {
+    kind: Kind::Store,
+    len: 6,
+    mask: 0xffff_ffff_ffff,
+    number: 0x2065_726f_7473,
+};
+
+const FETCH: Keyword = Keyword {
+    kind: Kind::Fetch,
+    len: 6,
+    mask: 0xffff_ffff_ffff,
+    number: 0x2068_6374_6566,
+};
+
+/// The one that a line can begin with, by its first byte modulo 8. A branch between a load and a fetch would be guessed wrong at every
+/// other line.
+static KEYWORDS: [Keyword; 8] = [LOAD, LOAD, LOAD, STORE, LOAD, LOAD, FETCH, LOAD];
+
+/// The keyword that a line can begin with which has these first bytes.
+#[inline(always)]
+fn keyword_of(first: u64) -> Keyword
+    ensures { Tells result }
+{
+    KEYWORDS[(first % 8) as usize]
+}
+
 /// What stands after the keyword of an access and its blank.
 #[inline(always)]
 fn behind_keyword(line: &[u8]) -> Option<(Kind, &[u8])>
     ensures { IfSome result (λ said. line.now ≡ keyword said.0 ++ 32 ∷ said.1.now) }
 {
-    match line {
-        [b'l', b'o', b'a', b'd', b' ', rest @ ..] => Some((Kind::Load, rest)),
-        [b's', b't', b'o', b'r', b'e', b' ', rest @ ..] => Some((Kind::Store, rest)),
-        [b'f', b'e', b't', b'c', b'h', b' ', rest @ ..] => Some((Kind::Fetch, rest)),
-        _ => None,
+    let first = first_bytes(line)?;
+    let said = keyword_of(first);
+    if first & said.mask != said.number {
+        return None;
     }
+    Some((said.kind, &line[said.len..]))
 }
 
 /// The access of a plain line, which names no hart, and the value that a store writes, 0 else. None says nothing of the line.
@@ -130,7 +187,8 @@ pub fn plain_access(line: &[u8]) -> Option<(Access, u64)>
 }
 
 /// The hart that a line names, where `@H` and one space begin it, and what stands after them.
-pub(crate) fn behind_hart(line: &[u8], harts: u8) -> Option<(u8, &[u8])>
+#[inline(always)]
+fn behind_hart(line: &[u8], harts: u8) -> Option<(u8, &[u8])>
     ensures { IfSome result (λ named.
         (digit : ℕ) × (line.now ≡ 64 ∷ digit ∷ 32 ∷ named.1.now)
         × (hart_of harts (64 ∷ digit ∷ []) ≡ Some named.0)) }
@@ -143,17 +201,15 @@ pub(crate) fn behind_hart(line: &[u8], harts: u8) -> Option<(u8, &[u8])>
     }
 }
 
-/// The access of a plain line, the value that a store writes, 0 else, and the hart that it happens on: the one that the
-/// line names, or hart 0. None says nothing of the line.
+/// The hart on which the event of a line happens, and what stands after its name: where none is named so, hart 0 and the whole line.
 #[inline(always)]
-pub(crate) fn plain_on_hart(line: &[u8], harts: u8) -> Option<(u8, Access, u64)>
-    ensures { IfSome result (λ found.
-        meaning_of harts line.now ≡ Some (Some (found.0, events.Access found.1 found.2))) }
+pub(crate) fn hart_in(line: &[u8], harts: u8) -> (u8, &[u8])
+    ensures { (event : Event)
+        → ((n : ℕ) → meaning_of n result.1.now ≡ Some (Some (0, event)))
+        → meaning_of harts line.now ≡ Some (Some (result.0, event)) }
 {
-    if let Some((hart, rest)) = behind_hart(line, harts) {
-        let (access, value) = plain_access(rest)?;
-        return Some((hart, access, value));
+    match behind_hart(line, harts) {
+        Some((hart, rest)) => (hart, rest),
+        None => (0, line),
     }
-    let (access, value) = plain_access(line)?;
-    Some((0, access, value))
 }

@@ -8,7 +8,6 @@ ghost use Rattle.hart_trace.specs.Events.{call_of, meaning_of, register_of};
 ghost use Rattle.hart_trace.specs.Plain.{BeginsNumber, is_letter};
 
 use crate::event::Event;
-use crate::plain::behind_hart;
 use crate::trace::has_leading_zero;
 use arrayvec::ArrayVec;
 use text_lines::leading_numeral;
@@ -135,8 +134,8 @@ fn plain_call(line: &[u8]) -> Option<Event>
     Some(event)
 }
 
-/// The event of a plain line that names no hart.
-fn plain_event(line: &[u8]) -> Option<Event>
+/// The event of a plain line that names no hart. None says nothing of the line.
+pub(crate) fn plain_event(line: &[u8]) -> Option<Event>
     ensures { IfSome result (λ event. (harts : ℕ)
         → meaning_of harts line.now ≡ Some (Some (0, event))) }
 {
@@ -146,17 +145,4 @@ fn plain_event(line: &[u8]) -> Option<Event>
         b"irq" => Some(Event::Irq),
         _ => None,
     }
-}
-
-/// The event of a plain line, and the hart that it happens on: the one that the line names, or hart 0. None says nothing of
-/// the line.
-pub(crate) fn plain_event_on_hart(line: &[u8], harts: u8) -> Option<(u8, Event)>
-    ensures { IfSome result (λ found. meaning_of harts line.now ≡ Some (Some found)) }
-{
-    if let Some((hart, rest)) = behind_hart(line, harts) {
-        let event = plain_event(rest)?;
-        return Some((hart, event));
-    }
-    let event = plain_event(line)?;
-    Some((0, event))
 }

@@ -7,8 +7,8 @@ ghost use Rattle.text_lines.specs.Words.{split_words};
 ghost use Rattle.hart_trace.specs.Events.{mode_of, sized, access_of, with_no_value, with_value, has_leading_zero, register_of, setting_of, call_of, interrupt_of, event_of, hart_of, on_hart, meaning_of};
 
 use crate::event::Event;
-use crate::plain::plain_on_hart;
-use crate::plain_events::plain_event_on_hart;
+use crate::plain::{hart_in, plain_access};
+use crate::plain_events::plain_event;
 use crate::spaced::{is_wordless, spaced_access};
 use arrayvec::ArrayVec;
 use pmp_match::{Access, Kind, Mode};
@@ -205,10 +205,11 @@ fn on_hart(hart: u8, words: Words<'_>) -> Result<Option<(u8, Event)>, NotUnderst
 pub fn parse_line(line: &[u8], harts: u8) -> Result<Option<(u8, Event)>, NotUnderstood>
     ensures { result_ok result ≡ meaning_of harts line.now }
 {
-    if let Some((hart, access, value)) = plain_on_hart(line, harts) {
+    let (hart, rest) = hart_in(line, harts);
+    if let Some((access, value)) = plain_access(rest) {
         return Ok(Some((hart, Event::Access(access, value))));
     }
-    if let Some((hart, event)) = plain_event_on_hart(line, harts) {
+    if let Some(event) = plain_event(rest) {
         return Ok(Some((hart, event)));
     }
     if let Some((access, value)) = spaced_access(line) {

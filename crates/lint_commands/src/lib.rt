@@ -4,6 +4,8 @@
 //! are lent for it, and [`lint_map`], [`lint_as_platform`], [`lint_listing`] and [`lint_as_trace`] say what is wrong with bytes that
 //! were read. The clause of each has a rule for each way in which it ends; the status is 0 exactly where a file is what it should be.
 //!
+//! No command is inlined: each has its buffers on the stack only while it runs.
+//!
 //! ```rust
 //! let status = do_lint(rt.alloc(), "map.txt", &mut first, &mut out)?;
 //! ```

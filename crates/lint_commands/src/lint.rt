@@ -60,6 +60,7 @@ pub fn lint_as_platform<W: Sink>(
 
 /// Prints what is wrong with a platform file, whose name ends in `.toml`, or else with a map file. The status is 0 where the
 /// file is one, and 1 where it is none.
+#[inline(never)]
 pub fn do_lint<'a, R: Source, W: Sink>(
     alloc: Global,
     file: &'a str,
@@ -159,6 +160,7 @@ pub fn lint_listing<W: Sink>(
 }
 
 /// Prints the first line of a listing of registers that is not understood. The status is 0 where there is none, and otherwise 1.
+#[inline(never)]
 pub fn do_lint_listing<'a, R: Source, W: Sink>(
     alloc: Global,
     file: &'a str,

@@ -140,7 +140,9 @@ pub fn planned_near<'a>(
     Ok(plan)
 }
 
-/// Writes the certificate of a map's plan and puts it in its place.
+/// Writes the certificate of a map's plan and puts it in its place. (Out of line, so that a plan without one has no room for its pieces
+/// on the stack.)
+#[inline(never)]
 fn put<'a, C: WholeSink>(
     map: &PermissionMap,
     plan: &Plan,

@@ -6,6 +6,8 @@
 //! which order. [`planned`] answers the fewest entries of a map, [`plan_and_certify`] puts a certificate of them in its place, which
 //! the checker accepts, and [`bank_of`] answers the bank of a list that fits it.
 //!
+//! No command is inlined: the program that calls all of them would have the buffers of all on its stack, whatever it does.
+//!
 //! ```rust
 //! let status = do_check(rt.alloc(), "map.txt", "map.pmpc", &mut first, &mut second, &mut out)?;
 //! ```

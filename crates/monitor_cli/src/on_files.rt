@@ -33,6 +33,7 @@ pub struct Lent<'a, R, S> {
 
 /// Says what is wrong with the inputs of a task, which are opened anew. Standard input can't be, so
 /// there is nothing to say of it.
+#[inline(never)]
 fn hint<'a, R: Files, S: Read + Copy, E: Sink>(
     lent: &Lent<'a, R, S>,
     task: &Task<'a>,

@@ -9,3 +9,4 @@ pub mod Counted
 pub mod PointLists
 pub mod PointRuns
 pub mod PointSets
+mod Opened

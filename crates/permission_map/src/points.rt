@@ -234,13 +234,16 @@ fn put_two(points: &mut Vec<Point>, at: usize, start: Point, stop: Point)
         (start ∷ stop ∷ drop at points.old.items) }
     ensures room { vec_capacity points.old ≤ vec_capacity points.new }
 {
+    let len = points.len();
     let Ok(()) = points.push(start) else {
         unreachable!();
     };
     let Ok(()) = points.push(stop) else {
         unreachable!();
     };
-    points[at..].rotate_right(2);
+    points.copy_within(at..len, at + 2);
+    points[at] = start;
+    points[at + 1] = stop;
 }
 
 /// Puts at most two points in the place of those with the indices from `from` to before `to`.

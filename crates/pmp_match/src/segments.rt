@@ -1,6 +1,6 @@
 //! A bank's list as segments of the space, for those who judge many accesses by it.
 
-ghost use Rattle.std.specs.Prelude.{◌≡◌, ◌≤◌, ◌<◌, ◌||◌, if◌then◌else◌, true, Ok, Err, IfSome, All, List};
+ghost use Rattle.std.specs.Prelude.{◌≡◌, ◌+◌, ◌≤◌, ◌<◌, ◌||◌, if◌then◌else◌, true, Ok, Err, IfSome, All, List};
 ghost use Rattle.std.specs.List.Sorted.{IsSorted};
 ghost use Rattle.std.specs.Ordering.{nat_cmp};
 ghost use Rattle.pmp_encoding.specs.declared.region.Entry.{Entry};
@@ -138,32 +138,48 @@ impl<'a> Segments<'a> {
         }
     }
 
-    /// Where the last of so many segments is that begins at the address or below it, or the first of all. There is no branch
-    /// on what is compared: it would be guessed wrong every other time.
+    /// How far a search goes past a segment: a whole step where it begins at the address or below it, otherwise not at all. There
+    /// is no branch on what is compared: it would be guessed wrong every other time.
     #[inline(always)]
-    fn last_begun(&self, address: u64, count: usize) -> usize
-        requires { count ≤ 128 }
+    fn step_past(&self, i: usize, address: u64, step: usize) -> usize
+        requires { i < 128 }
+        ensures { result ≤ step }
+    {
+        step * usize::from(self.segments[i].base <= address)
+    }
+
+    /// Where the last of `count` segments from `first` on is that begins at the address or below it, or the first of these.
+    /// Each step waits for the one before it, so it looks at three segments that do not wait for one another.
+    #[inline(always)]
+    fn last_begun(&self, address: u64, first: usize, count: usize) -> usize
+        requires some { 0 < count }
+        requires inside { first + count ≤ 128 }
         ensures { result < 128 }
     {
-        let mut at = 0;
-        let mut step = count / 2;
+        let mut at = first;
+        let mut step = count / 4;
         while step > 0 {
-            at += step * usize::from(self.segments[at + step].base <= address);
-            step /= 2;
+            let near = self.step_past(at + step, address, step);
+            let middle = self.step_past(at + 2 * step, address, step);
+            let far = self.step_past(at + 3 * step, address, step);
+            at += near + middle + far;
+            step /= 4;
         }
         at
     }
 
-    /// The segment that the address is in, where it is in one. A list with few extents is asked in fewer steps, each of which
-    /// waits for the one before it.
+    /// The segment that the address is in, where it is in one. A list with few extents is asked in fewer steps.
     #[inline(always)]
     fn near(&self, address: u64) -> Segment
         ensures { IsSegmentOf (bank_of self.now) result }
     {
         let at = match self.used {
-            0..=16 => self.last_begun(address, 16),
-            17..=64 => self.last_begun(address, 64),
-            _ => self.last_begun(address, SEGMENTS),
+            0..=16 => self.last_begun(address, 0, 16),
+            17..=64 => self.last_begun(address, 0, 64),
+            _ => {
+                let first = self.step_past(64, address, 64);
+                self.last_begun(address, first, 64)
+            }
         };
         self.segments[at]
     }

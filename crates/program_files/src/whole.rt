@@ -8,7 +8,7 @@ use byte_streams::{DeviceFault, Source, SourceFault};
 use std::alloc::Global;
 
 /// How many bytes are asked of a source at a time.
-const PIECE: usize = 65536;
+const PIECE: usize = 16384;
 
 /// All the bytes of a source that has at most `most`. `Read` is answered only where the device failed in this call, and nothing
 /// else where it did; `Memory` only where some bytes came.

@@ -19,6 +19,7 @@ use program_troubles::Trouble;
 use std::alloc::Global;
 
 /// Runs a trace on a machine, and prints the measurements where they are asked for.
+#[inline(never)]
 fn run_plainly<'a, R: Source, W: Sink>(
     machine: &mut Machine,
     trace: &'a str,
@@ -43,6 +44,7 @@ fn run_plainly<'a, R: Source, W: Sink>(
 
 /// Runs a trace on a machine, says behind each answer what happened, prints the measurements where they are asked for, and last
 /// the summary.
+#[inline(never)]
 fn run_explaining<'a, R: Source, W: Sink>(
     machine: Machine,
     trace: &'a str,
@@ -75,6 +77,7 @@ fn run_explaining<'a, R: Source, W: Sink>(
 }
 
 /// Runs a trace on a machine, compares its answers, and prints the measurements where they are asked for.
+#[inline(never)]
 fn run_expecting<'a, R: Source, W: Sink>(
     machine: Machine,
     trace: &'a str,

@@ -111,3 +111,15 @@ four_more base text n value four sixteen within is all begins =
     let whole : value * 65536 + four ≡ value_of 16 (take n text ++ digits) = omega (arith, so_far, sum, last) in
     (room, whole ∙ ap (value_of 16) (sym front), ap (list_all (λ x. nat_lt (digit_of x) 16)) front ∙ list_all-append (λ x. nat_lt (digit_of x) 16) (take n text) digits ∙ and_from _ _ also begins.6)
     )
+
+-- a value of so many digits, taken four by four, leaves room for the next four
+abbrev pub HasRoom : ℕ → ℕ → Type 0
+HasRoom n value = (n ≤ 12 → value < 2 ^ 48) × (n ≤ 8 → value < 2 ^ 32) × (n ≤ 4 → value < 2 ^ 16) × (n ≤ 0 → value < 1)
+
+pub room_after : (n value four : ℕ) → HasRoom n value → four < 65536 → HasRoom (n + 4) (value * 65536 + four)
+room_after n value four room small = (
+  λ h. let v = room.1 (omega (arith, h)) in omega (arith, v, small),
+  λ h. let v = room.2 (omega (arith, h)) in omega (arith, v, small),
+  λ h. let v = room.3 (omega (arith, h)) in omega (arith, v, small),
+  λ h. absurd (omega (arith, h)),
+)

@@ -164,8 +164,8 @@ fn four_digits(text: &[u8]) -> Option<u64>
     Some(u64::from(value))
 }
 
-/// A value has room for four hexadecimal digits more below this one.
-const ROOM_FOR_FOUR: u64 = 1 << 48;
+/// After so many hexadecimal digits a value has room for four more.
+const ROOM_FOR_FOUR: usize = 12;
 
 /// The value of digits that a text begins with, taken four by four, and how many were taken; none of a base but 16. Other digits
 /// may follow.
@@ -180,7 +180,7 @@ fn leading_fours(text: &[u8], base: u8) -> (u64, usize)
     if base != 16 {
         return (value, len);
     }
-    'fours: while value < ROOM_FOR_FOUR {
+    'fours: while len <= ROOM_FOR_FOUR {
         let Some(four) = four_digits(&text[len..]) else {
             break;
         };

@@ -15,6 +15,7 @@ use std::alloc::Global;
 
 /// Audits registers against a map, and answers the status 0 where they mean it and 1 where they don't. With `all` there is a
 /// line for each stretch that differs, otherwise for the first alone.
+#[inline(never)]
 pub fn do_audit<'a, R: Source, W: Sink>(
     alloc: Global,
     map: &'a str,

@@ -36,6 +36,7 @@ fn found_in<'a, R: Source>(
 }
 
 /// Checks a certificate against a map, and answers the status 0 for a yes and 1 for a no.
+#[inline(never)]
 pub fn do_check<'a, R: Source, W: Sink>(
     alloc: Global,
     map: &'a str,

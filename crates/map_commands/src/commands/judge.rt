@@ -24,6 +24,7 @@ use std::alloc::Global;
 use trace_judge::{AccessJudge, judge_lines};
 
 /// Judges a trace.
+#[inline(never)]
 fn judge_plainly<'a, J: AccessJudge, R: Source, W: Sink>(
     by: &J,
     trace: &'a str,
@@ -41,6 +42,7 @@ fn judge_plainly<'a, J: AccessJudge, R: Source, W: Sink>(
 }
 
 /// Judges a trace, and says behind each answer which entry decided it.
+#[inline(never)]
 fn judge_explaining<'a, J: AccessJudge, D: Deciders, R: Source, W: Sink>(
     by: &J,
     deciders: &D,
@@ -60,6 +62,7 @@ fn judge_explaining<'a, J: AccessJudge, D: Deciders, R: Source, W: Sink>(
 }
 
 /// Judges a trace, and compares the answers with those that its comments say.
+#[inline(never)]
 fn judge_expecting<'a, J: AccessJudge, R: Source, W: Sink>(
     by: &J,
     trace: &'a str,
@@ -102,6 +105,7 @@ fn judge_by<'a, J: AccessJudge, D: Deciders, R: Source, W: Sink>(
 }
 
 /// Loads the entries of a map and judges a trace by them.
+#[inline(never)]
 fn do_judge<'a, R: Source, W: Sink>(
     alloc: Global,
     answers: Answers,
@@ -126,6 +130,7 @@ fn do_judge<'a, R: Source, W: Sink>(
 }
 
 /// Takes registers as they stand and judges a trace by them. The status is 1 where they judge nothing.
+#[inline(never)]
 fn do_judge_registers<'a, R: Source, W: Sink>(
     alloc: Global,
     answers: Answers,

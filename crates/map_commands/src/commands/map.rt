@@ -13,6 +13,7 @@ use register_width::Xlen;
 use std::alloc::Global;
 
 /// Prints the map that registers mean, and answers the status 0, or 1 where there is none.
+#[inline(never)]
 pub fn do_map<'a, R: Source, W: Sink>(
     alloc: Global,
     registers: &'a str,

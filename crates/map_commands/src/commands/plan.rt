@@ -82,6 +82,7 @@ fn print_as<W: Sink>(
 }
 
 /// Plans a map, writes the certificate where one is asked for, and prints the plan.
+#[inline(never)]
 pub fn do_plan<'a, R: Source, C: WholeSink, W: Sink>(
     alloc: Global,
     map: &'a str,

@@ -78,6 +78,7 @@ fn shown_as(
 }
 
 /// Prints a map as a table of its stretches, each with the entry that decides it.
+#[inline(never)]
 fn do_show<'a, R: Source, W: Sink>(
     alloc: Global,
     file: &'a str,
@@ -116,6 +117,7 @@ fn do_show<'a, R: Source, W: Sink>(
 }
 
 /// Prints what registers mean as such a table, and answers the status 0, or 1 where they mean nothing.
+#[inline(never)]
 fn do_show_registers<'a, R: Source, W: Sink>(
     alloc: Global,
     registers: &'a str,

@@ -13,7 +13,7 @@ use Rattle.certificate_check.proofs.Gathered.{same_element, AreWithin, key_behin
 use Rattle.certificate_check.proofs.sweep.agrees_in_any_order.Goals as goal
 
 pub loop-low-init : goal.loop-low-init
-loop-low-init c = record {
+loop-low-init g c = record {
   inside = omega arith;
   keys = omega arith;
   order = omega arith;
@@ -26,7 +26,7 @@ loop-low-init c = record {
 }
 
 pub loop-key-init : goal.loop-key-init
-loop-key-init c =
+loop-key-init g c =
     let inv = c.loop-low.invariant in
     let low : ℕ = c.loop-low.low in
     let high : ℕ = c.gather-low.result in
@@ -49,7 +49,7 @@ loop-key-init c =
     }
 
 pub loop-low-preserved : goal.loop-low-preserved
-loop-low-preserved c =
+loop-low-preserved g c =
     let inv = c.loop-key.invariant in
     let high : ℕ = c.gather-low.result in
     let ks : List ℕ = c.deref-key-items.result.now in
@@ -68,7 +68,7 @@ loop-low-preserved c =
     }
 
 pub loop-key-preserved : goal.loop-key-preserved
-loop-key-preserved c =
+loop-key-preserved g c =
     let inv = c.loop-key.invariant in
     let low : ℕ = c.loop-low.low in
     let high : ℕ = c.gather-low.result in
@@ -113,7 +113,7 @@ loop-key-preserved c =
     }
 
 pub returns-in_default : goal.returns-in_default
-returns-in_default c =
+returns-in_default g c =
     λ spans reads.
     let inv = c.loop-key.invariant in
     let high : ℕ = c.gather-low.result in
@@ -132,7 +132,7 @@ returns-in_default c =
     ((λ t. absurd (cc)), (λ all. absurd (differs.3 (subst (λ (p : Perm). Decides spans count differs.0 p) (sym (inv.same differs.0 differs.1)) (all differs.0 (let d = differs.2 in omega (arith, d, inside)))))))
 
 pub returns : goal.returns
-returns c =
+returns g c =
     λ spans reads.
     let inv = c.loop-low.invariant in
     let count : ℕ = count_in c.args.entries.now in

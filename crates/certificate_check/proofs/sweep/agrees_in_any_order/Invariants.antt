@@ -7,7 +7,7 @@ use Rattle.certificate_check.specs.Later.{AreLaterRuns}
 use Rattle.certificate_check.proofs.sweep.agrees_in_any_order.Given as goal
 
 abbrev pub invariant-loop-low : goal.invariant-loop-low
-invariant-loop-low l = record {
+invariant-loop-low g l = record {
   inside : l.page ≤ 2 ^ 44;
   keys : l.low ≤ 2 ^ 63;
   order : l.page * 2 ^ 19 ≤ l.low;
@@ -20,10 +20,10 @@ invariant-loop-low l = record {
 }
 
 abbrev pub decreases-loop-low : goal.decreases-loop-low
-decreases-loop-low l = 2 ^ 63 - l.low
+decreases-loop-low g l = 2 ^ 63 - l.low
 
 abbrev pub invariant-loop-key : goal.invariant-loop-key
-invariant-loop-key l = record {
+invariant-loop-key g l = record {
   inside : l.page ≤ 2 ^ 44;
   order : l.page * 2 ^ 19 ≤ slice_index_or l.key-items l.key-index l.low;
   later : AreLaterRuns l.rest;

@@ -1,4 +1,4 @@
-use Rattle.std.proofs.Common.{◌^◌, arith}
+use Rattle.std.proofs.Common.{arith}
 use Rattle.permission_map.proofs.PointSets.{as_many_as_pages}
 use Rattle.permission_map.proofs.points.before.Goals as goal
 

@@ -1,7 +1,6 @@
-use Rattle.std.proofs.Common.{◌≡◌, ◌∙◌, ◌+◌, ◌-◌, ◌^◌, ◌<◌, arith, pow_pos}
+use Rattle.std.proofs.Common.{◌≡◌, ◌+◌, ◌-◌, ◌^◌, ◌<◌, arith, pow_pos}
 use Rattle.permission_map.proofs.PointSets.{halves, stepped_front, stepped_inside, stepped_rest, stepped_room}
 use Rattle.permission_map.specs.declared.points.Point.{Point}
-use Rattle.pmp_encoding.specs.declared.perm.Perm.TheVariants.{NoAccess}
 use Rattle.permission_map.proofs.points.before_within.Goals as goal
 
 pub loop-left-preserved : goal.loop-left-preserved

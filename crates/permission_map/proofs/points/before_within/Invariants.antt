@@ -1,4 +1,4 @@
-use Rattle.std.proofs.Common.{◌≡◌, ℕ, ◌+◌, ◌^◌, ◌<◌, ◌≤◌, length, slice_index_or}
+use Rattle.std.proofs.Common.{ℕ, ◌+◌, ◌^◌, ◌<◌, ◌≤◌, length, slice_index_or}
 use Rattle.permission_map.specs.declared.points.Point.{Point}
 use Rattle.permission_map.specs.Points.{page_of}
 use Rattle.permission_map.proofs.points.before_within.Given as goal
