@@ -14,7 +14,7 @@
 //! The entries may stand in any order. Where they stand in at most 45 chains, as a planner's do by rising size and
 //! then by rising address, a place in each chain goes on with the pages, so that each entry is passed once. Where
 //! there are more chains, the entries begin by rising first page: those that begin next are gathered by a look at all
-//! of them, at least 32,768 by each look.
+//! of them. One look gathers up to 131,072; of more each gathers at least 65,536, or the rest.
 //!
 //! ```rust
 //! let mut map = PermissionMap::new(alloc);
