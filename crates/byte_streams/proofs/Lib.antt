@@ -1,2 +1,2 @@
 pub mod Writings
-mod Buffered
+pub mod Buffered

@@ -27,7 +27,7 @@ fn shown_comment(line: &[u8]) -> &[u8]
 
 /// What is said of the answer to a line, which differs.
 pub(crate) fn difference(number: u64, line: &[u8], answer: &Line) -> Difference
-    ensures { result.items ≡ difference_text number line.now answer.now.items }
+    ensures { result.items ≡ difference_text number line.now answer.now }
 {
     let mut text = ArrayVec::new();
     let mut buffer = Buffer::new();

@@ -1,6 +1,6 @@
 //! A comment that is being written, piece by piece, in a buffer of a fixed length.
 
-ghost use Rattle.std.specs.Prelude.{◌≡◌, ◌+◌, ◌≤◌, ◌++◌, decimal};
+ghost use Rattle.std.specs.Prelude.{◌≡◌, ◌+◌, ◌≤◌, ◌++◌, decimal, length};
 ghost use Rattle.arrayvec.specs.ArrayVec.{array_vec_len};
 ghost use Rattle.lint_texts.specs.Pieces.{address_text};
 
@@ -29,7 +29,7 @@ pub fn push_address(comment: &mut Comment, n: u64)
     ensures items { comment.new.items ≡ comment.old.items ++ address_text n }
     ensures len { array_vec_len comment.new ≤ array_vec_len comment.old + 18 }
 {
-    let mut digits: Line = ArrayVec::new();
+    let mut digits = Line::new();
     push_hex(&mut digits, n, 16);
     append(comment, b"0x");
     append(comment, without_zeros(digits.as_slice()));

@@ -27,9 +27,9 @@ fn fitting(text: &[u8]) -> &[u8]
 
 /// A line of as much of a text as it has room for.
 fn line_of(text: &[u8]) -> Line
-    ensures { result.items ≡ take 127 text.now ++ codes "\n" }
+    ensures { result ≡ take 127 text.now ++ codes "\n" }
 {
-    let mut line = ArrayVec::new();
+    let mut line = Line::new();
     push_text(&mut line, fitting(text));
     line.push(b'\n');
     line
@@ -37,7 +37,7 @@ fn line_of(text: &[u8]) -> Line
 
 /// Puts a comment behind an answer. A line has 128 bytes at most: what of the comment has no room there is left out.
 pub fn explain(answer: &mut Line, comment: &Comment)
-    ensures { answer.new.items ≡ explained answer.old.items comment.now.items }
+    ensures { answer.new ≡ explained answer.old comment.now.items }
 {
     let mut whole: Whole = ArrayVec::new();
     append(&mut whole, unended(answer.as_slice()));

@@ -50,7 +50,7 @@ impl Interpreter for ExplainingMachine {
             return Err(Refusal::Memory);
         }
         self.tally.add(&asked, &reply);
-        push_reply(answer, count + 1, &reply);
+        push_reply(answer, &reply);
         explain(answer, &comment_on(&asked, &reply, self.machine.table()));
         Ok(true)
     }

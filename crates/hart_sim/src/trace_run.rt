@@ -11,15 +11,20 @@ ghost use Rattle.hart_sim.specs.Reports.{DoesLine, RefusesLine, StarvesLine, Goe
 
 use crate::machine::Machine;
 use byte_streams::{Sink, Source};
-use hart_trace::{Event, parse_line};
+use hart_trace::{Event, event_ahead, parse_line};
 use machine_replies::push_reply;
 use text_lines::{Interpreter, Line, NotUnderstood, Refusal, RunFault, interpret_lines};
 
 impl Machine {
-    ghost use Rattle.std.specs.Prelude.{◌≡◌, ◌<◌, IfOk, IfSome};
+    ghost use Rattle.std.specs.Prelude.{◌≡◌, ◌≢◌, ◌<◌, ◌≤◌, true, IfOk, IfErr, IfSome, Some, ℕ, decimal, length, take};
     ghost use Rattle.std.specs.Result.{result_ok};
+    ghost use Rattle.text_lines.specs.Lines.{BeginsLine};
     ghost use Rattle.hart_trace.specs.Events.{meaning_of};
-    ghost use Rattle.hart_sim.specs.Machines.{state_of};
+    ghost use Rattle.machine_replies.specs.declared.reply.Reply.{Reply};
+    ghost use Rattle.machine_replies.specs.declared.reply.Reply.TheVariants.{NoMemory};
+    ghost use Rattle.machine_replies.specs.Texts.{reply_text};
+    ghost use Rattle.hart_sim.specs.After.{Happens};
+    ghost use Rattle.hart_sim.specs.Machines.{state_of, KeepsBanksRight};
     ghost use Rattle.hart_sim.specs.Steps.{IsEvent};
 
     /// The event that a line says, and its hart, which is one of the machine's; nothing for a line without words.
@@ -33,6 +38,47 @@ impl Machine {
         ensures event { IfOk result (λ said. IfSome said (λ found. IsEvent found.1)) }
     {
         parse_line(line, self.harts())
+    }
+
+    /// The event of the plain line that some bytes begin with, its hart, which is one of the machine's, and how many bytes the line has
+    /// before its LF. None says nothing of the bytes.
+    #[inline(always)]
+    fn event_ahead(&self, ahead: &[u8]) -> Option<(u8, Event, usize)>
+        requires { length ahead.now ≤ 1024 }
+        ensures line { IfSome result (λ found. BeginsLine found.2 ahead.now) }
+        ensures meaning { IfSome result (λ found.
+            meaning_of (state_of self.now).table.layout.harts (take found.2 ahead.now)
+            ≡ Some (Some (found.0, found.1))) }
+        ensures hart { IfSome result (λ found.
+            found.0 < (state_of self.now).table.layout.harts) }
+        ensures event { IfSome result (λ found. IsEvent found.1) }
+    {
+        event_ahead(ahead, self.harts())
+    }
+
+    /// An event happens on a hart, and its reply is written behind its number. It is refused where it wants memory that is.
+    #[inline(always)]
+    fn answer(&mut self, hart: u8, event: Event, answer: &mut Line) -> Result<bool, Refusal>
+        requires hart { hart < (state_of self.old).table.layout.harts }
+        requires event { IsEvent event }
+        requires room { length answer.old ≤ 21 }
+        ensures answered { IfOk result (λ answered. answered ≡ true) }
+        ensures done { KeepsBanksRight self.old
+            → IfOk result (λ _.
+            (reply : Reply) × Happens self.old hart event reply self.new
+            × (reply ≢ NoMemory)
+            × ((n : ℕ) → answer.old ≡ decimal n → answer.new ≡ reply_text n reply)) }
+        ensures refusal { IfErr result (λ refusal. refusal ≡ Refusal.Memory) }
+        ensures starved { KeepsBanksRight self.old
+            → IfErr result (λ _. Happens self.old hart event NoMemory self.new) }
+        ensures kept { KeepsBanksRight self.old → KeepsBanksRight self.new }
+    {
+        let reply = self.step(hart, event);
+        if reply.wants_memory() {
+            return Err(Refusal::Memory);
+        }
+        push_reply(answer, &reply);
+        Ok(true)
     }
 }
 
@@ -53,12 +99,18 @@ impl Interpreter for Machine {
         let Some((hart, event)) = said else {
             return Ok(false);
         };
-        let reply = self.step(hart, event);
-        if reply.wants_memory() {
-            return Err(Refusal::Memory);
-        }
-        push_reply(answer, count + 1, &reply);
-        Ok(true)
+        self.answer(hart, event, answer)
+    }
+
+    #[inline(always)]
+    fn interpret_ahead(
+        &mut self,
+        ahead: &[u8],
+        count: u64,
+        answer: &mut Line,
+    ) -> Option<(usize, Result<bool, Refusal>)> {
+        let (hart, event, len) = self.event_ahead(ahead)?;
+        Some((len, self.answer(hart, event, answer)))
     }
 }
 

@@ -2,4 +2,5 @@ mod PlainLines
 mod Keywords
 mod Calls
 mod PlainEvents
+mod PlainFronts
 mod SpacedLines

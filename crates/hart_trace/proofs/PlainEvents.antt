@@ -1,16 +1,18 @@
 -- Plain lines of settings and calls say what the grammar of traces says.
-use Rattle.std.proofs.Common.{◌≡◌, ◌∙◌, ℕ, ◌<◌, true, false, ◌&&◌, ◌||◌, List, [], ◌∷◌, ◌++◌, length, Some, refl, ap, sym, arith, append-nil}
+use Rattle.std.proofs.Common.{◌≡◌, ◌∙◌, ℕ, ◌<◌, ◌≤◌, true, false, ◌&&◌, ◌||◌, ◌+◌, List, [], ◌∷◌, ◌++◌, length, Option, None, Some, option_map, refl, ap, sym, arith, append-nil, append_assoc}
 use Rattle.std.specs.Prelude.{◌==◌, nat_lt}
 use Rattle.std.specs.List.{list_all}
 use Rattle.std.proofs.lemmas.Bool.{and_parts, and_from, and_right, cond-false, lt-ltb}
 use Rattle.std.proofs.lemmas.Bool.Decides.{nat_tests}
 use Rattle.std.proofs.lemmas.Grind.{common_steps}
+use Rattle.arrayvec.specs.declared.array_vec.ArrayVec.{ArrayVec}
 use Rattle.text_lines.specs.Words.{is_plain, split_words}
 use Rattle.text_lines.specs.Numbers.{BeginsNumeral, digit_of, numeral_of, number_of}
 use Rattle.hart_trace.specs.declared.event.Event.TheVariants as events
 use Rattle.hart_trace.specs.declared.event.Event.{Event}
-use Rattle.hart_trace.specs.Events.{call_of, has_leading_zero, meaning_of, register_of, setting_of}
-use Rattle.hart_trace.specs.Plain.{BeginsNumber, is_letter, is_mark}
+use Rattle.hart_trace.specs.Events.{call_of, has_leading_zero, meaning_of, numbers_of, register_of, setting_of}
+use Rattle.hart_trace.specs.Plain.{BeginsCall, BeginsEvent, BeginsNumber, is_letter, is_mark}
+use Rattle.hart_trace.proofs.Calls.{all_read, one_read}
 use Rattle.hart_trace.proofs.PlainLines.{address_word, letters_last, letters_plain, letters_split, line_says, mark_number, numeral_digits, numeral_letters}
 
 no_mark : (b : ℕ) → nat_lt (digit_of b) 10 ≡ true → is_mark b ≡ false
@@ -102,3 +104,72 @@ setting_says rest event harts plain is = line_says 114 (101 ∷ 103 ∷ []) rest
 
 pub call_says : (rest : List ℕ) (event : Event) (harts : ℕ) → list_all is_plain rest ≡ true → call_of (split_words rest) ≡ Some event → meaning_of harts (101 ∷ 99 ∷ 97 ∷ 108 ∷ 108 ∷ 32 ∷ rest) ≡ Some (Some (0, event))
 call_says rest event harts plain is = line_says 101 (99 ∷ 97 ∷ 108 ∷ 108 ∷ []) rest event harts refl plain refl is
+
+-- a register and its value before the end of a line
+pub setting_event : (text rest behind end digits : List ℕ) (n value : ℕ) → text ≡ 114 ∷ 101 ∷ 103 ∷ 32 ∷ rest → rest ≡ (120 ∷ digits) ++ 32 ∷ behind → list_all is_letter digits ≡ true → register_of (120 ∷ digits) ≡ Some n → BeginsNumber behind value end → BeginsEvent text (events.Reg n value) end
+setting_event text rest behind end digits n value starts is letters named h =
+    let word = h.0 ∷ h.1 in
+    let spelled = (120 ∷ digits) ++ 32 ∷ word in
+    let said = setting_said spelled word [] digits n value refl letters named (h.0, h.1, sym (append-nil word), h.3, h.4) refl in
+    let parts : rest ≡ spelled ++ end = is ∙ ap (λ xs. (120 ∷ digits) ++ 32 ∷ xs) h.2 ∙ sym (append_assoc (120 ∷ digits) (32 ∷ word) end) in
+    record {
+      line = 114 ∷ 101 ∷ 103 ∷ 32 ∷ spelled;
+      parts = starts ∙ ap (λ xs. 114 ∷ 101 ∷ 103 ∷ 32 ∷ xs) parts;
+      plain = letters_plain (114 ∷ 101 ∷ 103 ∷ []) (32 ∷ spelled) refl said.1;
+      said = λ harts. setting_says spelled (events.Reg n value) harts said.1 said.0;
+    }
+
+pub call_event : (text rest behind : List ℕ) (event : Event) → text ≡ 101 ∷ 99 ∷ 97 ∷ 108 ∷ 108 ∷ 32 ∷ rest → BeginsCall rest event behind → BeginsEvent text event behind
+call_event text rest behind event starts call = record {
+  line = 101 ∷ 99 ∷ 97 ∷ 108 ∷ 108 ∷ 32 ∷ call.spelled;
+  parts = starts ∙ ap (λ xs. 101 ∷ 99 ∷ 97 ∷ 108 ∷ 108 ∷ 32 ∷ xs) call.parts;
+  plain = letters_plain (101 ∷ 99 ∷ 97 ∷ 108 ∷ 108 ∷ []) (32 ∷ call.spelled) refl call.plain;
+  said = λ harts. call_says call.spelled event harts call.plain call.said;
+}
+
+pub irq_event : (text behind : List ℕ) → text ≡ 105 ∷ 114 ∷ 113 ∷ behind → BeginsEvent text events.Irq behind
+irq_event text behind is = record { line = 105 ∷ 114 ∷ 113 ∷ []; parts = is; plain = refl; said = λ harts. refl }
+
+-- the words of a call that were read, before those that are left
+pub record Read (text left front : List ℕ) (numbers : List ℕ) : Type 0 where
+  pub parts : text ≡ front ++ left
+  pub told : (t : List ℕ) → option_map (λ ns. numbers ++ ns) (numbers_of (split_words t)) ≡ numbers_of (split_words (front ++ t))
+  pub count : (t : List ℕ) → length numbers + length (split_words t) ≡ length (split_words (front ++ t))
+  pub plain : (t : List ℕ) → list_all is_plain t ≡ true → list_all is_plain (front ++ t) ≡ true
+
+pub none_read : (text : List ℕ) → Read text text [] []
+none_read text = record { parts = refl; told = λ t. same (numbers_of (split_words t)); count = λ t. omega arith; plain = λ t h. h }
+  where
+    same : (found : Option (List ℕ)) → option_map (λ ns. [] ++ ns) found ≡ found
+    same None = refl
+    same (Some ns) = refl
+
+-- one more, and a space
+pub more_read : (text left behind next front numbers more : List ℕ) (value : ℕ) → Read text left front numbers → (h : BeginsNumber left value behind) → behind ≡ 32 ∷ next → more ≡ numbers ++ value ∷ [] → (longer : List ℕ) × Read text next longer more
+more_read text left behind next front numbers more value read h space pushed =
+    let word = h.0 ∷ h.1 in
+    let longer = front ++ (word ++ 32 ∷ []) in
+    let same : (t : List ℕ) → longer ++ t ≡ front ++ (word ++ 32 ∷ t) = λ t. append_assoc front (word ++ 32 ∷ []) t ∙ ap (λ xs. front ++ xs) (append_assoc word (32 ∷ []) t) in
+    let split : (t : List ℕ) → split_words (word ++ 32 ∷ t) ≡ word ∷ split_words t = λ t. letters_split h.0 h.1 t h.3 in
+    let each = λ (t : List ℕ). one_read word (split_words t) (split_words (front ++ (word ++ 32 ∷ t))) numbers more value h.4 pushed (ap (λ ws. option_map (λ ns. numbers ++ ns) (numbers_of ws)) (sym (split t)) ∙ read.told (word ++ 32 ∷ t)) (ap (λ ws. length numbers + length ws) (sym (split t)) ∙ read.count (word ++ 32 ∷ t)) in (
+      longer,
+      record {
+        parts = read.parts ∙ ap (λ xs. front ++ xs) (h.2 ∙ ap (λ xs. word ++ xs) space) ∙ sym (same next);
+        told = λ t. (each t).0 ∙ ap (λ xs. numbers_of (split_words xs)) (sym (same t));
+        count = λ t. (each t).1 ∙ ap (λ xs. length (split_words xs)) (sym (same t));
+        plain = λ t plain. ap (list_all is_plain) (same t) ∙ read.plain (word ++ 32 ∷ t) (letters_plain word (32 ∷ t) h.3 plain);
+      },
+    )
+
+-- the last one
+pub last_read : (text left behind front numbers : List ℕ) (more : ArrayVec ℕ 8 (Unit {0})) (value : ℕ) → Read text left front numbers → (h : BeginsNumber left value behind) → more.items ≡ numbers ++ value ∷ [] → length more.items ≤ 8 → BeginsCall text (events.Ecall more) behind
+last_read text left behind front numbers more value read h pushed few =
+    let word = h.0 ∷ h.1 in
+    let split : split_words word ≡ word ∷ [] = letters_last h.0 h.1 h.3 in
+    let all = one_read word [] (split_words (front ++ word)) numbers more.items value h.4 pushed (ap (λ ws. option_map (λ ns. numbers ++ ns) (numbers_of ws)) (sym split) ∙ read.told word) (ap (λ ws. length numbers + length ws) (sym split) ∙ read.count word) in
+    record {
+      spelled = front ++ word;
+      parts = read.parts ∙ ap (λ xs. front ++ xs) h.2 ∙ sym (append_assoc front word behind);
+      plain = read.plain word (ap (list_all is_plain) (sym (append-nil word)) ∙ letters_plain word [] h.3 refl);
+      said = sym (all_read (split_words (front ++ word)) [] more.items refl few all.0 all.1);
+    }

@@ -2,13 +2,15 @@
 use Rattle.std.specs.Prelude.{◌≡◌, ◌≤◌, ◌<◌, ℕ, length, drop, slice_index, bit_and, ◌++◌, Bool, true, not, ◌&&◌, ◌||◌, ◌==◌, List, [], ◌∷◌, Some, codes, option_map}
 use Rattle.std.specs.List.{list_all}
 use Rattle.std.specs.Int.{from_le_bytes, w64}
+use Rattle.pmp_match.specs.declared.access.Access.{Access}
 use Rattle.pmp_match.specs.declared.access.Mode.{Mode}
 use Rattle.pmp_match.specs.declared.access.Kind.{Kind}
 use Rattle.pmp_match.specs.declared.access.Kind.TheVariants.{Fetch, Load, Store}
-use Rattle.text_lines.specs.Words.{EndsWord, is_blank, is_plain, words_of}
+use Rattle.text_lines.specs.Words.{EndsWord, is_blank, is_plain, split_words, words_of}
 use Rattle.text_lines.specs.Numbers.{number_of}
 use Rattle.hart_trace.specs.declared.plain.Keyword.{Keyword}
-use Rattle.hart_trace.specs.Events.{mode_of}
+use Rattle.hart_trace.specs.declared.event.Event.{Event}
+use Rattle.hart_trace.specs.Events.{access_of, call_of, meaning_of, mode_of}
 
 -- a byte that may stand outside a comment, begins none and is no blank
 abbrev pub is_letter : ℕ → Bool
@@ -48,3 +50,31 @@ BeginsWith text number = (8 ≤ length text) × (number ≡ from_le_bytes w64 te
 pub record Tells (k : Keyword) : Type 0 where
   pub short : k.len ≤ 8
   pub said : (line : List ℕ) (first : ℕ) → BeginsWith line first → bit_and first k.mask ≡ k.number → line ≡ keyword k.kind ++ 32 ∷ drop k.len line
+
+-- a text begins with plain words that say an access of that kind, and has these words after it
+pub record BeginsAccess (kind : Kind) (text : List ℕ) (access : Access) (words : List (List ℕ)) (behind : List ℕ) : Type 0 where
+  pub spelled : List ℕ
+  pub parts : text ≡ spelled ++ behind
+  pub plain : list_all is_plain spelled ≡ true
+  pub said : access_of kind (split_words spelled) ≡ Some (access, words)
+
+-- a text begins with plain words that make this call
+pub record BeginsCall (text : List ℕ) (event : Event) (behind : List ℕ) : Type 0 where
+  pub spelled : List ℕ
+  pub parts : text ≡ spelled ++ behind
+  pub plain : list_all is_plain spelled ≡ true
+  pub said : call_of (split_words spelled) ≡ Some event
+
+-- a text begins with a plain line that says this event, on the first hart
+pub record BeginsEvent (text : List ℕ) (event : Event) (behind : List ℕ) : Type 0 where
+  pub line : List ℕ
+  pub parts : text ≡ line ++ behind
+  pub plain : list_all is_plain line ≡ true
+  pub said : (harts : ℕ) → meaning_of harts line ≡ Some (Some (0, event))
+
+-- a hart's name before what follows, or no name: what follows says on the first hart, the text says on that one
+pub record Named (harts : ℕ) (text : List ℕ) (hart : ℕ) (behind : List ℕ) : Type 0 where
+  pub name : List ℕ
+  pub parts : text ≡ name ++ behind
+  pub plain : list_all is_plain name ≡ true
+  pub said : (line : List ℕ) (event : Event) → meaning_of 0 line ≡ Some (Some (0, event)) → meaning_of harts line ≡ Some (Some (0, event)) → meaning_of harts (name ++ line) ≡ Some (Some (hart, event))

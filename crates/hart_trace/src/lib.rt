@@ -11,13 +11,14 @@
 //! ```
 #![tactic(auto)]
 
+mod ahead;
 mod event;
 mod plain;
 mod plain_events;
 mod spaced;
 mod trace;
 
+pub use ahead::{access_ahead, event_ahead};
 pub use event::Event;
-pub use plain::plain_access;
 pub use spaced::{is_wordless, spaced_access};
 pub use trace::{parse_by_words, parse_line};

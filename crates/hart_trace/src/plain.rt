@@ -3,17 +3,14 @@
 //! are read in one pass, where the parser of all lines goes over each line several times. What is not plain is left to it.
 
 ghost use Rattle.std.specs.Prelude.{◌≡◌, ℕ, List, ◌∷◌, ◌++◌, [], Some, None, IfSome, true};
-ghost use Rattle.std.specs.List.{list_all};
-ghost use Rattle.text_lines.specs.Words.{is_plain, split_words};
 ghost use Rattle.text_lines.specs.Numbers.{number_of};
-ghost use Rattle.hart_trace.specs.declared.event.Event.{Event};
 ghost use Rattle.hart_trace.specs.declared.event.Event.TheVariants as events;
-ghost use Rattle.hart_trace.specs.Events.{access_of, hart_of, meaning_of, mode_of};
-ghost use Rattle.hart_trace.specs.Plain.{BeginsWith, Starts, Tells, is_letter, keyword};
+ghost use Rattle.hart_trace.specs.Events.{hart_of, mode_of};
+ghost use Rattle.hart_trace.specs.Plain.{BeginsAccess, BeginsEvent, BeginsWith, Named, Starts, Tells, is_letter, keyword};
 
 use crate::trace::sized;
 use pmp_match::{Access, Kind, Mode};
-use text_lines::{leading_numeral, numeral};
+use text_lines::leading_numeral;
 
 /// The modes that the letters from `s` to `u` name. A branch between two of them would be guessed wrong at every other line.
 static MODES: [Option<Mode>; 3] = [Some(Mode::Supervisor), None, Some(Mode::User)];
@@ -54,16 +51,16 @@ fn plain_start(rest: &[u8]) -> Option<(Mode, u64, &[u8])>
     Some((mode, size, digits))
 }
 
-/// A fetch or a load.
+/// A fetch or a load, and what stands after it.
 #[inline(always)]
-fn plain_look(kind: Kind, rest: &[u8]) -> Option<Access>
-    ensures access { IfSome result (λ access.
-        access_of kind (split_words rest.now) ≡ Some (access, [])) }
-    ensures plain { IfSome result (λ _. list_all is_plain rest.now ≡ true) }
+fn plain_look(kind: Kind, rest: &[u8]) -> Option<(Access, &[u8])>
+    ensures { IfSome result (λ found.
+        BeginsAccess kind rest.now found.0 [] found.1.now) }
 {
     let (mode, size, digits) = plain_start(rest)?;
-    let address = numeral(digits, 16)?;
-    sized(mode, kind, size, address)
+    let (address, behind) = leading_numeral(digits, 16)?;
+    let access = sized(mode, kind, size, address)?;
+    Some((access, behind))
 }
 
 /// What stands after ` 0x`.
@@ -77,21 +74,20 @@ fn behind_blank(text: &[u8]) -> Option<&[u8]>
     }
 }
 
-/// A store and its value.
+/// A store, its value, and what stands after them.
 #[inline(always)]
-fn plain_store(rest: &[u8]) -> Option<(Access, u64)>
-    ensures access { IfSome result (λ store.
+fn plain_store(rest: &[u8]) -> Option<(Access, u64, &[u8])>
+    ensures { IfSome result (λ store.
         (word : List ℕ)
-        × (access_of Kind.Store (split_words rest.now) ≡ Some (store.0, word ∷ []))
+        × BeginsAccess Kind.Store rest.now store.0 (word ∷ []) store.2.now
         × (number_of word ≡ Some store.1)) }
-    ensures plain { IfSome result (λ _. list_all is_plain rest.now ≡ true) }
 {
     let (mode, size, digits) = plain_start(rest)?;
     let (address, behind) = leading_numeral(digits, 16)?;
     let digits = behind_blank(behind)?;
-    let value = numeral(digits, 16)?;
+    let (value, end) = leading_numeral(digits, 16)?;
     let access = sized(mode, Kind::Store, size, address)?;
-    Some((access, value))
+    Some((access, value, end))
 }
 
 /// The first eight bytes of a line as one number, the first of them lowest.
@@ -163,25 +159,25 @@ fn behind_keyword(line: &[u8]) -> Option<(Kind, &[u8])>
     Some((said.kind, &line[said.len..]))
 }
 
-/// The access of a plain line, which names no hart, and the value that a store writes, 0 else. None says nothing of the line.
+/// The access of the plain line that a text begins with, which names no hart, the value that a store writes, 0 else, and what stands
+/// after it. None says nothing of the text.
 ///
 /// For those who ask for accesses alone: an [`Event`](crate::Event) has room for a call's eight words, which
 /// [`parse_line`](crate::parse_line) returns with each.
 #[inline(always)]
-pub fn plain_access(line: &[u8]) -> Option<(Access, u64)>
+pub(crate) fn plain_access(text: &[u8]) -> Option<(Access, u64, &[u8])>
     ensures { IfSome result (λ found.
-        (harts : ℕ)
-        → meaning_of harts line.now ≡ Some (Some (0, events.Access found.0 found.1))) }
+        BeginsEvent text.now (events.Access found.0 found.1) found.2.now) }
 {
-    let (kind, rest) = behind_keyword(line)?;
+    let (kind, rest) = behind_keyword(text)?;
     match kind {
         Kind::Store => {
-            let (access, value) = plain_store(rest)?;
-            Some((access, value))
+            let (access, value, behind) = plain_store(rest)?;
+            Some((access, value, behind))
         }
         Kind::Fetch | Kind::Load => {
-            let access = plain_look(kind, rest)?;
-            Some((access, 0))
+            let (access, behind) = plain_look(kind, rest)?;
+            Some((access, 0, behind))
         }
     }
 }
@@ -204,9 +200,7 @@ fn behind_hart(line: &[u8], harts: u8) -> Option<(u8, &[u8])>
 /// The hart on which the event of a line happens, and what stands after its name: where none is named so, hart 0 and the whole line.
 #[inline(always)]
 pub(crate) fn hart_in(line: &[u8], harts: u8) -> (u8, &[u8])
-    ensures { (event : Event)
-        → ((n : ℕ) → meaning_of n result.1.now ≡ Some (Some (0, event)))
-        → meaning_of harts line.now ≡ Some (Some (result.0, event)) }
+    ensures { Named harts line.now result.0 result.1.now }
 {
     match behind_hart(line, harts) {
         Some((hart, rest)) => (hart, rest),

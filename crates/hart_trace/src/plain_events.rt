@@ -3,9 +3,9 @@
 
 ghost use Rattle.std.specs.Prelude.{◌≡◌, ℕ, ◌<◌, List, ◌∷◌, ◌++◌, Some, IfSome, true};
 ghost use Rattle.std.specs.List.{list_all};
-ghost use Rattle.text_lines.specs.Words.{is_plain, split_words};
-ghost use Rattle.hart_trace.specs.Events.{call_of, meaning_of, register_of};
-ghost use Rattle.hart_trace.specs.Plain.{BeginsNumber, is_letter};
+ghost use Rattle.text_lines.specs.Words.{is_plain};
+ghost use Rattle.hart_trace.specs.Events.{register_of};
+ghost use Rattle.hart_trace.specs.Plain.{BeginsCall, BeginsEvent, BeginsNumber, is_letter};
 
 use crate::event::Event;
 use crate::trace::has_leading_zero;
@@ -63,6 +63,16 @@ fn behind_ecall(line: &[u8]) -> Option<&[u8]>
     }
 }
 
+/// What stands after `irq`.
+fn behind_irq(line: &[u8]) -> Option<&[u8]>
+    ensures { IfSome result (λ behind. line.now ≡ 105 ∷ 114 ∷ 113 ∷ behind.now) }
+{
+    match line {
+        [b'i', b'r', b'q', behind @ ..] => Some(behind),
+        _ => None,
+    }
+}
+
 /// The number that a text begins with, and what stands after it.
 pub(crate) fn plain_number(text: &[u8]) -> Option<(u64, &[u8])>
     ensures { IfSome result (λ found. BeginsNumber text.now found.0 found.1.now) }
@@ -90,24 +100,19 @@ fn plain_register(text: &[u8]) -> Option<(u8, &[u8])>
     Some((n as u8, rest))
 }
 
-/// The setting of a register by a plain line.
-fn plain_setting(line: &[u8]) -> Option<Event>
-    ensures { IfSome result (λ event. (harts : ℕ)
-        → meaning_of harts line.now ≡ Some (Some (0, event))) }
+/// The setting of a register by the plain line that a text begins with, and what stands after it.
+fn plain_setting(text: &[u8]) -> Option<(Event, &[u8])>
+    ensures { IfSome result (λ found. BeginsEvent text.now found.0 found.1.now) }
 {
-    let rest = behind_reg(line)?;
+    let rest = behind_reg(text)?;
     let (register, behind) = plain_register(rest)?;
     let (value, end) = plain_number(behind)?;
-    if end.is_empty() {
-        return Some(Event::Reg(register, value));
-    }
-    None
+    Some((Event::Reg(register, value), end))
 }
 
-/// A call with these words, of which there is one at least.
-fn plain_words(rest: &[u8]) -> Option<Event>
-    ensures event { IfSome result (λ event. call_of (split_words rest.now) ≡ Some event) }
-    ensures plain { IfSome result (λ _. list_all is_plain rest.now ≡ true) }
+/// The call with the words that a text begins with, of which there is one at least, and what stands after them.
+fn plain_words(rest: &[u8]) -> Option<(Event, &[u8])>
+    ensures { IfSome result (λ found. BeginsCall rest.now found.0 found.1.now) }
 {
     let mut numbers = ArrayVec::new();
     let mut left = rest;
@@ -117,32 +122,39 @@ fn plain_words(rest: &[u8]) -> Option<Event>
             return None;
         }
         numbers.push(number);
-        if behind.is_empty() {
-            return Some(Event::Ecall(numbers));
-        }
-        left = behind_space(behind)?;
+        left = match behind_space(behind) {
+            Some(next) => next,
+            None => return Some((Event::Ecall(numbers), behind)),
+        };
     }
 }
 
-/// The call of a plain line.
-fn plain_call(line: &[u8]) -> Option<Event>
-    ensures { IfSome result (λ event. (harts : ℕ)
-        → meaning_of harts line.now ≡ Some (Some (0, event))) }
+/// The call of the plain line that a text begins with, and what stands after it.
+fn plain_call(text: &[u8]) -> Option<(Event, &[u8])>
+    ensures { IfSome result (λ found. BeginsEvent text.now found.0 found.1.now) }
 {
-    let rest = behind_ecall(line)?;
-    let event = plain_words(rest)?;
-    Some(event)
+    let rest = behind_ecall(text)?;
+    let (event, behind) = plain_words(rest)?;
+    Some((event, behind))
 }
 
-/// The event of a plain line that names no hart. None says nothing of the line.
-pub(crate) fn plain_event(line: &[u8]) -> Option<Event>
-    ensures { IfSome result (λ event. (harts : ℕ)
-        → meaning_of harts line.now ≡ Some (Some (0, event))) }
+/// The interrupt of the plain line that a text begins with, and what stands after it.
+fn plain_interrupt(text: &[u8]) -> Option<(Event, &[u8])>
+    ensures { IfSome result (λ found. BeginsEvent text.now found.0 found.1.now) }
 {
-    match line {
-        [b'r', ..] => plain_setting(line),
-        [b'e', ..] => plain_call(line),
-        b"irq" => Some(Event::Irq),
+    let behind = behind_irq(text)?;
+    Some((Event::Irq, behind))
+}
+
+/// The event of the plain line that a text begins with, which is no access and names no hart, and what stands after it. None says
+/// nothing of the text.
+pub(crate) fn plain_event(text: &[u8]) -> Option<(Event, &[u8])>
+    ensures { IfSome result (λ found. BeginsEvent text.now found.0 found.1.now) }
+{
+    match text {
+        [b'r', ..] => plain_setting(text),
+        [b'e', ..] => plain_call(text),
+        [b'i', ..] => plain_interrupt(text),
         _ => None,
     }
 }

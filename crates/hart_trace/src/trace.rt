@@ -6,9 +6,9 @@ ghost use Rattle.pmp_match.specs.Kinds.{has_size};
 ghost use Rattle.text_lines.specs.Words.{split_words};
 ghost use Rattle.hart_trace.specs.Events.{mode_of, sized, access_of, with_no_value, with_value, has_leading_zero, register_of, setting_of, call_of, interrupt_of, event_of, hart_of, on_hart, meaning_of};
 
+use crate::ahead::plain_line;
 use crate::event::Event;
-use crate::plain::{hart_in, plain_access};
-use crate::plain_events::plain_event;
+use crate::plain::hart_in;
 use crate::spaced::{is_wordless, spaced_access};
 use arrayvec::ArrayVec;
 use pmp_match::{Access, Kind, Mode};
@@ -206,10 +206,7 @@ pub fn parse_line(line: &[u8], harts: u8) -> Result<Option<(u8, Event)>, NotUnde
     ensures { result_ok result ≡ meaning_of harts line.now }
 {
     let (hart, rest) = hart_in(line, harts);
-    if let Some((access, value)) = plain_access(rest) {
-        return Ok(Some((hart, Event::Access(access, value))));
-    }
-    if let Some(event) = plain_event(rest) {
+    if let Some(event) = plain_line(rest) {
         return Ok(Some((hart, event)));
     }
     if let Some((access, value)) = spaced_access(line) {

@@ -4,7 +4,6 @@ ghost use Rattle.std.specs.Prelude.{◌≡◌, ◌≤◌, IfOk, length, option_m
 ghost use Rattle.pmp_encoding.specs.Limits.{limit_number};
 ghost use Rattle.input_hints.specs.Needs.{bank_bounds, entries_named, most_text, need_hint, need_text, plan_bounds, table_bounds, words_hint, words_text};
 
-use arrayvec::ArrayVec;
 use map_commands::most_entries;
 use pmp_encoding::Limit;
 use printed_lines::room_from;
@@ -65,9 +64,9 @@ fn named<'a>(count: u64) -> &'a [u8]
 
 /// That so many are needed, and so many may be.
 fn most_line(needed: u64, most: u64) -> Line
-    ensures { result.items ≡ most_text needed most }
+    ensures { result ≡ most_text needed most }
 {
-    let mut line = ArrayVec::new();
+    let mut line = Line::new();
     push_text(&mut line, b": needs ");
     push_decimal(&mut line, needed);
     push_text(&mut line, named(needed));
@@ -79,9 +78,9 @@ fn most_line(needed: u64, most: u64) -> Line
 
 /// That so many are needed, and so many have configuration words.
 fn words_line(needed: u64, there: u64) -> Line
-    ensures { result.items ≡ words_text needed there }
+    ensures { result ≡ words_text needed there }
 {
-    let mut line = ArrayVec::new();
+    let mut line = Line::new();
     push_text(&mut line, b": needs ");
     push_decimal(&mut line, needed);
     push_text(&mut line, named(needed));

@@ -6,7 +6,6 @@ ghost use Rattle.map_lint.specs.Settings.{IsInside};
 ghost use Rattle.line_costs.specs.Costs.{cost_text, entries_named, unlooked_text, AreCosts, HasCost, IsCostText};
 
 use crate::settings::settings_in;
-use arrayvec::ArrayVec;
 use entry_planner::plan_map;
 use map_lint::{Numbered, map_of_both};
 use permission_map::Memory;
@@ -43,9 +42,9 @@ fn named<'a>(count: u64) -> &'a [u8]
 
 /// What is said of a line, by its number.
 fn cost_line(line: u64, cost: Option<u64>) -> Line
-    ensures { result.items ≡ cost_text line cost }
+    ensures { result ≡ cost_text line cost }
 {
-    let mut text = ArrayVec::new();
+    let mut text = Line::new();
     push_text(&mut text, b"without line ");
     push_decimal(&mut text, line);
     match cost {
@@ -76,9 +75,9 @@ fn push_costs(alloc: Global, text: &mut Vec<u8>, settings: &[Numbered]) -> Resul
 
 /// How many settings are not looked at.
 fn unlooked_line(count: usize) -> Line
-    ensures { result.items ≡ unlooked_text count }
+    ensures { result ≡ unlooked_text count }
 {
-    let mut text = ArrayVec::new();
+    let mut text = Line::new();
     if count > MOST {
         push_text(&mut text, b"lines after these that are not looked at: ");
         push_decimal(&mut text, (count - MOST) as u64);

@@ -5,7 +5,6 @@ ghost use Rattle.byte_streams.specs.Writings.{writing, Prints};
 ghost use Rattle.command_inputs.specs.Inputs.{reading};
 ghost use Rattle.lint_commands.specs.Lint.{listing_fault, listing_reason, other_width, names_platform, IsListingLint, IsMapLint, IsPlatformLint, Lints, LintsListing, Tells};
 
-use arrayvec::ArrayVec;
 use byte_streams::{DeviceFault, Sink, Source, write_whole};
 use command_inputs::{MAP_BYTES, REGISTER_BYTES, answer_status, bytes_in};
 use map_lint::{LintFault, lint};
@@ -110,9 +109,9 @@ fn listing_reason(xlen: Xlen, others: bool) -> &'static str
 
 /// What stands after the file's name where a line of a listing is not understood.
 fn fault_of_line(xlen: Xlen, others: bool, n: u64) -> Line
-    ensures { result.items ≡ codes ":" ++ (decimal n ++ listing_reason xlen others) }
+    ensures { result ≡ codes ":" ++ (decimal n ++ listing_reason xlen others) }
 {
-    let mut line = ArrayVec::new();
+    let mut line = Line::new();
     push_text(&mut line, b":");
     push_decimal(&mut line, n);
     push_text(&mut line, listing_reason(xlen, others).as_bytes());

@@ -3,7 +3,6 @@
 ghost use Rattle.std.specs.Prelude.{◌≡◌, ◌++◌, ◌-◌, ◌^◌, ◌<◌, ◌≤◌, OnOk, decimal, length, take};
 ghost use Rattle.lint_texts.specs.Pieces.{address_text, column_text, place_text, quoted, without_zeros};
 
-use arrayvec::ArrayVec;
 use std::alloc::AllocError;
 use text_lines::{Line, push_decimal, push_hex};
 
@@ -22,7 +21,7 @@ pub fn push(text: &mut Vec<u8>, bytes: &str) -> Result<(), AllocError>
 pub fn push_number(text: &mut Vec<u8>, number: u64) -> Result<(), AllocError>
     ensures { OnOk result (text.new.items ≡ text.old.items ++ decimal number) }
 {
-    let mut line: Line = ArrayVec::new();
+    let mut line = Line::new();
     push_decimal(&mut line, number);
     text.extend_from_slice(line.as_slice())?;
     Ok(())
@@ -50,7 +49,7 @@ pub fn without_zeros(digits: &[u8]) -> &[u8]
 pub fn push_address(text: &mut Vec<u8>, number: u64) -> Result<(), AllocError>
     ensures { OnOk result (text.new.items ≡ text.old.items ++ address_text number) }
 {
-    let mut line: Line = ArrayVec::new();
+    let mut line = Line::new();
     push_hex(&mut line, number, 16);
     push(text, "0x")?;
     text.extend_from_slice(without_zeros(line.as_slice()))?;

@@ -1,8 +1,7 @@
 //! The line of a reply, in a buffer of a fixed length.
 
-ghost use Rattle.std.specs.Prelude.{◌≡◌, [], ◌++◌, ◌+◌, ◌≤◌, codes, decimal};
+ghost use Rattle.std.specs.Prelude.{◌≡◌, ℕ, ◌++◌, ◌+◌, ◌≤◌, codes, decimal, length};
 ghost use Rattle.std.specs.Fmt.{signed_decimal};
-ghost use Rattle.arrayvec.specs.ArrayVec.{array_vec_len};
 ghost use Rattle.text_lines.specs.Written.{hex};
 ghost use Rattle.machine_replies.specs.Texts.{reply_text};
 
@@ -11,9 +10,9 @@ use text_lines::{Line, push_decimal, push_hex, push_text};
 
 /// Appends a signed number in decimal.
 fn push_signed(line: &mut Line, n: i64)
-    requires { array_vec_len line.old + 21 ≤ 128 }
-    ensures items { line.new.items ≡ line.old.items ++ signed_decimal n }
-    ensures len { array_vec_len line.new ≤ array_vec_len line.old + 21 }
+    requires { length line.old + 21 ≤ 128 }
+    ensures items { line.new ≡ line.old ++ signed_decimal n }
+    ensures len { length line.new ≤ length line.old + 21 }
 {
     if n < 0 {
         line.push(b'-');
@@ -23,9 +22,9 @@ fn push_signed(line: &mut Line, n: i64)
 
 /// Appends ` 0x` and 16 digits.
 fn push_word(line: &mut Line, value: u64)
-    requires { array_vec_len line.old + 19 ≤ 128 }
-    ensures items { line.new.items ≡ line.old.items ++ codes " 0x" ++ hex 16 value }
-    ensures len { array_vec_len line.new ≡ array_vec_len line.old + 19 }
+    requires { length line.old + 19 ≤ 128 }
+    ensures items { line.new ≡ line.old ++ codes " 0x" ++ hex 16 value }
+    ensures len { length line.new ≡ length line.old + 19 }
 {
     push_text(line, b" 0x");
     push_hex(line, value, 16);
@@ -33,11 +32,11 @@ fn push_word(line: &mut Line, value: u64)
 
 /// Appends a world and a number of entries, and ends the line.
 fn push_end(line: &mut Line, world: u64, used: u64)
-    requires { array_vec_len line.old + 43 ≤ 128 }
-    ensures items { line.new.items ≡ line.old.items ++ codes " " ++ decimal world ++ codes " "
+    requires { length line.old + 43 ≤ 128 }
+    ensures items { line.new ≡ line.old ++ codes " " ++ decimal world ++ codes " "
         ++ decimal used
         ++ codes "\n" }
-    ensures len { array_vec_len line.new ≤ array_vec_len line.old + 43 }
+    ensures len { length line.new ≤ length line.old + 43 }
 {
     line.push(b' ');
     push_decimal(line, world);
@@ -46,17 +45,13 @@ fn push_end(line: &mut Line, world: u64, used: u64)
     line.push(b'\n');
 }
 
-/// Puts the line of the `n`-th event's reply into an empty buffer; nothing for a reply that wanted memory.
-pub fn push_reply(line: &mut Line, n: u64, reply: &Reply)
-    requires { line.old.items ≡ [] }
-    ensures { line.new.items ≡ reply_text n reply.now }
+/// Appends what stands behind the number of an event's reply; nothing is left of a line for a reply that wanted memory.
+pub fn push_reply(line: &mut Line, reply: &Reply)
+    requires { length line.old ≤ 21 }
+    ensures { (n : ℕ) → line.old ≡ decimal n → line.new ≡ reply_text n reply.now }
 {
-    if matches!(reply, Reply::NoMemory) {
-        return;
-    }
-    push_decimal(line, n);
     match reply {
-        Reply::Done => push_text(line, b" ok\n"),
+        Reply::Done => line.push_front(b" ok\n            ", 4),
         Reply::Loaded(value) => {
             push_text(line, b" ok");
             push_word(line, *value);
@@ -82,6 +77,6 @@ pub fn push_reply(line: &mut Line, n: u64, reply: &Reply)
             push_text(line, b" irq");
             push_end(line, *world, *used);
         }
-        Reply::NoMemory => {}
+        Reply::NoMemory => line.clear(),
     }
 }

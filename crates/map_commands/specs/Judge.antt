@@ -1,5 +1,5 @@
 -- What `judge` comes to on the files and streams that are lent for it: a rule for each way in which it ends.
-use Rattle.std.specs.Prelude.{◌≡◌, ℕ, ◌^◌, ◌<◌, Bool, true, false, List, Option, Some, None, Result, Ok, Err, length}
+use Rattle.std.specs.Prelude.{◌≡◌, ℕ, ◌^◌, ◌<◌, Bool, true, false, List, Option, Some, Result, Ok, Err, length}
 use Rattle.std.specs.Borrow.{Bor}
 use Rattle.byte_streams.specs.Streams.{WriteFails}
 use Rattle.byte_streams.specs.Writings.{Breaks, IsUnwritten, IsWell, TakesAll, TakesPart, Writing}

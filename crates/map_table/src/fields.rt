@@ -1,10 +1,8 @@
 //! The column of sizes.
 
 ghost use Rattle.std.specs.Prelude.{◌≡◌, ◌++◌, ◌+◌, ◌*◌, ◌^◌, ◌<◌, ◌≤◌, [], length};
-ghost use Rattle.arrayvec.specs.ArrayVec.{array_vec_len};
 ghost use Rattle.map_table.specs.Fields.{column, column_size, more_than, rounded_text};
 
-use arrayvec::ArrayVec;
 use printed_lines::push_size;
 use text_lines::{Line, push_decimal, push_text};
 
@@ -13,12 +11,12 @@ const MOST: usize = 8;
 
 /// Writes how many of a unit a size has more than, to an empty line: with tenths below ten.
 fn push_more_than(line: &mut Line, size: u64, unit: u64, name: &str)
-    requires empty { line.old.items ≡ [] }
+    requires empty { line.old ≡ [] }
     requires unit { 0 < unit }
     requires small { unit ≤ 2 ^ 50 }
     requires name { length name.now ≤ 4 }
-    ensures items { line.new.items ≡ more_than size unit name.now }
-    ensures len { array_vec_len line.new ≤ 50 }
+    ensures items { line.new ≡ more_than size unit name.now }
+    ensures len { length line.new ≤ 50 }
 {
     line.push(b'>');
     push_decimal(line, size / unit);
@@ -33,10 +31,10 @@ fn push_more_than(line: &mut Line, size: u64, unit: u64, name: &str)
 
 /// A size rounded down, in the unit of which it has fewer than a thousand.
 fn rounded(size: u64) -> Line
-    ensures items { result.items ≡ rounded_text size }
-    ensures len { array_vec_len result ≤ 50 }
+    ensures items { result ≡ rounded_text size }
+    ensures len { length result ≤ 50 }
 {
-    let mut line = ArrayVec::new();
+    let mut line = Line::new();
     if size < 1000 << 20 {
         push_more_than(&mut line, size, 1 << 20, " MiB");
     } else if size < 1000 << 30 {
@@ -51,10 +49,10 @@ fn rounded(size: u64) -> Line
 
 /// A size as it stands in the column: exact where that is short.
 fn column_size(size: u64) -> Line
-    ensures items { result.items ≡ column_size size }
-    ensures len { array_vec_len result ≤ 50 }
+    ensures items { result ≡ column_size size }
+    ensures len { length result ≤ 50 }
 {
-    let mut exact: Line = ArrayVec::new();
+    let mut exact = Line::new();
     push_size(&mut exact, size);
     if exact.len() > MOST {
         return rounded(size);
@@ -64,9 +62,9 @@ fn column_size(size: u64) -> Line
 
 /// Appends a size, with blanks before one of fewer than seven bytes.
 pub(crate) fn push_column(line: &mut Line, size: u64)
-    requires room { array_vec_len line.old + 57 ≤ 128 }
-    ensures items { line.new.items ≡ line.old.items ++ column (column_size size) }
-    ensures len { array_vec_len line.new ≤ array_vec_len line.old + 57 }
+    requires room { length line.old + 57 ≤ 128 }
+    ensures items { line.new ≡ line.old ++ column (column_size size) }
+    ensures len { length line.new ≤ length line.old + 57 }
 {
     let text = column_size(size);
     let blanks = b"       ";

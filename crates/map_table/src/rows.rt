@@ -1,12 +1,10 @@
 //! The rows of a table, and the lines around them.
 
 ghost use Rattle.std.specs.Prelude.{◌≡◌, ◌+◌, ◌++◌, ◌<◌, ◌≤◌, All, OnOk, drop, length};
-ghost use Rattle.arrayvec.specs.ArrayVec.{array_vec_len};
 ghost use Rattle.map_table.specs.Rows.{IsRow, before_text, count_text, fitting_text, has_rest, named_text, number_text, on_named, on_text, overridden_from, range_text, rest_of, row_by, rows_text};
 
 use crate::fields::push_column;
 use crate::overridden::overridden;
-use arrayvec::ArrayVec;
 use permission_map::Memory;
 use pmp_encoding::Limit;
 use printed_lines::letters;
@@ -18,9 +16,9 @@ const REST: &[u8] = b"all else                                       ---  no ent
 /// What a row says of its bytes.
 fn range_line(stretch: &Stretch) -> Line
     requires { stretch.now.first < stretch.now.end }
-    ensures { result.items ≡ range_text stretch.now }
+    ensures { result ≡ range_text stretch.now }
 {
-    let mut line = ArrayVec::new();
+    let mut line = Line::new();
     push_text(&mut line, b"0x");
     push_hex(&mut line, stretch.first, 16);
     push_text(&mut line, b" 0x");
@@ -35,9 +33,9 @@ fn range_line(stretch: &Stretch) -> Line
 
 /// Appends which entries a deciding one comes before.
 fn push_before(line: &mut Line, behind: &[usize])
-    requires { array_vec_len line.old ≤ 64 }
-    ensures items { line.new.items ≡ line.old.items ++ before_text behind.now }
-    ensures len { array_vec_len line.new ≤ 127 }
+    requires { length line.old ≤ 64 }
+    ensures items { line.new ≡ line.old ++ before_text behind.now }
+    ensures len { length line.new ≤ 127 }
 {
     match behind {
         [] => {}
@@ -66,11 +64,11 @@ fn push_before(line: &mut Line, behind: &[usize])
 /// Which entry decides, and which it comes before.
 pub fn number_line(extents: &ExtentTree, i: usize, stretch: &Stretch) -> Line
     requires { i < length extents.now }
-    ensures { result.items ≡ number_text i
+    ensures { result ≡ number_text i
         (overridden_from (i + 1) (drop (i + 1) extents.now) stretch.now) }
 {
     let behind = overridden(extents, i, stretch);
-    let mut line = ArrayVec::new();
+    let mut line = Line::new();
     push_decimal(&mut line, i as u64);
     push_before(&mut line, behind.as_slice());
     line.push(b'\n');
@@ -155,9 +153,9 @@ fn fitting(count: usize, limit: Limit) -> &'static str
 
 /// How many entries there are, and whether a hart has as many.
 pub fn count_line(count: usize, limit: Limit) -> Line
-    ensures { result.items ≡ count_text count limit }
+    ensures { result ≡ count_text count limit }
 {
-    let mut line = ArrayVec::new();
+    let mut line = Line::new();
     push_decimal(&mut line, count as u64);
     push_text(&mut line, named(count).as_bytes());
     push_text(&mut line, fitting(count, limit).as_bytes());
@@ -179,9 +177,9 @@ fn on_named(on: usize) -> &'static str
 
 /// How many entries are not OFF.
 pub(crate) fn on_line(on: usize) -> Line
-    ensures { result.items ≡ on_text on }
+    ensures { result ≡ on_text on }
 {
-    let mut line = ArrayVec::new();
+    let mut line = Line::new();
     push_decimal(&mut line, on as u64);
     push_text(&mut line, on_named(on).as_bytes());
     line

@@ -1,4 +1,3 @@
 mod Printed
 mod HexPairs
-mod Numerals
 mod EntryLines

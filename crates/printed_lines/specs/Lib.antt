@@ -2,4 +2,3 @@ pub mod Fields
 pub mod Texts
 pub mod Placed
 pub mod Plans
-pub mod Numerals

@@ -4,7 +4,6 @@ ghost use Rattle.std.specs.Prelude.{◌≡◌};
 ghost use Rattle.hex.specs.Hex.{encode_lower};
 ghost use Rattle.printed_lines.specs.Texts.{measure_text};
 
-use arrayvec::ArrayVec;
 use text_lines::{Line, push_decimal, push_text};
 
 /// The 64 lower-case hexadecimal digits of a digest.
@@ -20,9 +19,9 @@ pub fn digest_text(digest: &[u8; 32]) -> [u8; 64]
 
 /// `measure ID DIGEST`.
 pub fn measure_line(id: u64, digest: &[u8; 32]) -> Line
-    ensures { result.items ≡ measure_text id digest.now }
+    ensures { result ≡ measure_text id digest.now }
 {
-    let mut line = ArrayVec::new();
+    let mut line = Line::new();
     push_text(&mut line, b"measure ");
     push_decimal(&mut line, id);
     line.push(b' ');

@@ -2,14 +2,14 @@
 
 ghost use Rattle.std.specs.Prelude.{◌≡◌, ℕ, ◌+◌, ◌*◌, ◌<◌, ◌≤◌, ◌^◌, ◌++◌, take, length, decimal};
 ghost use Rattle.pmp_encoding.specs.Encoding.{address_of, cfg_of};
-ghost use Rattle.printed_lines.specs.Numerals.{digits_of};
+ghost use Rattle.text_lines.specs.Counters.{digits_of};
 ghost use Rattle.printed_lines.specs.Plans.{entries_text};
 ghost use Rattle.printed_lines.specs.Texts.{entry_text, register_text};
 
 use crate::hexadecimal::{byte_digits, word_digits};
-use crate::numeral::Numeral;
 use pmp_encoding::PackedEntry;
 use register_width::Xlen;
+use text_lines::Counter;
 
 /// The most bytes that are put for an entry: what stands behind a short number is put too, and written over.
 pub const MOST: usize = 46;
@@ -29,7 +29,7 @@ fn put(buffer: &mut [u8], at: usize, text: &[u8]) -> usize
 
 /// Puts a number in decimal.
 #[inline(always)]
-fn put_number(buffer: &mut [u8], at: usize, number: &Numeral) -> usize
+fn put_number(buffer: &mut [u8], at: usize, number: &Counter) -> usize
     requires room { at + 21 ≤ length buffer.old }
     requires len { number.now.len ≤ 20 }
     ensures end { result ≤ at + 21 }
@@ -64,7 +64,7 @@ fn put_entry(
     buffer: &mut [u8],
     at: usize,
     xlen: Xlen,
-    number: &Numeral,
+    number: &Counter,
     entry: &PackedEntry,
 ) -> usize
     requires room { at + 46 ≤ length buffer.old }
@@ -91,7 +91,7 @@ pub fn put_entries(buffer: &mut [u8], xlen: Xlen, entries: &[PackedEntry], first
     ensures text { take result buffer.new ≡ entries_text xlen first entries.now }
     ensures room { length buffer.new ≡ length buffer.old }
 {
-    let mut number = Numeral::of(first);
+    let mut number = Counter::of(first);
     let mut at = 0;
     for (i, entry) in entries.iter().enumerate() {
         at = put_entry(buffer, at, xlen, &number, entry);

@@ -1,7 +1,6 @@
 //! Sizes and permissions in words.
 
 ghost use Rattle.std.specs.Prelude.{◌≡◌, ◌++◌, ◌+◌, ◌<◌, ◌≤◌, length};
-ghost use Rattle.arrayvec.specs.ArrayVec.{array_vec_len};
 ghost use Rattle.printed_lines.specs.Fields.{counted_in, letters_of, size_text};
 
 use pmp_encoding::Perm;
@@ -26,9 +25,9 @@ pub fn letters(perm: Perm) -> &'static str
 fn push_in(line: &mut Line, size: u64, unit: u64, name: &str)
     requires unit { 0 < unit }
     requires name { length name.now ≤ 4 }
-    requires room { array_vec_len line.old + 24 ≤ 128 }
-    ensures items { line.new.items ≡ line.old.items ++ counted_in size unit name.now }
-    ensures len { array_vec_len line.new ≤ array_vec_len line.old + 24 }
+    requires room { length line.old + 24 ≤ 128 }
+    ensures items { line.new ≡ line.old ++ counted_in size unit name.now }
+    ensures len { length line.new ≤ length line.old + 24 }
 {
     push_decimal(line, size / unit);
     push_text(line, name.as_bytes());
@@ -36,9 +35,9 @@ fn push_in(line: &mut Line, size: u64, unit: u64, name: &str)
 
 /// Appends a number of bytes in the largest unit that counts it whole, as `4 B`, `126 MiB` or `64 PiB`.
 pub fn push_size(line: &mut Line, size: u64)
-    requires room { array_vec_len line.old + 24 ≤ 128 }
-    ensures items { line.new.items ≡ line.old.items ++ size_text size }
-    ensures len { array_vec_len line.new ≤ array_vec_len line.old + 24 }
+    requires room { length line.old + 24 ≤ 128 }
+    ensures items { line.new ≡ line.old ++ size_text size }
+    ensures len { length line.new ≤ length line.old + 24 }
 {
     if size % (1 << 50) == 0 {
         push_in(line, size, 1 << 50, " PiB");

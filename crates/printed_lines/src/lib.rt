@@ -13,7 +13,6 @@ mod digests;
 mod entry_lines;
 mod fields;
 mod hexadecimal;
-mod numeral;
 mod placed;
 mod plan;
 mod texts;

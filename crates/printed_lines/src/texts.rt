@@ -1,19 +1,17 @@
 //! The lines that the program prints, in a buffer of a fixed length.
 
 ghost use Rattle.std.specs.Prelude.{◌≡◌, ◌+◌, ◌≤◌, ◌++◌, length};
-ghost use Rattle.arrayvec.specs.ArrayVec.{array_vec_len};
 ghost use Rattle.printed_lines.specs.Texts.{accepted_of_text, accepted_text, count_text, refused_text, register_text, word_text};
 
 use crate::hexadecimal::word_digits;
-use arrayvec::ArrayVec;
 use register_width::Xlen;
 use text_lines::{Line, push_decimal, push_hex, push_text};
 
 /// `entries N`.
 pub fn count_line(n: u64) -> Line
-    ensures { result.items ≡ count_text n }
+    ensures { result ≡ count_text n }
 {
-    let mut line = ArrayVec::new();
+    let mut line = Line::new();
     push_text(&mut line, b"entries ");
     push_decimal(&mut line, n);
     line.push(b'\n');
@@ -23,9 +21,9 @@ pub fn count_line(n: u64) -> Line
 /// Appends all digits of a register.
 #[inline(always)]
 pub fn push_register(line: &mut Line, xlen: Xlen, value: u64)
-    requires { array_vec_len line.old + 16 ≤ 128 }
-    ensures items { line.new.items ≡ line.old.items ++ register_text xlen value }
-    ensures len { array_vec_len line.new ≤ array_vec_len line.old + 16 }
+    requires { length line.old + 16 ≤ 128 }
+    ensures items { line.new ≡ line.old ++ register_text xlen value }
+    ensures len { length line.new ≤ length line.old + 16 }
 {
     match xlen {
         Xlen::Rv32 => push_hex(line, value, 8),
@@ -35,9 +33,9 @@ pub fn push_register(line: &mut Line, xlen: Xlen, value: u64)
 
 /// `pmpcfgK 0xWWWWWWWWWWWWWWWW`, or with a word of 32 bits.
 pub fn word_line(xlen: Xlen, k: u64, word: u64) -> Line
-    ensures { result.items ≡ word_text xlen k word }
+    ensures { result ≡ word_text xlen k word }
 {
-    let mut line = ArrayVec::new();
+    let mut line = Line::new();
     push_text(&mut line, b"pmpcfg");
     push_decimal(&mut line, k);
     push_text(&mut line, b" 0x");
@@ -48,9 +46,9 @@ pub fn word_line(xlen: Xlen, k: u64, word: u64) -> Line
 
 /// `accepted N`.
 pub fn accepted_line(n: u64) -> Line
-    ensures { result.items ≡ accepted_text n }
+    ensures { result ≡ accepted_text n }
 {
-    let mut line = ArrayVec::new();
+    let mut line = Line::new();
     push_text(&mut line, b"accepted ");
     push_decimal(&mut line, n);
     line.push(b'\n');
@@ -59,9 +57,9 @@ pub fn accepted_line(n: u64) -> Line
 
 /// `accepted N of L`.
 pub fn accepted_of_line(n: u64, limit: u64) -> Line
-    ensures { result.items ≡ accepted_of_text n limit }
+    ensures { result ≡ accepted_of_text n limit }
 {
-    let mut line = ArrayVec::new();
+    let mut line = Line::new();
     push_text(&mut line, b"accepted ");
     push_decimal(&mut line, n);
     push_text(&mut line, b" of ");
@@ -73,9 +71,9 @@ pub fn accepted_of_line(n: u64, limit: u64) -> Line
 /// `refused CODE NAME`.
 pub fn refused_line(code: u64, name: &str) -> Line
     requires { length name.now ≤ 32 }
-    ensures { result.items ≡ refused_text code name.now }
+    ensures { result ≡ refused_text code name.now }
 {
-    let mut line = ArrayVec::new();
+    let mut line = Line::new();
     push_text(&mut line, b"refused ");
     push_decimal(&mut line, code);
     line.push(b' ');

@@ -3,7 +3,6 @@
 ghost use Rattle.std.specs.Prelude.{◌≡◌, ◌++◌, IfOk, OnOk};
 ghost use Rattle.program_troubles.specs.Shown.{begins_pair, escaped, is_control, is_control_pair, is_hidden, shown, shown_byte};
 
-use arrayvec::ArrayVec;
 use std::alloc::{AllocError, Global};
 use text_lines::{Line, push_hex, push_text};
 
@@ -39,9 +38,9 @@ fn is_hidden(before: u8, byte: u8, behind: &[u8]) -> bool
 
 /// `\x` and the two hexadecimal digits of a byte.
 fn escaped(byte: u8) -> Line
-    ensures { result.items ≡ escaped byte }
+    ensures { result ≡ escaped byte }
 {
-    let mut line = ArrayVec::new();
+    let mut line = Line::new();
     push_text(&mut line, b"\\x");
     push_hex(&mut line, u64::from(byte), 2);
     line

@@ -3,12 +3,10 @@
 ghost use Rattle.std.specs.Prelude.{◌≡◌, ℕ, ◌+◌, ◌^◌, ◌++◌, ◌<◌, ◌≤◌, length};
 ghost use Rattle.pmp_registers.specs.declared.registers.Registers.{Registers};
 ghost use Rattle.register_audit.specs.declared.verdict.Verdict as Verdict;
-ghost use Rattle.arrayvec.specs.ArrayVec.{array_vec_len};
 ghost use Rattle.register_audit.specs.Texts.{differs_text, enough, entries_named, sayer, stretch_text, verdict_text};
 ghost use Rattle.register_audit.specs.Verdicts.{IsWritable};
 
 use crate::verdict::Verdict;
-use arrayvec::ArrayVec;
 use pmp_registers::Registers;
 use printed_lines::letters;
 use register_text::reserved_line;
@@ -31,9 +29,9 @@ fn enough(n: u64) -> &'static str
 
 /// Appends which entry says something.
 fn push_sayer(line: &mut Line, place: Option<usize>)
-    requires { array_vec_len line.old ≤ 64 }
-    ensures items { line.new.items ≡ line.old.items ++ sayer place }
-    ensures len { array_vec_len line.new ≤ array_vec_len line.old + 26 }
+    requires { length line.old ≤ 64 }
+    ensures items { line.new ≡ line.old ++ sayer place }
+    ensures len { length line.new ≤ length line.old + 26 }
 {
     let Some(place) = place else {
         push_text(line, b"no entry");
@@ -45,10 +43,10 @@ fn push_sayer(line: &mut Line, place: Option<usize>)
 
 /// The beginning of a line on bytes that differ.
 fn differs_line(first: u64, last: u64) -> Line
-    ensures items { result.items ≡ differs_text first last }
-    ensures len { array_vec_len result ≡ 47 }
+    ensures items { result ≡ differs_text first last }
+    ensures len { length result ≡ 47 }
 {
-    let mut line = ArrayVec::new();
+    let mut line = Line::new();
     push_text(&mut line, b"differs 0x");
     push_hex(&mut line, first, 16);
     push_text(&mut line, b" 0x");
@@ -58,11 +56,11 @@ fn differs_line(first: u64, last: u64) -> Line
 }
 
 fn means_line(fewest: u64, count: usize) -> Line
-    ensures { (registers : Registers) → result.items
+    ensures { (registers : Registers) → result
         ≡ verdict_text fewest registers (Verdict.Means count) }
 {
     let count = count as u64;
-    let mut line = ArrayVec::new();
+    let mut line = Line::new();
     push_text(&mut line, b"means the map: ");
     push_decimal(&mut line, count);
     push_text(&mut line, entries_named(count).as_bytes());
@@ -76,7 +74,7 @@ fn means_line(fewest: u64, count: usize) -> Line
 /// The line of a stretch on which the map and the registers differ.
 pub(crate) fn stretch_line(stretch: &Stretch) -> Line
     requires { 0 < stretch.now.end }
-    ensures { result.items ≡ stretch_text stretch.now }
+    ensures { result ≡ stretch_text stretch.now }
 {
     let mut line = differs_line(stretch.first, stretch.end - 1);
     push_text(&mut line, b"map ");
@@ -92,7 +90,7 @@ pub(crate) fn stretch_line(stretch: &Stretch) -> Line
 fn cut_line(entry: usize, at: u64) -> Line
     requires { at + 7 < 2 ^ 64 }
     ensures { (fewest : ℕ) (registers : Registers)
-        → result.items ≡ verdict_text fewest registers (Verdict.Cuts entry at) }
+        → result ≡ verdict_text fewest registers (Verdict.Cuts entry at) }
 {
     let mut line = differs_line(at, at + 7);
     push_sayer(&mut line, Some(entry));
@@ -103,7 +101,7 @@ fn cut_line(entry: usize, at: u64) -> Line
 /// The line of a verdict on registers.
 pub(crate) fn verdict_line(fewest: u64, registers: &Registers, verdict: &Verdict) -> Line
     requires { IsWritable verdict.now }
-    ensures { result.items ≡ verdict_text fewest registers.now verdict.now }
+    ensures { result ≡ verdict_text fewest registers.now verdict.now }
 {
     match verdict {
         Verdict::Means { count } => means_line(fewest, *count),

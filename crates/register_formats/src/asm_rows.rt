@@ -6,7 +6,6 @@ ghost use Rattle.register_formats.specs.AsmTexts.{asm_begin, asm_changed, asm_en
 use crate::names::{address_or_zero, entry_at, push_note};
 use crate::rows::{Row, Rows};
 use crate::shared::{kept_bits, shared_words};
-use arrayvec::ArrayVec;
 use pmp_encoding::{Limit, PackedEntry};
 use printed_lines::{push_register, word_from};
 use register_width::Xlen;
@@ -68,9 +67,9 @@ fn guard<'a>(xlen: Xlen) -> &'a [u8]
 
 /// Both.
 pub(crate) fn begin(xlen: Xlen, limit: Limit, first: u8) -> Line
-    ensures { result.items ≡ asm_begin xlen limit first }
+    ensures { result ≡ asm_begin xlen limit first }
 {
-    let mut line = ArrayVec::new();
+    let mut line = Line::new();
     push_text(&mut line, changed(xlen, limit, first));
     push_text(&mut line, guard(xlen));
     line
@@ -95,13 +94,13 @@ impl Rows for Addresses<'_> {
     fn row(&self, i: usize) -> Row {
         let entry = entry_at(self.entries, i);
         let place = u64::from(self.first) + i as u64;
-        let mut front = ArrayVec::new();
+        let mut front = Line::new();
         push_text(&mut front, b"    li      t0, 0x");
         push_register(&mut front, self.xlen, address_or_zero(entry));
         push_text(&mut front, b" /* ");
         push_note(&mut front, place, entry);
         push_text(&mut front, b" */\n");
-        let mut back = ArrayVec::new();
+        let mut back = Line::new();
         push_text(&mut back, b"    csrw    pmpaddr");
         push_decimal(&mut back, place);
         push_text(&mut back, b", t0\n");
@@ -111,9 +110,9 @@ impl Rows for Addresses<'_> {
 
 /// The instructions that read a shared word, and keep the bits of the entries below the first.
 fn kept(xlen: Xlen, first: u8) -> Line
-    ensures { result.items ≡ asm_kept xlen first }
+    ensures { result ≡ asm_kept xlen first }
 {
-    let mut line = ArrayVec::new();
+    let mut line = Line::new();
     push_text(&mut line, b"    csrr    t1, pmpcfg");
     push_decimal(&mut line, xlen.word_number(xlen.word_of(first)));
     push_text(&mut line, b"\n    li      t0, 0x");
@@ -124,10 +123,10 @@ fn kept(xlen: Xlen, first: u8) -> Line
 
 /// Those that write them with the bytes of the list.
 fn joined(xlen: Xlen, entries: &[PackedEntry], first: u8) -> Line
-    ensures { result.items ≡ asm_joined xlen first entries.now }
+    ensures { result ≡ asm_joined xlen first entries.now }
 {
     let word = xlen.word_of(first);
-    let mut line = ArrayVec::new();
+    let mut line = Line::new();
     push_text(&mut line, b"    li      t0, 0x");
     push_register(&mut line, xlen, word_from(xlen, entries, first, word));
     push_text(&mut line, b"\n    or      t0, t0, t1\n    csrw    pmpcfg");
@@ -178,7 +177,7 @@ impl Rows for Words<'_> {
 
     fn row(&self, i: usize) -> Row {
         let word = self.xlen.whole_word(self.first) + i;
-        let mut front = ArrayVec::new();
+        let mut front = Line::new();
         push_text(&mut front, b"    li      t0, 0x");
         push_register(
             &mut front,
@@ -186,7 +185,7 @@ impl Rows for Words<'_> {
             word_from(self.xlen, self.entries, self.first, word),
         );
         push_text(&mut front, b"\n");
-        let mut back = ArrayVec::new();
+        let mut back = Line::new();
         push_text(&mut back, b"    csrw    pmpcfg");
         push_decimal(&mut back, self.xlen.word_number(word));
         push_text(&mut back, b", t0\n");

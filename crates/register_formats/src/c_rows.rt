@@ -5,7 +5,6 @@ ghost use Rattle.register_formats.specs.CTexts.{c_addresses_size, c_begin, c_bet
 
 use crate::names::{address_or_zero, push_place};
 use crate::rows::{Row, Rows};
-use arrayvec::ArrayVec;
 use pmp_encoding::{Limit, PackedEntry};
 use printed_lines::{entry_from, push_register, word_from};
 use register_width::Xlen;
@@ -84,9 +83,9 @@ pub(crate) fn count_is<'a>() -> &'a [u8]
 
 /// A number in decimal.
 pub(crate) fn number_text(number: usize) -> Line
-    ensures { result.items ≡ decimal number }
+    ensures { result ≡ decimal number }
 {
-    let mut line = ArrayVec::new();
+    let mut line = Line::new();
     push_decimal(&mut line, number as u64);
     line
 }
@@ -173,7 +172,7 @@ impl Rows for Addresses<'_> {
 
     fn row(&self, i: usize) -> Row {
         let entry = entry_from(self.entries, self.first, i);
-        let mut front = ArrayVec::new();
+        let mut front = Line::new();
         push_text(&mut front, b"    0x");
         push_register(&mut front, self.xlen, address_or_zero(entry));
         push_text(&mut front, b", /* ");
@@ -181,7 +180,7 @@ impl Rows for Addresses<'_> {
         push_text(&mut front, b" */\n");
         Row {
             front,
-            back: ArrayVec::new(),
+            back: Line::new(),
         }
     }
 }
@@ -203,14 +202,14 @@ impl Rows for Words<'_> {
     ghost most = { λ rows. 64 };
 
     fn row(&self, i: usize) -> Row {
-        let mut front = ArrayVec::new();
+        let mut front = Line::new();
         push_text(&mut front, b"    0x");
         push_register(
             &mut front,
             self.xlen,
             word_from(self.xlen, self.entries, self.first, i),
         );
-        let mut back = ArrayVec::new();
+        let mut back = Line::new();
         push_text(&mut back, b", /* pmpcfg");
         push_decimal(&mut back, self.xlen.word_number(i));
         push_text(&mut back, b" */\n");

@@ -5,7 +5,6 @@ ghost use Rattle.register_formats.specs.CTexts.{c_joined, c_kept, c_kept_begin};
 
 use crate::rows::{Row, Rows};
 use crate::shared::kept_bits;
-use arrayvec::ArrayVec;
 use printed_lines::push_register;
 use register_width::Xlen;
 use text_lines::{Line, push_decimal, push_text};
@@ -26,7 +25,7 @@ impl Rows for AddressWrites {
 
     fn row(&self, i: usize) -> Row {
         let place = u64::from(self.first) + i as u64;
-        let mut front = ArrayVec::new();
+        let mut front = Line::new();
         push_text(&mut front, b"    __asm__ volatile(\"csrw pmpaddr");
         push_decimal(&mut front, place);
         push_text(&mut front, b", %0\" : : \"r\"(addr[");
@@ -34,7 +33,7 @@ impl Rows for AddressWrites {
         push_text(&mut front, b"]));\n");
         Row {
             front,
-            back: ArrayVec::new(),
+            back: Line::new(),
         }
     }
 }
@@ -52,9 +51,9 @@ fn kept_begin<'a>(xlen: Xlen) -> &'a [u8]
 
 /// The instructions that read a shared word, and keep the bits of the entries below the first.
 fn kept(xlen: Xlen, first: u8) -> Line
-    ensures { result.items ≡ c_kept xlen first }
+    ensures { result ≡ c_kept xlen first }
 {
-    let mut line = ArrayVec::new();
+    let mut line = Line::new();
     push_text(&mut line, kept_begin(xlen));
     push_decimal(&mut line, xlen.word_number(xlen.word_of(first)));
     push_text(&mut line, b"\" : \"=r\"(kept));\n    kept &= 0x");
@@ -65,10 +64,10 @@ fn kept(xlen: Xlen, first: u8) -> Line
 
 /// The one that writes them with the bytes of the list.
 fn joined(xlen: Xlen, first: u8) -> Line
-    ensures { result.items ≡ c_joined xlen first }
+    ensures { result ≡ c_joined xlen first }
 {
     let word = xlen.word_of(first);
-    let mut line = ArrayVec::new();
+    let mut line = Line::new();
     push_text(&mut line, b"    __asm__ volatile(\"csrw pmpcfg");
     push_decimal(&mut line, xlen.word_number(word));
     push_text(&mut line, b", %0\" : : \"r\"(kept | cfg[");
@@ -117,7 +116,7 @@ impl Rows for WordWrites {
 
     fn row(&self, i: usize) -> Row {
         let word = self.xlen.whole_word(self.first) + i;
-        let mut front = ArrayVec::new();
+        let mut front = Line::new();
         push_text(&mut front, b"    __asm__ volatile(\"csrw pmpcfg");
         push_decimal(&mut front, self.xlen.word_number(word));
         push_text(&mut front, b", %0\" : : \"r\"(cfg[");
@@ -125,7 +124,7 @@ impl Rows for WordWrites {
         push_text(&mut front, b"]));\n");
         Row {
             front,
-            back: ArrayVec::new(),
+            back: Line::new(),
         }
     }
 }

@@ -1,12 +1,10 @@
 //! The rows of JSON.
 
 ghost use Rattle.std.specs.Prelude.{◌≡◌, ◌+◌, ◌++◌, ◌≤◌, ◌<◌, ◌^◌, length};
-ghost use Rattle.arrayvec.specs.ArrayVec.{array_vec_len};
 ghost use Rattle.register_formats.specs.JsonTexts.{json_before, json_byte, json_entries_begin, json_first, json_limit, json_region, json_registers, json_width};
 
 use crate::names::{entry_at, power_of_two};
 use crate::rows::{Row, Rows};
-use arrayvec::ArrayVec;
 use pmp_encoding::{Entry, Limit, PackedEntry};
 use printed_lines::{push_register, word_from};
 use register_width::Xlen;
@@ -25,9 +23,9 @@ fn limit_text<'a>(limit: Limit) -> &'a [u8]
 
 /// Appends the entry of the hart at which the list begins, where that is not entry 0.
 fn push_first(line: &mut Line, first: u8)
-    requires { array_vec_len line.old + 33 ≤ 128 }
-    ensures items { line.new.items ≡ line.old.items ++ json_first first }
-    ensures len { array_vec_len line.new ≤ array_vec_len line.old + 33 }
+    requires { length line.old + 33 ≤ 128 }
+    ensures items { line.new ≡ line.old ++ json_first first }
+    ensures len { length line.new ≤ length line.old + 33 }
 {
     if first > 0 {
         push_text(line, b"  \"first\": ");
@@ -49,9 +47,9 @@ fn width_text<'a>(xlen: Xlen) -> &'a [u8]
 
 /// All three, and what stands before the entries.
 pub(crate) fn entries_begin(xlen: Xlen, limit: Limit, first: u8) -> Line
-    ensures { result.items ≡ json_entries_begin xlen limit first }
+    ensures { result ≡ json_entries_begin xlen limit first }
 {
-    let mut line = ArrayVec::new();
+    let mut line = Line::new();
     push_text(&mut line, limit_text(limit));
     push_text(&mut line, width_text(xlen));
     push_first(&mut line, first);
@@ -61,9 +59,9 @@ pub(crate) fn entries_begin(xlen: Xlen, limit: Limit, first: u8) -> Line
 
 /// A byte of a name in a string.
 fn json_byte(byte: u8) -> Line
-    ensures { result.items ≡ json_byte byte }
+    ensures { result ≡ json_byte byte }
 {
-    let mut line = ArrayVec::new();
+    let mut line = Line::new();
     if byte == b'"' {
         push_text(&mut line, b"\\\"");
         return line;
@@ -106,7 +104,7 @@ impl Rows for Name<'_> {
     fn row(&self, i: usize) -> Row {
         Row {
             front: json_byte(self.bytes[i]),
-            back: ArrayVec::new(),
+            back: Line::new(),
         }
     }
 }
@@ -122,10 +120,10 @@ pub(crate) struct Entries<'a> {
 /// What is said of the registers of the list's entry i.
 fn registers_of(xlen: Xlen, first: u8, i: usize, entry: &Entry) -> Line
     requires { first + i < 2 ^ 64 }
-    ensures { result.items ≡ json_registers xlen first i entry.now }
+    ensures { result ≡ json_registers xlen first i entry.now }
 {
     let (cfg, address) = entry.encode();
-    let mut line = ArrayVec::new();
+    let mut line = Line::new();
     push_text(&mut line, json_before(i));
     push_text(&mut line, b"    {\"index\": ");
     push_decimal(&mut line, u64::from(first) + i as u64);
@@ -138,9 +136,9 @@ fn registers_of(xlen: Xlen, first: u8, i: usize, entry: &Entry) -> Line
 
 /// What is said of the region of an entry, and of its permission.
 fn region_of(entry: &Entry) -> Line
-    ensures { result.items ≡ json_region entry.now }
+    ensures { result ≡ json_region entry.now }
 {
-    let mut line = ArrayVec::new();
+    let mut line = Line::new();
     push_text(&mut line, b"\", \"base\": \"0x");
     push_hex(&mut line, entry.region.base(), 16);
     push_text(&mut line, b"\", \"size\": ");
@@ -166,8 +164,8 @@ impl Rows for Entries<'_> {
                 back: region_of(&entry),
             },
             None => Row {
-                front: ArrayVec::new(),
-                back: ArrayVec::new(),
+                front: Line::new(),
+                back: Line::new(),
             },
         }
     }
@@ -190,7 +188,7 @@ impl Rows for Words<'_> {
     ghost most = { λ rows. 64 };
 
     fn row(&self, i: usize) -> Row {
-        let mut front = ArrayVec::new();
+        let mut front = Line::new();
         push_text(&mut front, json_before(i));
         push_text(&mut front, b"    \"0x");
         push_register(
@@ -201,7 +199,7 @@ impl Rows for Words<'_> {
         push_text(&mut front, b"\"");
         Row {
             front,
-            back: ArrayVec::new(),
+            back: Line::new(),
         }
     }
 }

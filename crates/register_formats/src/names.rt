@@ -1,7 +1,6 @@
 //! Entries as people read them.
 
-ghost use Rattle.std.specs.Prelude.{◌≡◌, ◌≤◌, ◌<◌, ◌+◌, ◌^◌, ◌++◌, option_map, slice_get};
-ghost use Rattle.arrayvec.specs.ArrayVec.{array_vec_len};
+ghost use Rattle.std.specs.Prelude.{◌≡◌, ◌≤◌, ◌<◌, ◌+◌, ◌^◌, ◌++◌, option_map, slice_get, length};
 ghost use Rattle.register_formats.specs.Names.{address_or_zero, array_link, base_text, note_text, place_text, prefix_of, region_or_off, region_text, size_and_perm_text};
 
 use pmp_encoding::{Entry, PackedEntry};
@@ -18,9 +17,9 @@ pub(crate) fn power_of_two(log2: u32) -> u64
 
 /// Appends where an entry begins.
 fn push_base(line: &mut Line, entry: &Entry)
-    requires { array_vec_len line.old + 18 ≤ 128 }
-    ensures items { line.new.items ≡ line.old.items ++ base_text entry.now }
-    ensures len { array_vec_len line.new ≡ array_vec_len line.old + 18 }
+    requires { length line.old + 18 ≤ 128 }
+    ensures items { line.new ≡ line.old ++ base_text entry.now }
+    ensures len { length line.new ≡ length line.old + 18 }
 {
     push_text(line, b"0x");
     push_hex(line, entry.region.base(), 16);
@@ -28,9 +27,9 @@ fn push_base(line: &mut Line, entry: &Entry)
 
 /// Appends the size and the permission of an entry.
 fn push_size_and_perm(line: &mut Line, entry: &Entry)
-    requires { array_vec_len line.old + 30 ≤ 128 }
-    ensures items { line.new.items ≡ line.old.items ++ size_and_perm_text entry.now }
-    ensures len { array_vec_len line.new ≤ array_vec_len line.old + 30 }
+    requires { length line.old + 30 ≤ 128 }
+    ensures items { line.new ≡ line.old ++ size_and_perm_text entry.now }
+    ensures len { length line.new ≤ length line.old + 30 }
 {
     push_size(line, power_of_two(entry.region.log2()));
     push_text(line, b", ");
@@ -39,9 +38,9 @@ fn push_size_and_perm(line: &mut Line, entry: &Entry)
 
 /// Appends where an entry begins, its size and its permission.
 fn push_region(line: &mut Line, entry: &Entry)
-    requires { array_vec_len line.old + 50 ≤ 128 }
-    ensures items { line.new.items ≡ line.old.items ++ region_text entry.now }
-    ensures len { array_vec_len line.new ≤ array_vec_len line.old + 50 }
+    requires { length line.old + 50 ≤ 128 }
+    ensures items { line.new ≡ line.old ++ region_text entry.now }
+    ensures len { length line.new ≤ length line.old + 50 }
 {
     push_base(line, entry);
     push_text(line, b", ");
@@ -50,9 +49,9 @@ fn push_region(line: &mut Line, entry: &Entry)
 
 /// The same, or that there is none.
 fn push_region_or_off(line: &mut Line, entry: Option<Entry>)
-    requires { array_vec_len line.old + 50 ≤ 128 }
-    ensures items { line.new.items ≡ line.old.items ++ region_or_off entry }
-    ensures len { array_vec_len line.new ≤ array_vec_len line.old + 50 }
+    requires { length line.old + 50 ≤ 128 }
+    ensures items { line.new ≡ line.old ++ region_or_off entry }
+    ensures len { length line.new ≤ length line.old + 50 }
 {
     match entry {
         Some(entry) => push_region(line, &entry),
@@ -62,9 +61,9 @@ fn push_region_or_off(line: &mut Line, entry: Option<Entry>)
 
 /// Appends what stands beside the registers of entry i.
 pub(crate) fn push_note(line: &mut Line, i: u64, entry: Option<Entry>)
-    requires { array_vec_len line.old + 72 ≤ 128 }
-    ensures items { line.new.items ≡ line.old.items ++ note_text i entry }
-    ensures len { array_vec_len line.new ≤ array_vec_len line.old + 72 }
+    requires { length line.old + 72 ≤ 128 }
+    ensures items { line.new ≡ line.old ++ note_text i entry }
+    ensures len { length line.new ≤ length line.old + 72 }
 {
     push_decimal(line, i);
     push_text(line, b": ");
@@ -73,9 +72,9 @@ pub(crate) fn push_note(line: &mut Line, i: u64, entry: Option<Entry>)
 
 /// Appends the same of entry i of a hart, where those below the first stay as they are.
 pub(crate) fn push_place(line: &mut Line, first: u8, i: u64, entry: Option<Entry>)
-    requires { array_vec_len line.old + 72 ≤ 128 }
-    ensures items { line.new.items ≡ line.old.items ++ place_text first i entry }
-    ensures len { array_vec_len line.new ≤ array_vec_len line.old + 72 }
+    requires { length line.old + 72 ≤ 128 }
+    ensures items { line.new ≡ line.old ++ place_text first i entry }
+    ensures len { length line.new ≤ length line.old + 72 }
 {
     if i < u64::from(first) {
         push_decimal(line, i);

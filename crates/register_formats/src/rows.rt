@@ -26,12 +26,12 @@ pub(crate) trait Rows {
     /// Row i.
     fn row(&self, i: usize) -> Row
         requires { i < most self.now }
-        ensures { result.front.items ++ result.back.items ≡ row_text self.now i };
+        ensures { result.front ++ result.back ≡ row_text self.now i };
 }
 
 /// Writes a row.
 fn print_row<W: Sink>(row: &Row, out: &mut W) -> Result<(), DeviceFault>
-    ensures { Prints (row.now.front.items ++ row.now.back.items)
+    ensures { Prints (row.now.front ++ row.now.back)
         (writing W.contents W.failures W.stalls out.old out.new) result }
 {
     write_whole(out, row.front.as_slice())?;

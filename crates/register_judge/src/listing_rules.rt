@@ -33,7 +33,7 @@ pub enum Ruled {
 
 /// A line, and the comment on lines that are passed over. The only error is out of memory.
 fn text_of(alloc: Global, line: &Line, passed: Option<u64>) -> Result<Vec<u8>, AllocError>
-    ensures { IfOk result (λ text. text.items ≡ line.now.items ++ passed_text passed) }
+    ensures { IfOk result (λ text. text.items ≡ line.now ++ passed_text passed) }
 {
     let mut text = text_of_line(alloc, line)?;
     let comment = passed_line(passed);

@@ -4,7 +4,6 @@ ghost use Rattle.std.specs.Prelude.{◌≡◌, ◌+◌, ◌++◌, ◌*◌, ◌^�
 ghost use Rattle.permission_map.specs.Runs.{AreRuns, end_of};
 ghost use Rattle.register_map.specs.Texts.{below_text, cut_text, map_text, run_text};
 
-use arrayvec::ArrayVec;
 use page_views::PAGE_SIZE;
 use permission_map::{Memory, PermissionMap, Run};
 use printed_lines::letters;
@@ -15,9 +14,9 @@ use text_lines::{Line, push_decimal, push_hex, push_text};
 /// The line of a range.
 fn run_line(run: &Run) -> Line
     requires { end_of run.now ≤ 2 ^ 44 }
-    ensures { result.items ≡ run_text run.now }
+    ensures { result ≡ run_text run.now }
 {
-    let mut line = ArrayVec::new();
+    let mut line = Line::new();
     push_text(&mut line, b"0x");
     push_hex(&mut line, PAGE_SIZE * run.first, 16);
     push_text(&mut line, b" 0x");
@@ -44,9 +43,9 @@ pub(crate) fn map_text(alloc: Global, map: &PermissionMap) -> Result<Vec<u8>, Me
 /// The line on bytes that their page's first byte does not speak for.
 pub(crate) fn below_line(stretch: &Stretch) -> Line
     requires { 0 < stretch.now.end }
-    ensures { result.items ≡ below_text stretch.now }
+    ensures { result ≡ below_text stretch.now }
 {
-    let mut line = ArrayVec::new();
+    let mut line = Line::new();
     push_text(&mut line, b"no map: 0x");
     push_hex(&mut line, stretch.first, 16);
     push_text(&mut line, b" 0x");
@@ -62,9 +61,9 @@ pub(crate) fn below_line(stretch: &Stretch) -> Line
 /// The line on an access that an entry cuts.
 pub(crate) fn cut_line(entry: usize, at: u64) -> Line
     requires { at + 7 < 2 ^ 64 }
-    ensures { result.items ≡ cut_text entry at }
+    ensures { result ≡ cut_text entry at }
 {
-    let mut line = ArrayVec::new();
+    let mut line = Line::new();
     push_text(&mut line, b"no map: 0x");
     push_hex(&mut line, at, 16);
     push_text(&mut line, b" 0x");

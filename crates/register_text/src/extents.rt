@@ -13,7 +13,7 @@ use text_lines::Line;
 pub fn extents_in(listing: &Listing) -> Result<[Extent; 64], Line>
     ensures modelled { IfOk result (λ _. listing.now.mseccfg ≡ 0) }
     ensures extents { IfOk result (AreExtents listing.now.registers) }
-    ensures refused { IfErr result (λ line. IsRefusal listing.now line.items) }
+    ensures refused { IfErr result (λ line. IsRefusal listing.now line) }
 {
     if listing.mseccfg != 0 {
         return Err(smepmp_line(listing.mseccfg));

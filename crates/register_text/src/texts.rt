@@ -3,7 +3,6 @@
 ghost use Rattle.std.specs.Prelude.{◌≡◌, ◌<◌, ◌≤◌, IfOk, length};
 ghost use Rattle.register_text.specs.Texts.{passed_text, reserved_name, reserved_text, smepmp_text};
 
-use arrayvec::ArrayVec;
 use pmp_registers::{Registers, Reserved, ReservedAt};
 use std::alloc::{AllocError, Global};
 use text_lines::{Line, push_decimal, push_hex, push_text};
@@ -21,9 +20,9 @@ fn reserved_name(value: Reserved) -> &'static str
 /// The line on an entry that has a reserved value.
 pub fn reserved_line(registers: &Registers, found: &ReservedAt) -> Line
     requires { found.now.place < 64 }
-    ensures { result.items ≡ reserved_text registers.now found.now }
+    ensures { result ≡ reserved_text registers.now found.now }
 {
-    let mut line = ArrayVec::new();
+    let mut line = Line::new();
     push_text(&mut line, b"pair ");
     push_decimal(&mut line, found.place as u64);
     push_text(&mut line, b" 0x");
@@ -42,9 +41,9 @@ pub fn reserved_line(registers: &Registers, found: &ReservedAt) -> Line
 
 /// The line on an `mseccfg` that is not zero.
 pub fn smepmp_line(mseccfg: u64) -> Line
-    ensures { result.items ≡ smepmp_text mseccfg }
+    ensures { result ≡ smepmp_text mseccfg }
 {
-    let mut line = ArrayVec::new();
+    let mut line = Line::new();
     push_text(&mut line, b"mseccfg 0x");
     push_hex(&mut line, mseccfg, 16);
     push_text(&mut line, b": no verdict, Smepmp is not modelled\n");
@@ -53,9 +52,9 @@ pub fn smepmp_line(mseccfg: u64) -> Line
 
 /// The comment on lines that are passed over.
 pub fn passed_line(passed: Option<u64>) -> Line
-    ensures { result.items ≡ passed_text passed }
+    ensures { result ≡ passed_text passed }
 {
-    let mut line = ArrayVec::new();
+    let mut line = Line::new();
     let Some(first) = passed else {
         return line;
     };
@@ -70,7 +69,7 @@ pub fn passed_line(passed: Option<u64>) -> Line
 
 /// A line as a text of its own. The only error is out of memory.
 pub fn text_of_line(alloc: Global, line: &Line) -> Result<Vec<u8>, AllocError>
-    ensures { IfOk result (λ text. text.items ≡ line.now.items) }
+    ensures { IfOk result (λ text. text.items ≡ line.now) }
 {
     let mut text = Vec::new(alloc);
     text.extend_from_slice(line.as_slice())?;

@@ -152,7 +152,7 @@ fn push_left(text: &mut Vec<u8>, count: usize, y: u64) -> Result<(), Memory>
 /// Appends what stands before the rows of a picture of that height, with the line of the number of entries.
 fn push_head(text: &mut Vec<u8>, height: u64, count: &Line) -> Result<(), Memory>
     ensures { OnOk result (text.new.items ≡ text.old.items
-        ++ picture_head height count.now.items) }
+        ++ picture_head height count.now) }
 {
     text.extend_from_slice(OPEN)?;
     text.extend_from_slice(size_line(height).as_slice())?;
@@ -183,7 +183,7 @@ pub(crate) fn picture_of(
 ) -> Result<Vec<u8>, Memory>
     requires { All (IsRow extents.now) all.now }
     ensures { IfOk result (λ text. text.items
-        ≡ picture_text extents.now all.now count.now.items) }
+        ≡ picture_text extents.now all.now count.now) }
 {
     let drawn = &all[..all.len().min(MOST)];
     let mut rows = Vec::new(alloc);

@@ -5,7 +5,6 @@ ghost use Rattle.map_table.specs.Rows.{IsRow};
 ghost use Rattle.table_formats.specs.JsonTables.{json_decider, json_entry, json_fits, json_head, json_more, json_row, json_rows, json_stretch, numbers_more, numbers_text};
 
 use crate::overridden::all_overridden;
-use arrayvec::ArrayVec;
 use permission_map::Memory;
 use pmp_encoding::Limit;
 use std::alloc::Global;
@@ -29,9 +28,9 @@ fn fits<'a>(count: usize, limit: Limit) -> &'a [u8]
 
 /// What stands before the rows.
 pub(crate) fn head(count: usize, limit: Limit) -> Line
-    ensures { result.items ≡ json_head count limit }
+    ensures { result ≡ json_head count limit }
 {
-    let mut line = ArrayVec::new();
+    let mut line = Line::new();
     push_text(&mut line, b"{\n  \"limit\": ");
     push_decimal(&mut line, u64::from(limit.number()));
     push_text(&mut line, b",\n  \"count\": ");
@@ -43,9 +42,9 @@ pub(crate) fn head(count: usize, limit: Limit) -> Line
 /// The bytes of a stretch and its permission.
 fn stretch_line(stretch: &Stretch) -> Line
     requires { stretch.now.first < stretch.now.end }
-    ensures { result.items ≡ json_stretch stretch.now }
+    ensures { result ≡ json_stretch stretch.now }
 {
-    let mut line = ArrayVec::new();
+    let mut line = Line::new();
     push_text(&mut line, b"    {\"first\": \"0x");
     push_hex(&mut line, stretch.first, 16);
     push_text(&mut line, b"\", \"last\": \"0x");
@@ -58,9 +57,9 @@ fn stretch_line(stretch: &Stretch) -> Line
 
 /// A number.
 fn number_line(number: usize) -> Line
-    ensures { result.items ≡ decimal number }
+    ensures { result ≡ decimal number }
 {
-    let mut line = ArrayVec::new();
+    let mut line = Line::new();
     push_decimal(&mut line, number as u64);
     line
 }

@@ -3,7 +3,6 @@
 ghost use Rattle.std.specs.Prelude.{◌≡◌, ◌<◌, ◌≤◌};
 ghost use Rattle.table_formats.specs.Pictures.{band_height, band_text, beside_text, gap_text, key_begin, left_text, mark_text, place_text, rect_text, row_height, viewed_text};
 
-use arrayvec::ArrayVec;
 use pmp_encoding::Perm;
 use printed_lines::{letters, push_size};
 use stretches::Stretch;
@@ -40,9 +39,9 @@ pub(crate) fn row_height(stretch: &Stretch) -> u64
 
 /// The rectangle of a band.
 pub(crate) fn rect_line(perm: Perm, y: u64, height: u64) -> Line
-    ensures { result.items ≡ rect_text perm y height }
+    ensures { result ≡ rect_text perm y height }
 {
-    let mut line = ArrayVec::new();
+    let mut line = Line::new();
     push_text(&mut line, b"<rect class=\"");
     push_text(&mut line, perm.word().as_bytes());
     push_text(&mut line, b"\" x=\"170\" y=\"");
@@ -55,9 +54,9 @@ pub(crate) fn rect_line(perm: Perm, y: u64, height: u64) -> Line
 
 /// An address beside a band.
 pub(crate) fn place_line(y: u64, address: u64) -> Line
-    ensures { result.items ≡ place_text y address }
+    ensures { result ≡ place_text y address }
 {
-    let mut line = ArrayVec::new();
+    let mut line = Line::new();
     push_text(&mut line, b"<text class=\"at\" x=\"160\" y=\"");
     push_decimal(&mut line, y);
     push_text(&mut line, b"\">0x");
@@ -68,9 +67,9 @@ pub(crate) fn place_line(y: u64, address: u64) -> Line
 
 /// The permission and the size in a band.
 pub(crate) fn band_line(perm: Perm, size: u64, y: u64) -> Line
-    ensures { result.items ≡ band_text perm size y }
+    ensures { result ≡ band_text perm size y }
 {
-    let mut line = ArrayVec::new();
+    let mut line = Line::new();
     push_text(&mut line, b"<text class=\"in\" x=\"280\" y=\"");
     push_decimal(&mut line, y);
     push_text(&mut line, b"\">");
@@ -83,9 +82,9 @@ pub(crate) fn band_line(perm: Perm, size: u64, y: u64) -> Line
 
 /// The mark of a gap.
 pub(crate) fn mark_line(y: u64) -> Line
-    ensures { result.items ≡ mark_text y }
+    ensures { result ≡ mark_text y }
 {
-    let mut line = ArrayVec::new();
+    let mut line = Line::new();
     push_text(&mut line, b"<use href=\"#gap\" x=\"170\" y=\"");
     push_decimal(&mut line, y);
     push_text(&mut line, b"\"/>\n");
@@ -94,9 +93,9 @@ pub(crate) fn mark_line(y: u64) -> Line
 
 /// The size of a gap.
 pub(crate) fn gap_line(size: u64, y: u64) -> Line
-    ensures { result.items ≡ gap_text size y }
+    ensures { result ≡ gap_text size y }
 {
-    let mut line = ArrayVec::new();
+    let mut line = Line::new();
     push_text(&mut line, b"<text class=\"in\" x=\"280\" y=\"");
     push_decimal(&mut line, y);
     push_text(&mut line, b"\">no entry, ");
@@ -107,9 +106,9 @@ pub(crate) fn gap_line(size: u64, y: u64) -> Line
 
 /// What stands before the entry beside a band.
 pub(crate) fn beside_line(y: u64) -> Line
-    ensures { result.items ≡ beside_text y }
+    ensures { result ≡ beside_text y }
 {
-    let mut line = ArrayVec::new();
+    let mut line = Line::new();
     push_text(&mut line, b"<text x=\"404\" y=\"");
     push_decimal(&mut line, y);
     push_text(&mut line, b"\">entry ");
@@ -118,9 +117,9 @@ pub(crate) fn beside_line(y: u64) -> Line
 
 /// The size of the picture.
 pub(crate) fn size_line(height: u64) -> Line
-    ensures { result.items ≡ viewed_text height }
+    ensures { result ≡ viewed_text height }
 {
-    let mut line = ArrayVec::new();
+    let mut line = Line::new();
     push_text(&mut line, b"\" height=\"");
     push_decimal(&mut line, height);
     push_text(&mut line, b"\" viewBox=\"0 0 680 ");
@@ -131,9 +130,9 @@ pub(crate) fn size_line(height: u64) -> Line
 
 /// How many stretches are left out.
 pub(crate) fn left_line(left: usize, y: u64) -> Line
-    ensures { result.items ≡ left_text left y }
+    ensures { result ≡ left_text left y }
 {
-    let mut line = ArrayVec::new();
+    let mut line = Line::new();
     push_text(&mut line, b"<text class=\"in\" x=\"280\" y=\"");
     push_decimal(&mut line, y);
     push_text(&mut line, b"\">stretches that are left out: ");
@@ -144,9 +143,9 @@ pub(crate) fn left_line(left: usize, y: u64) -> Line
 
 /// Where the key to the colours stands.
 pub(crate) fn key_line(y: u64) -> Line
-    ensures { result.items ≡ key_begin y }
+    ensures { result ≡ key_begin y }
 {
-    let mut line = ArrayVec::new();
+    let mut line = Line::new();
     push_text(&mut line, b"<g transform=\"translate(20 ");
     push_decimal(&mut line, y);
     push_text(&mut line, b")\">\n");

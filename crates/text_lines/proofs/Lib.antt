@@ -7,6 +7,8 @@ pub mod Looped
 pub mod Mapped
 mod FirstByte
 pub mod PlainText
+mod Counters
 mod HexDigits
+mod Hexadecimals
 mod Digits
 mod DecimalPairs

@@ -1,17 +1,19 @@
 -- How a reader of lines comes to its answer.
-use Rattle.std.proofs.Common.{◌≡◌, ◌⊎◌, inl, inr, ℕ, ◌+◌, ◌<◌, ◌≤◌, ◌∙◌, Bool, true, false, not, List, [], ◌∷◌, ◌++◌, length, take, drop, get_or, take_all, zero, suc, cond, ◌&&◌, Option, refl, ap, sym, arith, length-append, length-take-le, append_assoc, append-nil}
+use Rattle.std.proofs.Common.{◌≡◌, ◌⊎◌, inl, inr, ℕ, ◌+◌, ◌<◌, ◌≤◌, ◌∙◌, Bool, true, false, not, List, [], ◌∷◌, ◌++◌, length, take, drop, get_or, take_all, zero, suc, cond, ◌&&◌, Option, refl, ap, sym, min, arith, length-append, length-drop, length-take, length-take-le, take-take, take-append-drop, append_assoc, append-nil, ◌-◌, ⊎_elim}
 use Rattle.std.specs.Prelude.{◌==◌, Ok, Err}
 use Rattle.std.specs.List.{list_all, prefix_len, position_or_len, before_first, after_first}
 use Rattle.std.specs.Io.KnownBytes.{Consumes}
 use Rattle.std.proofs.KnownBytes.{Consumes-trans, Consumes-nil}
-use Rattle.std.proofs.lemmas.List.{drop_all}
+use Rattle.std.proofs.Math.Nat.{min_comm, min-le_left}
+use Rattle.std.proofs.Math.Seq.{drop-append-add}
+use Rattle.std.proofs.lemmas.List.{drop_all, take_min}
 use Rattle.std.proofs.lemmas.List.Sums.{prefix_len_stops, split_at_first}
 use Rattle.std.proofs.lemmas.List.Folds.{list_all-append}
-use Rattle.std.proofs.lemmas.Bool.{and_parts, and_from, eqb-true, not-false, ltb-false}
+use Rattle.std.proofs.lemmas.Bool.{and_parts, and_from, cases_lt, eqb-true, not-false, ltb-false}
 use Rattle.text_lines.specs.declared.fault.ReadFault.{ReadFault}
 use Rattle.text_lines.specs.declared.fault.ReadFault.TheVariants.{LongLine, TooManyBytes, Device}
 use Rattle.text_lines.specs.declared.lines.LineReader.{LineReader}
-use Rattle.text_lines.specs.Lines.{has_no_end, IsShortLine, BeginsLongLine, without_return}
+use Rattle.text_lines.specs.Lines.{has_no_end, BeginsLine, IsShortLine, BeginsLongLine, without_return}
 use Rattle.text_lines.specs.LineReaders.{line_of, pending_of, number_of, came_of, ended_of, Came, Hands, Holds, NextLine, ReadsMore}
 
 -- the bytes that have come since the last line stand after those that were there
@@ -30,7 +32,7 @@ passes_front p x xs k true e h more = and_from _ _ e (more (omega arith))
 passes_front p x xs k false e h more = absurd (omega arith)
 
 -- each element of a front that passes does
-list_all-front : (p : ℕ → Bool) (xs : List ℕ) (k : ℕ) → k ≤ prefix_len p xs → list_all p (take k xs) ≡ true
+pub list_all-front : (p : ℕ → Bool) (xs : List ℕ) (k : ℕ) → k ≤ prefix_len p xs → list_all p (take k xs) ≡ true
 list_all-front p xs zero h = refl
 list_all-front p [] (suc k) h = refl
 list_all-front p (x ∷ xs) (suc k) h = passes_front p x xs k (p x) refl h (list_all-front p xs k)
@@ -142,3 +144,56 @@ refuses_read old now next before middle after bytes more slice len Device g limi
   read.1,
   (short_line old now before middle bytes slice len g same is all few, holding old now next before middle bytes g read.2 taken number),
 )
+
+-- what stands after so many bytes, as far as 1024 of it
+pub first_of : (bytes : List ℕ) (taken n : ℕ) → n ≡ min (length (take (length bytes - taken) (drop taken bytes))) 1024 → take n (take (length bytes - taken) (drop taken bytes)) ≡ take 1024 (drop taken bytes)
+first_of bytes taken n is =
+    let size : length (drop taken bytes) ≡ length bytes - taken = length-drop taken bytes in
+    let whole : take (length bytes - taken) (drop taken bytes) ≡ drop taken bytes = take_all (length bytes - taken) (drop taken bytes) (omega (arith, size)) in
+    let n_is : n ≡ min 1024 (length (drop taken bytes)) = is ∙ ap (λ xs. min (length xs) 1024) whole ∙ min_comm (length (drop taken bytes)) 1024 in
+    ap (take n) whole ∙ ap (λ k. take k (drop taken bytes)) n_is ∙ take_min 1024 (drop taken bytes)
+
+-- what stands before the LF has so many bytes
+front_len : (len : ℕ) (bytes rest : List ℕ) → bytes ≡ take len bytes ++ 10 ∷ rest → length (take len bytes) ≡ len
+front_len len bytes rest is =
+    ⊎_elim (λ inside. length-take-le len bytes (omega (arith, inside)))
+    (λ all.
+    let whole : length (take len bytes) ≡ length bytes = ap length (take_all len bytes all) in
+    absurd (omega (arith, ap length is, length-append (take len bytes) (10 ∷ rest), whole)))
+    (cases_lt len (length bytes))
+
+-- a line that stands with its LF at the front of what has come
+pub hands_short : (old new : LineReader) (known : Option (List ℕ)) (len : ℕ) → BeginsLine len (pending_of old) → line_of new ≡ take len (pending_of old) → pending_of new ≡ drop (len + 1) (pending_of old) → number_of new ≡ number_of old + 1 → came_of new ≡ came_of old → ended_of new ≡ false → NextLine (Ok true) old new known known
+hands_short old new known len begins text pending number came goes_on =
+    let line = take len (pending_of old) in
+    let held : length line ≡ len = front_len len (pending_of old) begins.rest begins.parts in
+    let rest : drop (len + 1) (pending_of old) ≡ begins.rest = ap (drop (len + 1)) begins.parts ∙ ap (λ k. drop (k + 1) (line ++ 10 ∷ begins.rest)) (sym held) ∙ drop-append-add line (10 ∷ begins.rest) 1 in
+    let here : pending_of old ≡ line ++ 10 ∷ pending_of new = begins.parts ∙ ap (λ xs. line ++ 10 ∷ xs) (sym rest ∙ sym pending) in
+    let hands : Hands old new (pending_of old ++ []) known line = record {
+      short = begins.short;
+      text = text ∙ sym begins.whole;
+      number = number;
+      ends = inl (append-nil (pending_of old) ∙ here, goes_on);
+    } in
+    ([], [], known, record { consumed = Consumes-nil known; counted = omega (arith, came); needed = inl refl }, Consumes-nil known, refl, (line, hands))
+
+pub first_few : (ahead bytes : List ℕ) → ahead ≡ take 1024 bytes → length ahead ≤ 1024
+first_few ahead bytes is = omega (arith, ap length is, length-take 1024 bytes, min-le_left 1024 (length bytes))
+
+-- a line of the first 1024 bytes is one of all bytes
+pub same_line : (ahead bytes : List ℕ) (len : ℕ) → ahead ≡ take 1024 bytes → BeginsLine len ahead → take len ahead ≡ take len bytes
+same_line ahead bytes len is begins =
+    let held : length (take len ahead) ≡ len = front_len len ahead begins.rest begins.parts in
+    let few : len ≤ 1024 = omega (arith, held, begins.short.1) in
+    ap (take len) is ∙ take-take len 1024 bytes few
+
+pub begins_line : (ahead bytes : List ℕ) (len : ℕ) → ahead ≡ take 1024 bytes → BeginsLine len ahead → BeginsLine len bytes
+begins_line ahead bytes len is begins =
+    let same = same_line ahead bytes len is begins in
+    let there : bytes ≡ take len ahead ++ 10 ∷ (begins.rest ++ drop 1024 bytes) = sym (take-append-drop 1024 bytes) ∙ ap (λ xs. xs ++ drop 1024 bytes) (sym is ∙ begins.parts) ∙ append_assoc (take len ahead) (10 ∷ begins.rest) (drop 1024 bytes) in
+    record {
+      short = rw same at begins.short;
+      whole = rw same at begins.whole;
+      rest = begins.rest ++ drop 1024 bytes;
+      parts = there ∙ ap (λ xs. xs ++ 10 ∷ (begins.rest ++ drop 1024 bytes)) same;
+    }

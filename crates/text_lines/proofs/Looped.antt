@@ -1,5 +1,5 @@
 -- How far the lines of an input have been interpreted.
-use Rattle.std.proofs.Common.{◌≡◌, inl, inr, ℕ, ◌+◌, ◌<◌, ◌≤◌, ◌^◌, ◌⊎◌, ◌∙◌, true, false, List, [], ◌∷◌, ◌++◌, length, take, Option, None, Some, Ok, Err, refl, ap, sym, arith, length-append, append_assoc, append-nil}
+use Rattle.std.proofs.Common.{◌≡◌, inl, inr, ℕ, ◌+◌, ◌<◌, ◌≤◌, ◌^◌, ◌⊎◌, ◌∙◌, Bool, true, false, List, [], ◌∷◌, ◌++◌, length, take, Option, None, Some, Result, Ok, Err, refl, ap, sym, arith, length-append, append_assoc, append-nil}
 use Rattle.std.specs.List.{concat}
 use Rattle.std.specs.Io.KnownBytes.{Appends, Consumes, IsAtEnd, Keeps}
 use Rattle.std.proofs.KnownBytes.{Appends-nil, Appends-trans, Consumes-nil, Consumes-trans}
@@ -8,6 +8,7 @@ use Rattle.byte_streams.specs.Writings.{TakesPart}
 use Rattle.text_lines.specs.declared.lines.LineReader.{LineReader}
 use Rattle.text_lines.specs.declared.fault.ReadFault.{ReadFault}
 use Rattle.text_lines.specs.declared.fault.ReadFault.TheVariants.{LongLine, TooManyBytes, Device}
+use Rattle.text_lines.specs.declared.line_loop.Refusal.{Refusal}
 use Rattle.text_lines.specs.declared.fault.RunFault.TheVariants.{Line, TooLong, Read}
 use Rattle.text_lines.specs.Faults.{run_fault}
 use Rattle.text_lines.specs.Lines.{has_no_end, AreLines, IsShortLine, without_return}
@@ -346,3 +347,7 @@ fault_is_device Device e = refl
 pub few_more : (n count number next : ℕ) (said : Option (List ℕ)) → n ≡ counted count said → count ≤ number → next ≡ number + 1 → n ≤ next
 few_more n count number next None is few e = omega arith
 few_more n count number next (Some text) is few e = omega arith
+
+-- a refusal that has its name
+pub is_refused : (said : Result Bool Refusal) (field refusal : Refusal) → said ≡ Err field → field ≡ refusal → said ≡ Err refusal
+is_refused said field refusal is named = is ∙ ap Err named

@@ -1,14 +1,11 @@
 -- The value of digits, from the first on.
-use Rattle.std.proofs.Common.{◌≡◌, ℕ, ◌+◌, ◌*◌, ◌^◌, ◌<◌, ◌≤◌, ◌∙◌, true, zero, suc, List, [], ◌∷◌, ◌++◌, length, length-drop, length-take-le, get_or, take, drop, refl, ap, sym, ltb, fold, take-append-drop, take_all, mul-le-mul_right, Some, None, arith}
+use Rattle.std.proofs.Common.{◌≡◌, ℕ, ◌+◌, ◌*◌, ◌^◌, ◌<◌, ◌≤◌, ◌∙◌, true, zero, suc, List, [], ◌∷◌, length, length-take-le, get_or, take, drop, refl, ap, sym, ltb, fold, take-append-drop, take_all, mul-le-mul_right, Some, None, arith}
 use Rattle.std.proofs.lemmas.Bool.{and_right, and_from, lt-ltb, le-ltb, cond-true}
 use Rattle.std.proofs.lemmas.List.{drop_all}
 use Rattle.std.proofs.lemmas.Grind.{common_steps, fold-append}
-use Rattle.std.proofs.lemmas.List.Folds.{list_all-append}
-use Rattle.std.proofs.Math.Seq.{take-add}
 use Rattle.std.specs.Prelude.{nat_lt}
 use Rattle.std.specs.List.{list_all}
-use Rattle.text_lines.proofs.Digits.{hex_digit_of}
-use Rattle.text_lines.specs.Numbers.{BeginsFour, BeginsNumeral, EndsDigits, digit_of, hex_or_more, value_of, is_numeral, numeral_of}
+use Rattle.text_lines.specs.Numbers.{BeginsNumeral, EndsDigits, digit_of, value_of, is_numeral, numeral_of}
 
 -- more digits make no smaller value
 grows : (base : ℕ) → 1 ≤ base → (value : ℕ) (digits : List ℕ) → value ≤ fold (λ v b. base * v + digit_of b) value digits
@@ -77,49 +74,3 @@ ends_here base (b ∷ text) (suc n) digit below is large = ends_here base text n
 
 pub ends_all : (base : ℕ) (text : List ℕ) (n : ℕ) → length text ≤ n → EndsDigits base (drop n text)
 ends_all base text n all = let none : drop n text ≡ [] = drop_all n text all in rw none tt
-
--- four digits, as the table has their values
-pub four_begin : (text : List ℕ) (p q r s : ℕ) → 4 ≤ length text → p ≡ hex_or_more (get_or text 0 0) → q ≡ hex_or_more (get_or text 1 0) → r ≡ hex_or_more (get_or text 2 0) → s ≡ hex_or_more (get_or text 3 0) → p * 4096 + q * 256 + r * 16 + s < 65536 → BeginsFour text (p * 4096 + q * 256 + r * 16 + s)
-four_begin [] p q r s room ea eb ec ed small = absurd (omega (arith, room))
-four_begin (a ∷ []) p q r s room ea eb ec ed small = absurd (omega (arith, room))
-four_begin (a ∷ b ∷ []) p q r s room ea eb ec ed small = absurd (omega (arith, room))
-four_begin (a ∷ b ∷ c ∷ []) p q r s room ea eb ec ed small = absurd (omega (arith, room))
-four_begin (a ∷ b ∷ c ∷ d ∷ rest) p q r s room ea eb ec ed small =
-    let first = hex_digit_of a p ea (omega (arith, small)) in
-    let second = hex_digit_of b q eb (omega (arith, small)) in
-    let third = hex_digit_of c r ec (omega (arith, small)) in
-    let fourth = hex_digit_of d s ed (omega (arith, small)) in
-    let value : p * 4096 + q * 256 + r * 16 + s ≡ 16 * (16 * (16 * (16 * 0 + digit_of a) + digit_of b) + digit_of c) + digit_of d = omega (arith, first.0, second.0, third.0, fourth.0) in
-    (a, b, c, d, rest, refl, and_from _ _ first.1 (and_from _ _ second.1 (and_from _ _ third.1 (and_from _ _ fourth.1 refl))), value)
-
--- four digits more
-pub four_more : (base : ℕ) (text : List ℕ) (n value four : ℕ) → base ≡ 16 → n ≤ length text → value ≡ value_of base (take n text) → list_all (λ b. nat_lt (digit_of b) base) (take n text) ≡ true → BeginsFour (drop n text) four
-    → (n + 4 ≤ length text) × (value * 65536 + four ≡ value_of base (take (n + 4) text)) × (list_all (λ b. nat_lt (digit_of b) base) (take (n + 4) text) ≡ true)
-four_more base text n value four sixteen within is all begins =
-    rw sixteen (
-    let a = begins.0 in
-    let b = begins.1 in
-    let c = begins.2 in
-    let d = begins.3 in
-    let digits = a ∷ b ∷ c ∷ d ∷ [] in
-    let front : take (n + 4) text ≡ take n text ++ digits = take-add n 4 text ∙ ap (λ xs. take n text ++ take 4 xs) begins.5 in
-    let so_far : value ≡ value_of 16 (take n text) = rw sixteen at is in
-    let also : list_all (λ x. nat_lt (digit_of x) 16) (take n text) ≡ true = rw sixteen at all in
-    let sum : value_of 16 (take n text ++ digits) ≡ 16 * (16 * (16 * (16 * value_of 16 (take n text) + digit_of a) + digit_of b) + digit_of c) + digit_of d = fold-append (λ v x. 16 * v + digit_of x) 0 (take n text) digits in
-    let last : four ≡ 16 * (16 * (16 * (16 * 0 + digit_of a) + digit_of b) + digit_of c) + digit_of d = begins.7 in
-    let room : n + 4 ≤ length text = omega (arith, within, length-drop n text, ap length begins.5) in
-    let whole : value * 65536 + four ≡ value_of 16 (take n text ++ digits) = omega (arith, so_far, sum, last) in
-    (room, whole ∙ ap (value_of 16) (sym front), ap (list_all (λ x. nat_lt (digit_of x) 16)) front ∙ list_all-append (λ x. nat_lt (digit_of x) 16) (take n text) digits ∙ and_from _ _ also begins.6)
-    )
-
--- a value of so many digits, taken four by four, leaves room for the next four
-abbrev pub HasRoom : ℕ → ℕ → Type 0
-HasRoom n value = (n ≤ 12 → value < 2 ^ 48) × (n ≤ 8 → value < 2 ^ 32) × (n ≤ 4 → value < 2 ^ 16) × (n ≤ 0 → value < 1)
-
-pub room_after : (n value four : ℕ) → HasRoom n value → four < 65536 → HasRoom (n + 4) (value * 65536 + four)
-room_after n value four room small = (
-  λ h. let v = room.1 (omega (arith, h)) in omega (arith, v, small),
-  λ h. let v = room.2 (omega (arith, h)) in omega (arith, v, small),
-  λ h. let v = room.3 (omega (arith, h)) in omega (arith, v, small),
-  λ h. absurd (omega (arith, h)),
-)

@@ -1,6 +1,8 @@
 pub mod Faults
 pub mod Words
 pub mod Numbers
+pub mod Hexadecimal
+pub mod Counters
 pub mod Lines
 pub mod LineReaders
 pub mod LineLoop

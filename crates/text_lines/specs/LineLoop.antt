@@ -1,11 +1,13 @@
 -- What comes of an input whose lines are interpreted one after another.
-use Rattle.std.specs.Prelude.{◌≡◌, ◌⊎◌, ℕ, ◌+◌, ◌^◌, ◌<◌, ◌≤◌, Bool, if◌then◌else◌, List, [], ◌∷◌, ◌++◌, length, take, Option, Some, None, Result, Err}
+use Rattle.std.specs.Prelude.{◌≡◌, ◌⊎◌, ℕ, ◌+◌, ◌^◌, ◌<◌, ◌≤◌, Bool, if◌then◌else◌, List, [], ◌∷◌, ◌++◌, length, take, Option, Some, None, Result, Ok, Err, true, false}
 use Rattle.std.specs.List.{concat}
 use Rattle.std.specs.Io.KnownBytes.{Appends, Consumes, IsAtEnd}
-use Rattle.arrayvec.specs.declared.array_vec.ArrayVec.{ArrayVec}
 use Rattle.byte_streams.specs.Streams.{WriteFails, one_failure_more}
+use Rattle.text_lines.specs.declared.fault.ReadFault.{ReadFault}
 use Rattle.text_lines.specs.declared.fault.RunFault.{RunFault}
 use Rattle.text_lines.specs.declared.fault.RunFault.TheVariants as faults
+use Rattle.text_lines.specs.declared.line_loop.Refusal.{Refusal}
+use Rattle.text_lines.specs.declared.line_loop.Refusal.TheVariants as refusals
 use Rattle.text_lines.specs.Lines.{AreLines, BeginsLongLine, IsShortLine, without_return}
 
 -- what a line does, after so many answers: from one state to the next, with the text of its answer where it has one
@@ -19,8 +21,25 @@ pub data Does {S : Type 0} (does : Meaning S) (old : S) : List (List ℕ) → Li
   answer : {lines answers : List (List ℕ)} {mid : S} → Does does old lines answers mid → (line : List ℕ) → IsShortLine line → (new : S) → (text : List ℕ) → does mid (length answers) (without_return line) (Some text) new → Does does old (lines ++ line ∷ []) (answers ++ text ∷ []) new
 
 -- the text of an answer, where there is one
-abbrev pub text_of : Bool → ArrayVec ℕ 128 (Unit {0}) → Option (List ℕ)
-text_of answered line = if answered then Some line.items else None
+abbrev pub text_of : Bool → List ℕ → Option (List ℕ)
+text_of answered text = if answered then Some text else None
+
+-- what comes of a line: its answer, or why it has none
+abbrev pub Comes : {S : Type 0} → Meaning S → (S → List ℕ → Type 0) → (S → List ℕ → S → Type 0) → S → ℕ → List ℕ → Result Bool Refusal → List ℕ → S → Type 0
+Comes does refuses starves old n line (Ok answered) text new = does old n line (text_of answered text) new
+Comes does refuses starves old n line (Err refusals.NotUnderstood) text new = refuses old line × (new ≡ old)
+Comes does refuses starves old n line (Err refusals.Memory) text new = starves old line new
+
+-- whether there was a line
+abbrev pub was_line : Result (Option (Result Bool Refusal)) ReadFault → Result Bool ReadFault
+was_line (Ok None) = Ok false
+was_line (Ok (Some said)) = Ok true
+was_line (Err fault) = Err fault
+
+-- no line was interpreted
+abbrev pub IsNoLine : Result (Option (Result Bool Refusal)) ReadFault → Type 0
+IsNoLine (Ok (Some said)) = ⊥
+IsNoLine _ = Unit {0}
 
 -- how many answers there are with that one
 abbrev pub counted : ℕ → Option (List ℕ) → ℕ

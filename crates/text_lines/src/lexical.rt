@@ -1,11 +1,12 @@
 //! The words of a line of a map or a trace, and the numbers among them.
 
-ghost use Rattle.std.specs.Prelude.{◌≡◌, ◌+◌, ◌-◌, ◌<◌, ◌≤◌, ◌==◌, [], ◌∷◌, None, Some, IfSome, IfNone, OnSome, option_map, MatchOption, true, length, take, nat_lt};
+ghost use Rattle.std.specs.Prelude.{◌≡◌, ◌+◌, ◌-◌, ◌<◌, ◌≤◌, ◌==◌, [], ◌∷◌, None, Some, IfSome, IfNone, OnSome, option_map, MatchOption, true, false, drop, length, take, nat_lt};
 ghost use Rattle.std.specs.Result.{result_ok};
 ghost use Rattle.std.specs.List.{list_all, prefix_len, position_or_len};
 ghost use Rattle.text_lines.specs.Words.{is_blank, is_allowed, is_plain, split_words, words_of};
-ghost use Rattle.text_lines.specs.Numbers.{BeginsFour, BeginsNumeral, digit_of, hex_or_more, value_of, numeral_of, number_of};
+ghost use Rattle.text_lines.specs.Numbers.{BeginsNumeral, EndsDigits, digit_of, value_of, numeral_of, number_of};
 
+use crate::hexadecimal::{LANES, digits_before, value_of_all};
 use memchr::memchr;
 use thiserror::Error;
 
@@ -113,81 +114,30 @@ fn digit(byte: u8) -> u8
     DIGITS[usize::from(byte)]
 }
 
-/// The value of each byte as a hexadecimal digit, and 65536 for one that is none: four digits are worth less, so one comparison
-/// of their sum says whether all four bytes are digits.
-static HEX_DIGITS: [u32; 256] = [
-    65536, 65536, 65536, 65536, 65536, 65536, 65536, 65536, 65536, 65536, 65536, 65536, 65536,
-    65536, 65536, 65536, 65536, 65536, 65536, 65536, 65536, 65536, 65536, 65536, 65536, 65536,
-    65536, 65536, 65536, 65536, 65536, 65536, 65536, 65536, 65536, 65536, 65536, 65536, 65536,
-    65536, 65536, 65536, 65536, 65536, 65536, 65536, 65536, 65536, 0, 1, 2, 3, 4, 5, 6, 7, 8, 9,
-    65536, 65536, 65536, 65536, 65536, 65536, 65536, 10, 11, 12, 13, 14, 15, 65536, 65536, 65536,
-    65536, 65536, 65536, 65536, 65536, 65536, 65536, 65536, 65536, 65536, 65536, 65536, 65536,
-    65536, 65536, 65536, 65536, 65536, 65536, 65536, 65536, 65536, 65536, 10, 11, 12, 13, 14, 15,
-    65536, 65536, 65536, 65536, 65536, 65536, 65536, 65536, 65536, 65536, 65536, 65536, 65536,
-    65536, 65536, 65536, 65536, 65536, 65536, 65536, 65536, 65536, 65536, 65536, 65536, 65536,
-    65536, 65536, 65536, 65536, 65536, 65536, 65536, 65536, 65536, 65536, 65536, 65536, 65536,
-    65536, 65536, 65536, 65536, 65536, 65536, 65536, 65536, 65536, 65536, 65536, 65536, 65536,
-    65536, 65536, 65536, 65536, 65536, 65536, 65536, 65536, 65536, 65536, 65536, 65536, 65536,
-    65536, 65536, 65536, 65536, 65536, 65536, 65536, 65536, 65536, 65536, 65536, 65536, 65536,
-    65536, 65536, 65536, 65536, 65536, 65536, 65536, 65536, 65536, 65536, 65536, 65536, 65536,
-    65536, 65536, 65536, 65536, 65536, 65536, 65536, 65536, 65536, 65536, 65536, 65536, 65536,
-    65536, 65536, 65536, 65536, 65536, 65536, 65536, 65536, 65536, 65536, 65536, 65536, 65536,
-    65536, 65536, 65536, 65536, 65536, 65536, 65536, 65536, 65536, 65536, 65536, 65536, 65536,
-    65536, 65536, 65536, 65536, 65536, 65536, 65536, 65536, 65536, 65536, 65536, 65536, 65536,
-    65536, 65536, 65536, 65536, 65536, 65536, 65536, 65536, 65536, 65536,
-];
-
-/// The value of a hexadecimal digit, and 65536 for a byte that is none.
-fn hex_digit(byte: u8) -> u32
-    ensures value { result ≡ hex_or_more byte }
-    ensures most { result ≤ 65536 }
-{
-    HEX_DIGITS[usize::from(byte)]
-}
-
-/// The value of the four hexadecimal digits that a text begins with, where it does.
-fn four_digits(text: &[u8]) -> Option<u64>
-    ensures four { IfSome result (λ value. BeginsFour text.now value) }
-    ensures small { IfSome result (λ value. value < 65536) }
-{
-    let [a, b, c, d, ..] = text else {
-        return None;
-    };
-    let first = hex_digit(*a);
-    let second = hex_digit(*b);
-    let third = hex_digit(*c);
-    let fourth = hex_digit(*d);
-    let value = first * 4096 + second * 256 + third * 16 + fourth;
-    if value >= 65536 {
-        return None;
-    }
-    Some(u64::from(value))
-}
-
-/// After so many hexadecimal digits a value has room for four more.
-const ROOM_FOR_FOUR: usize = 12;
-
-/// The value of digits that a text begins with, taken four by four, and how many were taken; none of a base but 16. Other digits
-/// may follow.
+/// Whether a text has a seventeenth byte that is a digit of a base up to 16.
 #[inline(always)]
-fn leading_fours(text: &[u8], base: u8) -> (u64, usize)
-    ensures within { result.1 ≤ length text.now }
-    ensures value { result.0 ≡ value_of base (take result.1 text.now) }
-    ensures digits { list_all (λ b. nat_lt (digit_of b) base) (take result.1 text.now) ≡ true }
+fn goes_on(text: &[u8], base: u8) -> bool
+    ensures { result ≡ false → EndsDigits base (drop 16 text.now) }
 {
-    let mut value: u64 = 0;
-    let mut len = 0;
-    if base != 16 {
-        return (value, len);
+    text.len() > LANES && digit(text[LANES]) < base
+}
+
+/// The value of the hexadecimal digits that a text begins with, and how many they are: one to sixteen. None where there are others,
+/// and of another base, and of a shorter text.
+#[inline(always)]
+fn leading_sixteen(text: &[u8], base: u8) -> Option<(u64, usize)>
+    ensures { IfSome result (λ found.
+        BeginsNumeral base text.now found.0 (drop found.1 text.now)
+        × (found.1 ≤ length text.now)) }
+{
+    if base != 16 || text.len() < LANES {
+        return None;
     }
-    'fours: while len <= ROOM_FOR_FOUR {
-        let Some(four) = four_digits(&text[len..]) else {
-            break;
-        };
-        value = value * 65536 + four;
-        len += 4;
+    let len = digits_before(text);
+    if len == 0 || len == LANES && goes_on(text, base) {
+        return None;
     }
-    (value, len)
+    Some((value_of_all(text) >> (64 - 4 * len), len))
 }
 
 /// The value of the digits that a text begins with, of a base from 2 to 16, and what stands after them. None where there are
@@ -199,7 +149,21 @@ pub fn leading_numeral(text: &[u8], base: u8) -> Option<(u64, &[u8])>
     ensures digits { IfSome result (λ front. BeginsNumeral base text.now front.0 front.1.now) }
     ensures none { IfNone result (numeral_of base text.now ≡ None) }
 {
-    let (mut value, mut len) = leading_fours(text, base);
+    if let Some((value, len)) = leading_sixteen(text, base) {
+        return Some((value, &text[len..]));
+    }
+    leading_digits(text, base)
+}
+
+/// The same, digit by digit.
+fn leading_digits(text: &[u8], base: u8) -> Option<(u64, &[u8])>
+    requires least { 2 ≤ base }
+    requires most { base ≤ 16 }
+    ensures digits { IfSome result (λ front. BeginsNumeral base text.now front.0 front.1.now) }
+    ensures none { IfNone result (numeral_of base text.now ≡ None) }
+{
+    let mut value: u64 = 0;
+    let mut len = 0;
     while len < text.len() {
         let digit = digit(text[len]);
         if digit >= base {

@@ -22,13 +22,16 @@
 //! ```
 #![tactic(auto)]
 
+mod counter;
 mod fault;
+mod hexadecimal;
 mod laws;
 mod lexical;
 mod line_loop;
 mod lines;
 mod written;
 
+pub use counter::Counter;
 pub use fault::{ReadFault, RunFault};
 pub use laws::{lines_law, words_law};
 pub use lexical::{NotUnderstood, Words, leading_numeral, number, numeral, word_len};

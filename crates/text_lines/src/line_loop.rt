@@ -1,16 +1,18 @@
 //! The one loop over the lines of an input: a line is read, understood and done, and its answer is written before the
 //! next line is read.
 
-ghost use Rattle.std.specs.Prelude.{◌≡◌, ℕ, ◌+◌, ◌-◌, ◌^◌, ◌<◌, ◌≤◌, List, [], Option, Some, Err, IfOk};
+ghost use Rattle.std.specs.Prelude.{◌≡◌, ℕ, ◌+◌, ◌-◌, ◌^◌, ◌<◌, ◌≤◌, List, Option, None, Some, Err, IfOk, IfSome, length, take, decimal};
 ghost use Rattle.std.specs.Io.KnownBytes.{Keeps};
 ghost use Rattle.byte_streams.specs.Writings.{writing, Prints};
-ghost use Rattle.text_lines.specs.LineReaders.{came_of, most_of, FailsOnRead, NextLine};
-ghost use Rattle.text_lines.specs.LineLoop.{counted, told, text_of, CountsReads, CountsWrites, DoesAll, StopsAt, StopsForMemory, StopsReading, StopsTooLong, StopsWriting};
+ghost use Rattle.text_lines.specs.Lines.{BeginsLine};
+ghost use Rattle.text_lines.specs.LineReaders.{came_of, line_of, most_of, FailsOnRead, NextLine};
+ghost use Rattle.text_lines.specs.Counters.{digits_of};
+ghost use Rattle.text_lines.specs.LineLoop.{counted, told, text_of, was_line, Comes, CountsReads, CountsWrites, DoesAll, IsNoLine, StopsAt, StopsForMemory, StopsReading, StopsTooLong, StopsWriting};
 
+use crate::counter::Counter;
 use crate::fault::{ReadFault, RunFault};
 use crate::lines::LineReader;
 use crate::written::Line;
-use arrayvec::ArrayVec;
 use byte_streams::{DeviceFault, Sink, Source, write_whole};
 use thiserror::Error;
 
@@ -39,11 +41,12 @@ pub trait Interpreter {
     /// What is kept from line to line.
     ghost keeps: { Self → Type 0 };
 
-    /// Does what a line says, which comes without its LF and its CR, and writes its answer, the one after `count` others, to
-    /// an empty line. Says whether it has one.
+    /// Does what a line says, which comes without its LF and its CR, and writes its answer, the one after `count` others. The
+    /// answer's number is written already. Says whether there is one.
     fn interpret(&mut self, line: &[u8], count: u64, answer: &mut Line) -> Result<bool, Refusal>
         requires count { count < 2 ^ 64 - 1 }
-        requires empty { answer.old.items ≡ [] }
+        requires number { answer.old ≡ decimal (count + 1) }
+        requires room { length answer.old ≤ 21 }
         ensures done { keeps self.old
             → IfOk result (λ answered.
             does self.old count line.now (text_of answered answer.new) self.new) }
@@ -52,25 +55,56 @@ pub trait Interpreter {
         ensures starved { result ≡ Err Refusal.Memory → keeps self.old
             → starves self.old line.now self.new }
         ensures keeps { keeps self.old → keeps self.new };
+
+    /// Does what the line says that some bytes begin with, as [`interpret`](Interpreter::interpret) does, where the line's end is
+    /// found on the way and its last byte is no CR. Says how many bytes the line has before its LF, and what comes of it. None says
+    /// nothing of the line: then nothing is done.
+    fn interpret_ahead(
+        &mut self,
+        ahead: &[u8],
+        count: u64,
+        answer: &mut Line,
+    ) -> Option<(usize, Result<bool, Refusal>)>
+        requires count { count < 2 ^ 64 - 1 }
+        requires number { answer.old ≡ decimal (count + 1) }
+        requires room { length answer.old ≤ 21 }
+        requires few { length ahead.now ≤ 1024 }
+        ensures line { IfSome result (λ found. BeginsLine found.0 ahead.now) }
+        ensures comes { keeps self.old
+            → IfSome result (λ found.
+            Comes does refuses starves self.old count (take found.0 ahead.now) found.1
+            answer.new self.new) }
+        ensures keeps { keeps self.old → keeps self.new }
+        ensures untouched { result ≡ None → self.new ≡ self.old }
+        ensures unwritten { result ≡ None → answer.new ≡ answer.old }
+    {
+        None
+    }
 }
 
-/// Writes an answer, where there is one, and says how many there are with it.
+/// Writes an answer, where there is one, and raises the number of the next. Says how many answers there are with it.
 #[inline(always)]
 fn write_answer<W: Sink>(
     answered: bool,
     answer: &Line,
     count: u64,
+    number: &mut Counter,
     sink: &mut W,
 ) -> Result<u64, DeviceFault>
-    requires count { count < 2 ^ 64 - 1 }
+    requires count { count < 2 ^ 64 - 2 }
+    requires number { digits_of number.old ≡ decimal (count + 1) }
+    requires len { number.old.len ≤ 20 }
     ensures counted { IfOk result (λ n. n ≡ counted count (text_of answered answer.now)) }
     ensures prints { Prints (told (text_of answered answer.now))
         (writing W.contents W.failures W.stalls sink.old sink.new) result }
+    ensures number { IfOk result (λ n. digits_of number.new ≡ decimal (n + 1)) }
+    ensures len { number.new.len ≤ 20 }
 {
     if !answered {
         return Ok(count);
     }
     write_whole(sink, answer.as_slice())?;
+    number.raise(count + 1);
     Ok(count + 1)
 }
 
@@ -95,6 +129,45 @@ fn next_line<R: Source, W: Sink>(
     }
     sink.flush();
     reader.next_line(source)
+}
+
+/// Takes the next line and interprets it. None at the end of the input.
+#[inline(always)]
+fn interpret_next<I: Interpreter, R: Source, W: Sink>(
+    interpreter: &mut I,
+    reader: &mut LineReader,
+    source: &mut R,
+    sink: &mut W,
+    count: u64,
+    answer: &mut Line,
+) -> Result<Option<Result<bool, Refusal>>, ReadFault>
+    requires count { count < 2 ^ 64 - 1 }
+    requires number { answer.old ≡ decimal (count + 1) }
+    requires room { length answer.old ≤ 21 }
+    ensures line { NextLine (was_line result) reader.old reader.new (R.remaining source.old)
+        (R.remaining source.new) }
+    ensures failures { FailsOnRead (was_line result) (R.failures source.old)
+        (R.failures source.new) }
+    ensures few { came_of reader.new ≤ most_of reader.new }
+    ensures limit { most_of reader.new ≡ most_of reader.old }
+    ensures written { Keeps (W.contents sink.old) (W.contents sink.new) }
+    ensures writes { W.failures sink.new ≡ W.failures sink.old }
+    ensures stalls { W.stalls sink.new ≡ W.stalls sink.old }
+    ensures comes { I.keeps interpreter.old
+        → IfOk result (λ next. IfSome next (λ said.
+        Comes I.does I.refuses I.starves interpreter.old count (line_of reader.new) said
+        answer.new interpreter.new)) }
+    ensures untouched { IsNoLine result → interpreter.new ≡ interpreter.old }
+    ensures keeps { I.keeps interpreter.old → I.keeps interpreter.new }
+{
+    if let Some((len, said)) = interpreter.interpret_ahead(reader.ahead(), count, answer) {
+        reader.take_short(len);
+        return Ok(Some(said));
+    }
+    if !next_line(reader, source, sink)? {
+        return Ok(None);
+    }
+    Ok(Some(interpreter.interpret(reader.line(), count, answer)))
 }
 
 /// Interprets the lines of an input one by one, and writes the answer of each before the next is read; before a read that may
@@ -131,16 +204,22 @@ pub fn interpret_lines<I: Interpreter, R: Source, W: Sink>(
         (W.failures sink.new) (W.stalls sink.old) (W.stalls sink.new) }
 {
     let mut reader = LineReader::new();
-    let mut answer: Line = ArrayVec::new();
+    let mut answer = Line::new();
+    let mut number = Counter::of(1);
     let mut count: u64 = 0;
-    'lines: while next_line(&mut reader, source, sink)? {
-        answer = ArrayVec::new();
-        let answered = match interpreter.interpret(reader.line(), count, &mut answer) {
+    'lines: loop {
+        answer.begin(&number);
+        let next = interpret_next(interpreter, &mut reader, source, sink, count, &mut answer)?;
+        let said = match next {
+            Some(said) => said,
+            None => return Ok(()),
+        };
+        let answered = match said {
             Ok(answered) => answered,
             Err(Refusal::NotUnderstood) => return Err(RunFault::Line(reader.number())),
             Err(Refusal::Memory) => return Err(RunFault::Memory),
         };
-        let Ok(told) = write_answer(answered, &answer, count, sink) else {
+        let Ok(told) = write_answer(answered, &answer, count, &mut number, sink) else {
             return Err(RunFault::Write);
         };
         count = told;
@@ -148,5 +227,4 @@ pub fn interpret_lines<I: Interpreter, R: Source, W: Sink>(
             return Ok(());
         }
     }
-    Ok(())
 }

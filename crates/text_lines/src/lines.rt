@@ -72,7 +72,7 @@ pub struct LineReader {
 }
 
 impl LineReader {
-    ghost use Rattle.text_lines.specs.Lines.{without_return};
+    ghost use Rattle.text_lines.specs.Lines.{without_return, BeginsLine};
     ghost use Rattle.text_lines.specs.LineReaders.{line_of, pending_of, number_of, came_of, most_of, ended_of, NextLine, FailsOnRead, ReadsMore};
 
     /// A reader to which no byte has come, and to which at most 2^40 may.
@@ -190,6 +190,32 @@ impl LineReader {
         };
         self.came += n as u64;
         Ok(n > 0)
+    }
+
+    /// What has come after the last line, as far as a line and its LF may reach.
+    #[inline(always)]
+    pub(crate) fn ahead(&self) -> &[u8]
+        ensures { result.now ≡ take 1024 (pending_of self.now) }
+    {
+        let pending = &self.buffer.as_slice()[self.taken..];
+        &pending[..pending.len().min(LONGEST + 1)]
+    }
+
+    /// Hands out the next line, which has come with its LF and has `len` bytes before it.
+    #[inline(always)]
+    pub(crate) fn take_short(&mut self, len: usize)
+        requires { BeginsLine len (pending_of self.old) }
+        ensures line { (known : Option (List ℕ))
+            → NextLine (Ok true) self.old self.new known known }
+        ensures text { line_of self.new ≡ take len (pending_of self.old) }
+        ensures few { came_of self.new ≤ most_of self.new }
+        ensures limit { most_of self.new ≡ most_of self.old }
+    {
+        self.buffer.consume(self.taken);
+        self.text_len = len;
+        self.taken = len + 1;
+        self.number += 1;
+        self.ended = false;
     }
 
     /// Hands out the next line where it has come with its LF, and says so. Otherwise it lets go of the last one, and nothing

@@ -1,14 +1,107 @@
 //! A line that is written, piece by piece, in a buffer of a fixed length.
 
-ghost use Rattle.std.specs.Prelude.{◌≡◌, [], ◌∷◌, ◌++◌, ◌+◌, ◌/◌, ◌%◌, ◌<◌, ◌≤◌, decimal, length};
-ghost use Rattle.arrayvec.specs.ArrayVec.{array_vec_len};
+ghost use Rattle.std.specs.Prelude.{◌≡◌, [], ◌∷◌, ◌++◌, ◌+◌, ◌/◌, ◌%◌, ◌<◌, ◌≤◌, decimal, length, take};
+ghost use Rattle.text_lines.specs.Counters.{digits_of};
 ghost use Rattle.text_lines.specs.Written.{hex, hex_digit};
 
-use arrayvec::ArrayVec;
+use crate::counter::Counter;
 use itoa::Buffer;
+use std::marker::Model;
+
+/// How many bytes a [`Line`] has room for.
+pub const ROOM: usize = 128;
 
 /// A line that is being written.
-pub type Line = ArrayVec<u8, 128>;
+#[derive(Drop)]
+pub struct Line {
+    bytes: [u8; ROOM],
+    len: usize,
+}
+
+impl Model for Line {
+    ghost use Rattle.std.specs.Prelude.{ℕ, List, ◌≤◌, take};
+
+    ghost Value = { List ℕ };
+
+    ghost view = { λ line. take line.len line.bytes };
+
+    ghost invariant = { λ line. line.len ≤ 128 };
+}
+
+impl Line {
+    /// An empty line.
+    #[inline(always)]
+    pub fn new() -> Line
+        ensures { result ≡ [] }
+    {
+        Line {
+            bytes: [0; ROOM],
+            len: 0,
+        }
+    }
+
+    /// Lets go of what is written.
+    #[inline(always)]
+    pub fn clear(&mut self)
+        ensures { self.new ≡ [] }
+    {
+        self.len = 0;
+    }
+
+    /// How many bytes are written.
+    #[inline(always)]
+    pub fn len(&self) -> usize
+        ensures value { result ≡ length self.now }
+        ensures fits { result ≤ 128 }
+    {
+        self.len
+    }
+
+    /// What is written.
+    #[inline(always)]
+    pub fn as_slice(&self) -> &[u8]
+        ensures value { result.now ≡ self.now }
+        ensures most { length self.now ≤ 128 }
+    {
+        &self.bytes[..self.len]
+    }
+
+    /// Appends a byte.
+    #[inline(always)]
+    pub fn push(&mut self, byte: u8)
+        requires { length self.old < 128 }
+        ensures items { self.new ≡ self.old ++ byte ∷ [] }
+        ensures len { length self.new ≡ length self.old + 1 }
+    {
+        self.bytes[self.len] = byte;
+        self.len += 1;
+    }
+
+    /// Begins the line anew, with a number in decimal.
+    #[inline(always)]
+    pub fn begin(&mut self, number: &Counter)
+        requires { number.now.len ≤ 20 }
+        ensures digits { self.new ≡ digits_of number.now }
+        ensures len { length self.new ≤ 21 }
+    {
+        self.bytes[..20].copy_from_slice(&number.front);
+        self.bytes[number.len] = number.last;
+        self.len = number.len + 1;
+    }
+
+    /// Appends the first bytes of a text. Sixteen are copied in any case: a copy of a length that the compiler knows takes no call, and no
+    /// branch.
+    #[inline(always)]
+    pub fn push_front(&mut self, text: &[u8; 16], len: usize)
+        requires room { length self.old + 16 ≤ 128 }
+        requires few { len ≤ 16 }
+        ensures items { self.new ≡ self.old ++ take len text.now }
+        ensures len { length self.new ≡ length self.old + len }
+    {
+        self.bytes[self.len..self.len + 16].copy_from_slice(text);
+        self.len += len;
+    }
+}
 
 /// The digit of a value below 16.
 fn hex_digit(value: u8) -> u8
@@ -61,9 +154,9 @@ fn word_digits(value: u64) -> [u8; 16]
 
 /// Appends the lowest digits of a number, the highest of them first.
 pub fn push_hex(line: &mut Line, value: u64, digits: u8)
-    requires { array_vec_len line.old + digits ≤ 128 }
-    ensures items { line.new.items ≡ line.old.items ++ hex digits value }
-    ensures len { array_vec_len line.new ≡ array_vec_len line.old + digits }
+    requires { length line.old + digits ≤ 128 }
+    ensures items { line.new ≡ line.old ++ hex digits value }
+    ensures len { length line.new ≡ length line.old + digits }
 {
     if digits == 16 {
         push_text(line, &word_digits(value));
@@ -82,13 +175,13 @@ pub fn push_hex(line: &mut Line, value: u64, digits: u8)
 
 /// Appends a text.
 pub fn push_text(line: &mut Line, text: &[u8])
-    requires { array_vec_len line.old + length text.now ≤ 128 }
-    ensures items { line.new.items ≡ line.old.items ++ text.now }
-    ensures len { array_vec_len line.new ≡ array_vec_len line.old + length text.now }
+    requires { length line.old + length text.now ≤ 128 }
+    ensures items { line.new ≡ line.old ++ text.now }
+    ensures len { length line.new ≡ length line.old + length text.now }
 {
-    let Ok(()) = line.try_extend_from_slice(text) else {
-        unreachable!();
-    };
+    let end = line.len + text.len();
+    line.bytes[line.len..end].copy_from_slice(text);
+    line.len = end;
 }
 
 /// The two digits of each number below 100, one pair after the other.
@@ -99,10 +192,10 @@ static PAIRS: [u8; 200] =
 #[inline(always)]
 fn push_pair(line: &mut Line, pair: u64)
     requires below { pair < 100 }
-    requires room { array_vec_len line.old + 2 ≤ 128 }
-    ensures items { line.new.items ≡ line.old.items
+    requires room { length line.old + 2 ≤ 128 }
+    ensures items { line.new ≡ line.old
         ++ (48 + pair / 10) ∷ (48 + pair % 10) ∷ [] }
-    ensures len { array_vec_len line.new ≡ array_vec_len line.old + 2 }
+    ensures len { length line.new ≡ length line.old + 2 }
 {
     let from = pair as usize * 2;
     line.push(PAIRS[from]);
@@ -113,9 +206,9 @@ fn push_pair(line: &mut Line, pair: u64)
 #[inline(always)]
 fn push_first(line: &mut Line, n: u64)
     requires below { n < 100 }
-    requires room { array_vec_len line.old + 2 ≤ 128 }
-    ensures items { line.new.items ≡ line.old.items ++ decimal n }
-    ensures len { array_vec_len line.new ≤ array_vec_len line.old + 2 }
+    requires room { length line.old + 2 ≤ 128 }
+    ensures items { line.new ≡ line.old ++ decimal n }
+    ensures len { length line.new ≤ length line.old + 2 }
 {
     if n < 10 {
         line.push(b'0' + n as u8);
@@ -128,9 +221,9 @@ fn push_first(line: &mut Line, n: u64)
 #[inline(always)]
 fn push_short(line: &mut Line, n: u64)
     requires below { n < 10000 }
-    requires room { array_vec_len line.old + 4 ≤ 128 }
-    ensures items { line.new.items ≡ line.old.items ++ decimal n }
-    ensures len { array_vec_len line.new ≤ array_vec_len line.old + 4 }
+    requires room { length line.old + 4 ≤ 128 }
+    ensures items { line.new ≡ line.old ++ decimal n }
+    ensures len { length line.new ≤ length line.old + 4 }
 {
     if n < 100 {
         push_first(line, n);
@@ -143,9 +236,9 @@ fn push_short(line: &mut Line, n: u64)
 /// Appends a number in decimal. The digits of a number below 10^8 are written where they stay; those of a larger one are copied.
 #[inline(always)]
 pub fn push_decimal(line: &mut Line, n: u64)
-    requires { array_vec_len line.old + 20 ≤ 128 }
-    ensures items { line.new.items ≡ line.old.items ++ decimal n }
-    ensures len { array_vec_len line.new ≤ array_vec_len line.old + 20 }
+    requires { length line.old + 20 ≤ 128 }
+    ensures items { line.new ≡ line.old ++ decimal n }
+    ensures len { length line.new ≤ length line.old + 20 }
 {
     if n < 10000 {
         push_short(line, n);

@@ -1,6 +1,5 @@
 //! Sizes and permissions in words.
 
-use arrayvec::ArrayVec;
 use pmp_encoding::Perm;
 use printed_lines::{letters, push_size};
 use std::process::Abort;
@@ -9,7 +8,7 @@ use text_lines::Line;
 /// That each size is written so.
 fn expect_sizes(rt: &impl Abort, rows: &[(u64, &str)]) {
     for (size, text) in rows {
-        let mut line: Line = ArrayVec::new();
+        let mut line = Line::new();
         push_size(&mut line, *size);
         assert!(rt; line.as_slice() == text.as_bytes(), "{text}");
     }

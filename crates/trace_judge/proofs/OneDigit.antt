@@ -1,21 +1,23 @@
 -- The number of a cause is one digit.
-use Rattle.std.proofs.Common.{◌≡◌, ℕ, ◌+◌, List, [], ◌∷◌, ◌++◌, refl, codes, arith}
-use Rattle.std.specs.Prelude.{Err, decimal}
+use Rattle.std.proofs.Common.{◌≡◌, ◌≤◌, take, get_or, refl, arith}
+use Rattle.std.specs.Prelude.{Result, Ok, Err}
 use Rattle.std.proofs.lemmas.Fmt.{decimal_digit}
 use Rattle.pmp_match.specs.declared.cause.Cause.{Cause}
 use Rattle.pmp_match.specs.declared.cause.Cause.TheVariants.{FetchMisaligned, FetchFault, LoadMisaligned, LoadFault, StoreMisaligned, StoreFault}
 use Rattle.pmp_match.specs.Causes.{cause_number}
-use Rattle.trace_judge.specs.Answers.{answer_text}
+use Rattle.trace_judge.specs.declared.answers.Ending.{Ending}
+use Rattle.trace_judge.specs.declared.answers.TheConstants.{ENDINGS}
+use Rattle.trace_judge.specs.Answers.{answer_end, place_of}
 
-one_digit : (cause : Cause) → decimal (cause_number cause) ≡ (48 + cause_number cause) ∷ []
-one_digit FetchMisaligned = decimal_digit (cause_number FetchMisaligned) (omega arith)
-one_digit FetchFault = decimal_digit (cause_number FetchFault) (omega arith)
-one_digit LoadMisaligned = decimal_digit (cause_number LoadMisaligned) (omega arith)
-one_digit LoadFault = decimal_digit (cause_number LoadFault) (omega arith)
-one_digit StoreMisaligned = decimal_digit (cause_number StoreMisaligned) (omega arith)
-one_digit StoreFault = decimal_digit (cause_number StoreFault) (omega arith)
+-- the ending in the table is that of the answer
+abbrev Ends : Ending → Result (Unit {0}) Cause → Type 0
+Ends ending answer = (take ending.len ending.text ≡ answer_end answer) × (ending.len ≤ 16)
 
--- the pieces of a fault's line
-pub fault_line : (n : ℕ) (cause : Cause) (line said number whole : List ℕ) (digit : ℕ) → line ≡ decimal n → said ≡ line ++ codes " fault " → digit ≡ cause_number cause → number ≡ said ++ (48 + digit) ∷ [] → whole ≡ number ++ 10 ∷ [] → whole ≡ answer_text n (Err cause)
-fault_line n cause line said number whole digit a b d e f =
-    rw (f, e, b, a, d, one_digit cause) refl
+pub each_ends : (other : Ending) (answer : Result (Unit {0}) Cause) → Ends (get_or ENDINGS (place_of answer) other) answer
+each_ends other (Ok done) = (refl, omega arith)
+each_ends other (Err FetchMisaligned) = (rw (decimal_digit (cause_number FetchMisaligned) (omega arith)) refl, omega arith)
+each_ends other (Err FetchFault) = (rw (decimal_digit (cause_number FetchFault) (omega arith)) refl, omega arith)
+each_ends other (Err LoadMisaligned) = (rw (decimal_digit (cause_number LoadMisaligned) (omega arith)) refl, omega arith)
+each_ends other (Err LoadFault) = (rw (decimal_digit (cause_number LoadFault) (omega arith)) refl, omega arith)
+each_ends other (Err StoreMisaligned) = (rw (decimal_digit (cause_number StoreMisaligned) (omega arith)) refl, omega arith)
+each_ends other (Err StoreFault) = (rw (decimal_digit (cause_number StoreFault) (omega arith)) refl, omega arith)

@@ -12,10 +12,19 @@ use Rattle.hart_trace.specs.declared.event.Event.{Event}
 use Rattle.hart_trace.specs.declared.event.Event.TheVariants as events
 use Rattle.hart_trace.specs.Events.{meaning_of}
 
+-- what stands behind the number of an answer: ` ok` or ` fault CAUSE`
+abbrev pub answer_end : Result (Unit {0}) Cause → List ℕ
+answer_end (Ok done) = codes " ok\n"
+answer_end (Err cause) = codes " fault " ++ decimal (cause_number cause) ++ codes "\n"
+
+-- the place of such an ending among all of them: one for what is allowed, then by exception code
+abbrev pub place_of : Result (Unit {0}) Cause → ℕ
+place_of (Ok done) = 0
+place_of (Err cause) = cause_number cause + 1
+
 -- the text of one answer: `N ok` or `N fault CAUSE`
 abbrev pub answer_text : ℕ → Result (Unit {0}) Cause → List ℕ
-answer_text n (Ok done) = decimal n ++ codes " ok\n"
-answer_text n (Err cause) = decimal n ++ codes " fault " ++ decimal (cause_number cause) ++ codes "\n"
+answer_text n answer = decimal n ++ answer_end answer
 
 -- the access of an event, and no other event
 abbrev pub only_access : Option (Option (ℕ × Event)) → Option (Option Access)

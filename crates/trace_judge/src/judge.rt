@@ -8,7 +8,7 @@ ghost use Rattle.trace_judge.specs.Answers.{access_on, answered_by, is_no_access
 use crate::access_judge::AccessJudge;
 use crate::answers::push_answer;
 use byte_streams::{Sink, Source};
-use hart_trace::{Event, is_wordless, parse_by_words, plain_access, spaced_access};
+use hart_trace::{Event, access_ahead, is_wordless, parse_by_words, spaced_access};
 use pmp_encoding::Bank;
 use pmp_match::{Access, Segments};
 use text_lines::{Interpreter, Line, NotUnderstood, Refusal, RunFault, interpret_lines};
@@ -25,17 +25,6 @@ fn taken_apart(access: Access) -> Access
         size: access.size,
         address: access.address,
     }
-}
-
-/// The access of a plain line. None says nothing of the line.
-#[inline(always)]
-fn plain_access_in(line: &[u8]) -> Option<Access>
-    ensures { IfSome result (λ access. access_on line.now ≡ Some (Some access)) }
-{
-    if let Some((access, _)) = plain_access(line) {
-        return Some(taken_apart(access));
-    }
-    None
 }
 
 /// The access of a line, and none where it has no words.
@@ -76,20 +65,28 @@ impl<J: AccessJudge> Interpreter for LineJudge<'_, J> {
 
     ghost keeps = { λ now. Unit {0} };
 
-    #[inline(always)]
     fn interpret(&mut self, line: &[u8], count: u64, answer: &mut Line) -> Result<bool, Refusal> {
-        if let Some(access) = plain_access_in(line) {
-            push_answer(answer, count + 1, self.by.outcome(&access));
-            return Ok(true);
-        }
         let Ok(found) = access_in(line) else {
             return Err(Refusal::NotUnderstood);
         };
         let Some(access) = found else {
             return Ok(false);
         };
-        push_answer(answer, count + 1, self.by.outcome(&access));
+        push_answer(answer, self.by.outcome(&access));
         Ok(true)
+    }
+
+    #[inline(always)]
+    fn interpret_ahead(
+        &mut self,
+        ahead: &[u8],
+        count: u64,
+        answer: &mut Line,
+    ) -> Option<(usize, Result<bool, Refusal>)> {
+        let (found, len) = access_ahead(ahead)?;
+        let access = taken_apart(found);
+        push_answer(answer, self.by.outcome(&access));
+        Some((len, Ok(true)))
     }
 }
 

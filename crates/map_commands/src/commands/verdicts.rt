@@ -15,7 +15,7 @@ use text_lines::Line;
 
 /// The line for a yes: of a certificate of version 2 it names the limit.
 fn accepted(header: &Header) -> Line
-    ensures { result.items ≡ accepted_by header.now.version header.now.count }
+    ensures { result ≡ accepted_by header.now.version header.now.count }
 {
     match header.version {
         Version::One => accepted_line(u64::from(header.count)),
@@ -28,7 +28,7 @@ fn accepted(header: &Header) -> Line
 /// The line for a no: the number and the name of the refusal.
 #[tactic(auto, using(crate::proofs::Names::name_fits))]
 fn refused(refusal: CheckRefusal) -> Line
-    ensures { result.items ≡ refused_text (refusal_number refusal) (refusal_name refusal) }
+    ensures { result ≡ refused_text (refusal_number refusal) (refusal_name refusal) }
 {
     refused_line(u64::from(refusal.number()), refusal.name())
 }
@@ -37,13 +37,13 @@ fn refused(refusal: CheckRefusal) -> Line
 pub fn verdict(found: &Result<Header, CheckRefusal>) -> (Line, u8)
     ensures yes { (view : View) (bytes : List ℕ) → IsJudged view bytes found.now
         → (n : ℕ) (right : IsRight view bytes n)
-        → (result.0.items ≡ accepted_by right.version n) × (result.1 ≡ 0) }
+        → (result.0 ≡ accepted_by right.version n) × (result.1 ≡ 0) }
     ensures no { (view : View) (bytes : List ℕ) → IsJudged view bytes found.now
         → (refusal : CheckRefusal) → RefusalStands view bytes refusal
-        → (result.0.items ≡ refused_text (refusal_number refusal) (refusal_name refusal))
+        → (result.0 ≡ refused_text (refusal_number refusal) (refusal_name refusal))
         × (result.1 ≡ 1) }
     ensures verdict { (view : View) (bytes : List ℕ) → IsJudged view bytes found.now
-        → IsVerdict view bytes result.0.items result.1 }
+        → IsVerdict view bytes result.0 result.1 }
 {
     match found {
         Ok(header) => (accepted(header), 0),

@@ -1,20 +1,5 @@
-use Rattle.std.proofs.Common.{◌∷◌, sym}
-use Rattle.hart_trace.proofs.PlainLines.{cut, store_plain, store_words}
+use Rattle.hart_trace.proofs.PlainFronts.{store_front}
 use Rattle.hart_trace.proofs.plain.plain_store.Goals as goal
 
-pub returns-clause-access : goal.returns-clause-access
-returns-clause-access c =
-    let digits = c.in_ok-digits.digits.now in
-    let address = c.in_ok-address.ensures.digits in
-    let starts = cut c.args.rest.now _ _ digits _ _ _ c.in_ok-mode.ensures address c.in_ok-digits.ensures in (
-      48 ∷ 120 ∷ digits,
-      store_words c.args.rest.now address.digits digits _ _ _ _ _ starts (sym address.value_is) c.in_ok-value.ensures c.in_ok-access.ensures,
-      sym c.in_ok-value.ensures,
-    )
-
-pub returns-clause-plain : goal.returns-clause-plain
-returns-clause-plain c =
-    let digits = c.in_ok-digits.digits.now in
-    let address = c.in_ok-address.ensures.digits in
-    let starts = cut c.args.rest.now _ _ digits _ _ _ c.in_ok-mode.ensures address c.in_ok-digits.ensures in
-    store_plain c.args.rest.now address.digits digits _ _ _ _ starts (sym address.value_is) c.in_ok-value.ensures
+pub returns : goal.returns
+returns c = store_front c.args.rest.now c.in_ok-mode.digits.now c.in_ok-address.behind.now c.in_ok-digits.digits.now c.in_ok-value.end.now c.in_ok-mode.mode c.in_ok-mode.size c.in_ok-address.address c.in_ok-value.value c.in_ok-access.access c.in_ok-mode.ensures c.in_ok-address.ensures.digits c.in_ok-digits.ensures c.in_ok-value.ensures.digits c.in_ok-access.ensures

@@ -1,34 +1,24 @@
-use Rattle.std.proofs.Common.{◌∙◌, ◌∷◌, ◌≤◌, [], length, refl, sym, arith}
-use Rattle.std.proofs.lemmas.Bool.{eqb-true, eqb-false}
-use Rattle.text_lines.specs.Words.{split_words}
-use Rattle.hart_trace.proofs.Calls.{all_read, one_read}
-use Rattle.hart_trace.proofs.PlainEvents.{number_ends, number_leads}
+use Rattle.std.proofs.Common.{◌∙◌, ◌≤◌, [], ap, length, sym, arith}
+use Rattle.std.proofs.lemmas.Bool.{eqb-false}
+use Rattle.hart_trace.proofs.PlainEvents.{last_read, more_read, none_read}
 use Rattle.hart_trace.proofs.plain_events.plain_words.Goals as goal
 
-pub returns-then-is_empty-clause-event : goal.returns-then-is_empty-clause-event
-returns-then-is_empty-clause-event c =
+pub returns-in-None : goal.returns-in-None
+returns-in-None c =
     let i = c.words.invariant in
-    let number = c.in_ok-number.ensures in
-    let ends = number_ends c.words.left.now c.in_ok-number.behind.now c.in_ok-number.number number (eqb-true _ 0 (sym c.is_empty.ensures ∙ c.if-is_empty.true)) in
-    let read = one_read (number.0 ∷ number.1) [] (split_words c.args.rest.now) c.words.numbers.items c.push.new.self.items c.in_ok-number.number number.4 c.push.ensures.items (rw ends.0 at i.told) (rw ends.0 at i.count) in
     let few : length c.push.new.self.items ≤ 8 = omega (arith, c.push.ensures.len, i.few, eqb-false _ 8 (sym c.is_full.ensures.value ∙ c.if-is_full.false)) in
-    sym (all_read (split_words c.args.rest.now) [] c.push.new.self.items refl few read.0 read.1)
+    last_read c.args.rest.now c.words.left.now c.in_ok-number.behind.now i.read.0 c.words.numbers.items c.push.new.self c.in_ok-number.number i.read.1 c.in_ok-number.ensures c.push.ensures.items few
 
-pub returns-then-is_empty-clause-plain : goal.returns-then-is_empty-clause-plain
-returns-then-is_empty-clause-plain c =
-    let number = c.in_ok-number.ensures in
-    let ends = number_ends c.words.left.now c.in_ok-number.behind.now c.in_ok-number.number number (eqb-true _ 0 (sym c.is_empty.ensures ∙ c.if-is_empty.true)) in
-    c.words.invariant.plain ends.1
+pub words-init : goal.words-init
+words-init c = record {
+  few = omega (arith, ap length c.new-numbers.ensures);
+  read = ([], rw c.new-numbers.ensures (none_read c.args.rest.now));
+}
 
 pub words-preserved : goal.words-preserved
 words-preserved c =
     let i = c.words.invariant in
-    let number = c.in_ok-number.ensures in
-    let leads = number_leads c.words.left.now c.in_ok-number.behind.now c.in_ok-left.left.now c.in_ok-number.number number c.in_ok-left.ensures in
-    let read = one_read (number.0 ∷ number.1) (split_words c.in_ok-left.left.now) (split_words c.args.rest.now) c.words.numbers.items c.push.new.self.items c.in_ok-number.number number.4 c.push.ensures.items (rw leads.0 at i.told) (rw leads.0 at i.count) in
     record {
       few = omega (arith, c.push.ensures.len, i.few, eqb-false _ 8 (sym c.is_full.ensures.value ∙ c.if-is_full.false));
-      told = read.0;
-      count = read.1;
-      plain = λ plain. i.plain (leads.1 plain);
+      read = more_read c.args.rest.now c.words.left.now c.in_ok-number.behind.now c.in-Some.next.now i.read.0 c.words.numbers.items c.push.new.self.items c.in_ok-number.number i.read.1 c.in_ok-number.ensures c.in-Some.ensures c.push.ensures.items;
     }

@@ -1,4 +1,4 @@
-use Rattle.std.proofs.Common.{ℕ, List, ◌≡◌, ◌++◌, length}
+use Rattle.std.proofs.Common.{◌≡◌, ◌++◌, length}
 use Rattle.input_hints.specs.Hints.{hints_in}
 use Rattle.input_hints.proofs.forms.hints_in.Given as goal
 

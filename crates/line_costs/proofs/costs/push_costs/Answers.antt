@@ -1,4 +1,4 @@
-use Rattle.std.proofs.Common.{[], Option, get_or, ◌≡◌, ◌∙◌, ◌+◌, ◌-◌, ◌<◌, ◌++◌, ℕ, List, ap, append-nil, append_assoc, arith, drop, length, min, sym, take}
+use Rattle.std.proofs.Common.{[], Option, get_or, ◌≡◌, ◌∙◌, ◌+◌, ◌-◌, ◌<◌, ◌++◌, ℕ, List, ap, append-nil, append_assoc, arith, drop, length, sym, take}
 use Rattle.std.proofs.lemmas.Grind.{common_steps}
 use Rattle.std.proofs.lemmas.List.{drop_more}
 use Rattle.map_lint.specs.declared.idle.Numbered.{Numbered}

@@ -1,6 +1,5 @@
 use Rattle.std.proofs.Common.{refl, sym, ◌∙◌}
 use Rattle.std.proofs.lemmas.Result.{err_from_is_err_and}
-use Rattle.command_inputs.specs.Inputs.{no_bytes}
 use Rattle.lint_commands.specs.Lint.{linted}
 use Rattle.lint_commands.specs.Lint as lints
 use Rattle.lint_commands.proofs.lint.do_lint.Goals as goal

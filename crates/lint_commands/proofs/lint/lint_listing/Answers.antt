@@ -1,4 +1,4 @@
-use Rattle.std.proofs.Common.{[], ◌≡◌, ◌∙◌, ap, refl, true, false}
+use Rattle.std.proofs.Common.{[], ◌∙◌, ap, refl, true, false}
 use Rattle.std.specs.Option.{is_some}
 use Rattle.byte_streams.proofs.Writings.{takes_none}
 use Rattle.register_text.specs.Listings.{listed}

@@ -1,6 +1,6 @@
 -- The lines of the entries before the next stand at the front.
 use Rattle.std.proofs.Common.{◌≡◌, ◌≤◌, ◌+◌, ◌*◌, ◌++◌, decimal, drop, length, take}
-use Rattle.printed_lines.specs.Numerals.{digits_of}
+use Rattle.text_lines.specs.Counters.{digits_of}
 use Rattle.printed_lines.specs.Plans.{entries_text}
 use Rattle.printed_lines.proofs.entry_lines.put_entries.Given as goal
 

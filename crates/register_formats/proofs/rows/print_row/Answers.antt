@@ -5,7 +5,7 @@ use Rattle.register_formats.proofs.rows.print_row.Goals as goal
 pub returns-in_err-write_whole : goal.returns-in_err-write_whole
 returns-in_err-write_whole g c =
     rw (err_from_is_err_and c.from_residual.result c.from_residual.ensures.1).1
-    (breaks_before g.W.Sink.contents g.W.Sink.failures g.W.Sink.stalls c.args.row.now.back.items (rw c.as_slice.ensures.value at c.in_err-write_whole.ensures))
+    (breaks_before g.W.Sink.contents g.W.Sink.failures g.W.Sink.stalls c.args.row.now.back (rw c.as_slice.ensures.value at c.in_err-write_whole.ensures))
 
 pub returns-in_err-write_whole-2 : goal.returns-in_err-write_whole-2
 returns-in_err-write_whole-2 g c =

@@ -5,7 +5,7 @@ pub returns-in_ok-text-in-Err : goal.returns-in_ok-text-in-Err
 returns-in_ok-text-in-Err c = λ xlen bytes is. record {
   leaves = c.args.listing.now;
   listed_as = is;
-  line = c.in-Err.line.items;
+  line = c.in-Err.line;
   is_line = c.in-Err.ensures.refused;
   lines = c.in_ok-text-in-Err.ensures;
 }

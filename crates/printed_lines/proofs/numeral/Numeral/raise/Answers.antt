@@ -1,9 +1,0 @@
--- A last digit below nine is raised.
-use Rattle.std.proofs.Common.{take}
-use Rattle.printed_lines.proofs.Numerals.{raised}
-use Rattle.printed_lines.proofs.numeral.Numeral.raise.Goals as goal
-
-pub returns-then-self-lt57-clause-digits : goal.returns-then-self-lt57-clause-digits
-returns-then-self-lt57-clause-digits c =
-    let old = c.args.self.now in
-    raised (take old.len old.front) old.last c.args.n c.requires.digits c.if-self-lt57.true c.requires.next

@@ -1,7 +1,0 @@
--- The digits of a number of which the last stands apart.
-use Rattle.std.specs.Prelude.{ℕ, List, [], ◌∷◌, ◌++◌, take}
-use Rattle.printed_lines.specs.declared.numeral.Numeral.{Numeral}
-
--- the digits before the last one, and that
-abbrev pub digits_of : Numeral → List ℕ
-digits_of number = take number.len number.front ++ number.last ∷ []

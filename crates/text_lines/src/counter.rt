@@ -1,0 +1,55 @@
+//! A number's digits, from which those of the next one are made.
+
+ghost use Rattle.std.specs.Prelude.{◌≡◌, ◌+◌, ◌<◌, ◌≤◌, ◌^◌, decimal};
+ghost use Rattle.text_lines.specs.Counters.{digits_of};
+
+use crate::written::{Line, push_decimal};
+
+/// The digits of a number in decimal. Its last digit stands apart: the others are those of the next number too, where
+/// that is no multiple of ten.
+#[derive(Drop)]
+pub struct Counter {
+    pub front: [u8; 20],
+    /// How many of these the number has before its last.
+    pub len: usize,
+    pub last: u8,
+}
+
+impl Counter {
+    /// The digits of a number.
+    pub fn of(n: u64) -> Counter
+        ensures digits { digits_of result ≡ decimal n }
+        ensures len { result.len ≤ 20 }
+    {
+        let mut front = [0; 20];
+        let last = b'0' + (n % 10) as u8;
+        if n < 10 {
+            return Counter {
+                front,
+                len: 0,
+                last,
+            };
+        }
+        let mut line = Line::new();
+        push_decimal(&mut line, n / 10);
+        let len = line.len();
+        front[..len].copy_from_slice(line.as_slice());
+        Counter { front, len, last }
+    }
+
+    /// Makes the digits of n those of the next number.
+    #[inline(always)]
+    pub fn raise(&mut self, n: u64)
+        requires digits { digits_of self.old ≡ decimal n }
+        requires len { self.old.len ≤ 20 }
+        requires next { n + 1 < 2 ^ 64 }
+        ensures digits { digits_of self.new ≡ decimal (n + 1) }
+        ensures len { self.new.len ≤ 20 }
+    {
+        if self.last < b'9' {
+            self.last += 1;
+            return;
+        }
+        *self = Counter::of(n + 1);
+    }
+}

@@ -1,0 +1,64 @@
+//! Sixteen bytes at once as hexadecimal digits. One by one, or four by four, they take three times the instructions, and a branch at
+//! the end of a number that is guessed wrong.
+
+ghost use Rattle.std.specs.Prelude.{◌≡◌, ◌<◌, ◌≤◌, nat_lt, length, map, take};
+ghost use Rattle.std.specs.List.{prefix_len};
+ghost use Rattle.text_lines.specs.Hexadecimal.{first_set, nibble_of, nibbles_value};
+ghost use Rattle.text_lines.specs.Numbers.{digit_of};
+
+use std::simd::prelude::*;
+
+/// How many bytes are looked at.
+pub(crate) const LANES: usize = 16;
+
+/// The place of the lowest bit that is set, and sixteen where none is.
+#[inline(always)]
+fn first_set(mask: u64) -> usize
+    ensures { result ≡ first_set mask }
+{
+    if mask == 0 {
+        return LANES;
+    }
+    mask.trailing_zeros() as usize
+}
+
+/// How many of the first sixteen bytes come before one that is no hexadecimal digit.
+#[inline(always)]
+pub(crate) fn digits_before(text: &[u8]) -> usize
+    requires { 16 ≤ length text.now }
+    ensures digits { result ≡ prefix_len (λ b. nat_lt (digit_of b) 16) (take 16 text.now) }
+    ensures most { result ≤ 16 }
+{
+    let bytes = u8x16::from_slice(text);
+    let from_zero = bytes - u8x16::splat(b'0');
+    let from_a = (bytes | u8x16::splat(0x20)) - u8x16::splat(b'a');
+    let others = from_zero.simd_ge(u8x16::splat(10)) & from_a.simd_ge(u8x16::splat(6));
+    first_set(others.to_bitmask())
+}
+
+/// The values of the first sixteen bytes as hexadecimal digits, and the lowest four bits of those that are none.
+#[inline(always)]
+fn nibbles(text: &[u8]) -> u8x16
+    requires { 16 ≤ length text.now }
+    ensures { result ≡ map nibble_of (take 16 text.now) }
+{
+    let bytes = u8x16::from_slice(text);
+    let from_a = (bytes | u8x16::splat(0x20)) - u8x16::splat(b'a');
+    let nine = from_a
+        .simd_lt(u8x16::splat(6))
+        .select(u8x16::splat(9), u8x16::splat(0));
+    (bytes & u8x16::splat(15)) + nine
+}
+
+/// What the first sixteen bytes are worth by these values, the highest first.
+#[inline(always)]
+pub(crate) fn value_of_all(text: &[u8]) -> u64
+    requires { 16 ≤ length text.now }
+    ensures { result ≡ nibbles_value (take 16 text.now) }
+{
+    let nibbles = nibbles(text);
+    let high: u8x8 = nibbles.shuffle(nibbles, [0, 2, 4, 6, 8, 10, 12, 14]);
+    let low: u8x8 = nibbles.shuffle(nibbles, [1, 3, 5, 7, 9, 11, 13, 15]);
+    let pairs = high * u8x8::splat(16) + low;
+    u64::from_be_bytes(pairs.to_array())
+}
