@@ -27,6 +27,8 @@ fn len_before(ahead: &[u8], behind: &[u8]) -> Option<usize>
 
 /// The access of the plain line that some bytes begin with, and how many bytes the line has before its LF. The line names no hart.
 /// None says nothing of the bytes.
+///
+/// For those who ask for accesses alone: an [`Event`] has room for a call's eight words, which [`event_ahead`] returns with each.
 #[inline(always)]
 pub fn access_ahead(ahead: &[u8]) -> Option<(Access, usize)>
     requires { length ahead.now ≤ 1024 }

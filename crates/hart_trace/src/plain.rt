@@ -161,9 +161,6 @@ fn behind_keyword(line: &[u8]) -> Option<(Kind, &[u8])>
 
 /// The access of the plain line that a text begins with, which names no hart, the value that a store writes, 0 else, and what stands
 /// after it. None says nothing of the text.
-///
-/// For those who ask for accesses alone: an [`Event`](crate::Event) has room for a call's eight words, which
-/// [`parse_line`](crate::parse_line) returns with each.
 #[inline(always)]
 pub(crate) fn plain_access(text: &[u8]) -> Option<(Access, u64, &[u8])>
     ensures { IfSome result (λ found.

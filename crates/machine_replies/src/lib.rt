@@ -1,7 +1,8 @@
 //! What the events of a modelled machine are answered with, and the line of each reply in a report.
 //!
 //! ```text
-//! push_reply(&mut line, 1, &Reply::Done);
+//! push_decimal(&mut line, 1);
+//! push_reply(&mut line, &Reply::Done);
 //! ```
 #![tactic(auto)]
 

@@ -1,5 +1,5 @@
-//! Sixteen bytes at once as hexadecimal digits. One by one, or four by four, they take three times the instructions, and a branch at
-//! the end of a number that is guessed wrong.
+//! Sixteen bytes at once as hexadecimal digits. One by one, or four by four, they take two to three times the instructions, and a
+//! branch at the end of a number that is guessed wrong.
 
 ghost use Rattle.std.specs.Prelude.{◌≡◌, ◌<◌, ◌≤◌, nat_lt, length, map, take};
 ghost use Rattle.std.specs.List.{prefix_len};
