@@ -10,6 +10,9 @@ ghost use Rattle.byte_streams.specs.Writings.{writing, Prints};
 use std::io::{Read, Write};
 use thiserror::Error;
 
+/// How many bytes the array of a short text has room for.
+pub const TEXT_ROOM: usize = 128;
+
 /// A device did not read or write.
 #[derive(Clone, Copy, Debug, PartialEq, Eq, Error)]
 #[error("a device failed")]
@@ -48,6 +51,21 @@ pub trait Sink {
         ensures bytes { WriteAppends (contents self.old) (contents self.new) result buf.now }
         ensures failures { CountsFailure result (failures self.old) (failures self.new) }
         ensures stalls { CountsStall result buf.now (stalls self.old) (stalls self.new) };
+
+    /// Takes some of the first `len` bytes of a short text's array, as [`write`](Sink::write) does, and says how many. A sink with
+    /// room may copy more of the array than it takes: a copy of a length that the compiler knows takes no call, and no branch.
+    #[inline(always)]
+    fn write_front(&mut self, text: &[u8; TEXT_ROOM], len: usize) -> Result<usize, DeviceFault>
+        requires { len ≤ 128 }
+        ensures bound { IfOk result (λ n. n ≤ len) }
+        ensures bytes { WriteAppends (contents self.old) (contents self.new) result
+            (take len text.now) }
+        ensures failures { CountsFailure result (failures self.old) (failures self.new) }
+        ensures stalls { CountsStall result (take len text.now)
+            (stalls self.old) (stalls self.new) }
+    {
+        self.write(&text[..len])
+    }
 
     /// Hands on what it holds back, where it holds any. What can't be handed on now is still held: a later write says so, or
     /// the end.
@@ -188,6 +206,30 @@ pub fn write_whole<W: Sink>(sink: &mut W, bytes: &[u8]) -> Result<(), DeviceFaul
     }
     if n > 0 {
         return write_on(sink, &bytes[n..]);
+    }
+    Err(DeviceFault)
+}
+
+/// Writes all of the first `len` bytes of a short text's array, as [`write_whole`] does.
+#[inline(always)]
+pub fn write_whole_front<W: Sink>(
+    sink: &mut W,
+    text: &[u8; TEXT_ROOM],
+    len: usize,
+) -> Result<(), DeviceFault>
+    requires { len ≤ 128 }
+    ensures { Prints (take len text.now)
+        (writing W.contents W.failures W.stalls sink.old sink.new) result }
+{
+    if len == 0 {
+        return Ok(());
+    }
+    let n = sink.write_front(text, len)?;
+    if n == len {
+        return Ok(());
+    }
+    if n > 0 {
+        return write_on(sink, &text[n..len]);
     }
     Err(DeviceFault)
 }

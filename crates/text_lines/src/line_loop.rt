@@ -13,7 +13,7 @@ use crate::counter::Counter;
 use crate::fault::{ReadFault, RunFault};
 use crate::lines::LineReader;
 use crate::written::Line;
-use byte_streams::{DeviceFault, Sink, Source, write_whole};
+use byte_streams::{DeviceFault, Sink, Source};
 use thiserror::Error;
 
 /// Why a line has no answer that should have one.
@@ -103,7 +103,7 @@ fn write_answer<W: Sink>(
     if !answered {
         return Ok(count);
     }
-    write_whole(sink, answer.as_slice())?;
+    answer.write_to(sink)?;
     number.raise(count + 1);
     Ok(count + 1)
 }

@@ -1,15 +1,17 @@
 //! A line that is written, piece by piece, in a buffer of a fixed length.
 
 ghost use Rattle.std.specs.Prelude.{◌≡◌, [], ◌∷◌, ◌++◌, ◌+◌, ◌/◌, ◌%◌, ◌<◌, ◌≤◌, decimal, length, take};
+ghost use Rattle.byte_streams.specs.Writings.{writing, Prints};
 ghost use Rattle.text_lines.specs.Counters.{digits_of};
 ghost use Rattle.text_lines.specs.Written.{hex, hex_digit};
 
 use crate::counter::Counter;
+use byte_streams::{DeviceFault, Sink, TEXT_ROOM, write_whole_front};
 use itoa::Buffer;
 use std::marker::Model;
 
 /// How many bytes a [`Line`] has room for.
-pub const ROOM: usize = 128;
+pub const ROOM: usize = TEXT_ROOM;
 
 /// A line that is being written.
 #[derive(Drop)]
@@ -100,6 +102,15 @@ impl Line {
     {
         self.bytes[self.len..self.len + 16].copy_from_slice(text);
         self.len += len;
+    }
+
+    /// Writes all of it.
+    #[inline(always)]
+    pub fn write_to<W: Sink>(&self, sink: &mut W) -> Result<(), DeviceFault>
+        ensures { Prints self.now
+            (writing W.contents W.failures W.stalls sink.old sink.new) result }
+    {
+        write_whole_front(sink, &self.bytes, self.len)
     }
 }
 

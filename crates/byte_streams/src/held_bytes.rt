@@ -1,0 +1,90 @@
+//! The bytes that are held for a writer, in an array of fixed size on the heap.
+
+ghost use Rattle.std.specs.Prelude.{◌≡◌, ◌+◌, ◌-◌, ◌<◌, ◌≤◌, ◌++◌, [], IfOk, length, take, drop};
+
+use crate::streams::TEXT_ROOM;
+use std::alloc::{AllocError, Global};
+use std::marker::Model;
+
+/// How many bytes are held at most. A signal that ends the program can lose so many.
+pub const HELD: usize = 8192;
+
+/// How many bytes [`HeldBytes::push_front`] copies. Most answers have fewer.
+pub const COPIED: usize = 32;
+
+/// Bytes that a writer is to have, in their order.
+#[derive(Drop)]
+pub struct HeldBytes {
+    bytes: Box<[u8; HELD]>,
+    len: usize,
+}
+
+impl Model for HeldBytes {
+    ghost use Rattle.std.specs.Prelude.{ℕ, List, ◌≤◌, take};
+
+    ghost Value = { List ℕ };
+
+    ghost view = { λ held. take held.len held.bytes.value };
+
+    ghost invariant = { λ held. held.len ≤ 8192 };
+}
+
+impl HeldBytes {
+    /// No bytes. It stands apart, so that no caller has the array among its locals.
+    #[inline(never)]
+    pub fn new(alloc: Global) -> Result<HeldBytes, AllocError>
+        ensures { IfOk result (λ held. held ≡ []) }
+    {
+        let bytes = Box::new(alloc, [0; HELD])?;
+        Ok(HeldBytes { bytes, len: 0 })
+    }
+
+    /// The bytes.
+    #[inline(always)]
+    pub fn as_slice(&self) -> &[u8]
+        ensures value { result.now ≡ self.now }
+        ensures most { length self.now ≤ 8192 }
+    {
+        &self.bytes[..self.len]
+    }
+
+    /// How many more bytes there is room for.
+    #[inline(always)]
+    pub fn room(&self) -> usize
+        ensures { result + length self.now ≡ 8192 }
+    {
+        HELD - self.as_slice().len()
+    }
+
+    /// Appends bytes.
+    #[inline(always)]
+    pub fn push(&mut self, bytes: &[u8])
+        requires { length self.old + length bytes.now ≤ 8192 }
+        ensures { self.new ≡ self.old ++ bytes.now }
+    {
+        let end = self.len + bytes.len();
+        self.bytes[self.len..end].copy_from_slice(bytes);
+        self.len = end;
+    }
+
+    /// Appends the first bytes of a short text. [`COPIED`] are copied in any case, without a call and without a branch on how many are
+    /// appended.
+    #[inline(always)]
+    pub fn push_front(&mut self, text: &[u8; TEXT_ROOM], len: usize)
+        requires room { length self.old + 32 ≤ 8192 }
+        requires few { len ≤ 32 }
+        ensures { self.new ≡ self.old ++ take len text.now }
+    {
+        self.bytes[self.len..self.len + COPIED].copy_from_slice(&text[..COPIED]);
+        self.len += len;
+    }
+
+    /// Lets go of the first bytes. Those behind them move to the front.
+    pub fn drop_front(&mut self, count: usize)
+        requires { count ≤ length self.old }
+        ensures { self.new ≡ drop count self.old }
+    {
+        self.bytes.copy_within(count..self.len, 0);
+        self.len -= count;
+    }
+}
