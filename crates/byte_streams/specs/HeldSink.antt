@@ -16,12 +16,12 @@ abbrev pub contents_of : {T : Type 0} → (T → Option (List ℕ)) → HeldSink
 contents_of contents sink = append_known (contents (writer_of sink)) (held_in sink)
 
 -- how often a write to it has failed
-abbrev pub failures_of : {T : Type 0} → HeldSink T → ℕ
-failures_of sink = sink.failures
+abbrev pub failed_writes : {T : Type 0} → HeldSink T → ℕ
+failed_writes sink = sink.failures
 
 -- how often a write to it took none of some bytes
-abbrev pub stalls_of : {T : Type 0} → HeldSink T → ℕ
-stalls_of sink = sink.stalls
+abbrev pub stalled_writes : {T : Type 0} → HeldSink T → ℕ
+stalled_writes sink = sink.stalls
 
 -- a writer took some of the first of these bytes, or all
 abbrev pub TakesFront : List ℕ → Option (List ℕ) → Option (List ℕ) → Type 0

@@ -2,7 +2,7 @@
 
 ghost use Rattle.std.specs.Prelude.{◌≡◌, ◌≤◌, [], IfOk, length, take, true};
 ghost use Rattle.std.specs.Io.KnownBytes.{Appends, Keeps, WriteAppends};
-ghost use Rattle.byte_streams.specs.HeldSink.{contents_of, held_in, failures_of, stalls_of, writer_of, TakesFront};
+ghost use Rattle.byte_streams.specs.HeldSink.{contents_of, held_in, failed_writes, stalled_writes, writer_of, TakesFront};
 ghost use Rattle.byte_streams.specs.Streams.{one_failure_more, CountsFailure, CountsStall};
 
 use crate::held_bytes::{COPIED, HELD, HeldBytes};
@@ -25,8 +25,8 @@ impl<T> HeldSink<T> {
     /// Counts a failure.
     #[tactic(auto, unfolding(crate::specs::Streams::one_failure_more))]
     fn fault(&mut self) -> DeviceFault
-        ensures failures { failures_of self.new ≡ one_failure_more (failures_of self.old) }
-        ensures stalls { stalls_of self.new ≡ stalls_of self.old }
+        ensures failures { failed_writes self.new ≡ one_failure_more (failed_writes self.old) }
+        ensures stalls { stalled_writes self.new ≡ stalled_writes self.old }
         ensures held { held_in self.new ≡ held_in self.old }
         ensures writer { writer_of self.new ≡ writer_of self.old }
     {
@@ -40,8 +40,8 @@ impl<T> HeldSink<T> {
         T: Drop,
         ensures writer { IfOk result (λ sink. writer_of sink ≡ writer) }
         ensures held { IfOk result (λ sink. held_in sink ≡ []) }
-        ensures failures { IfOk result (λ sink. failures_of sink ≡ 0) }
-        ensures stalls { IfOk result (λ sink. stalls_of sink ≡ 0) }
+        ensures failures { IfOk result (λ sink. failed_writes sink ≡ 0) }
+        ensures stalls { IfOk result (λ sink. stalled_writes sink ≡ 0) }
     {
         let held = HeldBytes::new(alloc)?;
         Ok(HeldSink {
@@ -77,8 +77,8 @@ impl<T: Write> HeldSink<T> {
         ensures part { TakesFront (held_in self.old) (T.contents (writer_of self.old))
             (T.contents (writer_of self.new)) }
         ensures all { result ≡ true → held_in self.new ≡ [] }
-        ensures failures { failures_of self.new ≡ failures_of self.old }
-        ensures stalls { stalls_of self.new ≡ stalls_of self.old }
+        ensures failures { failed_writes self.new ≡ failed_writes self.old }
+        ensures stalls { stalled_writes self.new ≡ stalled_writes self.old }
     {
         let written = write_out(&mut self.writer, self.held.as_slice());
         self.held.drop_front(written);
@@ -91,8 +91,10 @@ impl<T: Write> HeldSink<T> {
         ensures bound { IfOk result (λ n. n ≤ length buf.now) }
         ensures bytes { WriteAppends (contents_of T.contents self.old)
             (contents_of T.contents self.new) result buf.now }
-        ensures failures { CountsFailure result (failures_of self.old) (failures_of self.new) }
-        ensures stalls { CountsStall result buf.now (stalls_of self.old) (stalls_of self.new) }
+        ensures failures { CountsFailure result
+            (failed_writes self.old) (failed_writes self.new) }
+        ensures stalls { CountsStall result buf.now
+            (stalled_writes self.old) (stalled_writes self.new) }
     {
         let Ok(n) = self.writer.write(buf) else {
             return Err(self.fault());
@@ -110,8 +112,10 @@ impl<T: Write> HeldSink<T> {
         ensures bound { IfOk result (λ n. n ≤ length buf.now) }
         ensures bytes { WriteAppends (contents_of T.contents self.old)
             (contents_of T.contents self.new) result buf.now }
-        ensures failures { CountsFailure result (failures_of self.old) (failures_of self.new) }
-        ensures stalls { CountsStall result buf.now (stalls_of self.old) (stalls_of self.new) }
+        ensures failures { CountsFailure result
+            (failed_writes self.old) (failed_writes self.new) }
+        ensures stalls { CountsStall result buf.now
+            (stalled_writes self.old) (stalled_writes self.new) }
     {
         if self.held.room() < buf.len() && !self.hand_on() {
             return Err(self.fault());
@@ -146,9 +150,9 @@ impl<T: Write> HeldSink<T> {
 impl<T: Write> Sink for HeldSink<T> {
     ghost contents = { contents_of T.contents };
 
-    ghost failures = { failures_of };
+    ghost failures = { failed_writes };
 
-    ghost stalls = { stalls_of };
+    ghost stalls = { stalled_writes };
 
     #[inline(always)]
     fn write(&mut self, buf: &[u8]) -> Result<usize, DeviceFault> {

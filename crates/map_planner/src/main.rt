@@ -7,10 +7,9 @@
 mod printed_plan;
 
 use crate::printed_plan::{PlanFault, print_plan_in};
-use byte_streams::Counted;
+use byte_streams::{Counted, HeldSink};
 use program_files::{FileToRead, RetryInterrupted};
 use std::env;
-use std::io::{BufWriter, Write};
 use std::process::ExitCode;
 
 /// The status where there is no plan to print.
@@ -23,14 +22,16 @@ const NO_OUTPUT: u8 = 3;
 fn print_plan_of(rt: &HostRuntime, name: &str) -> Result<(), PlanFault> {
     let mut file = Counted::new(FileToRead::new(rt, name));
     let out = RetryInterrupted::new(rt.stdout());
-    let Ok(out) = BufWriter::new(rt.alloc(), out) else {
+    let Ok(mut out) = HeldSink::new(rt.alloc(), out) else {
         return Err(PlanFault::Memory);
     };
-    let mut out = Counted::new(out);
-    print_plan_in(rt.alloc(), &mut file, &mut out)?;
-    match out.into_inner().flush() {
-        Ok(()) => Ok(()),
-        Err(_) => Err(PlanFault::NotWritten),
+    let printed = print_plan_in(rt.alloc(), &mut file, &mut out);
+    let (is_whole, _) = out.close();
+    printed?;
+    if is_whole {
+        Ok(())
+    } else {
+        Err(PlanFault::NotWritten)
     }
 }
 

@@ -1,14 +1,6 @@
 -- How a task ends whose output is held in part until its end.
 use Rattle.std.specs.Prelude.{ℕ, ◌<◌, ◌≤◌, List, Option}
-use Rattle.std.specs.Io.Buffered.{writer_contents}
 use Rattle.std.specs.Io.KnownBytes.{Keeps}
-use Rattle.std.specs.declared.io.buffered.BufWriter.{BufWriter}
-use Rattle.byte_streams.specs.declared.streams.Counted.{Counted}
-use Rattle.byte_streams.specs.Streams.{inner_of}
-
--- the bytes that a stream has, and then those that are still held for it, where they are known
-abbrev pub held_by : {T A : Type 0} → (T → Option (List ℕ)) → Counted (BufWriter T A) → Option (List ℕ)
-held_by contents device = writer_contents contents (inner_of device)
 
 -- a task of that status ended: the stream has all that was held, or the last of it was refused, which is reported and is status 3.
 -- Where a trouble was told before, nothing is said of the last of it

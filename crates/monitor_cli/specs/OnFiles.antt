@@ -1,12 +1,10 @@
 -- A task that is done on its files and on the standard streams.
 use Rattle.std.specs.Prelude.{◌≡◌, ◌≢◌, ℕ, List, [], Bool, true, false, Option, Some, None, Err, codes, option_map}
 use Rattle.std.specs.Borrow.{Bor}
-use Rattle.std.specs.Global.{Global}
 use Rattle.std.specs.Option.{option_or}
-use Rattle.std.specs.Io.Buffered.{writer_buffer, writer_inner}
-use Rattle.std.specs.declared.io.buffered.BufWriter.{BufWriter}
-use Rattle.byte_streams.specs.declared.streams.Counted.{Counted}
-use Rattle.byte_streams.specs.Streams.{failures_of, inner_of, stalls_of}
+use Rattle.byte_streams.specs.declared.held_sink.HeldSink.{HeldSink}
+use Rattle.byte_streams.specs.HeldSink.{contents_of, failed_writes, held_in, stalled_writes, writer_of}
+use Rattle.byte_streams.specs.Streams.{failures_of}
 use Rattle.byte_streams.specs.Writings.{writing, Breaks, IsUnwritten, TakesAll, Writing}
 use Rattle.program_files.specs.declared.certificate_file.CertificateFile.{CertificateFile}
 use Rattle.program_files.specs.declared.devices.RetryInterrupted.{RetryInterrupted}
@@ -24,7 +22,7 @@ use Rattle.task_files.specs.Inputs.{reader_in, reason_in, AreInputs, AreInputsAg
 use Rattle.task_files.specs.Names.{IsUnderNames}
 use Rattle.task_files.specs.Words.{IsTextOf}
 use Rattle.task_files.specs.declared.names.ShownNames.{ShownNames}
-use Rattle.monitor_cli.specs.HeldOutput.{held_by, IsClosed}
+use Rattle.monitor_cli.specs.HeldOutput.{IsClosed}
 use Rattle.monitor_cli.specs.Programs.{Ends, Tells}
 
 -- what has a name, and why it failed, where it did
@@ -47,17 +45,13 @@ certificate_over old new = placing (λ file. None) (λ file. file.part.failures)
 
 -- what a task prints to: held in part until its end, and why it failed last is kept
 abbrev pub Output : Type 0 → Type 0
-Output O = Counted (BufWriter (Explained (RetryInterrupted O)) Global)
-
--- what holds the bytes of an output
-abbrev pub buffer_in : {O : Type 0} → Output O → BufWriter (Explained (RetryInterrupted O)) Global
-buffer_in {O = O} out = inner_of {T = BufWriter (Explained (RetryInterrupted O)) Global} out
+Output O = HeldSink (Explained (RetryInterrupted O))
 
 -- an output goes to a stream, holds nothing for it yet, and has not failed
 pub record IsOpened {O : Type 0} (stream : O) (out : Output O) : Type 0 where
-  pub over : (writer_inner (buffer_in out)).inner.inner ≡ stream
-  pub empty : writer_buffer (buffer_in out) ≡ []
-  pub fresh : (failures_of out ≡ 0) × ((writer_inner (buffer_in out)).reason ≡ None)
+  pub over : (writer_of out).inner.inner ≡ stream
+  pub empty : held_in out ≡ []
+  pub fresh : (failed_writes out ≡ 0) × ((writer_of out).reason ≡ None)
 
 -- why the first failed of what a task read first and after that, of its certificate and of its output, under the names that messages show
 abbrev pub IsFirstFailure : ShownNames → Option Reason → Option Reason → Option Reason → Option Reason → Option (Bor (List ℕ) × Reason) → Type 0
@@ -104,7 +98,7 @@ pub record EndsOnFiles (R D P : Type 0) {S F O E : Type 0} (stdin : S) (source :
   pub inputs : AreInputs stdin task first second
   pub fresh : (cert.part.failures ≡ 0) × (cert.part.reason ≡ None)
   pub opened : IsOpened stdout out
-  pub ends : Ends shown (source first first_end) (source second second_end) (certificate_over cert cert_end) (writing (held_by contents) failures_of stalls_of out held) (telling old told) ended
-  pub closed : IsClosed (held_by contents held) (contents stream) (closing ≡ told) (Tells (telling told closing) (Err troubles.Output)) ended status
+  pub ends : Ends shown (source first first_end) (source second second_end) (certificate_over cert cert_end) (writing (contents_of contents) failed_writes stalled_writes out held) (telling old told) ended
+  pub closed : IsClosed (contents_of contents held) (contents stream) (closing ≡ told) (Tells (telling told closing) (Err troubles.Output)) ended status
   pub why_is : IsFirstFailure names (reason_in first_end) (reason_in second_end) cert_end.part.reason stream.reason why
   pub follows : Follows hints task status (new ≡ closing) (HintsOnFiles R D stdin source task shown (telling closing new)) (SaysWhy (telling closing new) why)

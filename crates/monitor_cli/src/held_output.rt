@@ -1,11 +1,9 @@
 //! A task whose output is held in part until its end.
 
-ghost use Rattle.std.specs.Prelude.{◌≡◌, ℕ, Err, true};
-ghost use Rattle.std.specs.Io.KnownBytes.{Keeps};
-ghost use Rattle.byte_streams.specs.Streams.{failures_of, stalls_of};
-ghost use Rattle.monitor_cli.specs.HeldOutput.{IsClosed, held_by};
-ghost use Rattle.byte_streams.specs.declared.streams.Counted.{Counted};
-ghost use Rattle.std.specs.declared.io.buffered.BufWriter.{BufWriter};
+ghost use Rattle.std.specs.Prelude.{◌≡◌, ℕ, Err};
+ghost use Rattle.byte_streams.specs.HeldSink.{contents_of, failed_writes, stalled_writes};
+ghost use Rattle.monitor_cli.specs.HeldOutput.{IsClosed};
+ghost use Rattle.byte_streams.specs.declared.held_sink.HeldSink.{HeldSink};
 ghost use Rattle.byte_streams.specs.Writings.{writing};
 ghost use Rattle.map_commands.specs.CertifiedPlan.{placing};
 ghost use Rattle.command_inputs.specs.Inputs.{reading};
@@ -13,36 +11,25 @@ ghost use Rattle.monitor_cli.specs.Programs.{Ends, Tells};
 ghost use Rattle.program_troubles.specs.declared.trouble.Trouble.TheVariants.{Output};
 
 use crate::program::perform;
-use byte_streams::{Counted, Sink, Source};
+use byte_streams::{HeldSink, Sink, Source};
 use program_files::WholeSink;
 use program_tasks::Task;
 use program_troubles::Trouble;
 use std::alloc::Global;
-use std::io::{BufWriter, Write};
-
-/// Hands on what is still held, and answers the stream, and whether it has all. What could not be written is let go of, not
-/// tried again.
-fn handed_on<T: Write + Drop>(out: Counted<BufWriter<T>>) -> (bool, T)
-    ensures { result.0 ≡ true → Keeps (held_by T.contents out) (T.contents result.1) }
-{
-    let mut out = out.into_inner();
-    let is_whole = out.flush().is_ok();
-    let (stream, _) = out.into_parts();
-    (is_whole, stream)
-}
+use std::io::Write;
 
 /// Hands on the last of the output of a task of that status, and answers the program's status and the stream: 3 where that
 /// was refused and no trouble was told before.
 pub fn closed<T: Write + Drop, E: Sink>(
     status: u8,
-    out: Counted<BufWriter<T>>,
+    out: HeldSink<T>,
     err: &mut E,
 ) -> (u8, T)
-    ensures { IsClosed (held_by T.contents out) (T.contents result.1) (err.new ≡ err.old)
+    ensures { IsClosed (contents_of T.contents out) (T.contents result.1) (err.new ≡ err.old)
         (Tells (writing E.contents E.failures E.stalls err.old err.new) (Err Output)) status
         result.0 }
 {
-    let (is_whole, stream) = handed_on(out);
+    let (is_whole, stream) = out.close();
     if is_whole || status >= 2 {
         return (status, stream);
     }
@@ -57,16 +44,16 @@ pub fn perform_and_close<R: Source, C: WholeSink, T: Write + Drop, E: Sink>(
     first: &mut R,
     second: &mut R,
     cert: &mut C,
-    out: Counted<BufWriter<T>>,
+    out: HeldSink<T>,
     err: &mut E,
 ) -> (u8, T)
     ensures { let source = reading R.remaining R.failures in
         let telling = writing E.contents E.failures E.stalls in
-        (held : Counted (BufWriter T _)) × (told : E) × (ended : ℕ)
+        (held : HeldSink T) × (told : E) × (ended : ℕ)
         × Ends task.now (source first.old first.new) (source second.old second.new)
         (placing C.contents C.failures C.stalls C.stands C.is_apart cert.old cert.new)
-        (writing (held_by T.contents) failures_of stalls_of out held) (telling err.old told) ended
-        × IsClosed (held_by T.contents held) (T.contents result.1) (err.new ≡ told)
+        (writing (contents_of T.contents) failed_writes stalled_writes out held) (telling err.old told) ended
+        × IsClosed (contents_of T.contents held) (T.contents result.1) (err.new ≡ told)
         (Tells (telling told err.new) (Err Output)) ended result.0 }
 {
     let mut out = out;

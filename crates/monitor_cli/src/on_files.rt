@@ -7,13 +7,13 @@ ghost use Rattle.program_tasks.specs.Hints.{are_told};
 ghost use Rattle.monitor_cli.specs.OnFiles.{failure_of, input_over, EndsOnFiles, Follows, HintsOnFiles, SaysWhy};
 
 use crate::held_output::perform_and_close;
-use byte_streams::{Counted, Sink};
+use byte_streams::{HeldSink, Sink};
 use input_hints::tell_hints;
 use program_files::{CertificateFile, Explained, Reason, RetryInterrupted};
 use program_tasks::{Request, Task};
 use program_troubles::print_reason;
 use std::alloc::{AllocError, Global};
-use std::io::{BufWriter, Read, Write};
+use std::io::{Read, Write};
 use std::rt::Files;
 use task_files::{NO_FILE, ShownNames, cert_of, inputs, inputs_again, may_be_hinted, with_names};
 
@@ -114,9 +114,7 @@ pub fn perform_on_files<'a, R: Files, S: Read + Copy, O: Write + Drop, E: Sink>(
     let cert = cert_of(task).unwrap_or(NO_FILE);
     let mut cert = CertificateFile::new(lent.files, lent.alloc, cert)?;
     let out = Explained::new(RetryInterrupted::new(stdout));
-    let Ok(out) = BufWriter::new(lent.alloc, out) else {
-        return Err(AllocError);
-    };
+    let out = HeldSink::new(lent.alloc, out)?;
     let shown = with_names(task, names);
     let (status, out) = perform_and_close(
         lent.alloc,
@@ -124,7 +122,7 @@ pub fn perform_on_files<'a, R: Files, S: Read + Copy, O: Write + Drop, E: Sink>(
         &mut first,
         &mut second,
         &mut cert,
-        Counted::new(out),
+        out,
         err,
     );
     let why = failure(names.first(), first.into_inner().reason())

@@ -12,7 +12,7 @@ use byte_streams::{DeviceFault, Sink, write_whole};
 use pmp_encoding::{Limit, PackedEntry};
 use register_width::Xlen;
 
-/// How many entries' lines are put together before they go to the sink: more bytes than a `BufWriter` of std holds, which then
+/// How many entries' lines are put together before they go to the sink: more bytes than a `HeldSink` holds, which then
 /// hands them on without a copy.
 const LINES: usize = 320;
 

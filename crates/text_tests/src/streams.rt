@@ -1,7 +1,10 @@
 //! Sources and sinks, those that fail among them.
 
 use byte_streams::fakes::PieceSink;
-use byte_streams::{Counted, Sink, Source, write_whole};
+use byte_streams::{Counted, HeldSink, Sink, Source, TEXT_ROOM, write_whole, write_whole_front};
+use std::alloc::Global;
+use std::io::{self, ErrorKind, Write};
+use std::process::Abort;
 
 #[test]
 fn bytes_are_written_in_pieces_and_none_twice(rt: HostRuntime) {
@@ -49,9 +52,59 @@ fn readers_of_std_are_sources(rt: HostRuntime) {
     assert!(rt; source.into_inner().is_empty());
 }
 
+/// A writer of std that takes few bytes at a time, and fails where it is told to.
+#[derive(Drop)]
+struct PieceWriter {
+    sink: PieceSink,
+}
+
+impl Write for PieceWriter {
+    fn write(&mut self, buf: &[u8]) -> io::Result<usize> {
+        match self.sink.write(buf) {
+            Ok(n) => Ok(n),
+            Err(_) => Err(io::Error::from(ErrorKind::Other)),
+        }
+    }
+
+    fn flush(&mut self) -> io::Result<()> {
+        Ok(())
+    }
+}
+
+/// A writer that takes so many bytes a write, the write that fails, and what it has of two answers at the end: the first was handed
+/// on before the second was held.
+type Held<'a> = (usize, Option<u64>, &'a [u8]);
+
+const HELD: [Held<'static>; 5] = [
+    (4096, None, b"1 ok\n2 denied\n"),
+    (2, None, b"1 ok\n2 denied\n"),
+    (2, Some(2), b"1 ok\n2 denied\n"),
+    (2, Some(5), b"1 ok\n2 "),
+    (0, None, b""),
+];
+
+/// Two answers are held for a writer, and it has what the row says.
+fn are_held(rt: &impl Abort, alloc: Global, row: &Held<'_>) {
+    let writer = PieceWriter {
+        sink: PieceSink::new(row.0, row.1),
+    };
+    let mut sink = HeldSink::new(alloc, writer).expect(rt, "memory");
+    let mut text = [b'!'; TEXT_ROOM];
+    text[..5].copy_from_slice(b"1 ok\n");
+    assert!(rt; write_whole_front(&mut sink, &text, 5).is_ok());
+    sink.flush();
+    assert!(rt; write_whole(&mut sink, b"2 denied\n").is_ok());
+    let (is_whole, writer) = sink.close();
+    assert!(rt; is_whole == (row.2.len() == 14), "{:?}", row.1);
+    assert!(rt; writer.sink.written() == row.2, "{:?}", row.1);
+}
+
 #[test]
 fn writers_of_std_are_sinks(rt: HostRuntime) {
     let mut sink = Counted::new(Vec::new(rt.alloc()));
     assert!(rt; sink.write(b"1 ok\n") == Ok(5));
     assert!(rt; sink.into_inner().as_slice() == b"1 ok\n".as_slice());
+    for row in &HELD {
+        are_held(&rt, rt.alloc(), row);
+    }
 }

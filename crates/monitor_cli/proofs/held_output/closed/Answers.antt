@@ -6,7 +6,7 @@ use Rattle.monitor_cli.proofs.held_output.closed.Goals.{then-is_whole-via-then-i
 
 pub returns-then-is_whole : goal.returns-then-is_whole
 returns-then-is_whole g c = elim c.then-is_whole.branch [
-  | then-is_whole-via-then-is_whole w ↦ whole (c.handed_on-is_whole.ensures w.if-is_whole.true) refl
+  | then-is_whole-via-then-is_whole w ↦ whole (c.close-is_whole.ensures.whole w.if-is_whole.true) refl
   | then-is_whole-via-else-is_whole+then-status-ge2 w ↦ stopped w.if-status-ge2.true refl
 ]
 
