@@ -9,6 +9,7 @@ mod FirstByte
 pub mod PlainText
 mod Counters
 mod HexDigits
+mod WordDigits
 mod Hexadecimals
 mod Digits
 mod DecimalPairs

@@ -1,5 +1,7 @@
 -- The value of digits, from the first on.
-use Rattle.std.proofs.Common.{◌≡◌, ℕ, ◌+◌, ◌*◌, ◌^◌, ◌<◌, ◌≤◌, ◌∙◌, true, zero, suc, List, [], ◌∷◌, length, length-take-le, get_or, take, drop, refl, ap, sym, ltb, fold, take-append-drop, take_all, mul-le-mul_right, Some, None, arith}
+use Rattle.std.proofs.Common.{◌≡◌, ℕ, ◌+◌, ◌*◌, ◌^◌, ◌<◌, ◌≤◌, ◌∙◌, true, zero, suc, List, [], ◌∷◌, length, length-take-le, get_or, take, drop, refl, ap, sym, ltb, fold, take-append-drop, take_all, mul-le-mul_right, Some, None, lit<, arith}
+use Rattle.std.proofs.Math.Nat.{pow-le-pow_right}
+use Rattle.std.proofs.lemmas.Nat.{pow-add}
 use Rattle.std.proofs.lemmas.Bool.{and_right, and_from, lt-ltb, le-ltb, cond-true}
 use Rattle.std.proofs.lemmas.List.{drop_all}
 use Rattle.std.proofs.lemmas.Grind.{common_steps, fold-append}
@@ -74,3 +76,11 @@ ends_here base (b ∷ text) (suc n) digit below is large = ends_here base text n
 
 pub ends_all : (base : ℕ) (text : List ℕ) (n : ℕ) → length text ≤ n → EndsDigits base (drop n text)
 ends_all base text n all = let none : drop n text ≡ [] = drop_all n text all in rw none tt
+
+-- one more decimal digit
+pub decimal_more : (value len digit : ℕ) → value < 10 ^ len → digit < 10 → value * 10 + digit < 10 ^ (len + 1)
+decimal_more value len digit small one = let more : 10 ^ (len + 1) ≡ 10 ^ len * 10 = pow-add 10 len 1 in omega (arith, small, one, more)
+
+-- nineteen decimal digits fit
+pub decimal_fits : (value len : ℕ) → value < 10 ^ len → len ≤ 19 → value < 2 ^ 64
+decimal_fits value len small few = let most : 10 ^ len ≤ 10 ^ 19 = pow-le-pow_right (lit< tt) few in omega (arith, small, most)

@@ -1,10 +1,11 @@
 //! Sixteen bytes at once as hexadecimal digits. One by one, or four by four, they take two to three times the instructions, and a
-//! branch at the end of a number that is guessed wrong.
+//! branch at the end of a number that is guessed wrong. A number is written so too.
 
 ghost use Rattle.std.specs.Prelude.{◌≡◌, ◌<◌, ◌≤◌, nat_lt, length, map, take};
 ghost use Rattle.std.specs.List.{prefix_len};
 ghost use Rattle.text_lines.specs.Hexadecimal.{first_set, nibble_of, nibbles_value};
 ghost use Rattle.text_lines.specs.Numbers.{digit_of};
+ghost use Rattle.text_lines.specs.Written.{hex};
 
 use std::simd::prelude::*;
 
@@ -61,4 +62,19 @@ pub(crate) fn value_of_all(text: &[u8]) -> u64
     let low: u8x8 = nibbles.shuffle(nibbles, [1, 3, 5, 7, 9, 11, 13, 15]);
     let pairs = high * u8x8::splat(16) + low;
     u64::from_be_bytes(pairs.to_array())
+}
+
+/// The sixteen digits of a number, the highest first. Its bytes come lowest first, so the digits of the last of them begin.
+#[inline(always)]
+pub(crate) fn word_digits(value: u64) -> u8x16
+    ensures { result ≡ hex 16 value }
+{
+    let bytes = u64x1::splat(value).to_le_bytes();
+    let high = bytes >> u8x8::splat(4);
+    let low = bytes & u8x8::splat(15);
+    let nibbles: u8x16 = high.shuffle(low, [7, 15, 6, 14, 5, 13, 4, 12, 3, 11, 2, 10, 1, 9, 0, 8]);
+    let zeros = nibbles
+        .simd_lt(u8x16::splat(10))
+        .select(u8x16::splat(b'0'), u8x16::splat(b'a' - 10));
+    zeros + nibbles
 }

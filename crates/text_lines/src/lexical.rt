@@ -140,6 +140,46 @@ fn leading_sixteen(text: &[u8], base: u8) -> Option<(u64, usize)>
     Some((value_of_all(text) >> (64 - 4 * len), len))
 }
 
+/// The value of a decimal digit, and 10 or more for a byte that is none. The table of all digits takes two instructions more.
+#[inline(always)]
+fn decimal(byte: u8) -> u64
+    ensures digit { result < 10 → result ≡ digit_of byte }
+    ensures other { 10 ≤ result → 10 ≤ digit_of byte }
+{
+    u64::from(byte).wrapping_sub(u64::from(b'0'))
+}
+
+/// So many decimal digits have a value below 2^64.
+const DECIMALS: usize = 19;
+
+/// The value of the decimal digits that a text begins with, and how many they are: one to eighteen. None where there are others, and
+/// of another base. So few have no value that is too large, and so no product or sum of them is tested.
+#[inline(always)]
+fn leading_decimals(text: &[u8], base: u8) -> Option<(u64, usize)>
+    ensures { IfSome result (λ found.
+        BeginsNumeral base text.now found.0 (drop found.1 text.now)
+        × (found.1 ≤ length text.now)) }
+{
+    if base != 10 {
+        return None;
+    }
+    let end = text.len().min(DECIMALS);
+    let mut value: u64 = 0;
+    let mut len = 0;
+    while len < end {
+        let digit = decimal(text[len]);
+        if digit >= 10 {
+            break;
+        }
+        value = value * 10 + digit;
+        len += 1;
+    }
+    if len == 0 || len == DECIMALS {
+        return None;
+    }
+    Some((value, len))
+}
+
 /// The value of the digits that a text begins with, of a base from 2 to 16, and what stands after them. None where there are
 /// none, or their value is 2^64 or more.
 #[inline(always)]
@@ -152,10 +192,13 @@ pub fn leading_numeral(text: &[u8], base: u8) -> Option<(u64, &[u8])>
     if let Some((value, len)) = leading_sixteen(text, base) {
         return Some((value, &text[len..]));
     }
+    if let Some((value, len)) = leading_decimals(text, base) {
+        return Some((value, &text[len..]));
+    }
     leading_digits(text, base)
 }
 
-/// The same, digit by digit.
+/// The same of any base and of any number of digits, where each product and sum is tested.
 fn leading_digits(text: &[u8], base: u8) -> Option<(u64, &[u8])>
     requires least { 2 ≤ base }
     requires most { base ≤ 16 }

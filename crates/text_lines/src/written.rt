@@ -6,6 +6,7 @@ ghost use Rattle.text_lines.specs.Counters.{digits_of};
 ghost use Rattle.text_lines.specs.Written.{hex, hex_digit};
 
 use crate::counter::Counter;
+use crate::hexadecimal::word_digits;
 use byte_streams::{DeviceFault, Sink, TEXT_ROOM, write_whole_front};
 use itoa::Buffer;
 use std::marker::Model;
@@ -126,43 +127,6 @@ fn hex_digit(value: u8) -> u8
     }
 }
 
-/// The two hexadecimal digits of each byte, one pair after the other.
-static HEX_PAIRS: [u8; 512] =
-    *b"000102030405060708090a0b0c0d0e0f101112131415161718191a1b1c1d1e1f202122232425262728292a2b2c2d2e2f303132333435363738393a3b3c3d3e3f404142434445464748494a4b4c4d4e4f505152535455565758595a5b5c5d5e5f606162636465666768696a6b6c6d6e6f707172737475767778797a7b7c7d7e7f808182838485868788898a8b8c8d8e8f909192939495969798999a9b9c9d9e9fa0a1a2a3a4a5a6a7a8a9aaabacadaeafb0b1b2b3b4b5b6b7b8b9babbbcbdbebfc0c1c2c3c4c5c6c7c8c9cacbcccdcecfd0d1d2d3d4d5d6d7d8d9dadbdcdddedfe0e1e2e3e4e5e6e7e8e9eaebecedeeeff0f1f2f3f4f5f6f7f8f9fafbfcfdfeff";
-
-/// The first of the two digits of a byte.
-#[inline(always)]
-fn high_digit(byte: u8) -> u8
-    ensures { result ≡ hex_digit (byte / 16) }
-{
-    HEX_PAIRS[usize::from(byte) * 2]
-}
-
-/// The second of the two digits of a byte.
-#[inline(always)]
-fn low_digit(byte: u8) -> u8
-    ensures { result ≡ hex_digit (byte % 16) }
-{
-    HEX_PAIRS[usize::from(byte) * 2 + 1]
-}
-
-/// The sixteen digits of a number, two at a time from the lowest ones on.
-fn word_digits(value: u64) -> [u8; 16]
-    ensures { result ≡ hex 16 value }
-{
-    let mut text = [0; 16];
-    let mut at = 16;
-    let mut left = value;
-    while at > 0 {
-        at -= 2;
-        let byte = (left % 256) as u8;
-        text[at + 1] = low_digit(byte);
-        text[at] = high_digit(byte);
-        left /= 256;
-    }
-    text
-}
-
 /// Appends the lowest digits of a number, the highest of them first.
 pub fn push_hex(line: &mut Line, value: u64, digits: u8)
     requires { length line.old + digits ≤ 128 }
@@ -170,7 +134,9 @@ pub fn push_hex(line: &mut Line, value: u64, digits: u8)
     ensures len { length line.new ≡ length line.old + digits }
 {
     if digits == 16 {
-        push_text(line, &word_digits(value));
+        let end = line.len + 16;
+        word_digits(value).copy_to_slice(&mut line.bytes[line.len..end]);
+        line.len = end;
         return;
     }
     let mut text = [0; 128];
