@@ -1,5 +1,5 @@
 -- From the digits of a number to those of the next one.
-use Rattle.std.proofs.Common.{◌≡◌, ◌∙◌, ℕ, ◌+◌, ◌/◌, ◌%◌, ◌^◌, ◌<◌, ◌≤◌, ⊎_elim, List, [], ◌∷◌, ◌++◌, length, length-append, take, drop, get_or, decimal, ap, ap₂, refl, sym, arith}
+use Rattle.std.proofs.Common.{◌≡◌, ◌∙◌, ℕ, ◌+◌, ◌/◌, ◌%◌, ◌^◌, ◌<◌, ◌≤◌, ⊎_elim, List, [], ◌∷◌, ◌++◌, length, length-append, length-take-le, take, drop, get_or, slice_set, zero, suc, ◌-◌, decimal, ap, ap₂, refl, sym, arith}
 use Rattle.std.proofs.Math.Seq.{take-append_seam}
 use Rattle.std.proofs.lemmas.Bool.{cases_lt}
 use Rattle.std.proofs.lemmas.Fmt.{decimal_digit, decimal_step}
@@ -43,6 +43,39 @@ raised xs last n is low fits =
     let front = (snoc_same xs same.0 last (48 + n % 10) (is ∙ same.1)).0 in
     let next : last + 1 ≡ 48 + (n + 1) % 10 = omega (arith, digit) in
     ap₂ (λ l d. l ++ d ∷ []) front next ∙ sym same.2
+
+-- the last of the first elements stands apart, and is put anew
+last_taken : (xs : List ℕ) (k : ℕ) → k < length xs → take (suc k) xs ≡ take k xs ++ get_or xs k 0 ∷ []
+last_taken [] k inside = absurd (omega (arith, inside))
+last_taken (x ∷ xs) zero inside = refl
+last_taken (x ∷ xs) (suc k) inside = ap (λ l. x ∷ l) (last_taken xs k (omega (arith, inside)))
+
+last_put : (xs : List ℕ) (k b : ℕ) → k < length xs → take (suc k) (slice_set xs k b) ≡ take k xs ++ b ∷ []
+last_put [] k b inside = absurd (omega (arith, inside))
+last_put (x ∷ xs) zero b inside = refl
+last_put (x ∷ xs) (suc k) b inside = ap (λ l. x ∷ l) (last_put xs k b (omega (arith, inside)))
+
+-- the digits before a last nine are those of a tenth, where there are some
+front_of_nine : (xs : List ℕ) (last n : ℕ) → xs ++ last ∷ [] ≡ decimal n → 57 ≤ last → 0 < length xs → n < 2 ^ 64 → (xs ≡ decimal (n / 10)) × (n % 10 ≡ 9)
+front_of_nine xs last n is nine some fits =
+    let found = some_front n fits in
+    let digit = (snoc_same xs found.0 last (48 + n % 10) (is ∙ found.1)).1 in
+    ⊎_elim (λ small. absurd (let none = (snoc_same xs [] last (48 + n % 10) (is ∙ short_front n small)).0 in omega (arith, ap length none, some)))
+    (λ large. ((snoc_same xs (decimal (n / 10)) last (48 + n % 10) (is ∙ long_front n large fits)).0, omega (arith, digit, nine)))
+    (cases_lt n 10)
+
+-- a last nine becomes a zero where the digit before it is below nine and is raised
+pub carried : (xs : List ℕ) (len last n : ℕ) → take len xs ++ last ∷ [] ≡ decimal n → 57 ≤ last → 0 < len → len ≤ length xs → get_or xs (len - 1) 0 < 57 → n + 1 < 2 ^ 64 → take len (slice_set xs (len - 1) (get_or xs (len - 1) 0 + 1)) ++ 48 ∷ [] ≡ decimal (n + 1)
+carried xs zero last n is nine some inside low fits = absurd (omega (arith, some))
+carried xs (suc k) last n is nine some inside low fits =
+    let place : suc k - 1 ≡ k = omega arith in
+    let low : get_or xs k 0 < 57 = rw place at low in
+    let room : k < length xs = omega (arith, inside) in
+    let tenth = front_of_nine (take (suc k) xs) last n is nine (omega (arith, length-take-le (suc k) xs inside)) (omega (arith, fits)) in
+    let next : (n + 1) / 10 ≡ n / 10 + 1 = omega (arith, tenth.1) in
+    let more : take k xs ++ (get_or xs k 0 + 1) ∷ [] ≡ decimal (n / 10 + 1) = raised (take k xs) (get_or xs k 0) (n / 10) (sym (last_taken xs k room) ∙ tenth.0) low (omega (arith, fits)) in
+    let digit : 48 + (n + 1) % 10 ≡ 48 = omega (arith, tenth.1) in
+    rw place (ap (λ l. l ++ 48 ∷ []) (last_put xs k (get_or xs k 0 + 1) room ∙ more ∙ ap decimal (sym next)) ∙ ap (λ d. decimal ((n + 1) / 10) ++ d ∷ []) (sym digit) ∙ sym (long_front (n + 1) (omega (arith, tenth.1)) fits))
 
 -- all but the last digit of a long number stand at the front of a buffer
 pub long_digits : (front rest : List ℕ) (len n : ℕ) → length front ≡ len → front ≡ decimal (n / 10) → 10 ≤ n → n < 2 ^ 64 → take len (front ++ rest) ++ (48 + n % 10) ∷ [] ≡ decimal n

@@ -50,6 +50,12 @@ impl Counter {
             self.last += 1;
             return;
         }
+        // Nine of ten carries end here, and no digits are made anew.
+        if self.len > 0 && self.front[self.len - 1] < b'9' {
+            self.front[self.len - 1] += 1;
+            self.last = b'0';
+            return;
+        }
         *self = Counter::of(n + 1);
     }
 }
