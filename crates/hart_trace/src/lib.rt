@@ -19,7 +19,7 @@ mod plain_events;
 mod spaced;
 mod trace;
 
-pub use ahead::{access_ahead, event_ahead};
+pub use ahead::{access_ahead, call_ahead, interrupt_ahead, setting_ahead};
 pub use event::Event;
 pub use spaced::{is_wordless, spaced_access};
 pub use trace::{parse_by_words, parse_line};
