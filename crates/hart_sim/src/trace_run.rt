@@ -12,9 +12,7 @@ ghost use Rattle.hart_sim.specs.Reports.{DoesLine, RefusesLine, StarvesLine, Goe
 use crate::machine::Machine;
 use arrayvec::ArrayVec;
 use byte_streams::{Sink, Source};
-use hart_trace::{
-    Event, access_ahead, call_ahead, interrupt_ahead, parse_line, setting_ahead,
-};
+use hart_trace::{Event, access_ahead, call_ahead, interrupt_ahead, parse_line, setting_ahead};
 use machine_replies::push_reply;
 use text_lines::{Interpreter, Line, NotUnderstood, Refusal, RunFault, interpret_lines};
 
