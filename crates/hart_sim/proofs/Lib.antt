@@ -18,3 +18,4 @@ mod SoundTables
 mod Promises
 mod Headlined
 mod GoneOn
+mod AnsweredLines

@@ -10,15 +10,15 @@ ghost use Rattle.hart_sim.specs.After.{After};
 ghost use Rattle.hart_sim.specs.Reports.{DoesLine, RefusesLine, StarvesLine, GoesOn};
 
 use crate::machine::Machine;
+use arrayvec::ArrayVec;
 use byte_streams::{Sink, Source};
-use hart_trace::{Event, event_ahead, parse_line};
+use hart_trace::{Event, access_ahead, call_ahead, interrupt_ahead, parse_line, setting_ahead};
 use machine_replies::push_reply;
 use text_lines::{Interpreter, Line, NotUnderstood, Refusal, RunFault, interpret_lines};
 
 impl Machine {
-    ghost use Rattle.std.specs.Prelude.{◌≡◌, ◌≢◌, ◌<◌, ◌≤◌, true, IfOk, IfErr, IfSome, Some, ℕ, decimal, length, take};
+    ghost use Rattle.std.specs.Prelude.{◌≡◌, ◌≢◌, ◌<◌, ◌≤◌, true, IfOk, IfErr, IfSome, ℕ, decimal, length};
     ghost use Rattle.std.specs.Result.{result_ok};
-    ghost use Rattle.text_lines.specs.Lines.{BeginsLine};
     ghost use Rattle.hart_trace.specs.Events.{meaning_of};
     ghost use Rattle.machine_replies.specs.declared.reply.Reply.{Reply};
     ghost use Rattle.machine_replies.specs.declared.reply.Reply.TheVariants.{NoMemory};
@@ -38,22 +38,6 @@ impl Machine {
         ensures event { IfOk result (λ said. IfSome said (λ found. IsEvent found.1)) }
     {
         parse_line(line, self.harts())
-    }
-
-    /// The event of the plain line that some bytes begin with, its hart, which is one of the machine's, and how many bytes the line has
-    /// before its LF. None says nothing of the bytes.
-    #[inline(always)]
-    fn event_ahead(&self, ahead: &[u8]) -> Option<(u8, Event, usize)>
-        requires { length ahead.now ≤ 1024 }
-        ensures line { IfSome result (λ found. BeginsLine found.2 ahead.now) }
-        ensures meaning { IfSome result (λ found.
-            meaning_of (state_of self.now).table.layout.harts (take found.2 ahead.now)
-            ≡ Some (Some (found.0, found.1))) }
-        ensures hart { IfSome result (λ found.
-            found.0 < (state_of self.now).table.layout.harts) }
-        ensures event { IfSome result (λ found. IsEvent found.1) }
-    {
-        event_ahead(ahead, self.harts())
     }
 
     /// An event happens on a hart, and its reply is written behind its number. It is refused where it wants memory that is.
@@ -109,8 +93,22 @@ impl Interpreter for Machine {
         count: u64,
         answer: &mut Line,
     ) -> Option<(usize, Result<bool, Refusal>)> {
-        let (hart, event, len) = self.event_ahead(ahead)?;
-        Some((len, self.answer(hart, event, answer)))
+        let harts = self.harts();
+        if let Some((hart, access, value, len)) = access_ahead(ahead, harts) {
+            let event = Event::Access(access, value);
+            return Some((len, self.answer(hart, event, answer)));
+        }
+        if let Some((hart, register, value, len)) = setting_ahead(ahead, harts) {
+            let event = Event::Reg(register, value);
+            return Some((len, self.answer(hart, event, answer)));
+        }
+        let mut words = ArrayVec::new();
+        if let Some((hart, len)) = call_ahead(ahead, harts, &mut words) {
+            let event = Event::Ecall(words);
+            return Some((len, self.answer(hart, event, answer)));
+        }
+        let (hart, len) = interrupt_ahead(ahead, harts)?;
+        Some((len, self.answer(hart, Event::Irq, answer)))
     }
 }
 

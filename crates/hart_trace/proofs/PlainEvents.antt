@@ -72,23 +72,15 @@ last_word b word text [] is none = is ∙ append-nil (b ∷ word)
 last_word b word text (x ∷ end) is none = absurd (omega (arith, none))
 
 -- the last number of a text
-pub number_ends : (text end : List ℕ) (value : ℕ) (h : BeginsNumber text value end) → length end ≡ 0 → (split_words text ≡ (h.0 ∷ h.1) ∷ []) × (list_all is_plain text ≡ true)
+number_ends : (text end : List ℕ) (value : ℕ) (h : BeginsNumber text value end) → length end ≡ 0 → (split_words text ≡ (h.0 ∷ h.1) ∷ []) × (list_all is_plain text ≡ true)
 number_ends text end value h none =
     let is = last_word h.0 h.1 text end h.2 none in (
       ap split_words is ∙ letters_last h.0 h.1 h.3,
       ap (list_all is_plain) (is ∙ sym (append-nil (h.0 ∷ h.1))) ∙ letters_plain (h.0 ∷ h.1) [] h.3 refl,
     )
 
--- a number before a space
-pub number_leads : (text behind rest : List ℕ) (value : ℕ) (h : BeginsNumber text value behind) → behind ≡ 32 ∷ rest → (split_words text ≡ (h.0 ∷ h.1) ∷ split_words rest) × (list_all is_plain rest ≡ true → list_all is_plain text ≡ true)
-number_leads text behind rest value h space =
-    let is : text ≡ (h.0 ∷ h.1) ++ 32 ∷ rest = h.2 ∙ ap (λ xs. (h.0 ∷ h.1) ++ xs) space in (
-      ap split_words is ∙ letters_split h.0 h.1 rest h.3,
-      λ plain. ap (list_all is_plain) is ∙ letters_plain (h.0 ∷ h.1) (32 ∷ rest) h.3 plain,
-    )
-
 -- a register and its value
-pub setting_said : (text rest end digits : List ℕ) (n value : ℕ) → text ≡ (120 ∷ digits) ++ 32 ∷ rest → list_all is_letter digits ≡ true → register_of (120 ∷ digits) ≡ Some n → BeginsNumber rest value end → length end ≡ 0
+setting_said : (text rest end digits : List ℕ) (n value : ℕ) → text ≡ (120 ∷ digits) ++ 32 ∷ rest → list_all is_letter digits ≡ true → register_of (120 ∷ digits) ≡ Some n → BeginsNumber rest value end → length end ≡ 0
     → (setting_of (split_words text) ≡ Some (events.Reg n value)) × (list_all is_plain text ≡ true)
 setting_said text rest end digits n value is letters named h none =
     let ends = number_ends rest end value h none in
@@ -99,10 +91,10 @@ setting_said text rest end digits n value is letters named h none =
     )
 
 -- the line of a setting, and that of a call
-pub setting_says : (rest : List ℕ) (event : Event) (harts : ℕ) → list_all is_plain rest ≡ true → setting_of (split_words rest) ≡ Some event → meaning_of harts (114 ∷ 101 ∷ 103 ∷ 32 ∷ rest) ≡ Some (Some (0, event))
+setting_says : (rest : List ℕ) (event : Event) (harts : ℕ) → list_all is_plain rest ≡ true → setting_of (split_words rest) ≡ Some event → meaning_of harts (114 ∷ 101 ∷ 103 ∷ 32 ∷ rest) ≡ Some (Some (0, event))
 setting_says rest event harts plain is = line_says 114 (101 ∷ 103 ∷ []) rest event harts refl plain refl is
 
-pub call_says : (rest : List ℕ) (event : Event) (harts : ℕ) → list_all is_plain rest ≡ true → call_of (split_words rest) ≡ Some event → meaning_of harts (101 ∷ 99 ∷ 97 ∷ 108 ∷ 108 ∷ 32 ∷ rest) ≡ Some (Some (0, event))
+call_says : (rest : List ℕ) (event : Event) (harts : ℕ) → list_all is_plain rest ≡ true → call_of (split_words rest) ≡ Some event → meaning_of harts (101 ∷ 99 ∷ 97 ∷ 108 ∷ 108 ∷ 32 ∷ rest) ≡ Some (Some (0, event))
 call_says rest event harts plain is = line_says 101 (99 ∷ 97 ∷ 108 ∷ 108 ∷ []) rest event harts refl plain refl is
 
 -- a register and its value before the end of a line

@@ -122,11 +122,11 @@ plain_whole : (line : List ℕ) → list_all is_plain line ≡ true → without_
 plain_whole line h = rw (no_return line (length line - 1) h) refl
 
 -- a plain line at the front of bytes, before its LF
-pub record Ahead (bytes line : List ℕ) (len : ℕ) : Type 0 where
-  pub begins : BeginsLine len bytes
-  pub text : take len bytes ≡ line
+record Ahead (bytes line : List ℕ) (len : ℕ) : Type 0 where
+  begins : BeginsLine len bytes
+  text : take len bytes ≡ line
 
-pub ahead : (bytes line behind rest : List ℕ) (len : ℕ) → bytes ≡ line ++ behind → list_all is_plain line ≡ true → behind ≡ 10 ∷ rest → len ≡ length bytes - length behind → length bytes ≤ 1024 → Ahead bytes line len
+ahead : (bytes line behind rest : List ℕ) (len : ℕ) → bytes ≡ line ++ behind → list_all is_plain line ≡ true → behind ≡ 10 ∷ rest → len ≡ length bytes - length behind → length bytes ≤ 1024 → Ahead bytes line len
 ahead bytes line behind rest len parts plain end is few =
     let sizes : length bytes ≡ length line + length behind = ap length parts ∙ length-append line behind in
     let one = ap length end in
@@ -143,7 +143,7 @@ ahead bytes line behind rest len parts plain end is few =
     }
 
 -- the hart's name before the line
-pub named_front : (harts hart : ℕ) (text rest behind : List ℕ) (event : Event) (n : Named harts text hart rest) (e : BeginsEvent rest event behind) → (text ≡ (n.name ++ e.line) ++ behind) × (list_all is_plain (n.name ++ e.line) ≡ true) × (meaning_of harts (n.name ++ e.line) ≡ Some (Some (hart, event)))
+named_front : (harts hart : ℕ) (text rest behind : List ℕ) (event : Event) (n : Named harts text hart rest) (e : BeginsEvent rest event behind) → (text ≡ (n.name ++ e.line) ++ behind) × (list_all is_plain (n.name ++ e.line) ≡ true) × (meaning_of harts (n.name ++ e.line) ≡ Some (Some (hart, event)))
 named_front harts hart text rest behind event n e = (
   n.parts ∙ ap (λ xs. n.name ++ xs) e.parts ∙ sym (append_assoc n.name e.line behind),
   both_plain n.name e.line n.plain e.plain,
@@ -155,6 +155,17 @@ named_front harts hart text rest behind event n e = (
     both_plain (b ∷ name) line h k =
         let both = and_parts (is_plain b) (list_all is_plain name) h in
         and_from _ _ both.0 (both_plain name line both.1 k)
+
+-- both, before a LF
+pub record SaidAhead (harts : ℕ) (bytes : List ℕ) (hart len : ℕ) (event : Event) : Type 0 where
+  pub begins : BeginsLine len bytes
+  pub says : meaning_of harts (take len bytes) ≡ Some (Some (hart, event))
+
+pub said_ahead : (harts hart len : ℕ) (bytes text behind rest : List ℕ) (event : Event) → Named harts bytes hart text → BeginsEvent text event behind → len ≡ length bytes - length behind → behind ≡ 10 ∷ rest → length bytes ≤ 1024 → SaidAhead harts bytes hart len event
+said_ahead harts hart len bytes text behind rest event n e is end few =
+    let front = named_front harts hart bytes text behind event n e in
+    let there = ahead bytes (n.name ++ e.line) behind rest len front.0 front.1 end is few in
+    record { begins = there.begins; says = ap (meaning_of harts) there.text ∙ front.2 }
 
 -- a whole line behind the hart's name
 pub on_hart : (harts hart : ℕ) (text rest : List ℕ) (event : Event) → Named harts text hart rest → ((n : ℕ) → meaning_of n rest ≡ Some (Some (0, event))) → meaning_of harts text ≡ Some (Some (hart, event))

@@ -1,6 +1,6 @@
 -- Plain lines say what the grammar of traces says.
 use Rattle.std.proofs.Common.{◌≡◌, ◌⊎◌, inl, inr, ◌∙◌, ℕ, ◌+◌, ◌^◌, ◌≤◌, Bool, true, false, not, ◌&&◌, List, [], ◌∷◌, ◌++◌, length, Option, Some, None, option_map, cond, suc, refl, ap, sym, arith, append-nil}
-use Rattle.std.specs.Prelude.{◌==◌, nat_lt, IfSome}
+use Rattle.std.specs.Prelude.{◌==◌, nat_lt}
 use Rattle.std.specs.List.{list_all, position_or_len}
 use Rattle.std.proofs.lemmas.Bool.{and_parts, and_from, cond-true, lt-ltb, ltb-true}
 use Rattle.std.proofs.lemmas.Option.{same_Some}
@@ -96,14 +96,6 @@ look_words kind text behind mode size address access st ea is =
     let word = address_word st.2 behind (mark_letter st.2 st.8) letters in
     ap (access_of kind) (ap split_words st.3 ∙ start_words st.0 st.1 st.2 behind st.6 st.7 ∙ ap (λ ws. (st.0 ∷ []) ∷ (st.1 ∷ []) ∷ ws) (letters_last 48 (st.2 ∷ behind) word))
     ∙ access_said kind (st.0 ∷ []) (st.1 ∷ []) (48 ∷ st.2 ∷ behind) [] mode size address access st.4 st.5 (mark_number st.2 behind address st.8 ea) is
-
-pub look_if : (kind : Kind) (text behind : List ℕ) (mode : Mode) (size address : ℕ) (r : Option Access) → Starts text mode size behind → Some address ≡ numeral_of 16 behind → r ≡ sized mode kind size address (has_size kind size) refl → IfSome r (λ access. access_of kind (split_words text) ≡ Some (access, []))
-look_if kind text behind mode size address None st ea is = tt
-look_if kind text behind mode size address (Some access) st ea is = look_words kind text behind mode size address access st ea is
-
-pub if_some : {A B : Type 0} (r : Option A) → B → IfSome r (λ _. B)
-if_some None b = tt
-if_some (Some a) b = b
 
 pub look_plain : (text behind : List ℕ) (mode : Mode) (size address : ℕ) → Starts text mode size behind → Some address ≡ numeral_of 16 behind → list_all is_plain text ≡ true
 look_plain text behind mode size address st ea =

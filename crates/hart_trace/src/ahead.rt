@@ -1,6 +1,6 @@
 //! Plain lines at the front of bytes in which more lines may follow: a line's end is found where its last number ends.
 
-ghost use Rattle.std.specs.Prelude.{◌≡◌, ℕ, ◌-◌, ◌≤◌, List, ◌∷◌, Some, IfSome, length, take};
+ghost use Rattle.std.specs.Prelude.{◌≡◌, ℕ, ◌-◌, ◌≤◌, List, [], ◌∷◌, Some, IfSome, length, take};
 ghost use Rattle.text_lines.specs.Lines.{BeginsLine};
 ghost use Rattle.hart_trace.specs.declared.event.Event.TheVariants as events;
 ghost use Rattle.hart_trace.specs.Events.{meaning_of};
@@ -8,7 +8,8 @@ ghost use Rattle.hart_trace.specs.Plain.{BeginsEvent};
 
 use crate::event::Event;
 use crate::plain::{hart_in, plain_access};
-use crate::plain_events::plain_event;
+use crate::plain_events::{plain_call, plain_event, plain_interrupt, plain_setting};
+use arrayvec::ArrayVec;
 use pmp_match::Access;
 
 /// How many bytes stand before a text that begins with a LF.
@@ -25,22 +26,23 @@ fn len_before(ahead: &[u8], behind: &[u8]) -> Option<usize>
     }
 }
 
-/// The access of the plain line that some bytes begin with, and how many bytes the line has before its LF. The line names no hart.
-/// None says nothing of the bytes.
+/// The access of the plain line that some bytes begin with: its hart of `harts`, the access, the value that a store writes, 0 else, and
+/// how many bytes the line has before its LF. None says nothing of the bytes.
 ///
-/// For those who ask for accesses alone: an [`Event`] has room for a call's eight words, which [`event_ahead`] returns with each.
+/// There is a function for each form of event, and none of them returns an [`Event`]: it has room for a call's eight words, which
+/// would be copied with each.
 #[inline(always)]
-pub fn access_ahead(ahead: &[u8]) -> Option<(Access, usize)>
+pub fn access_ahead(ahead: &[u8], harts: u8) -> Option<(u8, Access, u64, usize)>
     requires { length ahead.now ≤ 1024 }
-    ensures line { IfSome result (λ found. BeginsLine found.1 ahead.now) }
+    ensures line { IfSome result (λ found. BeginsLine found.3 ahead.now) }
     ensures access { IfSome result (λ found.
-        (harts : ℕ) → (value : ℕ)
-        × (meaning_of harts (take found.1 ahead.now)
-        ≡ Some (Some (0, events.Access found.0 value)))) }
+        meaning_of harts (take found.3 ahead.now)
+        ≡ Some (Some (found.0, events.Access found.1 found.2))) }
 {
-    let (access, _, behind) = plain_access(ahead)?;
+    let (hart, rest) = hart_in(ahead, harts);
+    let (access, value, behind) = plain_access(rest)?;
     let len = len_before(ahead, behind)?;
-    Some((access, len))
+    Some((hart, access, value, len))
 }
 
 /// The event of the plain line that a text begins with, which names no hart, and what stands after it. None says nothing of the text.
@@ -67,17 +69,50 @@ pub(crate) fn plain_line(line: &[u8]) -> Option<Event>
     Some(event)
 }
 
-/// The event of the plain line that some bytes begin with, its hart of `harts`, and how many bytes the line has before its LF. None says
-/// nothing of the bytes.
+/// The setting of a register by the plain line that some bytes begin with: its hart of `harts`, the register, the value, and how many
+/// bytes the line has before its LF. None says nothing of the bytes.
 #[inline(always)]
-pub fn event_ahead(ahead: &[u8], harts: u8) -> Option<(u8, Event, usize)>
+pub fn setting_ahead(ahead: &[u8], harts: u8) -> Option<(u8, u8, u64, usize)>
     requires { length ahead.now ≤ 1024 }
-    ensures line { IfSome result (λ found. BeginsLine found.2 ahead.now) }
-    ensures event { IfSome result (λ found.
-        meaning_of harts (take found.2 ahead.now) ≡ Some (Some (found.0, found.1))) }
+    ensures line { IfSome result (λ found. BeginsLine found.3 ahead.now) }
+    ensures setting { IfSome result (λ found.
+        meaning_of harts (take found.3 ahead.now)
+        ≡ Some (Some (found.0, events.Reg found.1 found.2))) }
 {
     let (hart, rest) = hart_in(ahead, harts);
-    let (event, behind) = plain_front(rest)?;
+    let (register, value, behind) = plain_setting(rest)?;
     let len = len_before(ahead, behind)?;
-    Some((hart, event, len))
+    Some((hart, register, value, len))
+}
+
+/// The call of the plain line that some bytes begin with: its hart of `harts`, and how many bytes the line has before its LF. Its words
+/// are appended to a list without words. None says nothing of the bytes.
+#[inline(always)]
+pub fn call_ahead(ahead: &[u8], harts: u8, words: &mut ArrayVec<u64, 8>) -> Option<(u8, usize)>
+    requires few { length ahead.now ≤ 1024 }
+    requires wordless { words.old.items ≡ [] }
+    ensures line { IfSome result (λ found. BeginsLine found.1 ahead.now) }
+    ensures call { IfSome result (λ found.
+        meaning_of harts (take found.1 ahead.now)
+        ≡ Some (Some (found.0, events.Ecall words.new))) }
+{
+    let (hart, rest) = hart_in(ahead, harts);
+    let behind = plain_call(rest, words)?;
+    let len = len_before(ahead, behind)?;
+    Some((hart, len))
+}
+
+/// The interrupt of the plain line that some bytes begin with: its hart of `harts`, and how many bytes the line has before its LF. None
+/// says nothing of the bytes.
+#[inline(always)]
+pub fn interrupt_ahead(ahead: &[u8], harts: u8) -> Option<(u8, usize)>
+    requires { length ahead.now ≤ 1024 }
+    ensures line { IfSome result (λ found. BeginsLine found.1 ahead.now) }
+    ensures interrupt { IfSome result (λ found.
+        meaning_of harts (take found.1 ahead.now) ≡ Some (Some (found.0, events.Irq))) }
+{
+    let (hart, rest) = hart_in(ahead, harts);
+    let behind = plain_interrupt(rest)?;
+    let len = len_before(ahead, behind)?;
+    Some((hart, len))
 }

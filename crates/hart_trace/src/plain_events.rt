@@ -1,9 +1,10 @@
 //! The events of a trace that are no accesses, in their plainest spelling, as `reg x10 0x80000ff8`, `ecall 0x10 3` or `irq`, with
 //! or without `@H` before them: one space between two words, and nothing else. They too are read in one pass.
 
-ghost use Rattle.std.specs.Prelude.{◌≡◌, ℕ, ◌<◌, List, ◌∷◌, ◌++◌, Some, IfSome, true};
+ghost use Rattle.std.specs.Prelude.{◌≡◌, ℕ, ◌<◌, List, [], ◌∷◌, ◌++◌, Some, IfSome, true};
 ghost use Rattle.std.specs.List.{list_all};
 ghost use Rattle.text_lines.specs.Words.{is_plain};
+ghost use Rattle.hart_trace.specs.declared.event.Event.TheVariants as events;
 ghost use Rattle.hart_trace.specs.Events.{register_of};
 ghost use Rattle.hart_trace.specs.Plain.{BeginsCall, BeginsEvent, BeginsNumber, is_letter};
 
@@ -100,50 +101,55 @@ fn plain_register(text: &[u8]) -> Option<(u8, &[u8])>
     Some((n as u8, rest))
 }
 
-/// The setting of a register by the plain line that a text begins with, and what stands after it.
-fn plain_setting(text: &[u8]) -> Option<(Event, &[u8])>
-    ensures { IfSome result (λ found. BeginsEvent text.now found.0 found.1.now) }
+/// The register that the plain line sets with which a text begins, its value, and what stands after it.
+#[inline(always)]
+pub(crate) fn plain_setting(text: &[u8]) -> Option<(u8, u64, &[u8])>
+    ensures { IfSome result (λ found.
+        BeginsEvent text.now (events.Reg found.0 found.1) found.2.now) }
 {
     let rest = behind_reg(text)?;
     let (register, behind) = plain_register(rest)?;
     let (value, end) = plain_number(behind)?;
-    Some((Event::Reg(register, value), end))
+    Some((register, value, end))
 }
 
-/// The call with the words that a text begins with, of which there is one at least, and what stands after them.
-fn plain_words(rest: &[u8]) -> Option<(Event, &[u8])>
-    ensures { IfSome result (λ found. BeginsCall rest.now found.0 found.1.now) }
+/// Appends the words of a call that a text begins with, of which there is one at least, to a list without words, and says what
+/// stands after them.
+fn plain_words<'a>(rest: &'a [u8], words: &mut ArrayVec<u64, 8>) -> Option<&'a [u8]>
+    requires { words.old.items ≡ [] }
+    ensures { IfSome result (λ behind.
+        BeginsCall rest.now (events.Ecall words.new) behind.now) }
 {
-    let mut numbers = ArrayVec::new();
     let mut left = rest;
     'words: loop {
         let (number, behind) = plain_number(left)?;
-        if numbers.is_full() {
+        if words.is_full() {
             return None;
         }
-        numbers.push(number);
+        words.push(number);
         left = match behind_space(behind) {
             Some(next) => next,
-            None => return Some((Event::Ecall(numbers), behind)),
+            None => return Some(behind),
         };
     }
 }
 
-/// The call of the plain line that a text begins with, and what stands after it.
-fn plain_call(text: &[u8]) -> Option<(Event, &[u8])>
-    ensures { IfSome result (λ found. BeginsEvent text.now found.0 found.1.now) }
+/// The same of the plain line of a call. The list is lent, since a call that is returned would be copied from place to place.
+pub(crate) fn plain_call<'a>(text: &'a [u8], words: &mut ArrayVec<u64, 8>) -> Option<&'a [u8]>
+    requires { words.old.items ≡ [] }
+    ensures { IfSome result (λ behind.
+        BeginsEvent text.now (events.Ecall words.new) behind.now) }
 {
     let rest = behind_ecall(text)?;
-    let (event, behind) = plain_words(rest)?;
-    Some((event, behind))
+    plain_words(rest, words)
 }
 
-/// The interrupt of the plain line that a text begins with, and what stands after it.
-fn plain_interrupt(text: &[u8]) -> Option<(Event, &[u8])>
-    ensures { IfSome result (λ found. BeginsEvent text.now found.0 found.1.now) }
+/// What stands after the plain line of an interrupt with which a text begins.
+#[inline(always)]
+pub(crate) fn plain_interrupt(text: &[u8]) -> Option<&[u8]>
+    ensures { IfSome result (λ behind. BeginsEvent text.now events.Irq behind.now) }
 {
-    let behind = behind_irq(text)?;
-    Some((Event::Irq, behind))
+    behind_irq(text)
 }
 
 /// The event of the plain line that a text begins with, which is no access and names no hart, and what stands after it. None says
@@ -152,9 +158,18 @@ pub(crate) fn plain_event(text: &[u8]) -> Option<(Event, &[u8])>
     ensures { IfSome result (λ found. BeginsEvent text.now found.0 found.1.now) }
 {
     match text {
-        [b'r', ..] => plain_setting(text),
-        [b'e', ..] => plain_call(text),
-        [b'i', ..] => plain_interrupt(text),
-        _ => None,
+        [b'r', ..] => {
+            let (register, value, behind) = plain_setting(text)?;
+            Some((Event::Reg(register, value), behind))
+        }
+        [b'e', ..] => {
+            let mut words = ArrayVec::new();
+            let behind = plain_call(text, &mut words)?;
+            Some((Event::Ecall(words), behind))
+        }
+        _ => {
+            let behind = plain_interrupt(text)?;
+            Some((Event::Irq, behind))
+        }
     }
 }

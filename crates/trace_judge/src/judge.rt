@@ -83,7 +83,7 @@ impl<J: AccessJudge> Interpreter for LineJudge<'_, J> {
         count: u64,
         answer: &mut Line,
     ) -> Option<(usize, Result<bool, Refusal>)> {
-        let (found, len) = access_ahead(ahead)?;
+        let (_, found, _, len) = access_ahead(ahead, 0)?;
         let access = taken_apart(found);
         push_answer(answer, self.by.outcome(&access));
         Some((len, Ok(true)))

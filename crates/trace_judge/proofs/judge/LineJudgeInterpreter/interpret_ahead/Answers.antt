@@ -5,7 +5,6 @@ use Rattle.trace_judge.proofs.judge.LineJudgeInterpreter.interpret_ahead.Goals a
 -- a plain line is an access, as any other of that meaning
 pub returns-clause-comes : goal.returns-clause-comes
 returns-clause-comes g c = λ k.
-    let said = c.in_ok-found.ensures.access 0 in
-    let access = ap only_access said.1 ∙ ap (λ a. Some (Some a)) (sym c.taken_apart-access.ensures) in
+    let access = ap only_access c.in_ok-found.ensures.access ∙ ap (λ a. Some (Some a)) (sym c.taken_apart-access.ensures) in
     let text = c.push_answer.ensures ∙ ap (λ xs. xs ++ answer_end c.outcome.result) c.requires.number in
     ((Some c.taken_apart-access.result, access, (c.outcome.result, c.outcome.ensures, ap Some text)), refl)
