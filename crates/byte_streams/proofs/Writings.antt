@@ -1,10 +1,9 @@
 -- Texts that are written one after another: all of them, or a beginning where one of them breaks off.
-use Rattle.std.proofs.Common.{ℕ, List, [], ◌++◌, ◌≡◌, ◌∙◌, ◌+◌, ◌<◌, Option, Result, Ok, Err, ap, arith, length, length-append, refl, subst, take}
+use Rattle.std.proofs.Common.{ℕ, List, [], ◌++◌, ◌≡◌, ◌∙◌, ◌+◌, Option, Result, Ok, Err, arith, length, length-append, refl, subst, take}
 use Rattle.std.proofs.Math.Seq.{take-append-add, take-append-le}
 use Rattle.std.proofs.KnownBytes.{Appends-trans, Appends-nil}
-use Rattle.std.specs.Io.KnownBytes.{Appends}
 use Rattle.byte_streams.specs.Streams.{WriteFails}
-use Rattle.byte_streams.specs.Writings.{Breaks, Prints, TakesAll, TakesPart, writing}
+use Rattle.byte_streams.specs.Writings.{Breaks, Prints, TakesAll, writing}
 
 -- no text
 pub takes_none : {W : Type 0} (contents : W → Option (List ℕ)) (failures stalls : W → ℕ) (sink : W) → TakesAll [] (writing contents failures stalls sink sink)

@@ -9,8 +9,8 @@ use std::marker::Model;
 /// How many bytes are held at most. A signal that ends the program can lose so many.
 pub const HELD: usize = 8192;
 
-/// How many bytes [`HeldBytes::push_front`] copies. Most answers have fewer.
-pub const COPIED: usize = 32;
+/// How many bytes [`HeldBytes::push_front`] copies. Nearly all answers have fewer.
+pub const COPIED: usize = 48;
 
 /// Bytes that a writer is to have, in their order.
 #[derive(Drop)]
@@ -71,8 +71,8 @@ impl HeldBytes {
     /// appended.
     #[inline(always)]
     pub fn push_front(&mut self, text: &[u8; TEXT_ROOM], len: usize)
-        requires room { length self.old + 32 ≤ 8192 }
-        requires few { len ≤ 32 }
+        requires room { length self.old + 48 ≤ 8192 }
+        requires few { len ≤ 48 }
         ensures { self.new ≡ self.old ++ take len text.now }
     {
         self.bytes[self.len..self.len + COPIED].copy_from_slice(&text[..COPIED]);

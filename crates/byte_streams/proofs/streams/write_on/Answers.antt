@@ -1,9 +1,9 @@
-use Rattle.std.proofs.Common.{ℕ, List, length, take, drop, ◌≡◌, ◌-◌, ◌∙◌, arith, length-drop, refl, rules}
+use Rattle.std.proofs.Common.{ℕ, List, length, take, drop, ◌≡◌, ◌-◌, arith, length-drop, rules}
 use Rattle.std.proofs.lemmas.Grind.{common_steps}
 use Rattle.std.proofs.Math.Seq.{take-add}
 use Rattle.std.proofs.lemmas.Bool.{ne_eqb}
 use Rattle.byte_streams.specs.Writings.{TakesAll, writing}
-use Rattle.byte_streams.proofs.Writings.{takes_none, takes_then}
+use Rattle.byte_streams.proofs.Writings.{takes_then}
 use Rattle.byte_streams.proofs.streams.write_on.Goals as goal
 
 -- `&bytes[done..]` is read as `take (length bytes - done) (drop done bytes)`
