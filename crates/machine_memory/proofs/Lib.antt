@@ -1,4 +1,5 @@
 pub mod Bytes
 mod Groups
+mod Lowest
 mod Stored
 mod Written

@@ -1,6 +1,6 @@
 //! The bytes of a page.
 
-ghost use Rattle.std.specs.Prelude.{◌≡◌, ℕ, ◌+◌, ◌-◌, ◌<◌, ◌≤◌, IfOk, if◌then◌else◌, slice_index};
+ghost use Rattle.std.specs.Prelude.{◌≡◌, ℕ, ◌+◌, ◌-◌, ◌*◌, ◌%◌, ◌^◌, ◌<◌, ◌≤◌, IfOk, nat_lt, if◌then◌else◌, slice_index};
 ghost use Rattle.pmp_encoding.specs.Registers.{byte_of};
 ghost use Rattle.machine_memory.specs.Memory.{bytes_at, number_of, in_range};
 
@@ -22,18 +22,50 @@ fn number_of(page: &[u8; 4096], at: usize, size: usize) -> u64
     number
 }
 
-/// The little-endian number of bytes of a page. The sizes that accesses have are constants here.
+/// Which bits of a number are its lowest bytes, by how many they are.
+static LOWEST: [u64; 9] = [
+    0,
+    0xff,
+    0xffff,
+    0xff_ffff,
+    0xffff_ffff,
+    0xff_ffff_ffff,
+    0xffff_ffff_ffff,
+    0xff_ffff_ffff_ffff,
+    u64::MAX,
+];
+
+/// The number that the lowest bytes of a number are.
+#[inline(always)]
+fn lowest(number: u64, size: usize) -> u64
+    requires { size ≤ 8 }
+    ensures { result ≡ number % 2 ^ (8 * size) }
+{
+    number & LOWEST[size]
+}
+
+/// The little-endian number of bytes near a page's end, byte by byte. It stands apart so that a load elsewhere clears no room
+/// for it.
+#[inline(never)]
+fn number_at_end(page: &[u8; 4096], at: usize, size: usize) -> u64
+    requires size { size ≤ 8 }
+    requires inside { at + size ≤ 4096 }
+    ensures { result ≡ number_of (bytes_at (slice_index page.now) at size) }
+{
+    number_of(page, at, size)
+}
+
+/// The little-endian number of bytes of a page. Sizes come in no order, so a branch on them is often guessed wrong. Eight
+/// bytes are one load, of which a mask keeps the lowest. Only near a page's end are there fewer than eight.
 pub(crate) fn number_at(page: &[u8; 4096], at: usize, size: usize) -> u64
     requires size { size ≤ 8 }
     requires inside { at + size ≤ 4096 }
     ensures { result ≡ number_of (bytes_at (slice_index page.now) at size) }
 {
-    match size {
-        1 => number_of(page, at, 1),
-        2 => number_of(page, at, 2),
-        4 => number_of(page, at, 4),
-        8 => number_of(page, at, 8),
-        _ => number_of(page, at, size),
+    if at + 8 <= 4096 {
+        lowest(number_of(page, at, 8), size)
+    } else {
+        number_at_end(page, at, size)
     }
 }
 
@@ -73,7 +105,31 @@ fn put_bytes(page: &mut [u8; 4096], at: usize, size: usize, value: u64)
     }
 }
 
-/// Puts the lowest bytes of a value into a page, the lowest first. The sizes that accesses have are constants here.
+/// Puts the lowest bytes of a value near a page's end, byte by byte. It stands apart so that a store elsewhere clears no room
+/// for it.
+#[inline(never)]
+fn put_at_end(page: &mut [u8; 4096], at: usize, size: usize, value: u64)
+    requires size { size ≤ 8 }
+    requires inside { at + size ≤ 4096 }
+    ensures { (k : ℕ)
+        → slice_index page.new k ≡
+        (if in_range at size k then byte_of value (k - at) else slice_index page.old k) }
+{
+    put_bytes(page, at, size, value);
+}
+
+/// A number with the lowest bytes of another in place of its own.
+#[inline(always)]
+fn with_lowest(number: u64, size: usize, value: u64) -> u64
+    requires { size ≤ 8 }
+    ensures { (k : ℕ)
+        → byte_of result k ≡ (if nat_lt k size then byte_of value k else byte_of number k) }
+{
+    number - lowest(number, size) + lowest(value, size)
+}
+
+/// Puts the lowest bytes of a value into a page, the lowest first. As in `number_at` there is no branch on the size. Eight bytes
+/// are one load and one store, which puts those behind the value's back as they were.
 pub(crate) fn put(page: &mut [u8; 4096], at: usize, size: usize, value: u64)
     requires size { size ≤ 8 }
     requires inside { at + size ≤ 4096 }
@@ -81,12 +137,11 @@ pub(crate) fn put(page: &mut [u8; 4096], at: usize, size: usize, value: u64)
         → slice_index page.new k ≡
         (if in_range at size k then byte_of value (k - at) else slice_index page.old k) }
 {
-    match size {
-        1 => put_bytes(page, at, 1, value),
-        2 => put_bytes(page, at, 2, value),
-        4 => put_bytes(page, at, 4, value),
-        8 => put_bytes(page, at, 8, value),
-        _ => put_bytes(page, at, size, value),
+    if at + 8 <= 4096 {
+        let number = with_lowest(number_of(page, at, 8), size, value);
+        put_bytes(page, at, 8, number);
+    } else {
+        put_at_end(page, at, size, value);
     }
 }
 
