@@ -73,6 +73,18 @@ filled_zeros entries addresses cleared = from 8 refl
 pub filled_none : (entries : List Entry) → IsFilled entries (replicate 8 0) (replicate 64 0) 0
 filled_none entries = filled_zeros entries _ zero_all
 
+-- the word of the next place is zero where that place is its first
+pub fresh_word : (entries : List Entry) (words addresses : List ℕ) (n : ℕ) → IsFilled entries words addresses n → n % 8 ≡ 0 → slice_index words (n / 8) ≡ 0
+fresh_word entries words addresses n filled first =
+    let room : 8 * (n - 8 * (n / 8)) ≡ 0 = omega (arith, first) in
+    omega (arith, filled.words_above (n / 8), ap (λ k. 2 ^ k) room)
+
+-- a word that was put is that of the next place too, where that place is not the first of another
+pub same_word : (words : List ℕ) (n word : ℕ) → n / 8 < length words → ((n + 1) % 8 ≡ 0 → ⊥) → word ≡ slice_index (slice_set words (n / 8) word) ((n + 1) / 8)
+same_word words n word inside some =
+    let place : (n + 1) / 8 ≡ n / 8 = omega (arith, some) in
+    rw place (sym (get_or-set_at words (n / 8) (n / 8) word 0 refl inside))
+
 -- one entry more, its byte put above the others of its word
 module _ (entries : List Entry) (words addresses : List ℕ) (n : ℕ) (filled : IsFilled entries words addresses n) (few : n < 64) (e : Entry) (next : slice_get entries n ≡ Some e) (word : ℕ) (here : byte_of word (n % 8) ≡ cfg_of e) (others : (k : ℕ) → k ≢ n % 8 → byte_of word k ≡ byte_of (slice_index words (n / 8)) k) (small : word < 2 ^ (8 * (n % 8 + 1))) where
   new_words : List ℕ

@@ -283,7 +283,8 @@ fn clear(addresses: &mut [u64; 64], limit: Limit)
     }
 }
 
-/// Fills registers with entries, each in its canonical pair, and zero after them; and decodes each one beside it.
+/// Fills registers with entries, each in its canonical pair, and zero after them; and decodes each one beside it. The word that is
+/// being filled stands in a variable: read back from its place, it would make each entry wait for the store of the one before.
 fn fill(
     words: &mut [u64; 8],
     addresses: &mut [u64; 64],
@@ -297,9 +298,14 @@ fn fill(
     ensures in_order { take (length entries.now) extents.new ≡ map extent_of entries.now }
 {
     *words = [0; 8];
+    let mut word = 0;
     for (i, entry) in entries.iter().enumerate() {
         let (cfg, address) = entry.encode();
-        words[i / 8] = with_byte(words[i / 8], i % 8, cfg);
+        if i % 8 == 0 {
+            word = 0;
+        }
+        word = with_byte(word, i % 8, cfg);
+        words[i / 8] = word;
         addresses[i] = address;
         extents[i] = Extent::of(entry);
     }

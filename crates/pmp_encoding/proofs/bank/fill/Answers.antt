@@ -1,13 +1,14 @@
 -- The loop fills and decodes place after place.
-use Rattle.std.proofs.Common.{◌≡◌, ◌∙◌, ◌++◌, ◌∷◌, [], refl, ap, sym, length, map, take, arith, length-set}
+use Rattle.std.proofs.Common.{◌≡◌, ◌∙◌, ◌/◌, ◌++◌, ◌∷◌, [], refl, ap, sym, length, map, slice_index, take, arith, length-set}
 use Rattle.std.proofs.lemmas.List.{take_more, take_more_set, map-append, take_all}
 use Rattle.std.proofs.lemmas.Option.{slice_get_read}
 use Rattle.pmp_encoding.specs.Extents.{extent_of}
-use Rattle.pmp_encoding.proofs.Filled.{filled_zeros, filled_more, filled_all}
+use Rattle.pmp_encoding.proofs.Filled.{filled_zeros, filled_more, filled_all, fresh_word, same_word}
+use Rattle.pmp_encoding.proofs.bank.fill.Goals.{then-i-eq0, else-i-eq0}
 use Rattle.pmp_encoding.proofs.bank.fill.Goals as goal
 
 pub loop-i-init : goal.loop-i-init
-loop-i-init c = record { filled = filled_zeros c.args.entries.now c.args.addresses.now c.requires.cleared; room = c.told-extents; in_order = refl }
+loop-i-init c = record { filled = filled_zeros c.args.entries.now c.args.addresses.now c.requires.cleared; begun = λ some. refl; room = c.told-extents; in_order = refl }
 
 pub loop-i-preserved : goal.loop-i-preserved
 loop-i-preserved c =
@@ -15,10 +16,15 @@ loop-i-preserved c =
     let entry = c.index-entries-i.result in
     let next = slice_get_read c.args.entries.now (length c.args.entries.now) c.loop-i.i entry refl c.loop-i-test.true c.index-entries-i.is in
     let here = c.index-entries-i.is in
+    let was : c.if-i-eq0.word ≡ slice_index c.loop-i.words (c.loop-i.i / 8) = elim c.if-i-eq0.branch [
+      | then-i-eq0 w ↦ w.word-is ∙ sym (fresh_word c.args.entries.now c.loop-i.words c.loop-i.addresses c.loop-i.i now.filled w.if-i-eq0.true)
+      | else-i-eq0 w ↦ w.word-is ∙ now.begun w.if-i-eq0.false
+    ] in
     record {
       filled = rw c.encode-cfg.ensures.address
-          (filled_more c.args.entries.now c.loop-i.words c.loop-i.addresses c.loop-i.i now.filled (omega (arith, c.requires.few, c.loop-i-test.true)) entry next c.with_byte.result (c.with_byte.ensures.here ∙ c.encode-cfg.ensures.cfg)
-          c.with_byte.ensures.others c.with_byte.ensures.small);
+          (filled_more c.args.entries.now c.loop-i.words c.loop-i.addresses c.loop-i.i now.filled (omega (arith, c.requires.few, c.loop-i-test.true)) entry next c.with_byte-word.result (c.with_byte-word.ensures.here ∙ c.encode-cfg.ensures.cfg)
+          (rw was at c.with_byte-word.ensures.others) c.with_byte-word.ensures.small);
+      begun = λ some. same_word c.loop-i.words c.loop-i.i c.with_byte-word.result (omega (arith, now.filled.eight, c.requires.few, c.loop-i-test.true)) some;
       room = length-set c.loop-i.extents c.loop-i.i c.of.result ∙ now.room;
       in_order =
           take_more_set c.loop-i.extents c.loop-i.i c.of.result (omega (arith, now.room, c.requires.few, c.loop-i-test.true)) ∙ ap (λ xs. xs ++ c.of.result ∷ []) now.in_order
