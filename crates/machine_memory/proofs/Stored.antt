@@ -1,5 +1,5 @@
 -- A value that is put into a page of one span.
-use Rattle.std.proofs.Common.{◌≡◌, ◌≢◌, ℕ, ◌+◌, ◌-◌, ◌/◌, ◌%◌, ◌≤◌, ◌∙◌, inl, inr, if◌then◌else◌, true, false, List, Option, Some, Box, Global, cond, arith, refl, ap, ap₂, sym}
+use Rattle.std.proofs.Common.{◌≡◌, ◌≢◌, ℕ, ◌+◌, ◌-◌, ◌/◌, ◌%◌, ◌≤◌, ◌∙◌, inl, inr, if◌then◌else◌, true, false, List, Option, None, Some, is_some, Box, Global, cond, arith, refl, ap, ap₂, sym}
 use Rattle.std.proofs.lemmas.Bool.Decides.{nat_tests, eqb_tells}
 use Rattle.std.proofs.lemmas.Grind.{common_steps}
 use Rattle.std.specs.Ordering.{nat_cmp, is_eq}
@@ -65,6 +65,11 @@ stores_in old new before now address size value inside there put here others =
       | inl p ↦ ap (λ g. page_within g (q % 4096)) (in_new (q / 4096) p.1) ∙ others (q % 4096) (apart page q differs p.1) ∙ sym (ap (λ g. page_within g (q % 4096)) (in_old (q / 4096) p.1))
       | inr p ↦ ap (λ g. page_within g (q % 4096)) (put (q / 4096) ∙ ap (λ t. cond t (Some now) (get nat_cmp old.spans (q / 4096))) (is_elsewhere (page / 4096) (q / 4096) p.1))
     ])
+
+-- what is not there is `None`
+pub absent_is_none : {X : Type 0} (found : Option X) → is_some found ≡ false → None ≡ found
+absent_is_none None absent = refl
+absent_is_none (Some x) absent = cc
 
 -- what two clauses of an `Ok` give together
 pub both : {T E P Q S : Type 0} (r : Result T E) → (P → Q → S) → OnOk r P → OnOk r Q → OnOk r S

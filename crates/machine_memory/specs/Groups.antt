@@ -21,6 +21,10 @@ abbrev pub page_of : {A : Type 0} → Option (Box PageGroup A) → ℕ → Optio
 page_of None place = None
 page_of (Some group) place = page_at group.value place
 
+-- whether a group is there
+abbrev pub has_group : PageSpan → ℕ → Bool
+has_group span group = is_some (slice_index_or span.groups group None)
+
 -- the bytes of a span's page at a place, where it was written
 abbrev pub page_on : PageSpan → ℕ → Option (List ℕ)
 page_on span place = page_of (slice_index_or span.groups (place / 64) None) (place % 64)

@@ -92,6 +92,35 @@ impl Memory {
         if let Some(span) = self.spans.get_mut(&(page / SPAN)) {
             return span.store(alloc, place, at, size, value);
         }
+        self.store_in_new_span(alloc, address, size, value)
+    }
+
+    /// Puts the lowest bytes of a value at an address of a span that is not there. It stands apart so that a store to a span
+    /// that is there clears no room for another.
+    #[cold]
+    #[inline(never)]
+    fn store_in_new_span(
+        &mut self,
+        alloc: Global,
+        address: u64,
+        size: usize,
+        value: u64,
+    ) -> Result<(), AllocError>
+        requires size { size ≤ 8 }
+        requires inside { address % 4096 + size ≤ 4096 }
+        requires new { has_span self.old (address / 4096 / 4096) ≡ false }
+        ensures bytes { OnOk result
+            ((a : ℕ) → byte_at self.new a ≡ stored (byte_at self.old) address size value a) }
+        ensures written { OnOk result ((page : ℕ)
+            → is_written self.new page ≡
+            (if page == address / 4096 then true else is_written self.old page)) }
+        ensures kept { OnErr result ((a : ℕ) → byte_at self.new a ≡ byte_at self.old a) }
+        ensures kept_written { OnErr result ((page : ℕ)
+            → is_written self.new page ≡ is_written self.old page) }
+    {
+        let page = address / PAGE;
+        let place = (page % SPAN) as usize;
+        let at = (address % PAGE) as usize;
         let span = span_of(alloc, place, at, size, value)?;
         self.spans.insert(page / SPAN, span)?;
         Ok(())

@@ -145,9 +145,7 @@ pub(crate) fn put(page: &mut [u8; 4096], at: usize, size: usize, value: u64)
     }
 }
 
-/// A page of its own of zeros but for a value. It stands apart so that a store to a page that is there clears no room for
-/// another.
-#[inline(never)]
+/// A page of its own of zeros but for a value.
 pub(crate) fn page_of(
     alloc: Global,
     at: usize,

@@ -68,6 +68,32 @@ impl PageGroup {
             put(page, at, size, value);
             return Ok(());
         }
+        self.store_in_new_page(alloc, place, at, size, value)
+    }
+
+    /// Puts the lowest bytes of a value into a page that was not written. It stands apart so that a store to a page that
+    /// is there clears no room for another.
+    #[cold]
+    #[inline(never)]
+    fn store_in_new_page(
+        &mut self,
+        alloc: Global,
+        place: usize,
+        at: usize,
+        size: usize,
+        value: u64,
+    ) -> Result<(), AllocError>
+        requires place { place < 64 }
+        requires size { size ≤ 8 }
+        requires inside { at + size ≤ 4096 }
+        requires new { page_at self.old place ≡ None }
+        ensures bytes { OnOk result ((k : ℕ) → byte_in (page_at self.new place) k
+            ≡ (if in_range at size k then byte_of value (k - at) else byte_in (page_at self.old place) k)) }
+        ensures written { OnOk result (is_some (page_at self.new place) ≡ true) }
+        ensures others { OnOk result ((other : ℕ) → other ≢ place
+            → page_at self.new other ≡ page_at self.old other) }
+        ensures kept { OnErr result (self.new ≡ self.old) }
+    {
         let page = page_of(alloc, at, size, value)?;
         self.pages[place] = Some(page);
         Ok(())
@@ -86,9 +112,7 @@ impl PageGroup {
     }
 }
 
-/// A group of its own, with a value in one of its pages. It stands apart so that a store to a group that is there clears no
-/// room for another.
-#[inline(never)]
+/// A group of its own, with a value in one of its pages.
 pub(crate) fn group_of(
     alloc: Global,
     place: usize,

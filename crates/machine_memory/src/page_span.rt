@@ -1,9 +1,9 @@
 //! Groups of pages side by side, each there once one of its pages is written.
 
-ghost use Rattle.std.specs.Prelude.{◌≡◌, ◌≢◌, ℕ, ◌+◌, ◌-◌, ◌*◌, ◌/◌, ◌<◌, ◌≤◌, ◌==◌, ◌&&◌, IfOk, IfSome, OnOk, OnErr, None, Some, true, if◌then◌else◌, is_some};
+ghost use Rattle.std.specs.Prelude.{◌≡◌, ◌≢◌, ℕ, ◌+◌, ◌-◌, ◌*◌, ◌/◌, ◌<◌, ◌≤◌, ◌==◌, ◌&&◌, IfOk, IfSome, OnOk, OnErr, None, Some, false, true, if◌then◌else◌, is_some};
 ghost use Rattle.pmp_encoding.specs.Registers.{byte_of};
 ghost use Rattle.machine_memory.specs.Memory.{in_range};
-ghost use Rattle.machine_memory.specs.Groups.{byte_in, page_on};
+ghost use Rattle.machine_memory.specs.Groups.{byte_in, has_group, page_on};
 
 use crate::page_group::{GROUP, PageGroup, group_of};
 use std::alloc::{AllocError, Global};
@@ -67,6 +67,32 @@ impl PageSpan {
         if let Some(group) = &mut self.groups[place / GROUP] {
             return group.store(alloc, place % GROUP, at, size, value);
         }
+        self.store_in_new_group(alloc, place, at, size, value)
+    }
+
+    /// Puts the lowest bytes of a value into a page of a group that is not there. It stands apart so that a store to a group
+    /// that is there clears no room for another.
+    #[cold]
+    #[inline(never)]
+    fn store_in_new_group(
+        &mut self,
+        alloc: Global,
+        place: usize,
+        at: usize,
+        size: usize,
+        value: u64,
+    ) -> Result<(), AllocError>
+        requires place { place < 4096 }
+        requires size { size ≤ 8 }
+        requires inside { at + size ≤ 4096 }
+        requires new { has_group self.old (place / 64) ≡ false }
+        ensures bytes { OnOk result ((k : ℕ) → byte_in (page_on self.new place) k
+            ≡ (if in_range at size k then byte_of value (k - at) else byte_in (page_on self.old place) k)) }
+        ensures written { OnOk result (is_some (page_on self.new place) ≡ true) }
+        ensures others { OnOk result ((other : ℕ) → other ≢ place
+            → page_on self.new other ≡ page_on self.old other) }
+        ensures kept { OnErr result (self.new ≡ self.old) }
+    {
         let group = group_of(alloc, place % GROUP, at, size, value)?;
         self.groups[place / GROUP] = Some(group);
         Ok(())
@@ -102,9 +128,7 @@ impl PageSpan {
     }
 }
 
-/// A span of its own, with a value in one of its pages. It stands apart so that a store to a span that is there clears no
-/// room for another.
-#[inline(never)]
+/// A span of its own, with a value in one of its pages.
 pub(crate) fn span_of(
     alloc: Global,
     place: usize,

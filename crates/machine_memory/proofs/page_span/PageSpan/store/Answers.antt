@@ -1,4 +1,4 @@
-use Rattle.std.proofs.Common.{◌/◌, ◌∙◌, Some, slice_set, ap, rules}
+use Rattle.std.proofs.Common.{◌/◌, ◌∙◌, Some, slice_set, ap}
 use Rattle.machine_memory.proofs.Groups.{on_err, put_back, same_group}
 use Rattle.machine_memory.proofs.page_span.PageSpan.store.Goals as goal
 
@@ -10,12 +10,3 @@ returns-in-Some-clause-kept c =
     (ap (λ o. slice_set c.args.self.now.groups at (Some o)) (same_group c.in-Some.group c.store.new.self _ kept c.deref_mut.ensures.value)
     ∙ put_back c.args.self.now.groups at (Some c.in-Some.group) c.index-self-place.result c.in-Some.is))
     c.store.ensures.kept
-
-pub returns-clause-bytes : goal.returns-clause-bytes
-returns-clause-bytes c = search rules
-
-pub returns-clause-written : goal.returns-clause-written
-returns-clause-written c = search rules
-
-pub returns-clause-others : goal.returns-clause-others
-returns-clause-others c = search rules
