@@ -48,6 +48,14 @@ impl HeldBytes {
         &self.bytes[..self.len]
     }
 
+    /// How many bytes there are.
+    #[inline(always)]
+    pub fn len(&self) -> usize
+        ensures { result ≡ length self.now }
+    {
+        self.as_slice().len()
+    }
+
     /// How many more bytes there is room for.
     #[inline(always)]
     pub fn room(&self) -> usize
@@ -68,14 +76,16 @@ impl HeldBytes {
     }
 
     /// Appends the first bytes of a short text. [`COPIED`] are copied in any case, without a call and without a branch on how many are
-    /// appended.
+    /// appended. They go through an array that nothing else can be in, or the compiler would ask where text and bytes overlap.
     #[inline(always)]
     pub fn push_front(&mut self, text: &[u8; TEXT_ROOM], len: usize)
         requires room { length self.old + 48 ≤ 8192 }
         requires few { len ≤ 48 }
         ensures { self.new ≡ self.old ++ take len text.now }
     {
-        self.bytes[self.len..self.len + COPIED].copy_from_slice(&text[..COPIED]);
+        let mut copied = [0; COPIED];
+        copied.copy_from_slice(&text[..COPIED]);
+        self.bytes[self.len..self.len + COPIED].copy_from_slice(&copied);
         self.len += len;
     }
 

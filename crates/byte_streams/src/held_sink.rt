@@ -1,6 +1,6 @@
 //! A sink that holds bytes for a writer of std, and hands them on in few writes.
 
-ghost use Rattle.std.specs.Prelude.{◌≡◌, ◌≤◌, [], IfOk, length, take, true};
+ghost use Rattle.std.specs.Prelude.{◌≡◌, ◌≤◌, ◌+◌, [], IfOk, length, take, true, false};
 ghost use Rattle.std.specs.Io.KnownBytes.{Appends, Keeps, WriteAppends};
 ghost use Rattle.byte_streams.specs.HeldSink.{contents_of, held_in, failed_writes, stalled_writes, writer_of, TakesFront};
 ghost use Rattle.byte_streams.specs.Streams.{one_failure_more, CountsFailure, CountsStall};
@@ -164,12 +164,20 @@ impl<T: Write> Sink for HeldSink<T> {
     }
 
     #[inline(always)]
-    fn write_front(&mut self, text: &[u8; TEXT_ROOM], len: usize) -> Result<usize, DeviceFault> {
-        if len <= COPIED && self.held.room() >= COPIED {
-            self.held.push_front(text, len);
-            return Ok(len);
+    fn take_front(&mut self, text: &[u8; TEXT_ROOM], len: usize) -> bool
+        ensures taken { result ≡ true
+            → Appends (contents_of T.contents self.old) (contents_of T.contents self.new)
+            (take len text.now) }
+        ensures untouched { result ≡ false → self.new ≡ self.old }
+        ensures failures { failed_writes self.new ≡ failed_writes self.old }
+        ensures stalls { stalled_writes self.new ≡ stalled_writes self.old }
+        ensures room { len ≤ 48 → length (held_in self.old) + 48 ≤ 8192 → result ≡ true }
+    {
+        if len > COPIED || self.held.len() > HELD - COPIED {
+            return false;
         }
-        self.write_past(&text[..len])
+        self.held.push_front(text, len);
+        true
     }
 
     fn flush(&mut self) {

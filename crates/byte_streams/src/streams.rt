@@ -2,7 +2,7 @@
 //! its failures, so that a contract can say what was read and written, and that a fault comes only
 //! where a device failed.
 
-ghost use Rattle.std.specs.Prelude.{◌≡◌, ℕ, ◌<◌, ◌≤◌, List, Option, Some, Ok, IfOk, IfErr, min, length, take};
+ghost use Rattle.std.specs.Prelude.{◌≡◌, ℕ, ◌<◌, ◌≤◌, List, Option, Some, Ok, IfOk, IfErr, min, length, take, true, false};
 ghost use Rattle.std.specs.Io.KnownBytes.{ReadConsumes, WriteAppends, Appends, Keeps};
 ghost use Rattle.byte_streams.specs.Streams.{CountsFailure, CountsStall, inner_of, failures_of, stalls_of};
 ghost use Rattle.byte_streams.specs.Writings.{writing, Prints};
@@ -52,19 +52,18 @@ pub trait Sink {
         ensures failures { CountsFailure result (failures self.old) (failures self.new) }
         ensures stalls { CountsStall result buf.now (stalls self.old) (stalls self.new) };
 
-    /// Takes some of the first `len` bytes of a short text's array, as [`write`](Sink::write) does, and says how many. A sink with
-    /// room may copy more of the array than it takes: a copy of a length that the compiler knows takes no call, and no branch.
+    /// Takes the first `len` bytes of a short text's array at once, where it holds bytes and has room for them, and says whether it
+    /// did. It may copy more of the array than it takes: a copy of a length that the compiler knows takes no call, and no branch.
     #[inline(always)]
-    fn write_front(&mut self, text: &[u8; TEXT_ROOM], len: usize) -> Result<usize, DeviceFault>
+    fn take_front(&mut self, text: &[u8; TEXT_ROOM], len: usize) -> bool
         requires { len ≤ 128 }
-        ensures bound { IfOk result (λ n. n ≤ len) }
-        ensures bytes { WriteAppends (contents self.old) (contents self.new) result
-            (take len text.now) }
-        ensures failures { CountsFailure result (failures self.old) (failures self.new) }
-        ensures stalls { CountsStall result (take len text.now)
-            (stalls self.old) (stalls self.new) }
+        ensures taken { result ≡ true
+            → Appends (contents self.old) (contents self.new) (take len text.now) }
+        ensures untouched { result ≡ false → self.new ≡ self.old }
+        ensures failures { failures self.new ≡ failures self.old }
+        ensures stalls { stalls self.new ≡ stalls self.old }
     {
-        self.write(&text[..len])
+        false
     }
 
     /// Hands on what it holds back, where it holds any. What can't be handed on now is still held: a later write says so, or
@@ -210,6 +209,14 @@ pub fn write_whole<W: Sink>(sink: &mut W, bytes: &[u8]) -> Result<(), DeviceFaul
     Err(DeviceFault)
 }
 
+/// Writes all of the bytes, as [`write_whole`] does. It stands apart, for nearly all short texts are taken at once.
+#[inline(never)]
+fn write_apart<W: Sink>(sink: &mut W, bytes: &[u8]) -> Result<(), DeviceFault>
+    ensures { Prints bytes.now (writing W.contents W.failures W.stalls sink.old sink.new) result }
+{
+    write_whole(sink, bytes)
+}
+
 /// Writes all of the first `len` bytes of a short text's array, as [`write_whole`] does.
 #[inline(always)]
 pub fn write_whole_front<W: Sink>(
@@ -221,15 +228,8 @@ pub fn write_whole_front<W: Sink>(
     ensures { Prints (take len text.now)
         (writing W.contents W.failures W.stalls sink.old sink.new) result }
 {
-    if len == 0 {
+    if sink.take_front(text, len) {
         return Ok(());
     }
-    let n = sink.write_front(text, len)?;
-    if n == len {
-        return Ok(());
-    }
-    if n > 0 {
-        return write_on(sink, &text[n..len]);
-    }
-    Err(DeviceFault)
+    write_apart(sink, &text[..len])
 }

@@ -20,11 +20,7 @@ use std::io::Write;
 
 /// Hands on the last of the output of a task of that status, and answers the program's status and the stream: 3 where that
 /// was refused and no trouble was told before.
-pub fn closed<T: Write + Drop, E: Sink>(
-    status: u8,
-    out: HeldSink<T>,
-    err: &mut E,
-) -> (u8, T)
+pub fn closed<T: Write + Drop, E: Sink>(status: u8, out: HeldSink<T>, err: &mut E) -> (u8, T)
     ensures { IsClosed (contents_of T.contents out) (T.contents result.1) (err.new ≡ err.old)
         (Tells (writing E.contents E.failures E.stalls err.old err.new) (Err Output)) status
         result.0 }

@@ -56,6 +56,16 @@ impl Counter {
             self.last = b'0';
             return;
         }
-        *self = Counter::of(n + 1);
+        self.renew(n + 1);
+    }
+
+    /// Makes the digits those of another number. It stands apart, for one number of a hundred needs it.
+    #[cold]
+    #[inline(never)]
+    fn renew(&mut self, n: u64)
+        ensures digits { digits_of self.new ≡ decimal n }
+        ensures len { self.new.len ≤ 20 }
+    {
+        *self = Counter::of(n);
     }
 }
