@@ -128,8 +128,9 @@ fn with_lowest(number: u64, size: usize, value: u64) -> u64
     number - lowest(number, size) + lowest(value, size)
 }
 
-/// Puts the lowest bytes of a value into a page, the lowest first. As in `number_at` there is no branch on the size. Eight bytes
-/// are one load and one store, which puts those behind the value's back as they were.
+/// Puts the lowest bytes of a value into a page, the lowest first. As in `number_at` there is no branch between the sizes below eight.
+/// Eight bytes are one load and one store, which puts those behind the value's back as they were. A value of eight bytes is not
+/// loaded for: a store waits for no cache, a load does.
 pub(crate) fn put(page: &mut [u8; 4096], at: usize, size: usize, value: u64)
     requires size { size ≤ 8 }
     requires inside { at + size ≤ 4096 }
@@ -137,7 +138,9 @@ pub(crate) fn put(page: &mut [u8; 4096], at: usize, size: usize, value: u64)
         → slice_index page.new k ≡
         (if in_range at size k then byte_of value (k - at) else slice_index page.old k) }
 {
-    if at + 8 <= 4096 {
+    if size == 8 {
+        put_bytes(page, at, 8, value);
+    } else if at + 8 <= 4096 {
         let number = with_lowest(number_of(page, at, 8), size, value);
         put_bytes(page, at, 8, number);
     } else {
