@@ -1,3 +1,2 @@
 mod Printed
-mod HexPairs
 mod EntryLines

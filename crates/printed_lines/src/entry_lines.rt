@@ -3,13 +3,13 @@
 ghost use Rattle.std.specs.Prelude.{◌≡◌, ℕ, ◌+◌, ◌*◌, ◌<◌, ◌≤◌, ◌^◌, ◌++◌, take, length, decimal};
 ghost use Rattle.pmp_encoding.specs.Encoding.{address_of, cfg_of};
 ghost use Rattle.text_lines.specs.Counters.{digits_of};
+ghost use Rattle.text_lines.specs.Written.{hex};
 ghost use Rattle.printed_lines.specs.Plans.{entries_text};
 ghost use Rattle.printed_lines.specs.Texts.{entry_text, register_text};
 
-use crate::hexadecimal::{byte_digits, word_digits};
 use pmp_encoding::PackedEntry;
 use register_width::Xlen;
-use text_lines::Counter;
+use text_lines::{Counter, hex_digit, hex_digits};
 
 /// The most bytes that are put for an entry: what stands behind a short number is put too, and written over.
 pub const MOST: usize = 46;
@@ -43,6 +43,17 @@ fn put_number(buffer: &mut [u8], at: usize, number: &Counter) -> usize
     end + 1
 }
 
+/// Puts the two digits of a byte.
+#[inline(always)]
+fn put_byte(buffer: &mut [u8], at: usize, byte: u8) -> usize
+    requires room { at + 2 ≤ length buffer.old }
+    ensures end { result ≡ at + 2 }
+    ensures text { take result buffer.new ≡ take at buffer.old ++ hex 2 byte }
+    ensures room { length buffer.new ≡ length buffer.old }
+{
+    put(buffer, at, &[hex_digit(byte / 16), hex_digit(byte % 16)])
+}
+
 /// Puts all digits of a register.
 #[inline(always)]
 fn put_register(buffer: &mut [u8], at: usize, xlen: Xlen, value: u64) -> usize
@@ -51,7 +62,7 @@ fn put_register(buffer: &mut [u8], at: usize, xlen: Xlen, value: u64) -> usize
     ensures text { take result buffer.new ≡ take at buffer.old ++ register_text xlen value }
     ensures room { length buffer.new ≡ length buffer.old }
 {
-    let digits = word_digits(value);
+    let digits = hex_digits(value);
     match xlen {
         Xlen::Rv32 => put(buffer, at, &digits[8..]),
         Xlen::Rv64 => put(buffer, at, digits.as_slice()),
@@ -77,7 +88,7 @@ fn put_entry(
     let (cfg, address) = entry.encode();
     let at = put_number(buffer, at, number);
     let at = put(buffer, at, b" 0x");
-    let at = put(buffer, at, byte_digits(cfg).as_slice());
+    let at = put_byte(buffer, at, cfg);
     let at = put(buffer, at, b" 0x");
     let at = put_register(buffer, at, xlen, address);
     put(buffer, at, b"\n")

@@ -12,7 +12,6 @@
 mod digests;
 mod entry_lines;
 mod fields;
-mod hexadecimal;
 mod placed;
 mod plan;
 mod texts;

@@ -3,7 +3,6 @@
 ghost use Rattle.std.specs.Prelude.{◌≡◌, ◌+◌, ◌≤◌, ◌++◌, length};
 ghost use Rattle.printed_lines.specs.Texts.{accepted_of_text, accepted_text, count_text, refused_text, register_text, word_text};
 
-use crate::hexadecimal::word_digits;
 use register_width::Xlen;
 use text_lines::{Line, push_decimal, push_hex, push_text};
 
@@ -25,10 +24,7 @@ pub fn push_register(line: &mut Line, xlen: Xlen, value: u64)
     ensures items { line.new ≡ line.old ++ register_text xlen value }
     ensures len { length line.new ≤ length line.old + 16 }
 {
-    match xlen {
-        Xlen::Rv32 => push_hex(line, value, 8),
-        Xlen::Rv64 => push_text(line, word_digits(value).as_slice()),
-    }
+    push_hex(line, value, xlen.digits());
 }
 
 /// `pmpcfgK 0xWWWWWWWWWWWWWWWW`, or with a word of 32 bits.

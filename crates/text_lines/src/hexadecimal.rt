@@ -78,3 +78,11 @@ pub(crate) fn word_digits(value: u64) -> u8x16
         .select(u8x16::splat(b'0'), u8x16::splat(b'a' - 10));
     zeros + nibbles
 }
+
+/// The sixteen digits of a number, the highest first, in lower case.
+#[inline(always)]
+pub fn hex_digits(value: u64) -> [u8; 16]
+    ensures { result ≡ hex 16 value }
+{
+    word_digits(value).to_array()
+}

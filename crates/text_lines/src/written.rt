@@ -115,8 +115,8 @@ impl Line {
     }
 }
 
-/// The digit of a value below 16.
-fn hex_digit(value: u8) -> u8
+/// The hexadecimal digit of a value below 16, in lower case.
+pub fn hex_digit(value: u8) -> u8
     requires { value < 16 }
     ensures { result ≡ hex_digit value }
 {
