@@ -1,5 +1,5 @@
 -- The plainest spelling of an access.
-use Rattle.std.specs.Prelude.{◌≡◌, ◌≤◌, ◌<◌, ℕ, length, drop, slice_index, bit_and, ◌++◌, Bool, true, not, ◌&&◌, ◌||◌, ◌==◌, List, [], ◌∷◌, Some, codes, option_map}
+use Rattle.std.specs.Prelude.{◌≡◌, ◌≤◌, ◌<◌, ℕ, length, drop, slice_index, bit_and, ◌++◌, Bool, true, ◌||◌, ◌==◌, List, [], ◌∷◌, Some, codes, option_map}
 use Rattle.std.specs.List.{list_all}
 use Rattle.std.specs.Int.{from_le_bytes, w64}
 use Rattle.pmp_match.specs.declared.access.Access.{Access}
@@ -7,14 +7,11 @@ use Rattle.pmp_match.specs.declared.access.Mode.{Mode}
 use Rattle.pmp_match.specs.declared.access.Kind.{Kind}
 use Rattle.pmp_match.specs.declared.access.Kind.TheVariants.{Fetch, Load, Store}
 use Rattle.text_lines.specs.Words.{EndsWord, is_blank, is_plain, split_words, words_of}
+pub use Rattle.text_lines.specs.Words.{is_letter}
 use Rattle.text_lines.specs.Numbers.{number_of}
 use Rattle.hart_trace.specs.declared.plain.Keyword.{Keyword}
 use Rattle.hart_trace.specs.declared.event.Event.{Event}
 use Rattle.hart_trace.specs.Events.{access_of, call_of, meaning_of, mode_of}
-
--- a byte that may stand outside a comment, begins none and is no blank
-abbrev pub is_letter : ℕ → Bool
-is_letter b = is_plain b && not (is_blank b)
 
 -- after a 0 it says that the number is hexadecimal: `x` or `X`
 abbrev pub is_mark : ℕ → Bool

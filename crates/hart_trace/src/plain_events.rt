@@ -11,27 +11,7 @@ ghost use Rattle.hart_trace.specs.Plain.{BeginsCall, BeginsEvent, BeginsNumber, 
 use crate::event::Event;
 use crate::trace::has_leading_zero;
 use arrayvec::ArrayVec;
-use text_lines::leading_numeral;
-
-/// What stands after `0x`.
-fn behind_mark(text: &[u8]) -> Option<&[u8]>
-    ensures { IfSome result (λ digits. text.now ≡ 48 ∷ 120 ∷ digits.now) }
-{
-    match text {
-        [b'0', b'x', digits @ ..] => Some(digits),
-        _ => None,
-    }
-}
-
-/// What stands after a space.
-fn behind_space(text: &[u8]) -> Option<&[u8]>
-    ensures { IfSome result (λ behind. text.now ≡ 32 ∷ behind.now) }
-{
-    match text {
-        [b' ', behind @ ..] => Some(behind),
-        _ => None,
-    }
-}
+use text_lines::{behind_mark, behind_space, leading_numeral};
 
 /// What stands after the letter of a register.
 fn behind_letter(text: &[u8]) -> Option<&[u8]>

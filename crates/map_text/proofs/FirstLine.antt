@@ -1,10 +1,10 @@
 -- The first line of a text, and the lines after it.
-use Rattle.std.proofs.Common.{ℕ, zero, suc, inl, inr, ◌≡◌, ◌∙◌, ◌+◌, ◌<◌, ◌≤◌, length, Bool, true, false, not, List, [], ◌∷◌, ◌++◌, Option, take, ap, sym, refl, arith, append_assoc, append-nil, length-append}
+use Rattle.std.proofs.Common.{ℕ, zero, suc, inl, inr, ◌≡◌, ◌∙◌, ◌+◌, ◌<◌, ◌≤◌, length, true, false, not, List, [], ◌∷◌, ◌++◌, Option, take, ap, sym, refl, arith, append_assoc, append-nil, length-append}
 use Rattle.std.specs.Prelude.{◌==◌, Ok, Err, Some, None}
 use Rattle.std.specs.Io.KnownBytes.{Consumes}
-use Rattle.std.proofs.lemmas.Bool.{and_parts, eqb-true, not-true}
+use Rattle.std.proofs.lemmas.Bool.{and_parts, not-true}
 use Rattle.std.proofs.lemmas.List.{take-append-le}
-use Rattle.text_lines.specs.Lines.{has_no_end, AreLines, EndsLine}
+use Rattle.text_lines.specs.Lines.{has_no_end}
 use Rattle.text_lines.specs.declared.lines.LineReader.{LineReader}
 use Rattle.text_lines.specs.declared.fault.ReadFault.TheVariants.{LongLine}
 use Rattle.text_lines.specs.LineReaders.{came_of, pending_of, Hands, NextLine}

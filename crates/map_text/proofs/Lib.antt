@@ -1,3 +1,4 @@
 mod FirstLine
 mod Followed
 mod Growing
+mod PlainSettings

@@ -1,13 +1,16 @@
 //! A line of a map file.
 
-ghost use Rattle.std.specs.Prelude.{◌≡◌, ◌+◌, ◌^◌, ◌≤◌, [], ◌∷◌, IfOk, IfSome};
+ghost use Rattle.std.specs.Prelude.{◌≡◌, ◌+◌, ◌^◌, ◌≤◌, [], ◌∷◌, IfOk, IfSome, Some};
 ghost use Rattle.std.specs.Result.{result_ok};
 ghost use Rattle.map_text.specs.MapFile.{line_says, pages_in, pages_of, raw_says, setting_of, setting_on};
 
 use page_views::{PAGE_SIZE, SPACE_PAGES};
 use permission_map::Run;
 use pmp_encoding::Perm;
-use text_lines::{LONGEST, NotUnderstood, Words, number, without_return};
+use text_lines::{
+    LONGEST, NotUnderstood, Words, behind_mark, behind_space, leading_numeral, number,
+    without_return,
+};
 
 /// Bytes in whole pages, as pages.
 fn pages_of(bytes: u64) -> Option<u64>
@@ -49,8 +52,27 @@ fn setting_of(base: &[u8], size: &[u8], perm: &[u8]) -> Option<Run>
     setting_on(first, count, perm)
 }
 
-/// What a line says that comes without its LF and its CR: nothing where it has no words.
-pub(crate) fn line_says(line: &[u8]) -> Result<Option<Run>, NotUnderstood>
+/// What the line sets in its plainest spelling, as `0x80000000 0x1000 rwx`: one space between two words, hexadecimal numbers, and
+/// nothing else. Most lines of a large map are such, and they are read in one pass. None says nothing of the line.
+#[inline(always)]
+fn plain_setting(line: &[u8]) -> Option<Run>
+    ensures says { IfSome result (λ setting. line_says line.now ≡ Some (Some setting)) }
+    ensures inside { IfSome result (λ setting. setting.first + setting.count ≤ 2 ^ 44) }
+{
+    let digits = behind_mark(line)?;
+    let (base, rest) = leading_numeral(digits, 16)?;
+    let second = behind_space(rest)?;
+    let digits = behind_mark(second)?;
+    let (size, rest) = leading_numeral(digits, 16)?;
+    let third = behind_space(rest)?;
+    let perm = Perm::from_word(third)?;
+    let first = pages_of(base)?;
+    let count = pages_of(size)?;
+    setting_on(first, count, perm)
+}
+
+/// What the words of a line say that comes without its LF and its CR: nothing where it has none.
+fn words_say(line: &[u8]) -> Result<Option<Run>, NotUnderstood>
     ensures value { result_ok result ≡ line_says line.now }
     ensures inside { IfOk result (λ said.
         IfSome said (λ setting. setting.first + setting.count ≤ 2 ^ 44)) }
@@ -72,6 +94,18 @@ pub(crate) fn line_says(line: &[u8]) -> Result<Option<Run>, NotUnderstood>
         Some(setting) => Ok(Some(setting)),
         None => Err(NotUnderstood),
     }
+}
+
+/// What a line says that comes without its LF and its CR: nothing where it has no words.
+pub(crate) fn line_says(line: &[u8]) -> Result<Option<Run>, NotUnderstood>
+    ensures value { result_ok result ≡ line_says line.now }
+    ensures inside { IfOk result (λ said.
+        IfSome said (λ setting. setting.first + setting.count ≤ 2 ^ 44)) }
+{
+    if let Some(setting) = plain_setting(line) {
+        return Ok(Some(setting));
+    }
+    words_say(line)
 }
 
 /// What a line says that has at most 1023 bytes, its CR counted.

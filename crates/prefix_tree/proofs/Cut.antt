@@ -1,11 +1,11 @@
 -- The runs that meet a block, cut at its middle.
-use Rattle.std.proofs.Common.{◌≡◌, ℕ, suc, ◌+◌, ◌-◌, ◌^◌, ◌<◌, ◌≤◌, ⊎_elim, List, [], ◌∷◌, take, drop, Bool, false, cond, nat_lt, nat_le, count_by, refl, sym, ap, arith}
+use Rattle.std.proofs.Common.{◌≡◌, ℕ, zero, suc, ◌+◌, ◌-◌, ◌^◌, ◌<◌, ◌≤◌, ⊎_elim, List, [], ◌∷◌, take, drop, get_or, Bool, false, cond, nat_lt, nat_le, count_by, refl, sym, ap, arith}
 use Rattle.std.proofs.lemmas.Bool.{cases_lt, lt-ltb, le-ltb, le-leb, lt-leb, and_left, and_right}
 use Rattle.std.proofs.lemmas.List.Recursion.{is_count_by}
 use Rattle.pmp_encoding.specs.declared.perm.Perm.TheVariants.{NoAccess}
 use Rattle.pmp_encoding.specs.declared.perm.Perm.{Perm}
 use Rattle.permission_map.specs.declared.runs.Run.{Run}
-use Rattle.permission_map.specs.Runs.{end_of, in_range, view_of_runs, AreRunsAfter}
+use Rattle.permission_map.specs.Runs.{end_of, in_range, view_of_runs, AreRunsAfter, AreRuns}
 use Rattle.prefix_tree.specs.Slices.{MeetBehind}
 
 abbrev pub begins_before : ℕ → Run → Bool
@@ -131,3 +131,58 @@ runs_meet at before (run ∷ runs) are =
     let inside = are.0.inside in
     let some = are.0.some in
     (record { rising = are.0.rising; some = are.0.some; begins = omega arith; ends = omega arith }, runs_meet (end_of run) run.perm runs are.1)
+
+-- ---- the runs that end before a page: those that begin before it, but the last of these where it goes on
+
+-- so many of the runs end before the page, where the first `begun` of them are those that begin before it
+abbrev EndedIs : ℕ → List Run → Run → ℕ → ℕ → Type 0
+EndedIs page runs d zero ended = ended ≡ 0
+EndedIs page runs d (suc k) ended =
+    ((get_or runs k d).count ≤ page - (get_or runs k d).first → ended ≡ suc k)
+    × (page - (get_or runs k d).first < (get_or runs k d).count → ended ≡ k)
+
+behind_ended :
+    (run : Run) (runs : List Run) (d : Run) (page begun ended : ℕ) → run.count ≤ page - run.first → EndedIs page runs d begun ended
+    → EndedIs page (run ∷ runs) d (suc begun) (suc ended)
+behind_ended run runs d page zero ended ends is = (λ some. ap suc is, λ goes. absurd (omega (arith, goes, ends)))
+behind_ended run runs d page (suc k) ended ends is = (λ some. ap suc (is.0 some), λ goes. ap suc (is.1 goes))
+
+ended_is :
+    (at low high page : ℕ) (runs : List Run) (d : Run) → MeetBehind at low high runs
+    → EndedIs page runs d (counted (begins_before page) runs) (counted (ends_before page) runs)
+ended_is at low high page [] d meet = refl
+ended_is at low high page (run ∷ runs) d meet =
+    ⊎_elim
+    (λ below.
+    ⊎_elim
+    (λ goes.
+    rw (lt-ltb run.first page below, lt-leb run.count (page - run.first) goes, none_begin (end_of run) low high page runs (omega arith) meet.1, none_end (end_of run) low high page runs (omega arith) meet.1)
+    (λ ends. absurd (omega (arith, ends, goes)), λ later. refl))
+    (λ ends.
+    rw (lt-ltb run.first page below, le-leb run.count (page - run.first) ends)
+    (behind_ended run runs d page (counted (begins_before page) runs) (counted (ends_before page) runs) ends (ended_is (end_of run) low high page runs d meet.1)))
+    (cases_lt (page - run.first) run.count))
+    (λ above.
+    rw (le-ltb run.first page above, lt-leb run.count (page - run.first) (omega (arith, meet.0.some)), none_begin (end_of run) low high page runs (omega arith) meet.1, none_end (end_of run) low high page runs (omega arith) meet.1)
+    refl)
+    (cases_lt run.first page)
+
+ended_by :
+    (runs : List Run) (page begun : ℕ) (d : Run) → AreRuns runs → begun ≡ count_by (begins_before page) runs
+    → EndedIs page runs d begun (count_by (ends_before page) runs)
+ended_by runs page begun d are is =
+    rw (is, ← counted-is (begins_before page) runs, ← counted-is (ends_before page) runs)
+    (ended_is 0 0 (0 + 2 ^ 44) page runs d (runs_meet 0 NoAccess runs are))
+
+pub none_ended : (runs : List Run) (page : ℕ) (d : Run) → AreRuns runs → 0 ≡ count_by (begins_before page) runs → 0 ≡ count_by (ends_before page) runs
+none_ended runs page d are is = sym (ended_by runs page 0 d are is)
+
+pub last_ended :
+    (runs : List Run) (page k : ℕ) (d : Run) → AreRuns runs → suc k ≡ count_by (begins_before page) runs
+    → (get_or runs k d).count ≤ page - (get_or runs k d).first → suc k ≡ count_by (ends_before page) runs
+last_ended runs page k d are is ends = sym ((ended_by runs page (suc k) d are is).0 ends)
+
+pub last_goes_on :
+    (runs : List Run) (page k : ℕ) (d : Run) → AreRuns runs → suc k ≡ count_by (begins_before page) runs
+    → page - (get_or runs k d).first < (get_or runs k d).count → k ≡ count_by (ends_before page) runs
+last_goes_on runs page k d are is goes = sym ((ended_by runs page (suc k) d are is).1 goes)

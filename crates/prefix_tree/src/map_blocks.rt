@@ -47,7 +47,8 @@ const FEW: usize = 8;
 /// How many of the runs begin before the page.
 fn begun_before(runs: &[Run], page: u64) -> usize
     requires { AreRuns runs.now }
-    ensures { result ≡ count_by (λ run. nat_lt run.first page) runs.now }
+    ensures count { result ≡ count_by (λ run. nat_lt run.first page) runs.now }
+    ensures inside { result ≤ length runs.now }
 {
     if runs.len() > FEW {
         return runs.partition_point(|run| run.first < page);
@@ -55,17 +56,21 @@ fn begun_before(runs: &[Run], page: u64) -> usize
     runs.iter().filter(|run| run.first < page).count()
 }
 
-/// How many of the runs end before the page.
-fn ended_before(runs: &[Run], page: u64) -> usize
-    requires { AreRuns runs.now }
+/// How many of the runs end before the page: those that begin before it, but the last of these where it goes on.
+fn ended_before(runs: &[Run], begun: usize, page: u64) -> usize
+    requires runs { AreRuns runs.now }
+    requires inside { begun ≤ length runs.now }
+    requires begun { begun ≡ count_by (λ run. nat_lt run.first page) runs.now }
     ensures { result ≡ count_by (λ run. nat_le run.count (page - run.first)) runs.now }
 {
-    if runs.len() > FEW {
-        return runs.partition_point(|run| run.count <= page.saturating_sub(run.first));
+    if begun == 0 {
+        return 0;
     }
-    runs.iter()
-        .filter(|run| run.count <= page.saturating_sub(run.first))
-        .count()
+    let last = runs[begun - 1];
+    if page.saturating_sub(last.first) < last.count {
+        return begun - 1;
+    }
+    begun
 }
 
 /// The one permission of the 2^height pages from `first` on, which the runs meet.
@@ -134,13 +139,14 @@ impl<'a> Halving for MapBlock<'a> {
     fn halves(&self) -> (MapBlock<'a>, MapBlock<'a>) {
         let height = self.height - 1;
         let middle = self.first + pages_of(height);
+        let begun = begun_before(self.runs, middle);
         let lower = MapBlock {
-            runs: &self.runs[..begun_before(self.runs, middle)],
+            runs: &self.runs[..begun],
             first: self.first,
             height,
         };
         let upper = MapBlock {
-            runs: &self.runs[ended_before(self.runs, middle)..],
+            runs: &self.runs[ended_before(self.runs, begun, middle)..],
             first: middle,
             height,
         };

@@ -7,6 +7,7 @@ pub mod Looped
 pub mod Mapped
 mod FirstByte
 pub mod PlainText
+pub mod Letters
 mod Counters
 mod HexDigits
 mod WordDigits

@@ -223,6 +223,28 @@ fn leading_digits(text: &[u8], base: u8) -> Option<(u64, &[u8])>
     Some((value, &text[len..]))
 }
 
+/// What stands after `0x`.
+#[inline(always)]
+pub fn behind_mark(text: &[u8]) -> Option<&[u8]>
+    ensures { IfSome result (λ digits. text.now ≡ 48 ∷ 120 ∷ digits.now) }
+{
+    match text {
+        [b'0', b'x', digits @ ..] => Some(digits),
+        _ => None,
+    }
+}
+
+/// What stands after a space.
+#[inline(always)]
+pub fn behind_space(text: &[u8]) -> Option<&[u8]>
+    ensures { IfSome result (λ behind. text.now ≡ 32 ∷ behind.now) }
+{
+    match text {
+        [b' ', behind @ ..] => Some(behind),
+        _ => None,
+    }
+}
+
 /// The value of one or more digits of a base from 2 to 16, where it is below 2^64.
 pub fn numeral(digits: &[u8], base: u8) -> Option<u64>
     requires least { 2 ≤ base }

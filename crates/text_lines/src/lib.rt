@@ -36,7 +36,9 @@ pub use counter::Counter;
 pub use fault::{ReadFault, RunFault};
 pub use hexadecimal::hex_digits;
 pub use laws::{lines_law, words_law};
-pub use lexical::{NotUnderstood, Words, leading_numeral, number, numeral, word_len};
+pub use lexical::{
+    NotUnderstood, Words, behind_mark, behind_space, leading_numeral, number, numeral, word_len,
+};
 pub use line_loop::{Interpreter, Refusal, interpret_lines};
 pub use lines::{LONGEST, LineReader, without_return};
 pub use written::{Line, hex_digit, push_decimal, push_hex, push_text};
