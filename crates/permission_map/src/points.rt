@@ -134,7 +134,7 @@ pub(crate) fn before(points: &[Point], page: u64) -> usize
 }
 
 /// How many of the points come before the page or at it, where the first `from` do. Those after them are passed one by
-/// one: all but the last go with the range that ends there.
+/// one: a range that ends there writes over them, or all but the last go with it.
 pub(crate) fn up_to(points: &[Point], from: usize, page: u64) -> usize
     requires points { Rise points.now }
     requires inside { from ≤ length points.now }
@@ -368,8 +368,10 @@ pub(crate) fn change(
     requires some { range.first < range.end }
     requires small { range.end ≤ 2 ^ 44 }
     requires cut { IsCut points.old.items range.first range.end from to }
-    requires turn { IsTurn (standing NoAccess (take from points.old.items)) range.first range.perm start }
-    requires ends { IsStop range.perm range.end (standing NoAccess (take to points.old.items)) stop }
+    requires turn { IsTurn (standing NoAccess (take from points.old.items))
+        range.first range.perm start }
+    requires ends { IsStop range.perm range.end
+        (standing NoAccess (take to points.old.items)) stop }
     requires idle { vec_len points.old ≤ length (turns points.old.items) + 4096 }
     requires room { vec_len points.old + 2 ≤ vec_capacity points.old }
     ensures rise { Rise points.new.items }
