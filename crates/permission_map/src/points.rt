@@ -14,6 +14,18 @@ pub(crate) const MOST_IDLE: usize = 4096;
 /// As many points of a range are written anew where they stand. Of more, most go.
 const MOST_WRITTEN: usize = 8;
 
+/// The permission with each three bits. Read from a table, since the compiler makes a jump of a `match` and guesses it wrong.
+const PERMS: [Perm; 8] = [
+    Perm::NoAccess,
+    Perm::Read,
+    Perm::ReadWriteExecute,
+    Perm::ReadWrite,
+    Perm::Execute,
+    Perm::ReadExecute,
+    Perm::ReadWriteExecute,
+    Perm::ReadWriteExecute,
+];
+
 /// A page at which the permission changes or has changed, with the one that stands from there on. Both are kept in one number:
 /// moving points is then moving numbers of eight bytes, which becomes one `memmove`.
 #[derive(Clone, Copy)]
@@ -41,14 +53,7 @@ impl Point {
     pub(crate) fn perm(self) -> Perm
         ensures { result ≡ perm_of self }
     {
-        match self.number % 8 {
-            0 => Perm::NoAccess,
-            1 => Perm::Read,
-            3 => Perm::ReadWrite,
-            4 => Perm::Execute,
-            5 => Perm::ReadExecute,
-            _ => Perm::ReadWriteExecute,
-        }
+        PERMS[(self.number % 8) as usize]
     }
 
     /// The point at the same page from which the permission stands.
