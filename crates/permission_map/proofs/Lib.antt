@@ -10,3 +10,6 @@ pub mod PointLists
 pub mod PointRuns
 pub mod PointSets
 mod Opened
+pub mod Turns
+pub mod Changed
+pub mod Planned

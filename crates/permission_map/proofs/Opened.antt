@@ -1,12 +1,8 @@
 -- A list in which two places are opened, and filled.
 use Rattle.std.proofs.Common.{◌≡◌, ◌∙◌, ℕ, ◌+◌, ◌-◌, ◌≤◌, List, [], ◌∷◌, ◌++◌, length, take, drop, slice_set, refl, sym, ap, arith, append_assoc, length-append, length-take-le}
 use Rattle.std.specs.List.{copy_within}
-use Rattle.std.proofs.Math.Seq.{take-append-add, take-append_seam, drop-append_seam}
+use Rattle.std.proofs.Math.Seq.{set-append_seam, take-append-add, take-append_seam, drop-append_seam}
 use Rattle.std.proofs.lemmas.List.{append-nil, drop_all, take-append-drop}
-
-set_behind : {X : Type 0} (l : List X) (p x : X) (r : List X) → slice_set (l ++ p ∷ r) (length l) x ≡ l ++ x ∷ r
-set_behind [] p x r = refl
-set_behind (y ∷ l) p x r = ap (λ xs. y ∷ xs) (set_behind l p x r)
 
 -- the first two of a list of two at least
 pair : {X : Type 0} (r : List X) (a b : X) → (p : X) × (q : X) × (take 2 (r ++ a ∷ b ∷ []) ≡ p ∷ q ∷ [])
@@ -31,10 +27,10 @@ apart l r a b =
     ∙ append-nil ((l ++ two.0 ∷ two.1 ∷ []) ++ r)
     ∙ append_assoc l (two.0 ∷ two.1 ∷ []) r in
     ap (λ xs. slice_set (slice_set xs (length l) a) (length l + 1) b) all
-    ∙ ap (λ xs. slice_set xs (length l + 1) b) (set_behind l two.0 a (two.1 ∷ r))
+    ∙ ap (λ xs. slice_set xs (length l + 1) b) (set-append_seam l two.0 (two.1 ∷ r) a)
     ∙ ap (λ n. slice_set (l ++ a ∷ two.1 ∷ r) n b) next
     ∙ ap (λ xs. slice_set xs (length (l ++ a ∷ [])) b) (sym (append_assoc l (a ∷ []) (two.1 ∷ r)))
-    ∙ set_behind (l ++ a ∷ []) two.1 b r
+    ∙ set-append_seam (l ++ a ∷ []) two.1 r b
     ∙ append_assoc l (a ∷ []) (b ∷ r)
 
 pub opened :

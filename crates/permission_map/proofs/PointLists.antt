@@ -14,7 +14,7 @@ inserted_back xs at end x inside same =
     let e : end + 1 ≡ length (take at xs) + 1 = omega (arith, length-take at xs) in
     ap (λ n. drop n (take at xs ++ x ∷ drop at xs)) e ∙ drop-append-add (take at xs) (x ∷ drop at xs) 1 ∙ ap (λ n. drop n xs) (sym same)
 
-drop_twice : {X : Type 0} (xs : List X) (from to : ℕ) → from ≤ to → drop (to - from) (drop from xs) ≡ drop to xs
+pub drop_twice : {X : Type 0} (xs : List X) (from to : ℕ) → from ≤ to → drop (to - from) (drop from xs) ≡ drop to xs
 drop_twice xs from to order = grind (arith, common_steps)
 
 pub three_parts :

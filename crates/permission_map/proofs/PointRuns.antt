@@ -7,7 +7,7 @@ use Rattle.pmp_encoding.specs.declared.perm.Perm.{Perm}
 use Rattle.pmp_encoding.specs.declared.perm.Perm.TheVariants.{NoAccess, Read, ReadWrite, Execute, ReadExecute, ReadWriteExecute}
 use Rattle.permission_map.specs.declared.points.Point.{Point}
 use Rattle.permission_map.specs.Runs.{AreRuns, AreRunsAfter, view_of_runs}
-use Rattle.permission_map.specs.Points.{ArePoints, ArePointsAfter, allows, next_page, page_of, perm_for, perm_of, runs_of, standing}
+use Rattle.permission_map.specs.Points.{ArePoints, ArePointsAfter, Rise, RiseAfter, allows, next_page, page_of, perm_for, perm_of, runs_of, standing}
 use Rattle.permission_map.proofs.Rising.{view_before, view_in, view_past}
 
 -- ---- a point by its number
@@ -36,25 +36,25 @@ allows_some n h = go (n == 0) (n == 1) (n == 3) (n == 4) (n == 5) h
 
 -- ---- the pages rise
 
-pages_after : (at : ℕ) (p : Perm) (ps : List Point) → ArePointsAfter at p ps → (j : ℕ) (d : Point) → j < length ps → at ≤ page_of (get_or ps j d)
-pages_after at p [] are j d inside = absurd (omega arith)
-pages_after at p (q ∷ ps) are zero d inside = are.0.rising
-pages_after at p (q ∷ ps) are (suc j) d inside =
-    let begin : at ≤ page_of q = are.0.rising in
-    let rest : page_of q + 1 ≤ page_of (get_or ps j d) = pages_after (page_of q + 1) (perm_of q) ps are.1 j d (omega arith) in
+pages_after : (at : ℕ) (ps : List Point) → RiseAfter at ps → (j : ℕ) (d : Point) → j < length ps → at ≤ page_of (get_or ps j d)
+pages_after at [] rise j d inside = absurd (omega arith)
+pages_after at (q ∷ ps) rise zero d inside = rise.0
+pages_after at (q ∷ ps) rise (suc j) d inside =
+    let begin : at ≤ page_of q = rise.0 in
+    let rest : page_of q + 1 ≤ page_of (get_or ps j d) = pages_after (page_of q + 1) ps rise.2 j d (omega arith) in
     omega (arith, begin, rest)
 
-pages_rise_at : (at : ℕ) (p : Perm) (ps : List Point) → ArePointsAfter at p ps → (i j : ℕ) (d : Point) → i ≤ j → j < length ps → page_of (get_or ps i d) ≤ page_of (get_or ps j d)
-pages_rise_at at p [] are i j d order inside = absurd (omega arith)
-pages_rise_at at p (q ∷ ps) are zero zero d order inside = omega arith
-pages_rise_at at p (q ∷ ps) are zero (suc j) d order inside =
-    let rest : page_of q + 1 ≤ page_of (get_or ps j d) = pages_after (page_of q + 1) (perm_of q) ps are.1 j d (omega arith) in
+pages_rise_at : (at : ℕ) (ps : List Point) → RiseAfter at ps → (i j : ℕ) (d : Point) → i ≤ j → j < length ps → page_of (get_or ps i d) ≤ page_of (get_or ps j d)
+pages_rise_at at [] rise i j d order inside = absurd (omega arith)
+pages_rise_at at (q ∷ ps) rise zero zero d order inside = omega arith
+pages_rise_at at (q ∷ ps) rise zero (suc j) d order inside =
+    let rest : page_of q + 1 ≤ page_of (get_or ps j d) = pages_after (page_of q + 1) ps rise.2 j d (omega arith) in
     omega (arith, rest)
-pages_rise_at at p (q ∷ ps) are (suc i) zero d order inside = absurd (omega arith)
-pages_rise_at at p (q ∷ ps) are (suc i) (suc j) d order inside = pages_rise_at (page_of q + 1) (perm_of q) ps are.1 i j d (omega arith) (omega arith)
+pages_rise_at at (q ∷ ps) rise (suc i) zero d order inside = absurd (omega arith)
+pages_rise_at at (q ∷ ps) rise (suc i) (suc j) d order inside = pages_rise_at (page_of q + 1) ps rise.2 i j d (omega arith) (omega arith)
 
-pub pages_rise : (at : ℕ) (p : Perm) (ps : List Point) → ArePointsAfter at p ps → IsNonDecreasingBy page_of ps
-pages_rise at p ps are = λ i j d order inside. pages_rise_at at p ps are i j d order inside
+pub pages_rise : (ps : List Point) → Rise ps → IsNonDecreasingBy page_of ps
+pages_rise ps rise = λ i j d order inside. pages_rise_at 0 ps rise i j d order inside
 
 pub standing_last : (p : Perm) (ps : List Point) (i : ℕ) (d : Point) → i < length ps → perm_of (get_or ps i d) ≡ standing p (take (suc i) ps)
 standing_last p [] i d inside = absurd (omega arith)

@@ -10,7 +10,7 @@ use Rattle.permission_map.specs.declared.points.Point.{Point}
 use Rattle.permission_map.specs.Runs.{in_range}
 use Rattle.permission_map.specs.Views.{overwritten}
 use Rattle.permission_map.specs.Overwrite.{AreOverwritten}
-use Rattle.permission_map.specs.Points.{ArePoints, ArePointsAfter, IsBuilt, IsStop, IsTurn, allows, page_of, perm_of, runs_of, standing}
+use Rattle.permission_map.specs.Points.{ArePoints, ArePointsAfter, IsCut, IsStop, IsTurn, Rise, RiseAfter, allows, page_of, perm_of, runs_of, standing}
 use Rattle.permission_map.proofs.Overwritten.{changed_below, changed_in, changed_past}
 use Rattle.permission_map.proofs.PointLists.{count_by-append}
 use Rattle.permission_map.proofs.PointRuns.{pages_rise, runs_are, runs_count, view_from, view_is}
@@ -24,7 +24,7 @@ UpTo page ps = AllByRecursion (λ q. page_of q ≤ page) ps
 -- ---- one list after another
 
 -- the page after the last point
-abbrev last_at : ℕ → List Point → ℕ
+abbrev pub last_at : ℕ → List Point → ℕ
 last_at at [] = at
 last_at at (q ∷ ps) = last_at (page_of q + 1) ps
 
@@ -40,7 +40,7 @@ points_append : (at : ℕ) (p : Perm) (xs ys : List Point) → ArePointsAfter at
 points_append at p [] ys are more = more
 points_append at p (x ∷ xs) ys are more = (are.0, points_append (page_of x + 1) (perm_of x) xs ys are.1 more)
 
-last_low : (at first : ℕ) (xs : List Point) → at ≤ first → AllByRecursion (λ q. page_of q < first) xs → last_at at xs ≤ first
+pub last_low : (at first : ℕ) (xs : List Point) → at ≤ first → AllByRecursion (λ q. page_of q < first) xs → last_at at xs ≤ first
 last_low at first [] low all = low
 last_low at first (x ∷ xs) low all = last_low (page_of x + 1) first xs (let here : page_of x < first = all.0 in omega (arith, here)) all.1
 
@@ -49,12 +49,12 @@ points_from : (at from : ℕ) (p : Perm) (ps : List Point) → ArePointsAfter at
 points_from at from p [] are all = tt
 points_from at from p (q ∷ ps) are all = (record { rising = all.0; changes = are.0.changes; inside = are.0.inside }, are.1)
 
-points_earlier : (at from : ℕ) (p : Perm) (ps : List Point) → ArePointsAfter at p ps → from ≤ at → ArePointsAfter from p ps
+pub points_earlier : (at from : ℕ) (p : Perm) (ps : List Point) → ArePointsAfter at p ps → from ≤ at → ArePointsAfter from p ps
 points_earlier at from p [] are low = tt
 points_earlier at from p (q ∷ ps) are low =
     (record { rising = (let here : at ≤ page_of q = are.0.rising in omega (arith, here, low)); changes = are.0.changes; inside = are.0.inside }, are.1)
 
-weaker : (P Q : Point → Type 0) → ((q : Point) → P q → Q q) → (ps : List Point) → AllByRecursion P ps → AllByRecursion Q ps
+pub weaker : (P Q : Point → Type 0) → ((q : Point) → P q → Q q) → (ps : List Point) → AllByRecursion P ps → AllByRecursion Q ps
 weaker P Q f [] all = tt
 weaker P Q f (q ∷ ps) all = (f q all.0, weaker P Q f ps all.1)
 
@@ -99,13 +99,6 @@ view_second p (x ∷ xs) ys page low =
     cond-false (nat_lt page (page_of x)) p (view_from (perm_of x) (xs ++ ys) page) (le-ltb _ _ low.0) ∙ view_second (perm_of x) xs ys page low.1
 
 -- ---- a range
-
--- where the points before a range, and those after its end, are cut off
-pub record IsCut (ps : List Point) (first end from to : ℕ) : Type 0 where
-  pub before : All (λ q. page_of q < first) (take from ps)
-  pub rest : All (λ q. first ≤ page_of q) (drop from ps)
-  pub up_to : All (λ q. page_of q ≤ end) (take to ps)
-  pub behind : All (λ q. end < page_of q) (drop to ps)
 
 abbrev pub replaced : List Point → ℕ → ℕ → Option Point → Option Point → List Point
 replaced ps from to start stop = take from ps ++ (option_to_list start ++ (option_to_list stop ++ drop to ps))
@@ -220,9 +213,9 @@ pub gone_few : (ps : List Point) (from to gone : ℕ) → count_by allows (take 
 gone_few ps from to gone parts = omega (arith, parts, runs_count ps)
 
 -- where a point is after a page, so are those from it on
-pub behind_from : (ps : List Point) (i page : ℕ) (e : Point) → ArePoints ps → i < length ps → page < page_of (get_or ps i e) → All (λ q. page < page_of q) (drop i ps)
+pub behind_from : (ps : List Point) (i page : ℕ) (e : Point) → Rise ps → i < length ps → page < page_of (get_or ps i e) → All (λ q. page < page_of q) (drop i ps)
 behind_from ps i page e are less low = λ k d inside.
-    let rise : page_of (get_or ps i d) ≤ page_of (get_or ps (i + k) d) = pages_rise 0 NoAccess ps are i (i + k) d (omega arith) (omega (arith, length-drop i ps, inside)) in
+    let rise : page_of (get_or ps i d) ≤ page_of (get_or ps (i + k) d) = pages_rise ps are i (i + k) d (omega arith) (omega (arith, length-drop i ps, inside)) in
     let same : page_of (get_or ps i e) ≡ page_of (get_or ps i d) = ap page_of (get_or_default ps i e d less) in
     rw (get_or-drop i ps k d) (omega (arith, rise, same, low))
 
@@ -260,7 +253,7 @@ stepped_inside ps page low step moved d inside before after =
     (cases_lt (length ps) (low + step))
 
 pub stepped_front :
-    (ps : List Point) (page low step moved : ℕ) → ArePoints ps → 0 < step → Before ps page (low + step) moved → After ps page (low + step) moved
+    (ps : List Point) (page low step moved : ℕ) → Rise ps → 0 < step → Before ps page (low + step) moved → After ps page (low + step) moved
     → ((k : ℕ) (d : Point) → k < low → page_of (get_or ps k d) < page) → (k : ℕ) (d : Point) → k < low + step * moved → page_of (get_or ps k d) < page
 stepped_front ps page low step moved are some before after front k d less =
     ⊎_elim (λ beyond. let e = no_step step moved (after d (λ within. absurd (omega (arith, within, beyond)))) in front k d (omega (arith, e, less)))
@@ -269,14 +262,14 @@ stepped_front ps page low step moved are some before after front k d less =
     (λ under.
     let e = whole_step step moved (before d within under) in
     let rise : page_of (get_or ps k d) ≤ page_of (get_or ps (low + step - 1) d) =
-    pages_rise 0 NoAccess ps are k (low + step - 1) d (omega (arith, e, less, some)) (omega (arith, within, some)) in
+    pages_rise ps are k (low + step - 1) d (omega (arith, e, less, some)) (omega (arith, within, some)) in
     omega (arith, rise, under))
     (λ over. let e = no_step step moved (after d (λ _. over)) in front k d (omega (arith, e, less)))
     (cases_lt (page_of (get_or ps (low + step - 1) d)) page))
     (cases_lt (length ps) (low + step))
 
 pub stepped_rest :
-    (ps : List Point) (page low step moved : ℕ) → ArePoints ps → 0 < step → Before ps page (low + step) moved → After ps page (low + step) moved
+    (ps : List Point) (page low step moved : ℕ) → Rise ps → 0 < step → Before ps page (low + step) moved → After ps page (low + step) moved
     → ((k : ℕ) (d : Point) → low + (step + step) ≤ k + 1 → k < length ps → page ≤ page_of (get_or ps k d)) → (k : ℕ) (d : Point) → low + step * moved + step ≤ k + 1
     → k < length ps → page ≤ page_of (get_or ps k d)
 stepped_rest ps page low step moved are some before after rest k d more less =
@@ -285,7 +278,7 @@ stepped_rest ps page low step moved are some before after rest k d more less =
     ⊎_elim (λ under. let e = whole_step step moved (before d within under) in rest k d (omega (arith, e, more)) less)
     (λ over.
     let rise : page_of (get_or ps (low + step - 1) d) ≤ page_of (get_or ps k d) =
-    pages_rise 0 NoAccess ps are (low + step - 1) k d (omega (arith, more, some)) less in
+    pages_rise ps are (low + step - 1) k d (omega (arith, more, some)) less in
     omega (arith, rise, over))
     (cases_lt (page_of (get_or ps (low + step - 1) d)) page))
     (cases_lt (length ps) (low + step))
@@ -294,16 +287,16 @@ pub stepped_room : (low step moved bound : ℕ) → moved ≤ 1 → low + (step 
 stepped_room low step moved bound bit room = omega (arith, step_small step moved bit, room)
 
 -- no more points than pages
-room_after : (at : ℕ) (p : Perm) (ps : List Point) → ArePointsAfter at p ps → at ≤ 2 ^ 44 → at + length ps ≤ 2 ^ 44
-room_after at p [] are low = omega (arith, low)
-room_after at p (q ∷ ps) are low =
-    let begin : at ≤ page_of q = are.0.rising in
-    let inside : page_of q < 2 ^ 44 = are.0.inside in
-    let rest : page_of q + 1 + length ps ≤ 2 ^ 44 = room_after (page_of q + 1) (perm_of q) ps are.1 (omega (arith, inside)) in
+room_after : (at : ℕ) (ps : List Point) → RiseAfter at ps → at ≤ 2 ^ 44 → at + length ps ≤ 2 ^ 44
+room_after at [] rise low = omega (arith, low)
+room_after at (q ∷ ps) rise low =
+    let begin : at ≤ page_of q = rise.0 in
+    let inside : page_of q < 2 ^ 44 = rise.1 in
+    let rest : page_of q + 1 + length ps ≤ 2 ^ 44 = room_after (page_of q + 1) ps rise.2 (omega (arith, inside)) in
     omega (arith, begin, rest)
 
-pub as_many_as_pages : (ps : List Point) → ArePoints ps → length ps ≤ 2 ^ 44
-as_many_as_pages ps are = omega (arith, room_after 0 NoAccess ps are (omega arith))
+pub as_many_as_pages : (ps : List Point) → Rise ps → length ps ≤ 2 ^ 44
+as_many_as_pages ps rise = omega (arith, room_after 0 ps rise (omega arith))
 
 -- ---- as the code says it
 
@@ -313,47 +306,8 @@ pub record AreCuts (ps : List Point) (first end from to : ℕ) (perm : Perm) (st
   pub turn : IsTurn (standing NoAccess (take from ps)) first perm start
   pub ends : IsStop perm end (standing NoAccess (take to ps)) stop
 
-pub row_cuts :
-    (ps row : List Point) (first end from to : ℕ) (perm before after : Perm) (start stop : Option Point) → row ≡ ps → All (λ q. page_of q < first) (take from row)
-    → All (λ q. first ≤ page_of q) (drop from row) → All (λ q. page_of q ≤ end) (take to row) → All (λ q. end < page_of q) (drop to row)
-    → before ≡ standing NoAccess (take from row) → after ≡ standing NoAccess (take to row) → IsTurn before first perm start → IsStop perm end after stop
-    → AreCuts ps first end from to perm start stop
-row_cuts ps row first end from to perm before after start stop same b r u e is_before is_after turn ends =
-    let T : Perm → Type 0 = λ p. IsTurn p first perm start in
-    let S : Perm → Type 0 = λ p. IsStop perm end p stop in
-    let C : List Point → Type 0 = λ l. AreCuts l first end from to perm start stop in
-    let own : AreCuts row first end from to perm start stop =
-    record { cut = record { before = b; rest = r; up_to = u; behind = e }; turn = subst T is_before turn; ends = subst S is_after ends } in
-    subst C same own
-
-pub row_parts :
-    (ps row : List Point) (from to gone : ℕ) → row ≡ ps → count_by allows (take from row) + (gone + count_by allows (drop to row)) ≡ count_by allows row
-    → count_by allows (take from ps) + (gone + count_by allows (drop to ps)) ≡ count_by allows ps
-row_parts ps row from to gone same parts =
-    let P : List Point → Type 0 = λ l. count_by allows (take from l) + (gone + count_by allows (drop to l)) ≡ count_by allows l in
-    subst P same parts
-
 pub cuts_overwritten :
     (ps : List Point) (first count from to : ℕ) (perm : Perm) (start stop : Option Point) → ArePoints ps → 0 < count → first + count ≤ 2 ^ 44
     → AreCuts ps first (first + count) from to perm start stop → AreOverwritten (runs_of ps) first count perm (runs_of (replaced ps from to start stop))
 cuts_overwritten ps first count from to perm start stop are some small cuts =
     replaced_overwritten ps first count from to perm start stop are some small cuts.cut cuts.turn cuts.ends
-
-pub cuts_built :
-    (ps items : List Point) (first count from to runs gone a b before capacity room : ℕ) (perm : Perm) (start stop : Option Point) → IsBuilt ps runs before → 0 < count
-    → first + count ≤ 2 ^ 44 → AreCuts ps first (first + count) from to perm start stop
-    → count_by allows (take from ps) + (gone + count_by allows (drop to ps)) ≡ count_by allows ps → a ≡ count_by allows (option_to_list start)
-    → b ≡ count_by allows (option_to_list stop) → runs - gone + a + b ≤ 4096 → items ≡ replaced ps from to start stop → 8195 ≤ capacity → capacity ≤ room
-    → IsBuilt items (runs - gone + a + b) room
-cuts_built ps items first count from to runs gone a b before capacity room perm start stop built some small cuts parts is_a is_b few is wide more =
-    let number = replaced_count ps from to gone start stop parts in
-    let most = gone_few ps from to gone parts in
-    let B : List Point → Type 0 = λ l. IsBuilt l (runs - gone + a + b) room in
-    let own : IsBuilt (replaced ps from to start stop) (runs - gone + a + b) room =
-    record {
-      are_points = replaced_are ps first (first + count) from to perm start stop built.are_points (omega (arith, some)) small cuts.cut cuts.turn cuts.ends;
-      count = omega (arith, number, most, built.count, is_a, is_b);
-      few = few;
-      room = λ any. omega (arith, wide, more);
-    } in
-    subst B (sym is) own

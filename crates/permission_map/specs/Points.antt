@@ -1,8 +1,9 @@
 -- A view kept as the points at which it changes.
-use Rattle.std.specs.Prelude.{◌≡◌, ◌≢◌, ℕ, ◌+◌, ◌-◌, ◌/◌, ◌%◌, ◌^◌, ◌<◌, ◌≤◌, ◌⊎◌, Bool, not, ◌==◌, if◌then◌else◌, List, [], ◌∷◌, ◌++◌, length, Option, None, Some, ⊤}
+use Rattle.std.specs.Prelude.{◌≡◌, ◌≢◌, ℕ, ◌+◌, ◌-◌, ◌*◌, ◌/◌, ◌%◌, ◌^◌, ◌<◌, ◌≤◌, ◌⊎◌, Bool, not, ◌==◌, if◌then◌else◌, List, [], ◌∷◌, ◌++◌, length, take, drop, All, Option, None, Some, option_to_list, ⊤}
 use Rattle.pmp_encoding.specs.declared.perm.Perm.{Perm}
 use Rattle.pmp_encoding.specs.declared.perm.Perm.TheVariants.{NoAccess}
 pub use Rattle.pmp_encoding.specs.Perms.{perm_for}
+use Rattle.pmp_encoding.specs.Perms.{bits_of, perm_eq}
 use Rattle.permission_map.specs.declared.points.Point.{Point}
 use Rattle.permission_map.specs.declared.runs.Run.{Run}
 
@@ -44,13 +45,6 @@ abbrev pub runs_of : List Point → List Run
 runs_of [] = []
 runs_of (p ∷ ps) = run_to (next_page ps) p ++ runs_of ps
 
--- what a builder keeps: points, the number of their runs, and with the first run room for as many points as a map may have
-pub record IsBuilt (points : List Point) (runs capacity : ℕ) : Type 0 where
-  pub are_points : ArePoints points
-  pub count : length (runs_of points) ≡ runs
-  pub few : runs ≤ 4096
-  pub room : 0 < runs → 8195 ≤ capacity
-
 -- the permission that stands after the points, where p stands before them
 abbrev pub standing : Perm → List Point → Perm
 standing p [] = p
@@ -64,3 +58,53 @@ IsTurn before page perm (Some q) = (perm ≢ before) × (page_of q ≡ page) × 
 -- so at the end of a range: none at the end of the space
 abbrev pub IsStop : Perm → ℕ → Perm → Option Point → Type 0
 IsStop before page perm stop = ((page ≡ 2 ^ 44) × (stop ≡ None)) ⊎ ((page < 2 ^ 44) × IsTurn before page perm stop)
+
+-- points by rising page, from the page `at` on, at which the permission may change or not
+abbrev pub RiseAfter : ℕ → List Point → Type 0
+RiseAfter at [] = ⊤
+RiseAfter at (p ∷ ps) = (at ≤ page_of p) × (page_of p < 2 ^ 44) × RiseAfter (page_of p + 1) ps
+
+abbrev pub Rise : List Point → Type 0
+Rise ps = RiseAfter 0 ps
+
+-- a point, if the permission changes there
+abbrev pub turn_at : Perm → Point → List Point
+turn_at before p = if perm_eq before (perm_of p) then [] else p ∷ []
+
+-- those of the points at which the permission changes, where `before` stands before them
+abbrev pub turns_after : Perm → List Point → List Point
+turns_after before [] = []
+turns_after before (p ∷ ps) = turn_at before p ++ turns_after (perm_of p) ps
+
+abbrev pub turns : List Point → List Point
+turns ps = turns_after NoAccess ps
+
+-- a point at the same page, from which another permission stands
+abbrev pub with_perm : Perm → Point → Point
+with_perm perm p = record { number = page_of p * 8 + bits_of perm }
+
+-- what a builder keeps: points, the number of the runs between those at which the permission changes, at most 4096 points more
+-- than these, and with the first run room for all
+pub record IsBuilt (points : List Point) (runs capacity : ℕ) : Type 0 where
+  pub rise : Rise points
+  pub count : length (runs_of (turns points)) ≡ runs
+  pub few : runs ≤ 4096
+  pub idle : length points ≤ length (turns points) + 4096
+  pub room : 0 < runs → 12291 ≤ capacity
+
+-- where the points before a range, and those after its end, are cut off
+pub record IsCut (ps : List Point) (first end from to : ℕ) : Type 0 where
+  pub before : All (λ q. page_of q < first) (take from ps)
+  pub rest : All (λ q. first ≤ page_of q) (drop from ps)
+  pub up_to : All (λ q. page_of q ≤ end) (take to ps)
+  pub behind : All (λ q. end < page_of q) (drop to ps)
+
+-- the points with a range set between the first `from` and those after the first `to`: of their turns, at most two stand in the place of those between
+pub record IsChanged (old new : List Point) (from to first end : ℕ) (perm : Perm) : Type 0 where
+  pub start : Option Point
+  pub stop : Option Point
+  pub turn : IsTurn (standing NoAccess (take from old)) first perm start
+  pub ends : IsStop perm end (standing NoAccess (take to old)) stop
+  pub turns_are :
+      turns new
+      ≡ turns (take from old) ++ (option_to_list start ++ (option_to_list stop ++ turns_after (standing NoAccess (take to old)) (drop to old)))

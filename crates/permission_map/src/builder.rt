@@ -4,13 +4,14 @@ ghost use Rattle.std.specs.Prelude.{◌≡◌, ◌≤◌, ◌<◌, ◌+◌, ◌+
 ghost use Rattle.permission_map.specs.declared.runs.Run.{Run};
 ghost use Rattle.permission_map.specs.declared.fault.MapFault as MapFault;
 ghost use Rattle.permission_map.specs.Overwrite.{AreOverwritten, Becomes};
-ghost use Rattle.permission_map.specs.Points.{ArePoints, IsBuilt, next_page, page_of, run_to, runs_of};
+ghost use Rattle.permission_map.specs.Points.{IsBuilt, Rise, page_of, run_to, runs_of, turns};
 
 use crate::fault::MapFault;
 use crate::map::{Memory, PermissionMap};
 use crate::overwrite::MOST_RUNS;
 use crate::points::{
-    Point, before, begun_at, begun_between, replace, standing_behind, stop, turn, up_to,
+    MOST_IDLE, Point, Setting, before, begun_at, begun_between, change, standing_behind, stop,
+    turn, up_to,
 };
 use crate::runs::Run;
 use page_views::SPACE_PAGES;
@@ -18,12 +19,12 @@ use pmp_encoding::Perm;
 use std::alloc::{AllocError, Global};
 use std::marker::Model;
 
-/// The most points of a map, two for each run and one more, and room for two to come before others go.
-const MOST_POINTS: usize = 2 * MOST_RUNS + 3;
+/// The most points of a map, two for each run and one more, those that are idle, and room for two to come before others go.
+const MOST_POINTS: usize = 2 * MOST_RUNS + MOST_IDLE + 3;
 
 /// A map on which many ranges are set one after another, as the lines of a map file do. It is seen as the runs of the
 /// [`PermissionMap`] that it becomes. It keeps the pages at which the permission changes: a range replaces the few that
-/// lie in it by at most two. Room for all is taken with the first run.
+/// lie in it by at most two, or leaves them where they stand. Room for all is taken with the first run.
 #[derive(Drop)]
 pub struct MapBuilder {
     alloc: Global,
@@ -34,29 +35,19 @@ pub struct MapBuilder {
 impl Model for MapBuilder {
     ghost use Rattle.std.specs.Prelude.{List, vec_capacity};
     ghost use Rattle.permission_map.specs.declared.runs.Run.{Run};
-    ghost use Rattle.permission_map.specs.Points.{IsBuilt, runs_of};
+    ghost use Rattle.permission_map.specs.Points.{IsBuilt, runs_of, turns};
 
     ghost Value = { List Run };
 
-    ghost view = { λ b. runs_of b.points.items };
+    ghost view = { λ b. runs_of (turns b.points.items) };
 
     ghost invariant = { λ b. IsBuilt b.points.items b.runs (vec_capacity b.points) };
 }
 
-/// The page at which the first of the points stands, or the end of the space.
-fn next_page(points: &[Point]) -> u64
-    ensures { result ≡ next_page points.now }
-{
-    match points {
-        [] => SPACE_PAGES,
-        [point, ..] => point.page(),
-    }
-}
-
-/// The run from a point up to the first of those behind it, if it has a permission.
-fn run_at(point: Point, behind: &[Point]) -> Option<Run>
-    requires { page_of point ≤ next_page behind.now }
-    ensures { option_to_list result ≡ run_to (next_page behind.now) point }
+/// The run from a point up to a page, if it has a permission.
+fn run_at(point: Point, end: u64) -> Option<Run>
+    requires { page_of point ≤ end }
+    ensures { option_to_list result ≡ run_to end point }
 {
     if !point.allows() {
         return None;
@@ -64,34 +55,47 @@ fn run_at(point: Point, behind: &[Point]) -> Option<Run>
     let first = point.page();
     Some(Run {
         first,
-        count: next_page(behind) - first,
+        count: end - first,
         perm: point.perm(),
     })
 }
 
-/// Appends the runs between the points.
-fn push_runs(points: &[Point], runs: &mut Vec<Run>) -> Result<(), AllocError>
-    requires { ArePoints points.now }
-    ensures { OnOk result (runs.new.items ≡ runs.old.items ++ runs_of points.now) }
+/// Appends the run from a point up to a page, if it has a permission.
+fn push_run(point: Point, end: u64, runs: &mut Vec<Run>) -> Result<(), AllocError>
+    requires { page_of point ≤ end }
+    ensures { OnOk result (runs.new.items ≡ runs.old.items ++ run_to end point) }
 {
-    let mut rest = points;
-    'points: while let Some((point, behind)) = rest.split_first() {
-        if let Some(run) = run_at(*point, behind) {
-            runs.push(run)?;
-        }
-        rest = behind;
+    if let Some(run) = run_at(point, end) {
+        runs.push(run)?;
     }
     Ok(())
 }
 
+/// Appends the runs between the points at which the permission changes.
+fn push_runs(points: &[Point], runs: &mut Vec<Run>) -> Result<(), AllocError>
+    requires { Rise points.now }
+    ensures { OnOk result (runs.new.items ≡ runs.old.items ++ runs_of (turns points.now)) }
+{
+    let mut turn = Point::new(0, Perm::NoAccess);
+    let mut rest = points;
+    'points: while let Some((point, behind)) = rest.split_first() {
+        if point.perm() != turn.perm() {
+            push_run(turn, point.page(), runs)?;
+            turn = *point;
+        }
+        rest = behind;
+    }
+    push_run(turn, SPACE_PAGES, runs)
+}
+
 /// Takes room for all points that a map may have, where there is no run yet.
 fn make_room(points: &mut Vec<Point>, runs: usize) -> Result<(), AllocError>
-    requires { 0 < runs → 8195 ≤ vec_capacity points.old }
+    requires { 0 < runs → 12291 ≤ vec_capacity points.old }
     ensures items { points.new.items ≡ points.old.items }
-    ensures room { OnOk result (8195 ≤ vec_capacity points.new) }
+    ensures room { OnOk result (12291 ≤ vec_capacity points.new) }
     ensures first { OnErr result (runs ≡ 0) }
 {
-    if runs == 0 {
+    if runs == 0 && points.capacity() < MOST_POINTS {
         points.reserve(MOST_POINTS)?;
     }
     Ok(())
@@ -110,8 +114,8 @@ fn overwrite(
     requires inside { first + count ≤ 2 ^ 44 }
     ensures built { IsBuilt points.new.items runs.new (vec_capacity points.new) }
     ensures wanted { (wanted : List Run) × AreOverwritten
-        (runs_of points.old.items) first count perm wanted
-        × Becomes (runs_of points.old.items) (runs_of points.new.items) wanted result }
+        (runs_of (turns points.old.items)) first count perm wanted
+        × Becomes (runs_of (turns points.old.items)) (runs_of (turns points.new.items)) wanted result }
     ensures first { result ≡ Err MapFault.Memory → runs.old ≡ 0 }
 {
     if count == 0 {
@@ -134,7 +138,7 @@ fn overwrite(
     let Ok(()) = make_room(points, *runs) else {
         return Err(MapFault::Memory);
     };
-    replace(points, from, to, start, stop);
+    change(points, from, to, Setting { first, end, perm }, start, stop);
     *runs = wanted;
     Ok(())
 }

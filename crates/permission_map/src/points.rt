@@ -1,15 +1,33 @@
-//! Pages at which the permission changes, searched without a branch.
+//! Pages at which the permission changes or has changed, searched without a branch.
 
-ghost use Rattle.std.specs.Prelude.{◌≡◌, ◌≤◌, ◌<◌, ◌+◌, ◌-◌, ◌^◌, ◌++◌, ◌∷◌, Some, All, length, take, drop, slice_index_or, count_by, option_to_list, vec_len, vec_capacity};
+ghost use Rattle.std.specs.Prelude.{◌≡◌, ◌≤◌, ◌<◌, ◌+◌, ◌-◌, ◌^◌, ◌++◌, ◌∷◌, Some, All, length, map, take, drop, slice_index_or, count_by, option_to_list, vec_len, vec_capacity};
 ghost use Rattle.permission_map.specs.declared.points.Point.{Point};
 ghost use Rattle.pmp_encoding.specs.declared.perm.Perm.TheVariants.{NoAccess};
-ghost use Rattle.permission_map.specs.Points.{ArePoints, IsStop, IsTurn, allows, page_of, perm_of, standing};
+ghost use Rattle.permission_map.specs.Points.{IsChanged, IsCut, IsStop, IsTurn, Rise, allows, page_of, perm_of, standing, turn_at, turns, turns_after, with_perm};
 
 use page_views::SPACE_PAGES;
 use pmp_encoding::Perm;
 
-/// A page at which the permission changes, with the one that stands from there on. Both are kept in one number: moving
-/// points is then moving numbers of eight bytes, which becomes one `memmove`.
+/// As many points may be idle: at them the permission does not change.
+pub(crate) const MOST_IDLE: usize = 4096;
+
+/// As many points of a range are written anew where they stand. Of more, most go.
+const MOST_WRITTEN: usize = 8;
+
+/// The permission with each three bits. Read from a table, since the compiler makes a jump of a `match` and guesses it wrong.
+const PERMS: [Perm; 8] = [
+    Perm::NoAccess,
+    Perm::Read,
+    Perm::ReadWriteExecute,
+    Perm::ReadWrite,
+    Perm::Execute,
+    Perm::ReadExecute,
+    Perm::ReadWriteExecute,
+    Perm::ReadWriteExecute,
+];
+
+/// A page at which the permission changes or has changed, with the one that stands from there on. Both are kept in one number:
+/// moving points is then moving numbers of eight bytes, which becomes one `memmove`.
 #[derive(Clone, Copy)]
 pub(crate) struct Point {
     number: u64,
@@ -35,13 +53,15 @@ impl Point {
     pub(crate) fn perm(self) -> Perm
         ensures { result ≡ perm_of self }
     {
-        match self.number % 8 {
-            0 => Perm::NoAccess,
-            1 => Perm::Read,
-            3 => Perm::ReadWrite,
-            4 => Perm::Execute,
-            5 => Perm::ReadExecute,
-            _ => Perm::ReadWriteExecute,
+        PERMS[(self.number % 8) as usize]
+    }
+
+    /// The point at the same page from which the permission stands.
+    fn with_perm(self, perm: Perm) -> Point
+        ensures { result ≡ with_perm perm self }
+    {
+        Point {
+            number: self.number / 8 * 8 + u64::from(perm.bits()),
         }
     }
 
@@ -83,7 +103,7 @@ fn step_of(bits: u32) -> usize
 /// so is each step: of a step that it does not know the compiler makes a branch.
 #[inline(always)]
 fn before_within(points: &[Point], page: u64, bits: u32) -> usize
-    requires points { ArePoints points.now }
+    requires points { Rise points.now }
     requires some { 0 < length points.now }
     requires few { length points.now < 2 ^ bits }
     requires most { bits ≤ 45 }
@@ -103,7 +123,7 @@ fn before_within(points: &[Point], page: u64, bits: u32) -> usize
 
 /// How many of the points come before the page.
 pub(crate) fn before(points: &[Point], page: u64) -> usize
-    requires points { ArePoints points.now }
+    requires points { Rise points.now }
     requires inside { page ≤ 2 ^ 44 }
     ensures bound { result ≤ length points.now }
     ensures front { All (λ p. page_of p < page) (take result points.now) }
@@ -119,9 +139,9 @@ pub(crate) fn before(points: &[Point], page: u64) -> usize
 }
 
 /// How many of the points come before the page or at it, where the first `from` do. Those after them are passed one by
-/// one: all but the last go with the range that ends there.
+/// one: a range that ends there writes over them, or all but the last go with it.
 pub(crate) fn up_to(points: &[Point], from: usize, page: u64) -> usize
-    requires points { ArePoints points.now }
+    requires points { Rise points.now }
     requires inside { from ≤ length points.now }
     requires before { All (λ p. page_of p ≤ page) (take from points.now) }
     ensures order { from ≤ result }
@@ -172,22 +192,39 @@ pub(crate) fn stop(perm: Perm, end: u64, after: Perm) -> Option<Point>
     turn(perm, end, after)
 }
 
-/// How many of the points begin a run.
-fn begun_in(points: &[Point]) -> usize
-    ensures { result ≡ count_by allows points.now }
+/// How many of the points begin a run, where `before` stands before them.
+fn begun_in(points: &[Point], before: Perm) -> usize
+    ensures { result ≡ count_by allows (turns_after before points.now) }
 {
-    points.iter().filter(|p| p.allows()).count()
+    let mut begun = 0;
+    let mut standing = before;
+    let mut rest = points;
+    'points: while let Some((point, behind)) = rest.split_first() {
+        begun += begun_by(*point, standing);
+        standing = point.perm();
+        rest = behind;
+    }
+    begun
+}
+
+/// 1 where a run begins at the point, otherwise 0.
+#[inline(always)]
+fn begun_by(point: Point, before: Perm) -> usize
+    ensures value { result ≡ count_by allows (turn_at before point) }
+    ensures bit { result ≤ 1 }
+{
+    usize::from(point.allows() & (point.perm() != before))
 }
 
 /// How many of the points from `from` to before `to` begin a run.
 pub(crate) fn begun_between(points: &[Point], from: usize, to: usize) -> usize
     requires order { from ≤ to }
     requires inside { to ≤ length points.now }
-    ensures { count_by allows (take from points.now) +
-        (result + count_by allows (drop to points.now))
-        ≡ count_by allows points.now }
+    ensures { count_by allows (turns (take from points.now)) + (result
+        + count_by allows (turns_after (standing NoAccess (take to points.now)) (drop to points.now)))
+        ≡ count_by allows (turns points.now) }
 {
-    begun_in(&points[from..to])
+    begun_in(&points[from..to], standing_behind(points, from))
 }
 
 /// How many runs the point begins, where there is one.
@@ -247,7 +284,7 @@ fn put_two(points: &mut Vec<Point>, at: usize, start: Point, stop: Point)
 }
 
 /// Puts at most two points in the place of those with the indices from `from` to before `to`.
-pub(crate) fn replace(
+fn replace(
     points: &mut Vec<Point>,
     from: usize,
     to: usize,
@@ -278,4 +315,82 @@ pub(crate) fn replace(
         at += 1;
     }
     drop(points.drain(at..end));
+}
+
+/// Gives the points with the indices from `from` to before `to` the permission, each at its page.
+fn repeat(points: &mut Vec<Point>, from: usize, to: usize, perm: Perm)
+    requires order { from ≤ to }
+    requires inside { to ≤ vec_len points.old }
+    ensures items { points.new.items ≡ take from points.old.items ++
+        (map (with_perm perm) (take (to - from) (drop from points.old.items)) ++ drop to points.old.items) }
+    ensures len { vec_len points.new ≡ vec_len points.old }
+    ensures room { vec_capacity points.old ≤ vec_capacity points.new }
+{
+    let mut at = from;
+    while at < to {
+        points[at] = points[at].with_perm(perm);
+        at += 1;
+    }
+}
+
+/// Writes a range over the points that stand in it, two at least: the first becomes its start and the last its stop. None moves,
+/// and those between them change nothing.
+fn write_over(points: &mut Vec<Point>, from: usize, to: usize, start: Point, stop: Point)
+    requires order { from + 2 ≤ to }
+    requires inside { to ≤ vec_len points.old }
+    ensures items { points.new.items ≡ take from points.old.items ++
+        (start ∷ (map (with_perm (perm_of start)) (take (to - 1 - (from + 1)) (drop (from + 1) points.old.items))
+        ++ stop ∷ drop to points.old.items)) }
+    ensures len { vec_len points.new ≡ vec_len points.old }
+    ensures room { vec_capacity points.old ≤ vec_capacity points.new }
+{
+    repeat(points, from + 1, to - 1, start.perm());
+    points[from] = start;
+    points[to - 1] = stop;
+}
+
+/// The pages of a range, and the permission that it sets.
+#[derive(Clone, Copy)]
+pub(crate) struct Setting {
+    pub(crate) first: u64,
+    pub(crate) end: u64,
+    pub(crate) perm: Perm,
+}
+
+/// Sets a range between the first `from` points and those after the first `to`. Where a few points stand in it, they stay, some
+/// of them idle: so lines that override one another over and over move no points. Otherwise at most two stand in their place.
+pub(crate) fn change(
+    points: &mut Vec<Point>,
+    from: usize,
+    to: usize,
+    range: Setting,
+    start: Option<Point>,
+    stop: Option<Point>,
+)
+    requires rise { Rise points.old.items }
+    requires order { from ≤ to }
+    requires inside { to ≤ vec_len points.old }
+    requires some { range.first < range.end }
+    requires small { range.end ≤ 2 ^ 44 }
+    requires cut { IsCut points.old.items range.first range.end from to }
+    requires turn { IsTurn (standing NoAccess (take from points.old.items))
+        range.first range.perm start }
+    requires ends { IsStop range.perm range.end
+        (standing NoAccess (take to points.old.items)) stop }
+    requires idle { vec_len points.old ≤ length (turns points.old.items) + 4096 }
+    requires room { vec_len points.old + 2 ≤ vec_capacity points.old }
+    ensures rise { Rise points.new.items }
+    ensures changed { IsChanged points.old.items points.new.items from to
+        range.first range.end range.perm }
+    ensures idle { vec_len points.new ≤ length (turns points.new.items) + 4096 }
+    ensures room { vec_capacity points.old ≤ vec_capacity points.new }
+{
+    let few = points.len() <= MOST_IDLE && to <= from + MOST_WRITTEN;
+    if few && from + 2 <= to && range.end < SPACE_PAGES {
+        let after = standing_behind(points, to);
+        let start = Point::new(range.first, range.perm);
+        write_over(points, from, to, start, Point::new(range.end, after));
+    } else {
+        replace(points, from, to, start, stop);
+    }
 }

@@ -1,12 +1,12 @@
-use Rattle.std.proofs.Common.{◌≡◌, ℕ, ◌++◌, length}
-use Rattle.pmp_encoding.specs.declared.perm.Perm.{Perm}
-use Rattle.permission_map.specs.Points.{ArePointsAfter, runs_of}
+use Rattle.std.proofs.Common.{◌≡◌, ◌<◌, ◌^◌, ◌++◌, ◌∷◌, length}
+use Rattle.permission_map.specs.Points.{RiseAfter, page_of, perm_of, runs_of, turns, turns_after}
 use Rattle.permission_map.proofs.builder.push_runs.Given as goal
 
 abbrev pub invariant-points : goal.invariant-points
 invariant-points l = record {
-  are_points : (at : ℕ) × (p : Perm) × ArePointsAfter at p l.rest;
-  pushed : l.runs.items ++ runs_of l.rest ≡ l.initial.runs.items ++ runs_of l.points;
+  rise : RiseAfter (page_of l.turn) l.rest;
+  inside : page_of l.turn < 2 ^ 44;
+  pushed : l.runs.items ++ runs_of (l.turn ∷ turns_after (perm_of l.turn) l.rest) ≡ l.initial.runs.items ++ runs_of (turns l.points);
 }
 
 abbrev pub decreases-points : goal.decreases-points
