@@ -1,7 +1,8 @@
 //! Calls to the monitor and interrupts: what the monitor makes of them, done in memory and in the hart's bank.
 
-use crate::call_registers::put_words;
+use crate::call_registers::put_call;
 use crate::parts::Parts;
+use arrayvec::ArrayVec;
 use machine_replies::Reply;
 use monitor_core::PageRange;
 
@@ -11,11 +12,12 @@ impl Parts {
     ghost use Rattle.monitor_core.specs.Changes.{with_running};
     ghost use Rattle.monitor_core.specs.Steps.{DoesCall};
     ghost use Rattle.hart_trace.specs.declared.event.Event.{Event};
+    ghost use Rattle.hart_sim.specs.Banks.{AreBanksRight};
     ghost use Rattle.hart_sim.specs.Changes.{calling, zeroing};
     ghost use Rattle.hart_sim.specs.Frames.{IsOn, KeepsFrame};
-    ghost use Rattle.hart_sim.specs.Parts.{state_in};
+    ghost use Rattle.hart_sim.specs.Parts.{state_in, bank_in};
     ghost use Rattle.hart_sim.specs.States.{core_of};
-    ghost use Rattle.hart_sim.specs.Steps.{Serves, Does};
+    ghost use Rattle.hart_sim.specs.Steps.{Serves, Does, Step};
     ghost use Rattle.machine_memory.specs.Memory.{bytes_at};
 
     /// Makes every byte of some pages zero, where there are any.
@@ -40,12 +42,24 @@ impl Parts {
             Serves (DoesCall (call_of file) (λ page. bytes_at s.bytes (page * 4096) 4096)
             (with_running (core_of s) hart file) hart) s hart result (state_in self.new) }
     {
-        let mut registers = *self.monitor.registers(hart);
-        put_words(&mut registers, words);
-        let served = self.monitor.serve(hart, &registers, &self.memory);
+        put_call(&mut self.monitor, hart, words);
+        let served = self.monitor.serve_kept(hart, &self.memory);
         self.zero(served.zero);
-        self.load_where(hart, served.onward.load);
+        self.load_where(hart, served.load);
         self.told(hart, served.answer)
+    }
+
+    /// A call on a hart, which loads the host's entries first where it is marked. Its words are lent.
+    #[inline(always)]
+    pub(crate) fn call(&mut self, hart: u8, words: &ArrayVec<u64, 8>) -> Reply
+        requires on { IsOn self.old hart }
+        requires few { hart < 4 }
+        ensures frame { KeepsFrame self.old self.new hart }
+        ensures step { AreBanksRight (state_in self.old) (bank_in self.old)
+            → Step (state_in self.old) hart (Event.Ecall words.now) result (state_in self.new) }
+    {
+        self.wake(hart);
+        self.ecall(hart, words.as_slice())
     }
 
     /// The timer's interrupt.
@@ -56,9 +70,8 @@ impl Parts {
         ensures frame { KeepsFrame self.old self.new hart }
         ensures step { Does Event.Irq (state_in self.old) hart result (state_in self.new) }
     {
-        let registers = *self.monitor.registers(hart);
-        let onward = self.monitor.interrupt(hart, &registers);
-        self.load_where(hart, onward.load);
+        let load = self.monitor.interrupt_kept(hart);
+        self.load_where(hart, load);
         self.told_of_irq(hart)
     }
 }

@@ -4,6 +4,7 @@ ghost use Rattle.monitor_core.specs.Monitors.{state_of as core_state};
 ghost use Rattle.hart_sim.specs.Parts.{AreBanks};
 
 use crate::parts::Parts;
+use arrayvec::ArrayVec;
 use hart_trace::Event;
 use machine_replies::Reply;
 use monitor_core::{BootFault, Platform, Table, World};
@@ -34,7 +35,7 @@ impl Machine {
     ghost use Rattle.hart_sim.specs.Machines.{state_of, kept_of, bank_on, IsJudged, KeepsBanksRight};
     ghost use Rattle.hart_sim.specs.Banks.{MeetsList};
     ghost use Rattle.hart_sim.specs.Privacy.{KeepsPrivate, DeniesOthers, ZeroesDestroyed};
-    ghost use Rattle.hart_sim.specs.After.{After};
+    ghost use Rattle.hart_sim.specs.After.{After, Happens};
     ghost use Rattle.hart_sim.specs.Promises.{AnswersByView};
     ghost use Rattle.hart_sim.specs.Wants.{RefusesByNeed};
     ghost use Rattle.hart_sim.specs.States.{opening};
@@ -178,5 +179,17 @@ impl Machine {
     {
         self.parts.monitor.cite_invariant();
         self.parts.step(hart, event)
+    }
+
+    /// A call happens on a hart, as [`Machine::step`] has it. Its words are lent: an event would be a copy of them.
+    #[inline(always)]
+    pub(crate) fn call(&mut self, hart: u8, words: &ArrayVec<u64, 8>) -> Reply
+        requires { hart < (state_of self.old).table.layout.harts }
+        ensures happens { KeepsBanksRight self.old
+            → Happens self.old hart (Event.Ecall words.now) result self.new }
+        ensures kept { KeepsBanksRight self.old → KeepsBanksRight self.new }
+    {
+        self.parts.monitor.cite_invariant();
+        self.parts.call(hart, words)
     }
 }

@@ -64,6 +64,35 @@ impl Machine {
         push_reply(answer, &reply);
         Ok(true)
     }
+
+    /// A call happens on a hart, and its reply is written behind its number, as that of an event.
+    #[inline(always)]
+    fn answer_call(
+        &mut self,
+        hart: u8,
+        words: &ArrayVec<u64, 8>,
+        answer: &mut Line,
+    ) -> Result<bool, Refusal>
+        requires hart { hart < (state_of self.old).table.layout.harts }
+        requires room { length answer.old ≤ 21 }
+        ensures answered { IfOk result (λ answered. answered ≡ true) }
+        ensures done { KeepsBanksRight self.old
+            → IfOk result (λ _.
+            (reply : Reply) × Happens self.old hart (Event.Ecall words.now) reply self.new
+            × (reply ≢ NoMemory)
+            × ((n : ℕ) → answer.old ≡ decimal n → answer.new ≡ reply_text n reply)) }
+        ensures refusal { IfErr result (λ refusal. refusal ≡ Refusal.Memory) }
+        ensures starved { KeepsBanksRight self.old
+            → IfErr result (λ _. Happens self.old hart (Event.Ecall words.now) NoMemory self.new) }
+        ensures kept { KeepsBanksRight self.old → KeepsBanksRight self.new }
+    {
+        let reply = self.call(hart, words);
+        if reply.wants_memory() {
+            return Err(Refusal::Memory);
+        }
+        push_reply(answer, &reply);
+        Ok(true)
+    }
 }
 
 impl Interpreter for Machine {
@@ -104,8 +133,7 @@ impl Interpreter for Machine {
         }
         let mut words = ArrayVec::new();
         if let Some((hart, len)) = call_ahead(ahead, harts, &mut words) {
-            let event = Event::Ecall(words);
-            return Some((len, self.answer(hart, event, answer)));
+            return Some((len, self.answer_call(hart, &words, answer)));
         }
         let (hart, len) = interrupt_ahead(ahead, harts)?;
         Some((len, self.answer(hart, Event::Irq, answer)))

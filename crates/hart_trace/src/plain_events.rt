@@ -54,10 +54,37 @@ fn behind_irq(line: &[u8]) -> Option<&[u8]>
     }
 }
 
+/// The first byte of a text, and what stands after it.
+fn first_byte(text: &[u8]) -> Option<(u8, &[u8])>
+    ensures { IfSome result (λ found. text.now ≡ found.0 ∷ found.1.now) }
+{
+    match text {
+        [first, behind @ ..] => Some((*first, behind)),
+        _ => None,
+    }
+}
+
+/// The number of one decimal digit that a text begins with, where a space or a LF stands after it, and what does. Most numbers of a
+/// call are so short: they need no loop.
+#[inline(always)]
+fn one_digit(text: &[u8]) -> Option<(u64, &[u8])>
+    ensures { IfSome result (λ found. BeginsNumber text.now found.0 found.1.now) }
+{
+    let (first, behind) = first_byte(text)?;
+    let (next, _) = first_byte(behind)?;
+    if first < b'0' || first > b'9' || next != b' ' && next != b'\n' {
+        return None;
+    }
+    Some((u64::from(first - b'0'), behind))
+}
+
 /// The number that a text begins with, and what stands after it.
 pub(crate) fn plain_number(text: &[u8]) -> Option<(u64, &[u8])>
     ensures { IfSome result (λ found. BeginsNumber text.now found.0 found.1.now) }
 {
+    if let Some(found) = one_digit(text) {
+        return Some(found);
+    }
     if let Some(digits) = behind_mark(text) {
         let (value, behind) = leading_numeral(digits, 16)?;
         return Some((value, behind));

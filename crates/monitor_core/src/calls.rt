@@ -58,6 +58,21 @@ impl Parts {
         }
     }
 
+    /// The call that the registers of the world on a hart name, as they are kept.
+    pub(crate) fn serve_kept<P: Pages>(&mut self, hart: u8, pages: &P) -> Outcome
+        requires on { IsOn self.old hart }
+        requires awake { (state_in self.old).marked hart ≡ false }
+        ensures frame { KeepsFrame self.old self.new }
+        ensures step { let s = state_in self.old in
+            let file = past_call (running_registers s hart) in
+            DoesCall (call_of file) (P.bytes_of pages.now) (with_running s hart file) hart
+            result.answer result.zero (state_in self.new) }
+        ensures load { LoadsAnew result.load (state_in self.old) (state_in self.new) hart }
+    {
+        self.pass_call(hart);
+        self.call(hart, pages)
+    }
+
     /// What goes on on a hart.
     pub(crate) fn onward(&self, hart: u8, load: bool) -> Onward
         requires hart { hart < 4 }

@@ -3,8 +3,9 @@
 //! A [`Monitor`] is booted for a platform. It keeps the table of enclaves, the world that runs on each hart, the registers
 //! of every host and enclave, and which harts are marked. [`Monitor::serve`] takes the registers of a hart that made a
 //! call, and the pages to measure; it gives back the call's answer, the registers that go on, and the pages that the caller
-//! makes zero before they do. [`Monitor::interrupt`] does the same for the timer. [`Monitor::entries`] are the PMP entries
-//! that a hart is to have.
+//! makes zero before they do. [`Monitor::interrupt`] does the same for the timer. [`Monitor::serve_kept`] and
+//! [`Monitor::interrupt_kept`] do so where the registers stand in the monitor, and copy none. [`Monitor::entries`] are the
+//! PMP entries that a hart is to have.
 //!
 //! For the layer above: each call is a step of the small machine in `specs/Steps`, which has no PMP entries and no bytes in
 //! it. On every state the entries of a hart mean what its world may do, and no list of entries of any regions in any order
@@ -42,6 +43,7 @@ pub use enclave_requests::{Create, Pages};
 pub use enclave_table::{Table, World};
 pub use laws::loading_law;
 pub use monitor::Monitor;
+pub use outcome::Outcome;
 pub use page_views::PageRange;
 pub use platforms::{BootFault, Platform};
 pub use pmp_encoding::Entry;

@@ -3,6 +3,7 @@
 ghost use Rattle.monitor_core.specs.Parts.{HoldsTogether};
 
 use crate::answer::{Onward, Served};
+use crate::outcome::Outcome;
 use crate::parts::Parts;
 use enclave_requests::{Create, Pages};
 use enclave_table::{Table, World};
@@ -195,6 +196,31 @@ impl Monitor {
         self.parts.serve(hart, registers, pages)
     }
 
+    /// The call that a hart made whose registers stand here, as [`Monitor::serve`] serves it. Those that go on are
+    /// [`Monitor::registers`].
+    pub fn serve_kept<P: Pages>(&mut self, hart: u8, pages: &P) -> Outcome
+        requires hart { hart < (state_of self.old).table.layout.harts }
+        requires awake { (state_of self.old).marked hart ≡ false }
+        ensures step { let s = state_of self.old in
+            let file = past_call (running_registers s hart) in
+            DoesCall (call_of file) (P.bytes_of pages.now) (with_running s hart file) hart
+            result.answer result.zero (state_of self.new) }
+        ensures load { LoadsAnew result.load (state_of self.old) (state_of self.new) hart }
+        ensures others { KeepsOthers (state_of self.old) (state_of self.new) hart }
+        ensures zeroed { IfSome result.zero (λ range.
+            ClearsMemory (state_of self.old).table.layout range) }
+        ensures awake { (state_of self.new).marked hart ≡ false }
+        ensures platform { (state_of self.new).table.layout ≡ (state_of self.old).table.layout }
+        ensures lists { (state_of self.new).table ≡ (state_of self.old).table
+            → kept_of self.new ≡ kept_of self.old }
+        ensures need { let s = state_of self.old in
+            IsRefusedByNeed (call_of (running_registers s hart)) s.table (s.worlds hart)
+            (λ refusal. result.answer.status ≡ below_zero (refusal_number refusal)) }
+    {
+        self.parts.table.cite_invariant();
+        self.parts.serve_kept(hart, pages)
+    }
+
     /// The parts of the enclave that these registers ask for, as they are kept, where the call is a creation that passes each
     /// check but those for entries and memory: its private pages are to be measured for [`Monitor::serve_measured`].
     #[tactic(auto, unfolding(crate::specs::Monitors::state_of, crate::specs::Monitors::kept_of))]
@@ -279,5 +305,22 @@ impl Monitor {
             → kept_of self.new ≡ kept_of self.old }
     {
         self.parts.interrupt(hart, registers)
+    }
+
+    /// The timer's interrupt on a hart whose registers stand here, as [`Monitor::interrupt`] serves it. It answers whether
+    /// the hart's entries are to be loaded anew before it goes on.
+    pub fn interrupt_kept(&mut self, hart: u8) -> bool
+        requires hart { hart < (state_of self.old).table.layout.harts }
+        requires awake { (state_of self.old).marked hart ≡ false }
+        ensures step { let s = state_of self.old in
+            Interrupts (s.worlds hart) s hart (state_of self.new) }
+        ensures load { LoadsAnew result (state_of self.old) (state_of self.new) hart }
+        ensures others { KeepsOthers (state_of self.old) (state_of self.new) hart }
+        ensures awake { (state_of self.new).marked hart ≡ false }
+        ensures platform { (state_of self.new).table.layout ≡ (state_of self.old).table.layout }
+        ensures lists { (state_of self.new).table ≡ (state_of self.old).table
+            → kept_of self.new ≡ kept_of self.old }
+    {
+        self.parts.pause(hart)
     }
 }

@@ -3,10 +3,12 @@
 use crate::answer::Answer;
 use page_views::PageRange;
 
-/// The answer of a call, the pages to be made zero, and whether the hart's entries are to be loaded anew.
+/// How a call was served whose registers stand in the monitor: those that go on stand there too.
 #[derive(Clone, Copy)]
-pub(crate) struct Outcome {
-    pub(crate) answer: Answer,
-    pub(crate) zero: Option<PageRange>,
-    pub(crate) load: bool,
+pub struct Outcome {
+    pub answer: Answer,
+    /// The pages whose every byte is to be made zero before any hart goes on.
+    pub zero: Option<PageRange>,
+    /// Whether the hart's entries are to be loaded anew before it does.
+    pub load: bool,
 }

@@ -76,6 +76,21 @@ impl Parts {
         self.registers.set_past_call(hart, world, registers);
     }
 
+    /// The registers of the world that runs on a hart are past the instruction of a call.
+    pub(crate) fn pass_call(&mut self, hart: u8)
+        requires hart { hart < 4 }
+        requires whole { HoldsTogether self.old.table self.old.worlds self.old.marked }
+        ensures state { let s = state_in self.old in
+            state_in self.new ≡ with_running s hart (past_call (running_registers s hart)) }
+        ensures table { self.new.table ≡ self.old.table }
+        ensures worlds { self.new.worlds ≡ self.old.worlds }
+        ensures marks { self.new.marked ≡ self.old.marked }
+    {
+        self.table.cite_invariant();
+        let world = self.world(hart);
+        self.registers.pass_call(hart, world);
+    }
+
     /// A register of the world that runs on a hart is set.
     pub(crate) fn set_register(&mut self, hart: u8, n: u8, value: u64)
         requires hart { hart < 4 }

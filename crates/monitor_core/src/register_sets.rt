@@ -109,6 +109,21 @@ impl RegisterSets {
         }
     }
 
+    /// Puts the registers of the host on this hart, or of the enclave, past the instruction of a call.
+    pub(crate) fn pass_call(&mut self, hart: u8, world: World)
+        requires hart { hart < 4 }
+        requires world { IsWorld world }
+        ensures { (who : Runner) → registers_in self.new who
+            ≡ (if is_same who (runner_of hart world)
+            then past_call (registers_in self.old (runner_of hart world))
+            else registers_in self.old who) }
+    {
+        match world {
+            World::Host => go_past_call(&mut self.hosts[hart as usize]),
+            World::Enclave(id) => go_past_call(&mut self.enclaves[id as usize - 1]),
+        }
+    }
+
     /// Puts an answer into a0 and a1 of the host on this hart, or of the enclave.
     pub(crate) fn answer(&mut self, hart: u8, world: World, first: u64, second: u64)
         requires hart { hart < 4 }

@@ -106,7 +106,7 @@ impl Bank {
         for i in 0..count {
             let cfg = byte_of(words[i / 8], i % 8);
             if let Some(entry) = entry_of(cfg, addresses[i]) {
-                extents[used] = Extent::of(&entry);
+                extents[used].put(&entry);
                 used += 1;
             }
         }
@@ -307,7 +307,7 @@ fn fill(
         word = with_byte(word, i % 8, cfg);
         words[i / 8] = word;
         addresses[i] = address;
-        extents[i] = Extent::of(entry);
+        extents[i].put(entry);
     }
 }
 

@@ -17,14 +17,12 @@ pub struct Extent {
 }
 
 impl Extent {
-    /// What an entry matches.
-    pub(crate) fn of(entry: &Entry) -> Extent
-        ensures { result ≡ extent_of entry.now }
+    /// Becomes what an entry matches. It is put there field by field, since a whole one would bring zeros between its fields.
+    pub(crate) fn put(&mut self, entry: &Entry)
+        ensures { self.new ≡ extent_of entry.now }
     {
-        Extent {
-            base: entry.region.base,
-            end: entry.region.base + bytes_of(entry.region.log2),
-            perm: entry.perm,
-        }
+        self.base = entry.region.base;
+        self.end = entry.region.base + bytes_of(entry.region.log2);
+        self.perm = entry.perm;
     }
 }

@@ -25,10 +25,10 @@ loop-i-preserved c =
           (filled_more c.args.entries.now c.loop-i.words c.loop-i.addresses c.loop-i.i now.filled (omega (arith, c.requires.few, c.loop-i-test.true)) entry next c.with_byte-word.result (c.with_byte-word.ensures.here ∙ c.encode-cfg.ensures.cfg)
           (rw was at c.with_byte-word.ensures.others) c.with_byte-word.ensures.small);
       begun = λ some. same_word c.loop-i.words c.loop-i.i c.with_byte-word.result (omega (arith, now.filled.eight, c.requires.few, c.loop-i-test.true)) some;
-      room = length-set c.loop-i.extents c.loop-i.i c.of.result ∙ now.room;
+      room = length-set c.loop-i.extents c.loop-i.i c.put.new.self ∙ now.room;
       in_order =
-          take_more_set c.loop-i.extents c.loop-i.i c.of.result (omega (arith, now.room, c.requires.few, c.loop-i-test.true)) ∙ ap (λ xs. xs ++ c.of.result ∷ []) now.in_order
-          ∙ ap (λ x. map extent_of (take c.loop-i.i c.args.entries.now) ++ x ∷ []) (c.of.ensures ∙ ap extent_of here)
+          take_more_set c.loop-i.extents c.loop-i.i c.put.new.self (omega (arith, now.room, c.requires.few, c.loop-i-test.true)) ∙ ap (λ xs. xs ++ c.put.new.self ∷ []) now.in_order
+          ∙ ap (λ x. map extent_of (take c.loop-i.i c.args.entries.now) ++ x ∷ []) (c.put.ensures ∙ ap extent_of here)
           ∙ sym (ap (map extent_of) (take_more c.args.entries.now c.loop-i.i entry c.loop-i-test.true) ∙ map-append extent_of (take c.loop-i.i c.args.entries.now) _);
     }
 

@@ -1,21 +1,17 @@
 use Rattle.std.proofs.Common.{◌≡◌, ◌∙◌, ap, ap₂, sym, subst}
 use Rattle.monitor_core.specs.Monitors.{state_of, kept_of}
 use Rattle.monitor_core.specs.Frames.{LoadsAnew, KeepsOthers}
-use Rattle.monitor_core.specs.Steps.{Interrupts}
 use Rattle.hart_sim.specs.Banks.{LoadsFewest}
 use Rattle.hart_sim.specs.Parts.{AreBanks, shown}
 use Rattle.hart_sim.specs.States.{view_on}
 use Rattle.hart_sim.proofs.Framed.{frame_served}
-use Rattle.hart_sim.proofs.Running.{running_same}
 use Rattle.hart_sim.proofs.parts.Parts.interrupt.Goals as goal
 
 pub returns-clause-step : goal.returns-clause-step
 returns-clause-step c =
-    let s = state_of c.args.self.now.monitor in
-    let core = state_of c.interrupt-onward.new.self in
-    let same = running_same s c.args.hart c.registers.result.now c.registers.ensures in (
+    let core = state_of c.interrupt_kept-load.new.self in (
       core,
-      subst (λ t. Interrupts (t.worlds c.args.hart) t c.args.hart core) same c.interrupt-onward.ensures.step,
+      c.interrupt_kept-load.ensures.step,
       ap₂ (λ m y. shown (state_of m) y) c.load_where.ensures.monitor c.load_where.ensures.memory,
       c.told_of_irq.ensures,
     )
@@ -23,13 +19,13 @@ returns-clause-step c =
 pub returns-clause-frame : goal.returns-clause-frame
 returns-clause-frame c =
     let old = c.args.self.now in
-    let e = c.interrupt-onward.ensures in
-    let served = c.interrupt-onward.new.self in
+    let e = c.interrupt_kept-load.ensures in
+    let served = c.interrupt_kept-load.new.self in
     let new = c.load_where.new.self in
     let is : new.monitor ≡ served = c.load_where.ensures.monitor in
-    frame_served old new c.args.hart c.interrupt-onward.result.load c.requires.on c.requires.few c.requires.awake
+    frame_served old new c.args.hart c.interrupt_kept-load.result c.requires.on c.requires.few c.requires.awake
     (subst (λ m. KeepsOthers (state_of old.monitor) (state_of m) c.args.hart) (sym is) e.others)
-    (subst (λ m. LoadsAnew c.interrupt-onward.result.load (state_of old.monitor) (state_of m) c.args.hart) (sym is) e.load)
+    (subst (λ m. LoadsAnew c.interrupt_kept-load.result (state_of old.monitor) (state_of m) c.args.hart) (sym is) e.load)
     (ap (λ m. (state_of m).table.layout) is ∙ e.platform)
     (subst (λ m. AreBanks new.banks (state_of m).table.layout.limit) (sym c.load_where.ensures.monitor) c.load_where.ensures.limited)
     (λ same. ap kept_of is ∙ e.lists (ap (λ m. (state_of m).table) (sym is) ∙ same))

@@ -29,18 +29,14 @@ returns-in-Some-setting_ahead-clause-comes c = λ k.
     let line = take c.in-Some-setting_ahead.len c.args.ahead.now in
     comes c.args.self.now _ c.harts-harts.result c.in-Some-setting_ahead.hart c.args.count line c.args.answer.now _ (events.Reg c.in-Some-setting_ahead.register c.in-Some-setting_ahead.value) c.answer-in-Some-setting_ahead.result c.harts-harts.ensures.value c.in-Some-setting_ahead.ensures.setting c.requires.number c.answer-in-Some-setting_ahead.ensures.answered (c.answer-in-Some-setting_ahead.ensures.done k) c.answer-in-Some-setting_ahead.ensures.refusal (c.answer-in-Some-setting_ahead.ensures.starved k)
 
-pub answer-requires-in-Some-call_ahead-clause-hart : goal.answer-requires-in-Some-call_ahead-clause-hart
-answer-requires-in-Some-call_ahead-clause-hart c =
+pub answer_call-requires-clause-hart : goal.answer_call-requires-clause-hart
+answer_call-requires-clause-hart c =
     (known c.args.self.now c.harts-harts.result c.in-Some-call_ahead.hart (take c.in-Some-call_ahead.len c.args.ahead.now) (events.Ecall c.call_ahead.new.words) c.harts-harts.ensures.value c.harts-harts.ensures.some c.in-Some-call_ahead.ensures.call).0
-
-pub answer-requires-in-Some-call_ahead-clause-event : goal.answer-requires-in-Some-call_ahead-clause-event
-answer-requires-in-Some-call_ahead-clause-event c =
-    (known c.args.self.now c.harts-harts.result c.in-Some-call_ahead.hart (take c.in-Some-call_ahead.len c.args.ahead.now) (events.Ecall c.call_ahead.new.words) c.harts-harts.ensures.value c.harts-harts.ensures.some c.in-Some-call_ahead.ensures.call).1
 
 pub returns-in-Some-call_ahead-clause-comes : goal.returns-in-Some-call_ahead-clause-comes
 returns-in-Some-call_ahead-clause-comes c = λ k.
     let line = take c.in-Some-call_ahead.len c.args.ahead.now in
-    comes c.args.self.now _ c.harts-harts.result c.in-Some-call_ahead.hart c.args.count line c.args.answer.now _ (events.Ecall c.call_ahead.new.words) c.answer-in-Some-call_ahead.result c.harts-harts.ensures.value c.in-Some-call_ahead.ensures.call c.requires.number c.answer-in-Some-call_ahead.ensures.answered (c.answer-in-Some-call_ahead.ensures.done k) c.answer-in-Some-call_ahead.ensures.refusal (c.answer-in-Some-call_ahead.ensures.starved k)
+    comes c.args.self.now _ c.harts-harts.result c.in-Some-call_ahead.hart c.args.count line c.args.answer.now _ (events.Ecall c.call_ahead.new.words) c.answer_call.result c.harts-harts.ensures.value c.in-Some-call_ahead.ensures.call c.requires.number c.answer_call.ensures.answered (c.answer_call.ensures.done k) c.answer_call.ensures.refusal (c.answer_call.ensures.starved k)
 
 pub answer-requires-2-clause-hart : goal.answer-requires-2-clause-hart
 answer-requires-2-clause-hart c =

@@ -22,7 +22,7 @@ overflow_add-used c = record { fits = omega (arith, c.loop-i.invariant.few, c.lo
 pub loop-i-preserved : goal.loop-i-preserved
 loop-i-preserved c =
     elim c.match-entry_of.branch [
-      | in-Some w ↦ rw (w.extents-is, w.used-is, w.of.ensures)
+      | in-Some w ↦ rw (w.extents-is, w.used-is, w.put.ensures)
           (decoded_entry c.args.words c.args.addresses c.loop-i.i c.loop-i.extents c.loop-i.used c.loop-i.invariant (omega (arith, c.loop-i-test.true, limit_most c.args.limit, c.number-count.ensures.value))
           w.in-Some.entry (rw c.byte_of-cfg.ensures at w.in-Some.ensures))
       | in_default w ↦ rw (w.extents-is, w.used-is)

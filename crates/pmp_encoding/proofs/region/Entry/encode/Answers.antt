@@ -1,19 +1,26 @@
 -- The pair is the canonical one, which means the entry.
-use Rattle.std.proofs.Common.{◌≡◌, ◌+◌, ◌-◌, ◌/◌, arith, rules}
-use Rattle.std.proofs.lemmas.Bool.{ne_eqb}
+use Rattle.std.proofs.Common.{◌≡◌, ◌+◌, ◌-◌, ◌/◌, ◌^◌, ◌≤◌, arith}
+use Rattle.std.proofs.lemmas.Bool.{eq-eqb, ne_eqb}
 use Rattle.pmp_encoding.specs.Encoding.{cfg_of, address_of}
-use Rattle.pmp_encoding.proofs.Pairs.{pair_is}
+use Rattle.pmp_encoding.proofs.Bytes.{pow_rises}
+use Rattle.pmp_encoding.proofs.Pairs.{pair_is, before_middle}
+use Rattle.pmp_encoding.proofs.region.Entry.encode.Goals.{then-self-eq2, else-self-eq2}
 use Rattle.pmp_encoding.proofs.region.Entry.encode.Goals as goal
 
-pub returns-else-self-eq2-clause-meaning : goal.returns-else-self-eq2-clause-meaning
-returns-else-self-eq2-clause-meaning c =
-    let long = ne_eqb c.args.self.now.region.log2 2 c.if-self-eq2.false in
-    let cfg : c.bits-bits.result + 24 ≡ cfg_of c.args.self.now = rw long (omega (arith, c.bits-bits.ensures.value)) in
-    let address : c.args.self.now.region.base / 4 + c.bytes_of.result - 1 ≡ address_of c.args.self.now = rw long (omega (arith, c.bytes_of.ensures.value)) in
-    rw (cfg, address) (pair_is c.args.self.now)
+pub overflow_sub-result : goal.overflow_sub-result
+overflow_sub-result c =
+    let four : 2 ^ 2 ≤ 2 ^ c.args.self.now.region.log2 = pow_rises 2 c.args.self.now.region.log2 c.args.self.now.region.block.long in
+    omega (arith, c.bytes_of-half.ensures.value, four)
 
-pub returns-then-self-eq2-clause-meaning : goal.returns-then-self-eq2-clause-meaning
-returns-then-self-eq2-clause-meaning c = search rules
+pub returns-clause-meaning : goal.returns-clause-meaning
+returns-clause-meaning c =
+    let e = c.args.self.now in
+    let cfg : c.bits.result + c.if-self-eq2.mode ≡ cfg_of e = elim c.if-self-eq2.branch [
+      | then-self-eq2 w ↦ let two = eq-eqb e.region.log2 2 w.if-self-eq2.true in rw two (omega (arith, c.bits.ensures.value, w.mode-is))
+      | else-self-eq2 w ↦ let long = ne_eqb e.region.log2 2 w.if-self-eq2.false in rw long (omega (arith, c.bits.ensures.value, w.mode-is))
+    ] in
+    let address : (e.region.base + c.bytes_of-half.result / 2 - 1) / 4 ≡ address_of e = rw c.bytes_of-half.ensures.value (before_middle e) in
+    rw (cfg, address) (pair_is e)
 
-pub returns-then-self-eq2-clause-cfg : goal.returns-then-self-eq2-clause-cfg
-returns-then-self-eq2-clause-cfg c = search rules
+pub returns-clause-address : goal.returns-clause-address
+returns-clause-address c = rw c.bytes_of-half.ensures.value (before_middle c.args.self.now)
