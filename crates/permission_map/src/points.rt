@@ -283,7 +283,9 @@ fn put_two(points: &mut Vec<Point>, at: usize, start: Point, stop: Point)
     points[at + 1] = stop;
 }
 
-/// Puts at most two points in the place of those with the indices from `from` to before `to`.
+/// Puts at most two points in the place of those with the indices from `from` to before `to`. It stands apart, so that how its
+/// loops lie in memory does not depend on who sets ranges.
+#[inline(never)]
 fn replace(
     points: &mut Vec<Point>,
     from: usize,
