@@ -186,13 +186,13 @@ as_turn : (s : Perm) (q : Point) → (t : Option Point) × (option_to_list t ≡
 as_turn s q =
     ⊎_elim (λ same. (None, sym (turn_same s q same), sym same)) (λ other. (Some q, sym (turn_other s q other), ((λ e. other (sym e)), refl, refl))) (same_or_not s (perm_of q))
 
-abbrev pub over : List Point → ℕ → ℕ → Point → Point → List Point
-over ps from to start stop =
-    take from ps ++ (start ∷ (map (with_perm (perm_of start)) (take (to - 1 - (from + 1)) (drop (from + 1) ps)) ++ stop ∷ drop to ps))
+abbrev pub over : List Point → ℕ → ℕ → Perm → Point → Point → List Point
+over ps from to perm start stop =
+    take from ps ++ (start ∷ (map (with_perm perm) (take (to - 1 - (from + 1)) (drop (from + 1) ps)) ++ stop ∷ drop to ps))
 
 pub over_changed :
     (old new : List Point) (first end from to : ℕ) (perm after : Perm) (start stop : Point) → end < 2 ^ 44 → after ≡ standing NoAccess (take to old) → page_of start ≡ first → perm_of start ≡ perm
-    → page_of stop ≡ end → perm_of stop ≡ after → new ≡ over old from to start stop → IsChanged old new from to first end perm
+    → page_of stop ≡ end → perm_of stop ≡ after → new ≡ over old from to perm start stop → IsChanged old new from to first end perm
 over_changed old new first end from to perm after start stop small stands start_page start_perm stop_page stop_perm same =
     let s = standing NoAccess (take from old) in
     let xs = take (to - 1 - (from + 1)) (drop (from + 1) old) in
@@ -210,9 +210,9 @@ over_changed old new first end from to perm after start stop small stands start_
       ends = inr (small, subst W is (subst V stop_page two.2));
       turns_are =
           ap turns same
-          ∙ turns_append NoAccess (take from old) (start ∷ (map (with_perm (perm_of start)) xs ++ stop ∷ drop to old))
-          ∙ ap (λ l. turns (take from old) ++ (turn_at s start ++ l)) (idle_turns (perm_of start) xs (stop ∷ drop to old))
-          ∙ ap (λ p. turns (take from old) ++ (turn_at s start ++ turns_after p (stop ∷ drop to old))) start_perm
+          ∙ turns_append NoAccess (take from old) (start ∷ (map (with_perm perm) xs ++ stop ∷ drop to old))
+          ∙ ap (λ p. turns (take from old) ++ (turn_at s start ++ turns_after p (map (with_perm perm) xs ++ stop ∷ drop to old))) start_perm
+          ∙ ap (λ l. turns (take from old) ++ (turn_at s start ++ l)) (idle_turns perm xs (stop ∷ drop to old))
           ∙ ap (λ p. turns (take from old) ++ (turn_at s start ++ (turn_at perm stop ++ turns_after p (drop to old)))) is
           ∙ ap (λ l. turns (take from old) ++ (l ++ (turn_at perm stop ++ turns_after (standing NoAccess (take to old)) (drop to old)))) (sym one.1)
           ∙ ap (λ l. turns (take from old) ++ (option_to_list one.0 ++ (l ++ turns_after (standing NoAccess (take to old)) (drop to old)))) (sym two.1);
@@ -231,9 +231,9 @@ inner_parts ps from to d order inside =
     (drop-drop n (from + 1) ps ∙ ap (λ m. drop m ps) one ∙ drop_more ps (to - 1) d (omega (arith, order, inside)) ∙ ap (λ m. get_or ps (to - 1) d ∷ drop m ps) next)
 
 pub over_rise :
-    (ps new : List Point) (first end from to : ℕ) (start stop : Point) → Rise ps → first < end → end < 2 ^ 44 → IsCut ps first end from to → from + 2 ≤ to → to ≤ length ps
-    → page_of start ≡ first → page_of stop ≡ end → new ≡ over ps from to start stop → Rise new
-over_rise ps new first end from to start stop rise some small cut order inside start_page stop_page same =
+    (ps new : List Point) (first end from to : ℕ) (perm : Perm) (start stop : Point) → Rise ps → first < end → end < 2 ^ 44 → IsCut ps first end from to → from + 2 ≤ to → to ≤ length ps
+    → page_of start ≡ first → page_of stop ≡ end → new ≡ over ps from to perm start stop → Rise new
+over_rise ps new first end from to perm start stop rise some small cut order inside start_page stop_page same =
     let d : Point = record { number = 0 } in
     let xs = take (to - 1 - (from + 1)) (drop (from + 1) ps) in
     let last = get_or ps (to - 1) d in
@@ -255,10 +255,10 @@ over_rise ps new first end from to start stop rise some small cut order inside s
     (rise_earlier (page_of (get_or ps from d) + 1) (page_of start + 1) (drop (from + 1) ps) rest.2 (omega (arith, low, start_page))) in
     let begin = rise_before ps first end from to rise cut in
     subst A (sym same)
-    (rise_append 0 (take from ps) (start ∷ (map (with_perm (perm_of start)) xs ++ stop ∷ drop to ps)) (rise_first 0 (take from ps) (drop from ps) (whole ps from rise)) (
+    (rise_append 0 (take from ps) (start ∷ (map (with_perm perm) xs ++ stop ∷ drop to ps)) (rise_first 0 (take from ps) (drop from ps) (whole ps from rise)) (
       omega (arith, begin, start_page),
       omega (arith, some, small, start_page),
-      rise_over (page_of start + 1) (perm_of start) xs last stop (drop to ps) inner (omega (arith, high, stop_page)) (omega (arith, small, stop_page))
+      rise_over (page_of start + 1) perm xs last stop (drop to ps) inner (omega (arith, high, stop_page)) (omega (arith, small, stop_page))
           (subst D (sym stop_page) (rise_behind ps first end from to rise cut)),
     ))
 
@@ -294,18 +294,18 @@ repeated_more ps now from at perm x z order inside same read made =
     ∙ ap (λ l. take from ps ++ (l ++ drop (at + 1) ps)) (sym (map-append (with_perm perm) (take (at - from) (drop from ps)) (y ∷ [])) ∙ ap (map (with_perm perm)) (sym more))
 
 pub written :
-    (ps now : List Point) (from to : ℕ) (start stop : Point) → from + 2 ≤ to → to ≤ length ps → now ≡ repeated ps (from + 1) (to - 1) (perm_of start)
-    → set (set now from start) (to - 1) stop ≡ over ps from to start stop
-written ps now from to start stop order inside same =
+    (ps now : List Point) (from to : ℕ) (perm : Perm) (start stop : Point) → from + 2 ≤ to → to ≤ length ps → now ≡ repeated ps (from + 1) (to - 1) perm
+    → set (set now from start) (to - 1) stop ≡ over ps from to perm start stop
+written ps now from to perm start stop order inside same =
     let d : Point = record { number = 0 } in
     let front = take from ps in
-    let xs = map (with_perm (perm_of start)) (take (to - 1 - (from + 1)) (drop (from + 1) ps)) in
+    let xs = map (with_perm perm) (take (to - 1 - (from + 1)) (drop (from + 1) ps)) in
     let head = get_or ps from d in
     let last = get_or ps (to - 1) d in
     let next : to - 1 + 1 ≡ to = omega (arith, order) in
     let first : length (take from ps) ≡ from = length-take-le from ps (omega (arith, order, inside)) in
-    let count : length (take from ps ++ start ∷ map (with_perm (perm_of start)) (take (to - 1 - (from + 1)) (drop (from + 1) ps))) ≡ to - 1 =
-    omega (arith, length-append (take from ps) (start ∷ map (with_perm (perm_of start)) (take (to - 1 - (from + 1)) (drop (from + 1) ps))), length-map (take (to - 1 - (from + 1)) (drop (from + 1) ps)) (with_perm (perm_of start)), length-take (to - 1 - (from + 1)) (drop (from + 1) ps), length-drop (from + 1) ps, first, order, inside) in
+    let count : length (take from ps ++ start ∷ map (with_perm perm) (take (to - 1 - (from + 1)) (drop (from + 1) ps))) ≡ to - 1 =
+    omega (arith, length-append (take from ps) (start ∷ map (with_perm perm) (take (to - 1 - (from + 1)) (drop (from + 1) ps))), length-map (take (to - 1 - (from + 1)) (drop (from + 1) ps)) (with_perm perm), length-take (to - 1 - (from + 1)) (drop (from + 1) ps), length-drop (from + 1) ps, first, order, inside) in
     ap (λ l. set (set l from start) (to - 1) stop)
     (same
     ∙ ap (λ l. take (from + 1) ps ++ (xs ++ l)) (drop_more ps (to - 1) d (omega (arith, order, inside)) ∙ ap (λ n. last ∷ drop n ps) next)

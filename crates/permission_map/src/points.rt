@@ -283,7 +283,9 @@ fn put_two(points: &mut Vec<Point>, at: usize, start: Point, stop: Point)
     points[at + 1] = stop;
 }
 
-/// Puts at most two points in the place of those with the indices from `from` to before `to`.
+/// Puts at most two points in the place of those with the indices from `from` to before `to`. It stands apart, so that how its
+/// loops lie in memory does not depend on who sets ranges.
+#[inline(never)]
 fn replace(
     points: &mut Vec<Point>,
     from: usize,
@@ -334,17 +336,24 @@ fn repeat(points: &mut Vec<Point>, from: usize, to: usize, perm: Perm)
 }
 
 /// Writes a range over the points that stand in it, two at least: the first becomes its start and the last its stop. None moves,
-/// and those between them change nothing.
-fn write_over(points: &mut Vec<Point>, from: usize, to: usize, start: Point, stop: Point)
+/// and those between them change nothing. The permission comes beside its start, so that it is not read back from there.
+fn write_over(
+    points: &mut Vec<Point>,
+    from: usize,
+    to: usize,
+    start: Point,
+    perm: Perm,
+    stop: Point,
+)
     requires order { from + 2 ≤ to }
     requires inside { to ≤ vec_len points.old }
     ensures items { points.new.items ≡ take from points.old.items ++
-        (start ∷ (map (with_perm (perm_of start)) (take (to - 1 - (from + 1)) (drop (from + 1) points.old.items))
+        (start ∷ (map (with_perm perm) (take (to - 1 - (from + 1)) (drop (from + 1) points.old.items))
         ++ stop ∷ drop to points.old.items)) }
     ensures len { vec_len points.new ≡ vec_len points.old }
     ensures room { vec_capacity points.old ≤ vec_capacity points.new }
 {
-    repeat(points, from + 1, to - 1, start.perm());
+    repeat(points, from + 1, to - 1, perm);
     points[from] = start;
     points[to - 1] = stop;
 }
@@ -389,7 +398,8 @@ pub(crate) fn change(
     if few && from + 2 <= to && range.end < SPACE_PAGES {
         let after = standing_behind(points, to);
         let start = Point::new(range.first, range.perm);
-        write_over(points, from, to, start, Point::new(range.end, after));
+        let stop = Point::new(range.end, after);
+        write_over(points, from, to, start, range.perm, stop);
     } else {
         replace(points, from, to, start, stop);
     }

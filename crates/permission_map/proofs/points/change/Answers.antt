@@ -7,16 +7,16 @@ use Rattle.permission_map.proofs.points.change.Goals as goal
 
 pub returns-then-range-lt-SPACE_PAGES-clause-rise : goal.returns-then-range-lt-SPACE_PAGES-clause-rise
 returns-then-range-lt-SPACE_PAGES-clause-rise c =
-    over_rise c.args.points.now.items c.write_over.new.points.items c.args.range.first c.args.range.end c.args.from c.args.to c.new-start.result c.new.result
+    over_rise c.args.points.now.items c.write_over.new.points.items c.args.range.first c.args.range.end c.args.from c.args.to c.args.range.perm c.new-start.result c.new-stop.result
     c.requires.rise c.requires.some c.if-range-lt-SPACE_PAGES.true c.requires.cut c.if-from-to.true (omega (arith, c.requires.inside, c.args.points.now.ok.0))
-    c.new-start.ensures.page c.new.ensures.page c.write_over.ensures.items
+    c.new-start.ensures.page c.new-stop.ensures.page c.write_over.ensures.items
 
 pub returns-then-range-lt-SPACE_PAGES-clause-changed : goal.returns-then-range-lt-SPACE_PAGES-clause-changed
 returns-then-range-lt-SPACE_PAGES-clause-changed c =
     over_changed c.args.points.now.items c.write_over.new.points.items c.args.range.first c.args.range.end c.args.from c.args.to c.args.range.perm
-    c.standing_behind-after.result c.new-start.result c.new.result c.if-range-lt-SPACE_PAGES.true
+    c.standing_behind-after.result c.new-start.result c.new-stop.result c.if-range-lt-SPACE_PAGES.true
     (c.standing_behind-after.ensures ∙ ap (λ l. standing NoAccess (take c.args.to l)) c.deref.ensures.value)
-    c.new-start.ensures.page c.new-start.ensures.perm c.new.ensures.page c.new.ensures.perm c.write_over.ensures.items
+    c.new-start.ensures.page c.new-start.ensures.perm c.new-stop.ensures.page c.new-stop.ensures.perm c.write_over.ensures.items
 
 pub returns-else-few-clause-rise : goal.returns-else-few-clause-rise
 returns-else-few-clause-rise c =
