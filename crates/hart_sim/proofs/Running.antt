@@ -1,34 +1,16 @@
--- Registers that are put on a hart: where they are, they change nothing; put twice, the last stay. And a call of those that were put.
-use Rattle.std.proofs.Common.{◌≡◌, ◌∙◌, ℕ, Bool, true, false, List, Option, if◌then◌else◌, refl, ap, sym, subst}
-use Rattle.std.proofs.lemmas.Bool.{eqb-true}
+-- Registers that are put on a hart: put twice, the last stay. And a call of those that were put.
+use Rattle.std.proofs.Common.{◌≡◌, ℕ, Bool, true, false, List, Option, if◌then◌else◌, refl, subst}
 use Rattle.page_views.specs.declared.pages.PageRange.{PageRange}
 use Rattle.sbi_decode.specs.Calls.{call_of}
 use Rattle.sbi_decode.specs.Registers.{RegisterFile}
-use Rattle.worlds.specs.Runners.{Runner, HostOf, EnclaveOf, runner_of}
+use Rattle.worlds.specs.Runners.{runner_of}
 use Rattle.monitor_core.specs.declared.answer.Answer.{Answer}
 use Rattle.monitor_core.specs.Changes.{is_same, past_call, with_running}
 use Rattle.monitor_core.specs.Frames.{KeepsOthers, LoadsAnew}
 use Rattle.monitor_core.specs.States.{State, running_registers}
 use Rattle.monitor_core.specs.Steps.{DoesCall}
-use Rattle.monitor_core.proofs.Cases.{both}
 use Rattle.monitor_core.proofs.Equal.{equal}
 use Rattle.monitor_core.proofs.Put.{put_there}
-
-same_is : (a b : Runner) → is_same a b ≡ true → a ≡ b
-same_is (HostOf a) (HostOf b) e = ap HostOf (eqb-true a b e)
-same_is (HostOf a) (EnclaveOf b) e = absurd (let h : false ≡ true = e in cc)
-same_is (EnclaveOf a) (HostOf b) e = absurd (let h : false ≡ true = e in cc)
-same_is (EnclaveOf a) (EnclaveOf b) e = ap EnclaveOf (eqb-true a b e)
-
-pub running_same : (s : State) (hart : ℕ) (file : RegisterFile) → file ≡ running_registers s hart → with_running s hart file ≡ s
-running_same s hart file is = equal (record {
-  table = refl;
-  worlds = λ h. refl;
-  registers = λ who. both (is_same who (runner_of hart (s.worlds hart)))
-      (λ e. ap (λ b. if b then file else s.registers who) e ∙ is ∙ ap s.registers (sym (same_is who (runner_of hart (s.worlds hart)) e)))
-      (λ e. ap (λ b. if b then file else s.registers who) e);
-  marked = λ h. refl;
-})
 
 last_choice : (b : Bool) (first last rest : RegisterFile) → (if b then last else if b then first else rest) ≡ (if b then last else rest)
 last_choice true first last rest = refl

@@ -1,5 +1,5 @@
 -- The pair is the canonical one, which means the entry.
-use Rattle.std.proofs.Common.{◌≡◌, ◌+◌, ◌-◌, ◌/◌, ◌^◌, ◌≤◌, arith}
+use Rattle.std.proofs.Common.{◌≡◌, ◌+◌, ◌-◌, ◌/◌, ◌*◌, ◌^◌, ◌≤◌, arith}
 use Rattle.std.proofs.lemmas.Bool.{eq-eqb, ne_eqb}
 use Rattle.pmp_encoding.specs.Encoding.{cfg_of, address_of}
 use Rattle.pmp_encoding.proofs.Bytes.{pow_rises}
@@ -10,7 +10,7 @@ use Rattle.pmp_encoding.proofs.region.Entry.encode.Goals as goal
 pub overflow_sub-result : goal.overflow_sub-result
 overflow_sub-result c =
     let four : 2 ^ 2 ≤ 2 ^ c.args.self.now.region.log2 = pow_rises 2 c.args.self.now.region.log2 c.args.self.now.region.block.long in
-    omega (arith, c.bytes_of-half.ensures.value, four)
+    omega (arith, c.bytes_of-size.ensures.value, four)
 
 pub returns-clause-meaning : goal.returns-clause-meaning
 returns-clause-meaning c =
@@ -19,8 +19,8 @@ returns-clause-meaning c =
       | then-self-eq2 w ↦ let two = eq-eqb e.region.log2 2 w.if-self-eq2.true in rw two (omega (arith, c.bits.ensures.value, w.mode-is))
       | else-self-eq2 w ↦ let long = ne_eqb e.region.log2 2 w.if-self-eq2.false in rw long (omega (arith, c.bits.ensures.value, w.mode-is))
     ] in
-    let address : (e.region.base + c.bytes_of-half.result / 2 - 1) / 4 ≡ address_of e = rw c.bytes_of-half.ensures.value (before_middle e) in
+    let address : (2 * e.region.base + c.bytes_of-size.result - 2) / 8 ≡ address_of e = rw c.bytes_of-size.ensures.value (before_middle e) in
     rw (cfg, address) (pair_is e)
 
 pub returns-clause-address : goal.returns-clause-address
-returns-clause-address c = rw c.bytes_of-half.ensures.value (before_middle c.args.self.now)
+returns-clause-address c = rw c.bytes_of-size.ensures.value (before_middle c.args.self.now)
