@@ -10,6 +10,7 @@ pub mod PlainText
 mod Counters
 mod HexDigits
 mod WordDigits
+mod WordLines
 mod Hexadecimals
 mod Digits
 mod DecimalPairs
