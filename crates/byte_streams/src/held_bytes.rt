@@ -1,16 +1,20 @@
 //! The bytes that are held for a writer, in an array of fixed size on the heap.
 
-ghost use Rattle.std.specs.Prelude.{◌≡◌, ◌+◌, ◌-◌, ◌<◌, ◌≤◌, ◌++◌, [], IfOk, length, take, drop};
+ghost use Rattle.std.specs.Prelude.{◌≡◌, ◌+◌, ◌-◌, ◌<◌, ◌≤◌, ◌++◌, [], ◌∷◌, IfOk, length, take, drop};
+ghost use Rattle.byte_streams.specs.Numbered.{numbered_text};
 
-use crate::streams::TEXT_ROOM;
+use crate::streams::{DIGITS_ROOM, Numbered, TEXT_ROOM};
 use std::alloc::{AllocError, Global};
 use std::marker::Model;
 
 /// How many bytes are held at most. A signal that ends the program can lose so many.
 pub const HELD: usize = 8192;
 
-/// How many bytes [`HeldBytes::push_front`] copies. Nearly all answers have fewer.
+/// How many bytes behind a number [`HeldBytes::push_numbered`] copies. Nearly all answers have fewer.
 pub const COPIED: usize = 48;
+
+/// How many bytes it may write: those, a number's last digit, and the others.
+pub const MOST: usize = DIGITS_ROOM + 1 + COPIED;
 
 /// Bytes that a writer is to have, in their order.
 #[derive(Drop)]
@@ -75,10 +79,32 @@ impl HeldBytes {
         self.len = end;
     }
 
+    /// Appends the first digits of a number. All of the array is copied in any case, as in [`push_front`](HeldBytes::push_front).
+    #[inline(always)]
+    fn push_digits(&mut self, digits: &[u8; DIGITS_ROOM], count: usize)
+        requires room { length self.old + 20 ≤ 8192 }
+        requires few { count ≤ 20 }
+        ensures { self.new ≡ self.old ++ take count digits.now }
+    {
+        let copied = *digits;
+        self.bytes[self.len..self.len + DIGITS_ROOM].copy_from_slice(&copied);
+        self.len += count;
+    }
+
+    /// Appends a byte.
+    #[inline(always)]
+    fn push_byte(&mut self, byte: u8)
+        requires { length self.old < 8192 }
+        ensures { self.new ≡ self.old ++ byte ∷ [] }
+    {
+        self.bytes[self.len] = byte;
+        self.len += 1;
+    }
+
     /// Appends the first bytes of a short text. [`COPIED`] are copied in any case, without a call and without a branch on how many are
     /// appended. They go through an array that nothing else can be in, or the compiler would ask where text and bytes overlap.
     #[inline(always)]
-    pub fn push_front(&mut self, text: &[u8; TEXT_ROOM], len: usize)
+    fn push_front(&mut self, text: &[u8; TEXT_ROOM], len: usize)
         requires room { length self.old + 48 ≤ 8192 }
         requires few { len ≤ 48 }
         ensures { self.new ≡ self.old ++ take len text.now }
@@ -87,6 +113,19 @@ impl HeldBytes {
         copied.copy_from_slice(&text[..COPIED]);
         self.bytes[self.len..self.len + COPIED].copy_from_slice(&copied);
         self.len += len;
+    }
+
+    /// Appends a numbered text. No copy reads what another has written, so none waits for one.
+    #[inline(always)]
+    pub fn push_numbered(&mut self, text: Numbered<'_>)
+        requires room { length self.old + 69 ≤ 8192 }
+        requires front { text.front_len ≤ 20 }
+        requires few { text.text_len ≤ 48 }
+        ensures { self.new ≡ self.old ++ numbered_text text.entry }
+    {
+        self.push_digits(text.front, text.front_len);
+        self.push_byte(text.last);
+        self.push_front(text.text, text.text_len);
     }
 
     /// Lets go of the first bytes. Those behind them move to the front.

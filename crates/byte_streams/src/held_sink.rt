@@ -3,10 +3,11 @@
 ghost use Rattle.std.specs.Prelude.{◌≡◌, ◌≤◌, ◌+◌, [], IfOk, length, take, true, false};
 ghost use Rattle.std.specs.Io.KnownBytes.{Appends, Keeps, WriteAppends};
 ghost use Rattle.byte_streams.specs.HeldSink.{contents_of, held_in, failed_writes, stalled_writes, writer_of, TakesFront};
+ghost use Rattle.byte_streams.specs.Numbered.{numbered_text};
 ghost use Rattle.byte_streams.specs.Streams.{one_failure_more, CountsFailure, CountsStall};
 
-use crate::held_bytes::{COPIED, HELD, HeldBytes};
-use crate::streams::{DeviceFault, Sink, TEXT_ROOM};
+use crate::held_bytes::{COPIED, HELD, HeldBytes, MOST};
+use crate::streams::{DeviceFault, Numbered, Sink};
 use std::alloc::{AllocError, Global};
 use std::io::Write;
 
@@ -164,19 +165,22 @@ impl<T: Write> Sink for HeldSink<T> {
     }
 
     #[inline(always)]
-    fn take_front(&mut self, text: &[u8; TEXT_ROOM], len: usize) -> bool
+    fn take_numbered(&mut self, text: Numbered<'_>) -> bool
+        requires front { text.front_len ≤ 20 }
+        requires text { text.text_len ≤ 128 }
         ensures taken { result ≡ true
             → Appends (contents_of T.contents self.old) (contents_of T.contents self.new)
-            (take len text.now) }
+            (numbered_text text.entry) }
         ensures untouched { result ≡ false → self.new ≡ self.old }
         ensures failures { failed_writes self.new ≡ failed_writes self.old }
         ensures stalls { stalled_writes self.new ≡ stalled_writes self.old }
-        ensures room { len ≤ 48 → length (held_in self.old) + 48 ≤ 8192 → result ≡ true }
+        ensures room { text.entry.text_len ≤ 48 → length (held_in self.old) + 69 ≤ 8192
+            → result ≡ true }
     {
-        if len > COPIED || self.held.len() > HELD - COPIED {
+        if text.text_len > COPIED || self.held.len() > HELD - MOST {
             return false;
         }
-        self.held.push_front(text, len);
+        self.held.push_numbered(text);
         true
     }
 

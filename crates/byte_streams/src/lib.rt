@@ -6,7 +6,7 @@
 //! it is made; nothing else here takes any.
 //!
 //! For the layer above: [`write_whole`] writes all of its bytes, or a beginning of them where the sink failed or took none.
-//! [`write_whole_front`] does so for a short text, which a [`HeldSink`] takes without a call.
+//! [`write_numbered`] does so for a short text behind a number, which a [`HeldSink`] takes without a call.
 //!
 //! ```text
 //! let mut out = Counted::new(stdout);
@@ -24,4 +24,7 @@ mod streams;
 pub use buffer::{BUFFER_SIZE, Buffer};
 pub use fault::SourceFault;
 pub use held_sink::HeldSink;
-pub use streams::{Counted, DeviceFault, Sink, Source, TEXT_ROOM, write_whole, write_whole_front};
+pub use streams::{
+    Counted, DIGITS_ROOM, DeviceFault, Numbered, Sink, Source, TEXT_ROOM, write_numbered,
+    write_whole,
+};

@@ -2,16 +2,34 @@
 //! its failures, so that a contract can say what was read and written, and that a fault comes only
 //! where a device failed.
 
-ghost use Rattle.std.specs.Prelude.{◌≡◌, ℕ, ◌<◌, ◌≤◌, List, Option, Some, Ok, IfOk, IfErr, min, length, take, true, false};
+ghost use Rattle.std.specs.Prelude.{◌≡◌, ℕ, ◌+◌, ◌<◌, ◌≤◌, ◌++◌, List, Option, Some, Ok, IfOk, IfErr, min, length, take, true, false};
+ghost use Rattle.arrayvec.specs.ArrayVec.{array_vec_len};
 ghost use Rattle.std.specs.Io.KnownBytes.{ReadConsumes, WriteAppends, Appends, Keeps};
 ghost use Rattle.byte_streams.specs.Streams.{CountsFailure, CountsStall, inner_of, failures_of, stalls_of};
+ghost use Rattle.byte_streams.specs.Numbered.{numbered_text};
 ghost use Rattle.byte_streams.specs.Writings.{writing, Prints};
 
+use arrayvec::ArrayVec;
 use std::io::{Read, Write};
 use thiserror::Error;
 
 /// How many bytes the array of a short text has room for.
 pub const TEXT_ROOM: usize = 128;
+
+/// How many bytes the array of a number's first digits has room for.
+pub const DIGITS_ROOM: usize = 20;
+
+/// A short text behind a number. The number's last digit stands apart, and of both arrays only the first bytes count.
+#[derive(Clone, Copy)]
+pub struct Numbered<'a> {
+    /// The digits before the last one.
+    pub front: &'a [u8; DIGITS_ROOM],
+    pub front_len: usize,
+    pub last: u8,
+    /// What stands behind the number.
+    pub text: &'a [u8; TEXT_ROOM],
+    pub text_len: usize,
+}
 
 /// A device did not read or write.
 #[derive(Clone, Copy, Debug, PartialEq, Eq, Error)]
@@ -52,13 +70,14 @@ pub trait Sink {
         ensures failures { CountsFailure result (failures self.old) (failures self.new) }
         ensures stalls { CountsStall result buf.now (stalls self.old) (stalls self.new) };
 
-    /// Takes the first `len` bytes of a short text's array at once, where it holds bytes and has room for them, and says whether it
-    /// did. It may copy more of the array than it takes: a copy of a length that the compiler knows takes no call, and no branch.
+    /// Takes a numbered text at once, where it holds bytes and has room for them, and says whether it did. It may copy more of the
+    /// arrays than it takes: a copy of a length that the compiler knows takes no call, and no branch.
     #[inline(always)]
-    fn take_front(&mut self, text: &[u8; TEXT_ROOM], len: usize) -> bool
-        requires { len ≤ 128 }
+    fn take_numbered(&mut self, text: Numbered<'_>) -> bool
+        requires front { text.front_len ≤ 20 }
+        requires text { text.text_len ≤ 128 }
         ensures taken { result ≡ true
-            → Appends (contents self.old) (contents self.new) (take len text.now) }
+            → Appends (contents self.old) (contents self.new) (numbered_text text.entry) }
         ensures untouched { result ≡ false → self.new ≡ self.old }
         ensures failures { failures self.new ≡ failures self.old }
         ensures stalls { stalls self.new ≡ stalls self.old }
@@ -209,27 +228,56 @@ pub fn write_whole<W: Sink>(sink: &mut W, bytes: &[u8]) -> Result<(), DeviceFaul
     Err(DeviceFault)
 }
 
-/// Writes all of the bytes, as [`write_whole`] does. It stands apart, for nearly all short texts are taken at once.
-#[inline(never)]
-fn write_apart<W: Sink>(sink: &mut W, bytes: &[u8]) -> Result<(), DeviceFault>
-    ensures { Prints bytes.now (writing W.contents W.failures W.stalls sink.old sink.new) result }
+/// The bytes of a numbered text.
+type Joined = ArrayVec<u8, 160>;
+
+/// Appends bytes to those of a text that has room for them.
+fn append(text: &mut Joined, bytes: &[u8])
+    requires { array_vec_len text.old + length bytes.now ≤ 160 }
+    ensures items { text.new.items ≡ text.old.items ++ bytes.now }
+    ensures len { array_vec_len text.new ≡ array_vec_len text.old + length bytes.now }
 {
-    write_whole(sink, bytes)
+    let Ok(()) = text.try_extend_from_slice(bytes) else {
+        unreachable!();
+    };
 }
 
-/// Writes all of the first `len` bytes of a short text's array, as [`write_whole`] does.
-#[inline(always)]
-pub fn write_whole_front<W: Sink>(
-    sink: &mut W,
-    text: &[u8; TEXT_ROOM],
-    len: usize,
-) -> Result<(), DeviceFault>
-    requires { len ≤ 128 }
-    ensures { Prints (take len text.now)
+/// The bytes of a numbered text, one behind the other.
+fn joined(text: Numbered<'_>) -> Joined
+    requires front { text.front_len ≤ 20 }
+    requires text { text.text_len ≤ 128 }
+    ensures { result.items ≡ numbered_text text.entry }
+{
+    let front = text.front;
+    let behind = text.text;
+    let mut bytes = ArrayVec::new();
+    append(&mut bytes, &front[..text.front_len]);
+    append(&mut bytes, &[text.last]);
+    append(&mut bytes, &behind[..text.text_len]);
+    bytes
+}
+
+/// Writes all of a numbered text, as [`write_whole`] does. It stands apart, for nearly all are taken at once.
+#[inline(never)]
+fn write_apart<W: Sink>(sink: &mut W, text: Numbered<'_>) -> Result<(), DeviceFault>
+    requires front { text.front_len ≤ 20 }
+    requires text { text.text_len ≤ 128 }
+    ensures { Prints (numbered_text text.entry)
         (writing W.contents W.failures W.stalls sink.old sink.new) result }
 {
-    if sink.take_front(text, len) {
+    write_whole(sink, joined(text).as_slice())
+}
+
+/// Writes all of a numbered text, as [`write_whole`] does.
+#[inline(always)]
+pub fn write_numbered<W: Sink>(sink: &mut W, text: Numbered<'_>) -> Result<(), DeviceFault>
+    requires front { text.front_len ≤ 20 }
+    requires text { text.text_len ≤ 128 }
+    ensures { Prints (numbered_text text.entry)
+        (writing W.contents W.failures W.stalls sink.old sink.new) result }
+{
+    if sink.take_numbered(text) {
         return Ok(());
     }
-    write_apart(sink, &text[..len])
+    write_apart(sink, text)
 }

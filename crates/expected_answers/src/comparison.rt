@@ -1,11 +1,11 @@
 //! The lines of an input, each with its answer compared with the one that its comment says.
 
-ghost use Rattle.std.specs.Prelude.{◌≡◌, ℕ, ◌+◌, ◌-◌, ◌^◌, Some, Err, IfOk, None, min, option_map};
+ghost use Rattle.std.specs.Prelude.{◌≡◌, ℕ, ◌+◌, ◌-◌, ◌^◌, ◌<◌, Some, Err, IfOk, None, min, option_map};
 ghost use Rattle.text_lines.specs.LineLoop.{text_of, CountsReads, CountsWrites, StopsAt, StopsForMemory, StopsReading, StopsTooLong, StopsWriting};
 ghost use Rattle.expected_answers.specs.Comparisons.{first_with, ComparesAll};
 
 use crate::comments::agrees;
-use crate::difference::{Difference, difference};
+use crate::difference::{Difference, difference, numbered};
 use byte_streams::{Sink, Source};
 use text_lines::{Interpreter, Line, Refusal, RunFault, interpret_lines};
 
@@ -17,17 +17,26 @@ struct Comparing<I> {
     first: Option<Difference>,
 }
 
-/// Notes the first difference, with one more line.
-fn note(first: &mut Option<Difference>, number: u64, line: &[u8], answered: bool, answer: &Line)
+/// Notes the first difference, with one more line: what stands behind the number of its answer, after `count` others.
+fn note(
+    first: &mut Option<Difference>,
+    number: u64,
+    line: &[u8],
+    answered: bool,
+    count: u64,
+    behind: &Line,
+)
+    requires { count < 2 ^ 64 - 1 }
     ensures { option_map (λ d. d.items) first.new
         ≡ first_with (option_map (λ d. d.items) first.old) number line.now
-        (text_of answered answer.now) }
+        (text_of answered count behind.now) }
 {
     if first.is_some() || !answered {
         return;
     }
+    let answer = numbered(count + 1, behind);
     if !agrees(line, answer.as_slice()) {
-        *first = Some(difference(number, line, answer));
+        *first = Some(difference(number, line, answer.as_slice()));
     }
 }
 
@@ -52,7 +61,7 @@ impl<I: Interpreter> Interpreter for Comparing<I> {
             Err(refusal) => return Err(refusal),
         };
         self.number = self.number.saturating_add(1);
-        note(&mut self.first, self.number, line, answered, answer);
+        note(&mut self.first, self.number, line, answered, count, answer);
         Ok(answered)
     }
 }

@@ -1,5 +1,5 @@
 -- Every line is judged and explained alike, so that no state is left to tell of.
-use Rattle.std.proofs.Common.{◌≡◌, ◌∙◌, ℕ, Bool, true, false, List, Some, None, ap}
+use Rattle.std.proofs.Common.{◌≡◌, ◌∙◌, ℕ, ◌+◌, ◌++◌, Bool, true, false, List, Some, None, ap, decimal}
 use Rattle.pmp_match.specs.declared.access.Access.{Access}
 use Rattle.text_lines.specs.LineLoop.{Meaning, text_of}
 use Rattle.text_lines.proofs.Mapped.{Follows}
@@ -28,10 +28,10 @@ follows {J} {D} outcomes decides by deciders s n line said t h d =
 -- the answer to an access, with a comment behind it that says what decided it
 pub explained_where :
     (outcomes : Outcomes) (decides : Decides) (n : ℕ) (line : List ℕ) (answered : Bool) (old new comment : List ℕ) → answered ≡ true
-    → answered_by outcomes tt n line (text_of answered old) tt
+    → answered_by outcomes tt n line (text_of answered n old) tt
     → ((access : Access) → access_on line ≡ Some (Some access) → (reason : Reason) × IsReason decides access reason × (comment ≡ reason_text reason))
-    → new ≡ explained old comment → explaining (answered_by outcomes) (on_access decides) tt n line (text_of answered new) tt
+    → decimal (n + 1) ++ new ≡ explained (decimal (n + 1) ++ old) comment → explaining (answered_by outcomes) (on_access decides) tt n line (text_of answered n new) tt
 explained_where outcomes decides n line false old new comment e done says is = cc
 explained_where outcomes decides n line true old new comment e (None, said, none) says is = cc
 explained_where outcomes decides n line true old new comment e (Some a, said, judged) says is =
-    let told = says a said in (Some old, (Some a, said, judged), (comment, (a, said, told.0, told.1, told.2), ap (λ t. Some t) is))
+    let told = says a said in (Some (decimal (n + 1) ++ old), (Some a, said, judged), (comment, (a, said, told.0, told.1, told.2), ap (λ t. Some t) is))

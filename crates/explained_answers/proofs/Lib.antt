@@ -1,3 +1,4 @@
 pub mod FirstFound
 mod Addresses
 pub mod Judged
+mod Behind

@@ -75,7 +75,7 @@ impl<J: AccessJudge, D: Deciders> Interpreter for ExplainingJudge<'_, J, D> {
         };
         if answered {
             let comment = comment_on(self.deciders, line);
-            explain(answer, &comment);
+            explain(answer, count + 1, &comment);
         }
         Ok(answered)
     }

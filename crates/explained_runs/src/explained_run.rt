@@ -51,7 +51,8 @@ impl Interpreter for ExplainingMachine {
         }
         self.tally.add(&asked, &reply);
         push_reply(answer, &reply);
-        explain(answer, &comment_on(&asked, &reply, self.machine.table()));
+        let comment = comment_on(&asked, &reply, self.machine.table());
+        explain(answer, count + 1, &comment);
         Ok(true)
     }
 }

@@ -17,7 +17,7 @@ use machine_replies::push_reply;
 use text_lines::{Interpreter, Line, NotUnderstood, Refusal, RunFault, interpret_lines};
 
 impl Machine {
-    ghost use Rattle.std.specs.Prelude.{◌≡◌, ◌≢◌, ◌<◌, ◌≤◌, true, IfOk, IfErr, IfSome, ℕ, decimal, length};
+    ghost use Rattle.std.specs.Prelude.{◌≡◌, ◌≢◌, ◌<◌, [], ◌++◌, true, IfOk, IfErr, IfSome, ℕ, decimal};
     ghost use Rattle.std.specs.Result.{result_ok};
     ghost use Rattle.hart_trace.specs.Events.{meaning_of};
     ghost use Rattle.machine_replies.specs.declared.reply.Reply.{Reply};
@@ -40,18 +40,18 @@ impl Machine {
         parse_line(line, self.harts())
     }
 
-    /// An event happens on a hart, and its reply is written behind its number. It is refused where it wants memory that is.
+    /// An event happens on a hart, and of its reply is written what stands behind the number. It is refused where it wants memory that is.
     #[inline(always)]
     fn answer(&mut self, hart: u8, event: Event, answer: &mut Line) -> Result<bool, Refusal>
         requires hart { hart < (state_of self.old).table.layout.harts }
         requires event { IsEvent event }
-        requires room { length answer.old ≤ 21 }
+        requires empty { answer.old ≡ [] }
         ensures answered { IfOk result (λ answered. answered ≡ true) }
         ensures done { KeepsBanksRight self.old
             → IfOk result (λ _.
             (reply : Reply) × Happens self.old hart event reply self.new
             × (reply ≢ NoMemory)
-            × ((n : ℕ) → answer.old ≡ decimal n → answer.new ≡ reply_text n reply)) }
+            × ((n : ℕ) → decimal n ++ answer.new ≡ reply_text n reply)) }
         ensures refusal { IfErr result (λ refusal. refusal ≡ Refusal.Memory) }
         ensures starved { KeepsBanksRight self.old
             → IfErr result (λ _. Happens self.old hart event NoMemory self.new) }
@@ -65,7 +65,7 @@ impl Machine {
         Ok(true)
     }
 
-    /// A call happens on a hart, and its reply is written behind its number, as that of an event.
+    /// A call happens on a hart, and of its reply is written what stands behind the number, as of that of an event.
     #[inline(always)]
     fn answer_call(
         &mut self,
@@ -74,13 +74,13 @@ impl Machine {
         answer: &mut Line,
     ) -> Result<bool, Refusal>
         requires hart { hart < (state_of self.old).table.layout.harts }
-        requires room { length answer.old ≤ 21 }
+        requires empty { answer.old ≡ [] }
         ensures answered { IfOk result (λ answered. answered ≡ true) }
         ensures done { KeepsBanksRight self.old
             → IfOk result (λ _.
             (reply : Reply) × Happens self.old hart (Event.Ecall words.now) reply self.new
             × (reply ≢ NoMemory)
-            × ((n : ℕ) → answer.old ≡ decimal n → answer.new ≡ reply_text n reply)) }
+            × ((n : ℕ) → decimal n ++ answer.new ≡ reply_text n reply)) }
         ensures refusal { IfErr result (λ refusal. refusal ≡ Refusal.Memory) }
         ensures starved { KeepsBanksRight self.old
             → IfErr result (λ _. Happens self.old hart (Event.Ecall words.now) NoMemory self.new) }

@@ -1,7 +1,7 @@
 //! What the events of a modelled machine are answered with, and the line of each reply in a report.
 //!
 //! ```text
-//! push_decimal(&mut line, 1);
+//! let mut line = Line::new();
 //! push_reply(&mut line, &Reply::Done);
 //! ```
 #![tactic(auto)]

@@ -1,12 +1,15 @@
 //! The line of a reply, in a buffer of a fixed length.
 
-ghost use Rattle.std.specs.Prelude.{◌≡◌, ℕ, ◌++◌, ◌+◌, ◌≤◌, codes, decimal, length};
+ghost use Rattle.std.specs.Prelude.{◌≡◌, ◌≢◌, ℕ, [], ◌++◌, ◌+◌, ◌≤◌, codes, decimal, length, take};
 ghost use Rattle.std.specs.Fmt.{signed_decimal};
 ghost use Rattle.text_lines.specs.Written.{hex};
+ghost use Rattle.pmp_match.specs.Causes.{cause_number};
+ghost use Rattle.machine_replies.specs.declared.reply.Reply.TheVariants.{NoMemory};
 ghost use Rattle.machine_replies.specs.Texts.{reply_text};
 
 use crate::reply::Reply;
-use text_lines::{Line, push_decimal, push_hex, push_text};
+use pmp_match::Cause;
+use text_lines::{Line, push_decimal, push_hex, push_text, push_word_line};
 
 /// Appends a signed number in decimal.
 fn push_signed(line: &mut Line, n: i64)
@@ -45,23 +48,36 @@ fn push_end(line: &mut Line, world: u64, used: u64)
     line.push(b'\n');
 }
 
-/// Appends what stands behind the number of an event's reply; nothing is left of a line for a reply that wanted memory.
+/// What stands behind the number of a reply to an access that failed, by its cause: the first nine bytes.
+static FAULTS: [[u8; 16]; 8] = [
+    *b" fault 0\n       ",
+    *b" fault 1\n       ",
+    *b" fault 2\n       ",
+    *b" fault 3\n       ",
+    *b" fault 4\n       ",
+    *b" fault 5\n       ",
+    *b" fault 6\n       ",
+    *b" fault 7\n       ",
+];
+
+/// The text of a fault, without a branch on its cause.
+#[inline(always)]
+fn fault_text(cause: Cause) -> [u8; 16]
+    ensures { take 9 result ≡ codes " fault " ++ decimal (cause_number cause) ++ codes "\n" }
+{
+    FAULTS[usize::from(cause.number())]
+}
+
+/// Writes what stands behind the number of an event's reply. There is nothing where the reply wanted memory.
 pub fn push_reply(line: &mut Line, reply: &Reply)
-    requires { length line.old ≤ 21 }
-    ensures { (n : ℕ) → line.old ≡ decimal n → line.new ≡ reply_text n reply.now }
+    requires { line.old ≡ [] }
+    ensures { reply.now ≢ NoMemory
+        → (n : ℕ) → decimal n ++ line.new ≡ reply_text n reply.now }
 {
     match reply {
         Reply::Done => line.push_front(b" ok\n            ", 4),
-        Reply::Loaded(value) => {
-            push_text(line, b" ok");
-            push_word(line, *value);
-            line.push(b'\n');
-        }
-        Reply::Fault(cause) => {
-            push_text(line, b" fault ");
-            push_decimal(line, u64::from(cause.number()));
-            line.push(b'\n');
-        }
+        Reply::Loaded(value) => push_word_line(line, *b" ok 0x          ", *value),
+        Reply::Fault(cause) => line.push_front(&fault_text(*cause), 9),
         Reply::Call {
             status,
             value,
@@ -77,6 +93,6 @@ pub fn push_reply(line: &mut Line, reply: &Reply)
             push_text(line, b" irq");
             push_end(line, *world, *used);
         }
-        Reply::NoMemory => line.clear(),
+        Reply::NoMemory => {}
     }
 }

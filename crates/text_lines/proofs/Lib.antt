@@ -11,6 +11,7 @@ pub mod Letters
 mod Counters
 mod HexDigits
 mod WordDigits
+mod WordLines
 mod Hexadecimals
 mod Digits
 mod DecimalPairs

@@ -1,5 +1,5 @@
 -- What comes of an input whose lines are interpreted one after another.
-use Rattle.std.specs.Prelude.{◌≡◌, ◌⊎◌, ℕ, ◌+◌, ◌^◌, ◌<◌, ◌≤◌, Bool, if◌then◌else◌, List, [], ◌∷◌, ◌++◌, length, take, Option, Some, None, Result, Ok, Err, true, false}
+use Rattle.std.specs.Prelude.{◌≡◌, ◌⊎◌, ℕ, ◌+◌, ◌^◌, ◌<◌, ◌≤◌, Bool, if◌then◌else◌, List, [], ◌∷◌, ◌++◌, length, take, Option, Some, None, Result, Ok, Err, true, false, decimal}
 use Rattle.std.specs.List.{concat}
 use Rattle.std.specs.Io.KnownBytes.{Appends, Consumes, IsAtEnd}
 use Rattle.byte_streams.specs.Streams.{WriteFails, one_failure_more}
@@ -20,15 +20,15 @@ pub data Does {S : Type 0} (does : Meaning S) (old : S) : List (List ℕ) → Li
   silent : {lines answers : List (List ℕ)} {mid : S} → Does does old lines answers mid → (line : List ℕ) → IsShortLine line → (new : S) → does mid (length answers) (without_return line) None new → Does does old (lines ++ line ∷ []) answers new
   answer : {lines answers : List (List ℕ)} {mid : S} → Does does old lines answers mid → (line : List ℕ) → IsShortLine line → (new : S) → (text : List ℕ) → does mid (length answers) (without_return line) (Some text) new → Does does old (lines ++ line ∷ []) (answers ++ text ∷ []) new
 
--- the text of an answer, where there is one
-abbrev pub text_of : Bool → List ℕ → Option (List ℕ)
-text_of answered text = if answered then Some text else None
+-- the text of the answer after n others, where there is one: its number, and what stands behind that
+abbrev pub text_of : Bool → ℕ → List ℕ → Option (List ℕ)
+text_of answered n behind = if answered then Some (decimal (n + 1) ++ behind) else None
 
--- what comes of a line: its answer, or why it has none
+-- what comes of a line: its answer, told by what stands behind its number, or why it has none
 abbrev pub Comes : {S : Type 0} → Meaning S → (S → List ℕ → Type 0) → (S → List ℕ → S → Type 0) → S → ℕ → List ℕ → Result Bool Refusal → List ℕ → S → Type 0
-Comes does refuses starves old n line (Ok answered) text new = does old n line (text_of answered text) new
-Comes does refuses starves old n line (Err refusals.NotUnderstood) text new = refuses old line × (new ≡ old)
-Comes does refuses starves old n line (Err refusals.Memory) text new = starves old line new
+Comes does refuses starves old n line (Ok answered) behind new = does old n line (text_of answered n behind) new
+Comes does refuses starves old n line (Err refusals.NotUnderstood) behind new = refuses old line × (new ≡ old)
+Comes does refuses starves old n line (Err refusals.Memory) behind new = starves old line new
 
 -- whether there was a line
 abbrev pub was_line : Result (Option (Result Bool Refusal)) ReadFault → Result Bool ReadFault

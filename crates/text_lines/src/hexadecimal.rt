@@ -1,7 +1,7 @@
 //! Sixteen bytes at once as hexadecimal digits. One by one, or four by four, they take two to three times the instructions, and a
 //! branch at the end of a number that is guessed wrong. A number is written so too.
 
-ghost use Rattle.std.specs.Prelude.{◌≡◌, ◌<◌, ◌≤◌, nat_lt, length, map, take};
+ghost use Rattle.std.specs.Prelude.{◌≡◌, ◌<◌, ◌≤◌, ◌++◌, ◌∷◌, [], nat_lt, length, map, take};
 ghost use Rattle.std.specs.List.{prefix_len};
 ghost use Rattle.text_lines.specs.Hexadecimal.{first_set, nibble_of, nibbles_value};
 ghost use Rattle.text_lines.specs.Numbers.{digit_of};
@@ -85,4 +85,24 @@ pub fn hex_digits(value: u64) -> [u8; 16]
     ensures { result ≡ hex 16 value }
 {
     word_digits(value).to_array()
+}
+
+/// Six bytes, the sixteen digits of a number, and a LF: the first sixteen of these, and then the others.
+#[inline(always)]
+pub(crate) fn word_line(before: [u8; 16], value: u64) -> ([u8; 16], [u8; 16])
+    ensures { take 16 result.0 ++ take 7 result.1 ≡ take 6 before ++ hex 16 value ++ 10 ∷ [] }
+{
+    let digits = word_digits(value);
+    let before = u8x16::from_array(before);
+    let first: u8x16 = before.shuffle(
+        digits,
+        [0, 1, 2, 3, 4, 5, 16, 17, 18, 19, 20, 21, 22, 23, 24, 25],
+    );
+    let second: u8x16 = digits.shuffle(
+        u8x16::splat(b'\n'),
+        [
+            10, 11, 12, 13, 14, 15, 16, 17, 18, 19, 20, 21, 22, 23, 24, 25,
+        ],
+    );
+    (first.to_array(), second.to_array())
 }

@@ -2,8 +2,8 @@
 //!
 //! A [`LineReader`] hands out the lines of a source through one buffer; [`Words`] are those of a line without its comment,
 //! and [`number`] is what one of them spells. [`interpret_lines`] reads line by line, lets an [`Interpreter`] do what each
-//! says, and writes its answer before it reads the next. An answer is a [`Line`] that begins with its number, which a [`Counter`]
-//! counts up. Nothing here takes memory.
+//! says, and writes its answer before it reads the next. An answer is its number, which a [`Counter`] counts up, and a [`Line`] behind
+//! that. Nothing here takes memory.
 //!
 //! For the layer above: the lines of a reader are those of the input, line by line; the words of a line are the runs of
 //! bytes between its blanks; a number is read exactly where it is below 2^64. However the loop ends, its clauses tie what was
@@ -41,4 +41,4 @@ pub use lexical::{
 };
 pub use line_loop::{Interpreter, Refusal, interpret_lines};
 pub use lines::{LONGEST, LineReader, without_return};
-pub use written::{Line, hex_digit, push_decimal, push_hex, push_text};
+pub use written::{Line, hex_digit, push_decimal, push_hex, push_text, push_word_line};

@@ -1,7 +1,7 @@
 //! The one loop over the lines of an input: a line is read, understood and done, and its answer is written before the
 //! next line is read.
 
-ghost use Rattle.std.specs.Prelude.{◌≡◌, ℕ, ◌+◌, ◌-◌, ◌^◌, ◌<◌, ◌≤◌, List, Option, None, Some, Err, IfOk, IfSome, length, take, decimal};
+ghost use Rattle.std.specs.Prelude.{◌≡◌, ℕ, ◌+◌, ◌-◌, ◌^◌, ◌<◌, ◌≤◌, List, [], Option, None, Some, Err, IfOk, IfSome, length, take, decimal};
 ghost use Rattle.std.specs.Io.KnownBytes.{Keeps};
 ghost use Rattle.byte_streams.specs.Writings.{writing, Prints};
 ghost use Rattle.text_lines.specs.Lines.{BeginsLine};
@@ -41,15 +41,14 @@ pub trait Interpreter {
     /// What is kept from line to line.
     ghost keeps: { Self → Type 0 };
 
-    /// Does what a line says, which comes without its LF and its CR, and writes its answer, the one after `count` others. The
-    /// answer's number is written already. Says whether there is one.
+    /// Does what a line says, which comes without its LF and its CR. Says whether there is an answer, the one after `count` others, and
+    /// writes what stands behind its number.
     fn interpret(&mut self, line: &[u8], count: u64, answer: &mut Line) -> Result<bool, Refusal>
         requires count { count < 2 ^ 64 - 1 }
-        requires number { answer.old ≡ decimal (count + 1) }
-        requires room { length answer.old ≤ 21 }
+        requires empty { answer.old ≡ [] }
         ensures done { keeps self.old
             → IfOk result (λ answered.
-            does self.old count line.now (text_of answered answer.new) self.new) }
+            does self.old count line.now (text_of answered count answer.new) self.new) }
         ensures unknown { result ≡ Err Refusal.NotUnderstood → refuses self.old line.now }
         ensures untouched { result ≡ Err Refusal.NotUnderstood → self.new ≡ self.old }
         ensures starved { result ≡ Err Refusal.Memory → keeps self.old
@@ -66,8 +65,7 @@ pub trait Interpreter {
         answer: &mut Line,
     ) -> Option<(usize, Result<bool, Refusal>)>
         requires count { count < 2 ^ 64 - 1 }
-        requires number { answer.old ≡ decimal (count + 1) }
-        requires room { length answer.old ≤ 21 }
+        requires empty { answer.old ≡ [] }
         requires few { length ahead.now ≤ 1024 }
         ensures line { IfSome result (λ found. BeginsLine found.0 ahead.now) }
         ensures comes { keeps self.old
@@ -94,8 +92,8 @@ fn write_answer<W: Sink>(
     requires count { count < 2 ^ 64 - 2 }
     requires number { digits_of number.old ≡ decimal (count + 1) }
     requires len { number.old.len ≤ 20 }
-    ensures counted { IfOk result (λ n. n ≡ counted count (text_of answered answer.now)) }
-    ensures prints { Prints (told (text_of answered answer.now))
+    ensures counted { IfOk result (λ n. n ≡ counted count (text_of answered count answer.now)) }
+    ensures prints { Prints (told (text_of answered count answer.now))
         (writing W.contents W.failures W.stalls sink.old sink.new) result }
     ensures number { IfOk result (λ n. digits_of number.new ≡ decimal (n + 1)) }
     ensures len { number.new.len ≤ 20 }
@@ -103,7 +101,7 @@ fn write_answer<W: Sink>(
     if !answered {
         return Ok(count);
     }
-    answer.write_to(sink)?;
+    answer.write_behind(number, sink)?;
     number.raise(count + 1);
     Ok(count + 1)
 }
@@ -142,8 +140,7 @@ fn interpret_next<I: Interpreter, R: Source, W: Sink>(
     answer: &mut Line,
 ) -> Result<Option<Result<bool, Refusal>>, ReadFault>
     requires count { count < 2 ^ 64 - 1 }
-    requires number { answer.old ≡ decimal (count + 1) }
-    requires room { length answer.old ≤ 21 }
+    requires empty { answer.old ≡ [] }
     ensures line { NextLine (was_line result) reader.old reader.new (R.remaining source.old)
         (R.remaining source.new) }
     ensures failures { FailsOnRead (was_line result) (R.failures source.old)
@@ -208,7 +205,7 @@ pub fn interpret_lines<I: Interpreter, R: Source, W: Sink>(
     let mut number = Counter::of(1);
     let mut count: u64 = 0;
     'lines: loop {
-        answer.begin(&number);
+        answer.clear();
         let next = interpret_next(interpreter, &mut reader, source, sink, count, &mut answer)?;
         let said = match next {
             Some(said) => said,

@@ -6,8 +6,8 @@ ghost use Rattle.text_lines.specs.Counters.{digits_of};
 ghost use Rattle.text_lines.specs.Written.{hex, hex_digit};
 
 use crate::counter::Counter;
-use crate::hexadecimal::word_digits;
-use byte_streams::{DeviceFault, Sink, TEXT_ROOM, write_whole_front};
+use crate::hexadecimal::{word_digits, word_line};
+use byte_streams::{DeviceFault, Numbered, Sink, TEXT_ROOM, write_numbered};
 use itoa::Buffer;
 use std::marker::Model;
 
@@ -80,18 +80,6 @@ impl Line {
         self.len += 1;
     }
 
-    /// Begins the line anew, with a number in decimal.
-    #[inline(always)]
-    pub fn begin(&mut self, number: &Counter)
-        requires { number.now.len ≤ 20 }
-        ensures digits { self.new ≡ digits_of number.now }
-        ensures len { length self.new ≤ 21 }
-    {
-        self.bytes[..20].copy_from_slice(&number.front);
-        self.bytes[number.len] = number.last;
-        self.len = number.len + 1;
-    }
-
     /// Appends the first bytes of a text. Sixteen are copied in any case: a copy of a length that the compiler knows takes no call, and no
     /// branch.
     #[inline(always)]
@@ -105,13 +93,21 @@ impl Line {
         self.len += len;
     }
 
-    /// Writes all of it.
+    /// Writes a number, and the line behind it.
     #[inline(always)]
-    pub fn write_to<W: Sink>(&self, sink: &mut W) -> Result<(), DeviceFault>
-        ensures { Prints self.now
+    pub fn write_behind<W: Sink>(&self, number: &Counter, sink: &mut W) -> Result<(), DeviceFault>
+        requires { number.now.len ≤ 20 }
+        ensures { Prints (digits_of number.now ++ self.now)
             (writing W.contents W.failures W.stalls sink.old sink.new) result }
     {
-        write_whole_front(sink, &self.bytes, self.len)
+        let text = Numbered {
+            front: &number.front,
+            front_len: number.len,
+            last: number.last,
+            text: &self.bytes,
+            text_len: self.len,
+        };
+        write_numbered(sink, text)
     }
 }
 
@@ -148,6 +144,19 @@ pub fn push_hex(line: &mut Line, value: u64, digits: u8)
         left /= 16;
     }
     push_text(line, &text[..usize::from(digits)]);
+}
+
+/// Appends six bytes, the sixteen digits of a number, and a LF. They are put together in lanes and stored as sixteen bytes and seven: a
+/// load of either meets what one store wrote, and need not wait for it.
+#[inline(always)]
+pub fn push_word_line(line: &mut Line, before: [u8; 16], value: u64)
+    requires { length line.old + 32 ≤ 128 }
+    ensures items { line.new ≡ line.old ++ (take 6 before ++ hex 16 value ++ 10 ∷ []) }
+    ensures len { length line.new ≡ length line.old + 23 }
+{
+    let (first, second) = word_line(before, value);
+    line.push_front(&first, 16);
+    line.push_front(&second, 7);
 }
 
 /// Appends a text.

@@ -1,7 +1,9 @@
 //! Sources and sinks, those that fail among them.
 
 use byte_streams::fakes::PieceSink;
-use byte_streams::{Counted, HeldSink, Sink, Source, TEXT_ROOM, write_whole, write_whole_front};
+use byte_streams::{
+    Counted, DIGITS_ROOM, HeldSink, Numbered, Sink, Source, TEXT_ROOM, write_numbered, write_whole,
+};
 use std::alloc::Global;
 use std::io::{self, ErrorKind, Write};
 use std::process::Abort;
@@ -90,8 +92,15 @@ fn are_held(rt: &impl Abort, alloc: Global, row: &Held<'_>) {
     };
     let mut sink = HeldSink::new(alloc, writer).expect(rt, "memory");
     let mut text = [b'!'; TEXT_ROOM];
-    text[..5].copy_from_slice(b"1 ok\n");
-    assert!(rt; write_whole_front(&mut sink, &text, 5).is_ok());
+    text[..4].copy_from_slice(b" ok\n");
+    let answer = Numbered {
+        front: &[b'!'; DIGITS_ROOM],
+        front_len: 0,
+        last: b'1',
+        text: &text,
+        text_len: 4,
+    };
+    assert!(rt; write_numbered(&mut sink, answer).is_ok());
     sink.flush();
     assert!(rt; write_whole(&mut sink, b"2 denied\n").is_ok());
     let (is_whole, writer) = sink.close();

@@ -73,7 +73,7 @@ fn ending_of(answer: Result<(), Cause>) -> Ending
     ENDINGS[place_of(answer)]
 }
 
-/// Writes ` ok`, or ` fault CAUSE`, behind the number of an answer, and ends the line.
+/// Writes what stands behind the number of an answer: ` ok`, or ` fault CAUSE`, and the line's end.
 #[inline(always)]
 pub fn push_answer(line: &mut Line, answer: Result<(), Cause>)
     requires { length line.old + 16 ≤ 128 }

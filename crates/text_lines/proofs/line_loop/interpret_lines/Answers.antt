@@ -20,12 +20,6 @@ lines-init g c = record {
   keeps = λ k. k;
 }
 
-pub begin-requires : goal.begin-requires
-begin-requires g c = c.lines.invariant.len
-
-pub interpret_next-requires-clause-number : goal.interpret_next-requires-clause-number
-interpret_next-requires-clause-number g c = c.begin.ensures.digits ∙ c.lines.invariant.number
-
 pub write_answer-requires-clause-number : goal.write_answer-requires-clause-number
 write_answer-requires-clause-number g c = c.lines.invariant.number
 
@@ -77,15 +71,15 @@ returns-in_default-clause-write g c = λ k e.
     let next = rw c.in-Some.is at c.in_ok-next.ensures.line in
     let h = hands g.I.Interpreter.does _ _ c.lines.reader c.interpret_next.new.reader c.lines.count _ _ (g.R.Source.remaining c.interpret_next.new.source) _ _ (still _ _ _ _ _ _ _ _ _ _ (c.lines.invariant.progress k) c.interpret_next.ensures.written) next (few_by c.lines.reader c.interpret_next.new.reader c.interpret_next.ensures.few c.interpret_next.ensures.limit c.lines.invariant.limit) in
     let done = rw (c.in-Some.is, c.in-Ok.is) at c.in_ok-next.ensures.comes (c.lines.invariant.keeps k) in
-    let p = part_of (text_of c.in-Ok.answered c.interpret_next.new.answer) _ _ c.in_default.ensures.prints.part in
-    stops_writing g.I.Interpreter.does _ _ _ c.interpret_next.new.reader c.lines.count _ _ _ _ _ h (text_of c.in-Ok.answered c.interpret_next.new.answer) p.0 p.1 done p.2 p.3 p.4
+    let p = part_of (text_of c.in-Ok.answered c.lines.count c.interpret_next.new.answer) _ _ c.in_default.ensures.prints.part in
+    stops_writing g.I.Interpreter.does _ _ _ c.interpret_next.new.reader c.lines.count _ _ _ _ _ h (text_of c.in-Ok.answered c.lines.count c.interpret_next.new.answer) p.0 p.1 done p.2 p.3 p.4
 
 pub returns-then-has_ended-clause-all : goal.returns-then-has_ended-clause-all
 returns-then-has_ended-clause-all g c = λ k.
     let next = rw c.in-Some.is at c.in_ok-next.ensures.line in
     let h = hands g.I.Interpreter.does _ _ c.lines.reader c.interpret_next.new.reader c.lines.count _ _ (g.R.Source.remaining c.interpret_next.new.source) _ _ (still _ _ _ _ _ _ _ _ _ _ (c.lines.invariant.progress k) c.interpret_next.ensures.written) next (few_by c.lines.reader c.interpret_next.new.reader c.interpret_next.ensures.few c.interpret_next.ensures.limit c.lines.invariant.limit) in
     let done = rw (c.in-Some.is, c.in-Ok.is) at c.in_ok-next.ensures.comes (c.lines.invariant.keeps k) in
-    ends g.I.Interpreter.does _ _ _ c.interpret_next.new.reader c.lines.count _ _ _ _ _ h (text_of c.in-Ok.answered c.interpret_next.new.answer) done c.in-Ok-write_answer.ensures.prints.whole (sym c.has_ended.ensures ∙ c.if-has_ended.true)
+    ends g.I.Interpreter.does _ _ _ c.interpret_next.new.reader c.lines.count _ _ _ _ _ h (text_of c.in-Ok.answered c.lines.count c.interpret_next.new.answer) done c.in-Ok-write_answer.ensures.prints.whole (sym c.has_ended.ensures ∙ c.if-has_ended.true)
 
 pub lines-preserved : goal.lines-preserved
 lines-preserved g c =
@@ -98,9 +92,9 @@ lines-preserved g c =
       progress = λ k.
           let h = hands g.I.Interpreter.does _ _ c.lines.reader c.interpret_next.new.reader c.lines.count _ _ (g.R.Source.remaining c.interpret_next.new.source) _ _ (still _ _ _ _ _ _ _ _ _ _ (c.lines.invariant.progress k) c.interpret_next.ensures.written) next (few_by c.lines.reader c.interpret_next.new.reader c.interpret_next.ensures.few c.interpret_next.ensures.limit c.lines.invariant.limit) in
           let done = rw (c.in-Some.is, c.in-Ok.is) at c.in_ok-next.ensures.comes (c.lines.invariant.keeps k) in
-          let goes = goes_on g.I.Interpreter.does _ _ _ c.interpret_next.new.reader c.lines.count _ _ _ _ _ h (text_of c.in-Ok.answered c.interpret_next.new.answer) done c.in-Ok-write_answer.ensures.prints.whole (sym c.has_ended.ensures ∙ c.if-has_ended.false) in
+          let goes = goes_on g.I.Interpreter.does _ _ _ c.interpret_next.new.reader c.lines.count _ _ _ _ _ h (text_of c.in-Ok.answered c.lines.count c.interpret_next.new.answer) done c.in-Ok-write_answer.ensures.prints.whole (sym c.has_ended.ensures ∙ c.if-has_ended.false) in
           rw c.in-Ok-write_answer.ensures.counted goes;
-      few = few_more _ _ _ _ (text_of c.in-Ok.answered c.interpret_next.new.answer) c.in-Ok-write_answer.ensures.counted c.lines.invariant.few next.6.1.number;
+      few = few_more _ _ _ _ (text_of c.in-Ok.answered c.lines.count c.interpret_next.new.answer) c.in-Ok-write_answer.ensures.counted c.lines.invariant.few next.6.1.number;
       limit = c.interpret_next.ensures.limit ∙ c.lines.invariant.limit;
       number = c.in-Ok-write_answer.ensures.number;
       len = c.in-Ok-write_answer.ensures.len;

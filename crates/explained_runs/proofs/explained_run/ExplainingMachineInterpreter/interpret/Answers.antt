@@ -1,4 +1,4 @@
-use Rattle.std.proofs.Common.{◌≡◌, ◌≢◌, ◌∙◌, ◌+◌, Some, ap, refl, subst, sym}
+use Rattle.std.proofs.Common.{◌≡◌, ◌≢◌, ◌∙◌, ◌+◌, ◌++◌, decimal, Some, ap, refl, subst, sym}
 use Rattle.hart_sim.specs.After.{Happens}
 use Rattle.machine_replies.specs.declared.reply.Reply.TheVariants.{NoMemory}
 use Rattle.machine_replies.specs.Texts.{reply_text}
@@ -31,7 +31,7 @@ returns-clause-done c = λ k.
       others = c.step-reply.ensures.others;
       kept = c.step-reply.ensures.kept k;
     } in
-    let text : c.push_reply.new.line ≡ reply_text (c.args.count + 1) c.step-reply.result =
-    c.push_reply.ensures (c.args.count + 1) c.requires.number in
-    explained_next c.args.self.now.machine c.step-reply.new.self c.args.self.now.tally c.add.new.self c.args.count c.args.line.now c.in-Some.hart c.in-Some.event c.step-reply.result c.asked_of-asked.result c.push_reply.new.line c.comment_on.result.items c.explain.new.answer c.table.result.now.table
-    (sym c.in-Ok.ensures.meaning ∙ ap Some c.in-Some.is) happens answered c.asked_of-asked.ensures c.add.ensures text c.comment_on.ensures c.table.ensures.state c.explain.ensures
+    let number = decimal (c.args.count + 1) in
+    let text : number ++ c.push_reply.new.line ≡ reply_text (c.args.count + 1) c.step-reply.result = c.push_reply.ensures answered (c.args.count + 1) in
+    explained_next c.args.self.now.machine c.step-reply.new.self c.args.self.now.tally c.add.new.self c.args.count c.args.line.now c.in-Some.hart c.in-Some.event c.step-reply.result c.asked_of-asked.result (number ++ c.push_reply.new.line) c.comment_on-comment.result.items (number ++ c.explain.new.answer) c.table.result.now.table
+    (sym c.in-Ok.ensures.meaning ∙ ap Some c.in-Some.is) happens answered c.asked_of-asked.ensures c.add.ensures text c.comment_on-comment.ensures c.table.ensures.state c.explain.ensures

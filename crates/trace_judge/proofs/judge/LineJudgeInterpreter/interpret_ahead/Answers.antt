@@ -1,4 +1,4 @@
-use Rattle.std.proofs.Common.{◌∙◌, ◌++◌, Some, ap, refl, sym}
+use Rattle.std.proofs.Common.{◌∙◌, ◌+◌, ◌++◌, Some, decimal, ap, refl, sym}
 use Rattle.trace_judge.specs.Answers.{answer_end, only_access}
 use Rattle.trace_judge.proofs.judge.LineJudgeInterpreter.interpret_ahead.Goals as goal
 
@@ -6,5 +6,6 @@ use Rattle.trace_judge.proofs.judge.LineJudgeInterpreter.interpret_ahead.Goals a
 pub returns-clause-comes : goal.returns-clause-comes
 returns-clause-comes g c = λ k.
     let access = ap only_access c.in_ok-found.ensures.access ∙ ap (λ a. Some (Some a)) (sym c.taken_apart-access.ensures) in
-    let text = c.push_answer.ensures ∙ ap (λ xs. xs ++ answer_end c.outcome.result) c.requires.number in
-    ((Some c.taken_apart-access.result, access, (c.outcome.result, c.outcome.ensures, ap Some text)), refl)
+    let behind = c.push_answer.ensures ∙ ap (λ xs. xs ++ answer_end c.outcome.result) c.requires.empty in
+    let text = ap (λ xs. Some (decimal (c.args.count + 1) ++ xs)) behind in
+    ((Some c.taken_apart-access.result, access, (c.outcome.result, c.outcome.ensures, text)), refl)

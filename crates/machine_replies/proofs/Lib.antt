@@ -1,0 +1,2 @@
+mod FaultTexts
+mod ReplyTexts

@@ -1,0 +1,21 @@
+use Rattle.std.proofs.Common.{◌≡◌, ◌∙◌, ◌++◌, codes, decimal, ap, rules, sym}
+use Rattle.std.specs.Fmt.{signed_decimal}
+use Rattle.text_lines.specs.Written.{hex}
+use Rattle.machine_replies.specs.Texts.{reply_text}
+use Rattle.machine_replies.proofs.ReplyTexts.{loaded, called}
+use Rattle.machine_replies.proofs.lines.push_reply.Goals as goal
+
+pub returns-in-Loaded : goal.returns-in-Loaded
+returns-in-Loaded c = λ some n.
+    let behind = rw c.requires at c.push_word_line.ensures.items in
+    ap (λ l. decimal n ++ l) behind ∙ loaded n _ ∙ ap (reply_text n) (sym c.in-Loaded.is)
+
+pub returns-in-Call : goal.returns-in-Call
+returns-in-Call c = λ some n.
+    let status = signed_decimal c.in-Call.status in
+    let digits = hex 16 c.in-Call.value in
+    let begun : c.push_text.new.line ≡ codes " call " = c.push_text.ensures.items ∙ ap (λ l. l ++ codes " call ") c.requires in
+    let signed : c.push_signed.new.line ≡ codes " call " ++ status = search rules in
+    let word : c.push_word.new.line ≡ codes " call " ++ status ++ codes " 0x" ++ digits = c.push_word.ensures.items ∙ ap (λ l. l ++ codes " 0x" ++ digits) signed in
+    let behind = c.push_end.ensures.items ∙ ap (λ l. l ++ codes " " ++ decimal c.in-Call.world ++ codes " " ++ decimal c.in-Call.used ++ codes "\n") word in
+    ap (λ l. decimal n ++ l) behind ∙ called n c.in-Call.status c.in-Call.value c.in-Call.world c.in-Call.used ∙ ap (reply_text n) (sym c.in-Call.is)
