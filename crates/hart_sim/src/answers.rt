@@ -23,6 +23,7 @@ impl Parts {
     }
 
     /// The reply to a call with this answer.
+    #[inline(always)]
     pub(crate) fn told(&self, hart: u8, answer: Answer) -> Reply
         requires { hart < 4 }
         ensures { RepliesWith (replies.Call answer.status answer.value) (state_in self.now) hart

@@ -4,19 +4,21 @@ use crate::call_registers::put_call;
 use crate::parts::Parts;
 use arrayvec::ArrayVec;
 use machine_replies::Reply;
-use monitor_core::PageRange;
+use monitor_core::{Answer, PageRange};
 
 impl Parts {
-    ghost use Rattle.std.specs.Prelude.{◌≡◌, ◌+◌, ◌^◌, ◌<◌, ◌≤◌, false, IfSome, ◌*◌};
+    ghost use Rattle.std.specs.Prelude.{◌≡◌, ◌+◌, ◌^◌, ◌<◌, ◌≤◌, false, IfSome, Option, ◌*◌};
     ghost use Rattle.sbi_decode.specs.Calls.{call_of};
     ghost use Rattle.monitor_core.specs.Changes.{with_running};
+    ghost use Rattle.monitor_core.specs.States.{State as Core};
     ghost use Rattle.monitor_core.specs.Steps.{DoesCall};
+    ghost use Rattle.page_views.specs.declared.pages.PageRange.{PageRange};
     ghost use Rattle.hart_trace.specs.declared.event.Event.{Event};
     ghost use Rattle.hart_sim.specs.Banks.{AreBanksRight};
     ghost use Rattle.hart_sim.specs.Changes.{calling, zeroing};
     ghost use Rattle.hart_sim.specs.Frames.{IsOn, KeepsFrame};
     ghost use Rattle.hart_sim.specs.Parts.{state_in, bank_in};
-    ghost use Rattle.hart_sim.specs.States.{core_of};
+    ghost use Rattle.hart_sim.specs.States.{core_of, with_core};
     ghost use Rattle.hart_sim.specs.Steps.{Serves, Does, Step};
     ghost use Rattle.machine_memory.specs.Memory.{bytes_at};
 
@@ -32,7 +34,28 @@ impl Parts {
         }
     }
 
-    /// A call with these words.
+    /// Serves a call with these words, and answers what its caller is told.
+    fn serve(&mut self, hart: u8, words: &[u64]) -> Answer
+        requires on { IsOn self.old hart }
+        requires few { hart < 4 }
+        requires awake { (state_in self.old).marked hart ≡ false }
+        ensures frame { KeepsFrame self.old self.new hart }
+        ensures served { let s = state_in self.old in let file = calling s hart words.now in
+            (pages : Option PageRange) × (core : Core)
+            × DoesCall (call_of file) (λ page. bytes_at s.bytes (page * 4096) 4096)
+            (with_running (core_of s) hart file) hart result pages core
+            × (state_in self.new ≡ zeroing (with_core s core) pages) }
+    {
+        put_call(&mut self.monitor, hart, words);
+        let served = self.monitor.serve_kept(hart, &self.memory);
+        self.zero(served.zero);
+        self.load_where(hart, served.load);
+        served.answer
+    }
+
+    /// A call with these words. Its reply is made where it is read: one that a call returns would be copied in larger pieces than it
+    /// was written in, and would wait for them.
+    #[inline(always)]
     pub(crate) fn ecall(&mut self, hart: u8, words: &[u64]) -> Reply
         requires on { IsOn self.old hart }
         requires few { hart < 4 }
@@ -42,11 +65,8 @@ impl Parts {
             Serves (DoesCall (call_of file) (λ page. bytes_at s.bytes (page * 4096) 4096)
             (with_running (core_of s) hart file) hart) s hart result (state_in self.new) }
     {
-        put_call(&mut self.monitor, hart, words);
-        let served = self.monitor.serve_kept(hart, &self.memory);
-        self.zero(served.zero);
-        self.load_where(hart, served.load);
-        self.told(hart, served.answer)
+        let answer = self.serve(hart, words);
+        self.told(hart, answer)
     }
 
     /// A call on a hart, which loads the host's entries first where it is marked. Its words are lent.

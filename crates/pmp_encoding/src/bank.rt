@@ -284,7 +284,8 @@ fn clear(addresses: &mut [u64; 64], limit: Limit)
 }
 
 /// Fills registers with entries, each in its canonical pair, and zero after them; and decodes each one beside it. The word that is
-/// being filled stands in a variable: read back from its place, it would make each entry wait for the store of the one before.
+/// being filled stands in a variable: read back from its place, it would make each entry wait for the store of the one before. So does
+/// the entry, which would be read again after each store.
 fn fill(
     words: &mut [u64; 8],
     addresses: &mut [u64; 64],
@@ -300,6 +301,7 @@ fn fill(
     *words = [0; 8];
     let mut word = 0;
     for (i, entry) in entries.iter().enumerate() {
+        let entry = *entry;
         let (cfg, address) = entry.encode();
         if i % 8 == 0 {
             word = 0;
@@ -307,7 +309,7 @@ fn fill(
         word = with_byte(word, i % 8, cfg);
         words[i / 8] = word;
         addresses[i] = address;
-        extents[i].put(entry);
+        extents[i].put(&entry);
     }
 }
 
