@@ -1,6 +1,6 @@
 //! A sink that holds bytes for a writer of std, and hands them on in few writes.
 
-ghost use Rattle.std.specs.Prelude.{◌≡◌, ◌≤◌, ◌+◌, [], IfOk, length, take, true, false};
+ghost use Rattle.std.specs.Prelude.{◌≡◌, ◌≤◌, ◌+◌, [], IfOk, length, take, true, false, ◌<◌, Ok};
 ghost use Rattle.std.specs.Io.KnownBytes.{Appends, Keeps, WriteAppends};
 ghost use Rattle.byte_streams.specs.HeldSink.{contents_of, held_in, failed_writes, stalled_writes, writer_of, TakesFront};
 ghost use Rattle.byte_streams.specs.Numbered.{numbered_text};
@@ -156,7 +156,17 @@ impl<T: Write> Sink for HeldSink<T> {
     ghost stalls = { stalled_writes };
 
     #[inline(always)]
-    fn write(&mut self, buf: &[u8]) -> Result<usize, DeviceFault> {
+    fn write(&mut self, buf: &[u8]) -> Result<usize, DeviceFault>
+        ensures bound { IfOk result (λ n. n ≤ length buf.now) }
+        ensures bytes { WriteAppends (contents_of T.contents self.old)
+            (contents_of T.contents self.new) result buf.now }
+        ensures failures { CountsFailure result
+            (failed_writes self.old) (failed_writes self.new) }
+        ensures stalls { CountsStall result buf.now
+            (stalled_writes self.old) (stalled_writes self.new) }
+        ensures room { length (held_in self.old) + length buf.now < 8192
+            → result ≡ Ok (length buf.now) }
+    {
         if buf.len() < self.held.room() {
             self.held.push(buf);
             return Ok(buf.len());
