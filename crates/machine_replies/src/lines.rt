@@ -71,8 +71,9 @@ fn fault_text(cause: Cause) -> [u8; 16]
 /// Writes what stands behind the number of an event's reply. There is nothing where the reply wanted memory.
 pub fn push_reply(line: &mut Line, reply: &Reply)
     requires { line.old ≡ [] }
-    ensures { reply.now ≢ NoMemory
+    ensures text { reply.now ≢ NoMemory
         → (n : ℕ) → decimal n ++ line.new ≡ reply_text n reply.now }
+    ensures nothing { reply.now ≡ NoMemory → line.new ≡ [] }
 {
     match reply {
         Reply::Done => line.push_front(b" ok\n            ", 4),

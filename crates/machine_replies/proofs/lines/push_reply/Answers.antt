@@ -5,13 +5,13 @@ use Rattle.machine_replies.specs.Texts.{reply_text}
 use Rattle.machine_replies.proofs.ReplyTexts.{loaded, called}
 use Rattle.machine_replies.proofs.lines.push_reply.Goals as goal
 
-pub returns-in-Loaded : goal.returns-in-Loaded
-returns-in-Loaded c = λ some n.
+pub returns-in-Loaded-clause-text : goal.returns-in-Loaded-clause-text
+returns-in-Loaded-clause-text c = λ some n.
     let behind = rw c.requires at c.push_word_line.ensures.items in
     ap (λ l. decimal n ++ l) behind ∙ loaded n _ ∙ ap (reply_text n) (sym c.in-Loaded.is)
 
-pub returns-in-Call : goal.returns-in-Call
-returns-in-Call c = λ some n.
+pub returns-in-Call-clause-text : goal.returns-in-Call-clause-text
+returns-in-Call-clause-text c = λ some n.
     let status = signed_decimal c.in-Call.status in
     let digits = hex 16 c.in-Call.value in
     let begun : c.push_text.new.line ≡ codes " call " = c.push_text.ensures.items ∙ ap (λ l. l ++ codes " call ") c.requires in

@@ -30,5 +30,5 @@ returns-clause-done c = λ k.
         kept = c.step-reply.ensures.kept k;
       },
       answered,
-      c.push_reply.ensures answered,
+      c.push_reply.ensures.text answered,
     )

@@ -13,4 +13,4 @@ returns-then-wants_memory-clause-starved c = λ k.
 pub returns-clause-done : goal.returns-clause-done
 returns-clause-done c = λ k.
     let answered : c.call-reply.result ≢ NoMemory = c.wants_memory.ensures.no c.if-wants_memory.false in
-    (c.call-reply.result, c.call-reply.ensures.happens k, answered, c.push_reply.ensures answered)
+    (c.call-reply.result, c.call-reply.ensures.happens k, answered, c.push_reply.ensures.text answered)
