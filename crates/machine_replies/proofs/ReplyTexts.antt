@@ -1,5 +1,6 @@
 -- A reply is its number and what stands behind that.
-use Rattle.std.proofs.Common.{◌≡◌, ◌∙◌, ℕ, ℤ, List, ◌++◌, codes, decimal, append_assoc, ap, refl, sym}
+use Rattle.std.proofs.Common.{◌≡◌, ◌∙◌, ℕ, ℤ, pos, List, ◌++◌, codes, decimal, append_assoc, ap, refl, sym, arith}
+use Rattle.std.proofs.lemmas.Fmt.{decimal_digit}
 use Rattle.std.specs.Fmt.{signed_decimal}
 use Rattle.text_lines.specs.Written.{hex}
 use Rattle.machine_replies.specs.declared.reply.Reply.TheVariants.{Loaded, Call}
@@ -20,3 +21,7 @@ called n status value world used =
     let d = decimal n in
     let word = more d _ _ (hex 16 value) (more d _ _ (codes " 0x") (more d (codes " call ") _ (signed_decimal status) refl)) in
     more d _ _ (codes "\n") (more d _ _ (decimal used) (more d _ _ (codes " ") (more d _ _ (decimal world) (more d _ _ (codes " ") word))))
+
+-- a call that is answered with 0
+pub called_zero : (status : ℤ) → status ≡ pos 0 → codes " call 0 0x" ≡ codes " call " ++ signed_decimal status ++ codes " 0x"
+called_zero status is = rw (is, decimal_digit 0 (omega arith)) refl

@@ -1,6 +1,6 @@
 //! The line of a reply, in a buffer of a fixed length.
 
-ghost use Rattle.std.specs.Prelude.{◌≡◌, ◌≢◌, ℕ, [], ◌++◌, ◌+◌, ◌≤◌, codes, decimal, length, take};
+ghost use Rattle.std.specs.Prelude.{◌≡◌, ◌≢◌, ℕ, [], ◌++◌, ◌+◌, ◌<◌, ◌≤◌, codes, decimal, length, take};
 ghost use Rattle.std.specs.Fmt.{signed_decimal};
 ghost use Rattle.text_lines.specs.Written.{hex};
 ghost use Rattle.pmp_match.specs.Causes.{cause_number};
@@ -33,6 +33,39 @@ fn push_word(line: &mut Line, value: u64)
     push_hex(line, value, 16);
 }
 
+/// Writes ` call STATUS 0x` and 16 digits.
+fn push_call(line: &mut Line, status: i64, value: u64)
+    requires { line.old ≡ [] }
+    ensures items { line.new ≡ codes " call " ++ signed_decimal status ++ codes " 0x"
+        ++ hex 16 value }
+    ensures len { length line.new ≤ 46 }
+{
+    // Most calls are answered with 0. Each piece that is appended waits for the length that the one before it left.
+    if status == 0 {
+        line.push_front(b" call 0 0x      ", 10);
+        push_hex(line, value, 16);
+        return;
+    }
+    push_text(line, b" call ");
+    push_signed(line, status);
+    push_word(line, value);
+}
+
+/// A world and a number of entries of one digit each, and the end of a line: the first five bytes.
+#[inline(always)]
+fn short_end(world: u64, used: u64) -> [u8; 16]
+    requires world { world < 10 }
+    requires used { used < 10 }
+    ensures { take 5 result ≡ codes " " ++ decimal world ++ codes " " ++ decimal used
+        ++ codes "\n" }
+{
+    let world = b'0' + world as u8;
+    let used = b'0' + used as u8;
+    [
+        b' ', world, b' ', used, b'\n', 0, 0, 0, 0, 0, 0, 0, 0, 0, 0, 0,
+    ]
+}
+
 /// Appends a world and a number of entries, and ends the line.
 fn push_end(line: &mut Line, world: u64, used: u64)
     requires { length line.old + 43 ≤ 128 }
@@ -41,6 +74,10 @@ fn push_end(line: &mut Line, world: u64, used: u64)
         ++ codes "\n" }
     ensures len { length line.new ≤ length line.old + 43 }
 {
+    if world < 10 && used < 10 {
+        line.push_front(&short_end(world, used), 5);
+        return;
+    }
     line.push(b' ');
     push_decimal(line, world);
     line.push(b' ');
@@ -85,9 +122,7 @@ pub fn push_reply(line: &mut Line, reply: &Reply)
             world,
             used,
         } => {
-            push_text(line, b" call ");
-            push_signed(line, *status);
-            push_word(line, *value);
+            push_call(line, *status, *value);
             push_end(line, *world, *used);
         }
         Reply::Irq { world, used } => {

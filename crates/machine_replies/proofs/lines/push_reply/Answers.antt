@@ -12,10 +12,6 @@ returns-in-Loaded-clause-text c = λ some n.
 
 pub returns-in-Call-clause-text : goal.returns-in-Call-clause-text
 returns-in-Call-clause-text c = λ some n.
-    let status = signed_decimal c.in-Call.status in
-    let digits = hex 16 c.in-Call.value in
-    let begun : c.push_text.new.line ≡ codes " call " = c.push_text.ensures.items ∙ ap (λ l. l ++ codes " call ") c.requires in
-    let signed : c.push_signed.new.line ≡ codes " call " ++ status = search rules in
-    let word : c.push_word.new.line ≡ codes " call " ++ status ++ codes " 0x" ++ digits = c.push_word.ensures.items ∙ ap (λ l. l ++ codes " 0x" ++ digits) signed in
-    let behind = c.push_end.ensures.items ∙ ap (λ l. l ++ codes " " ++ decimal c.in-Call.world ++ codes " " ++ decimal c.in-Call.used ++ codes "\n") word in
+    let begun : c.push_call.new.line ≡ codes " call " ++ signed_decimal c.in-Call.status ++ codes " 0x" ++ hex 16 c.in-Call.value = search rules in
+    let behind = c.push_end.ensures.items ∙ ap (λ l. l ++ codes " " ++ decimal c.in-Call.world ++ codes " " ++ decimal c.in-Call.used ++ codes "\n") begun in
     ap (λ l. decimal n ++ l) behind ∙ called n c.in-Call.status c.in-Call.value c.in-Call.world c.in-Call.used ∙ ap (reply_text n) (sym c.in-Call.is)
