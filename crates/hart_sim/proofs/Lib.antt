@@ -14,6 +14,7 @@ mod Wanted
 mod Promised
 mod WorldsKept
 mod BankPlaces
+mod SameLists
 mod SoundTables
 mod Promises
 mod Headlined

@@ -20,7 +20,7 @@ impl Parts {
         requires { hart < 4 }
         ensures { bank_in self.now hart ≡ Some result.now }
     {
-        &self.banks[hart as usize]
+        self.banks[hart as usize].bank()
     }
 
     /// Puts another bank in place, and leaves all else.
@@ -36,7 +36,7 @@ impl Parts {
         ensures monitor { self.new.monitor ≡ self.old.monitor }
         ensures memory { self.new.memory ≡ self.old.memory }
     {
-        self.banks[hart as usize] = bank;
+        self.banks[hart as usize].put(bank);
     }
 
     /// Loads the entries of the world that runs on a hart, and leaves all else.

@@ -1,10 +1,11 @@
 //! The machine as it is at boot.
 
+use crate::hart_bank::HartBank;
 use crate::parts::Parts;
 use machine_memory::Memory;
 use monitor_core::{BootFault, Monitor, Platform};
 use pmp_encoding::Bank;
-use std::alloc::Global;
+use std::alloc::{AllocError, Global};
 
 impl Parts {
     ghost use Rattle.std.specs.Prelude.{◌≡◌, IfOk, IfErr};
@@ -31,11 +32,28 @@ impl Parts {
             Err(fault) => return Err(fault),
         };
         let bank = Bank::of(monitor.entries(0), monitor.table().limit());
+        let Ok(banks) = four_of(alloc, bank) else {
+            return Err(BootFault::Memory);
+        };
         Ok(Parts {
             alloc,
             monitor,
             memory: Memory::new(alloc),
-            banks: [bank; 4],
+            banks,
         })
     }
+}
+
+ghost use Rattle.std.specs.Prelude.{◌≡◌, IfOk, replicate};
+
+/// A bank of each of four harts, all alike.
+fn four_of(alloc: Global, bank: Bank) -> Result<[HartBank; 4], AllocError>
+    ensures { IfOk result (λ banks. banks ≡ replicate 4 bank) }
+{
+    Ok([
+        HartBank::new(alloc, bank)?,
+        HartBank::new(alloc, bank)?,
+        HartBank::new(alloc, bank)?,
+        HartBank::new(alloc, bank)?,
+    ])
 }

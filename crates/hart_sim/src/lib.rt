@@ -29,6 +29,7 @@ mod banks;
 mod boot;
 mod call_registers;
 mod ecall;
+mod hart_bank;
 mod laws;
 mod machine;
 mod parts;

@@ -1,8 +1,8 @@
 //! The parts of the machine: the monitor, memory, and the banks that are loaded.
 
+use crate::hart_bank::HartBank;
 use machine_memory::Memory;
 use monitor_core::Monitor;
-use pmp_encoding::Bank;
 use std::alloc::Global;
 
 /// The monitor, memory, and the bank of each of four harts, of which a platform may have fewer.
@@ -11,5 +11,5 @@ pub(crate) struct Parts {
     pub(crate) alloc: Global,
     pub(crate) monitor: Monitor,
     pub(crate) memory: Memory,
-    pub(crate) banks: [Bank; 4],
+    pub(crate) banks: [HartBank; 4],
 }
