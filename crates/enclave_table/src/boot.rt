@@ -18,8 +18,11 @@ use std::alloc::Global;
 fn no_enclaves(alloc: Global) -> Result<Vec<Option<Enclave>>, Memory>
     ensures { IfOk result (λ v. v.items ≡ replicate 64 None) }
 {
-    let none: [Option<Enclave>; 64] = [None; 64];
-    Vec::from_slice(alloc, &none)
+    let mut enclaves = Vec::new(alloc);
+    for _ in 0..64u64 {
+        enclaves.push(None)?;
+    }
+    Ok(enclaves)
 }
 
 /// No entry at any place.

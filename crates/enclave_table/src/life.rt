@@ -74,7 +74,7 @@ impl Table {
         if enclave.state != entering.before() {
             return Err(Refusal::BadState);
         }
-        self.turn(id, &enclave, State::Running);
+        self.turn(id, State::Running);
         Ok(())
     }
 
@@ -90,10 +90,10 @@ impl Table {
         let World::Enclave(id) = world else {
             return Err(Refusal::NotEnclave);
         };
-        let Some(enclave) = self.find(id) else {
+        let Some(_enclave) = self.find(id) else {
             unreachable!();
         };
-        self.turn(id, &enclave, leaving.after());
+        self.turn(id, leaving.after());
         Ok(id)
     }
 }

@@ -78,19 +78,29 @@ fn one_digit(text: &[u8]) -> Option<(u64, &[u8])>
     Some((u64::from(first - b'0'), behind))
 }
 
-/// The number that a text begins with, and what stands after it.
-pub(crate) fn plain_number(text: &[u8]) -> Option<(u64, &[u8])>
+/// The number of any number of digits, decimal or hexadecimal, that a text begins with, and what stands after it. It stands apart, so
+/// that the short ones before it have no room to make.
+#[inline(never)]
+fn long_number(text: &[u8]) -> Option<(u64, &[u8])>
     ensures { IfSome result (λ found. BeginsNumber text.now found.0 found.1.now) }
 {
-    if let Some(found) = one_digit(text) {
-        return Some(found);
-    }
     if let Some(digits) = behind_mark(text) {
         let (value, behind) = leading_numeral(digits, 16)?;
         return Some((value, behind));
     }
     let (value, behind) = leading_numeral(text, 10)?;
     Some((value, behind))
+}
+
+/// The number that a text begins with, and what stands after it.
+#[inline(always)]
+pub(crate) fn plain_number(text: &[u8]) -> Option<(u64, &[u8])>
+    ensures { IfSome result (λ found. BeginsNumber text.now found.0 found.1.now) }
+{
+    if let Some(found) = one_digit(text) {
+        return Some(found);
+    }
+    long_number(text)
 }
 
 /// The register that a text names before a space, and what stands after that.
@@ -122,6 +132,7 @@ pub(crate) fn plain_setting(text: &[u8]) -> Option<(u8, u64, &[u8])>
 
 /// Appends the words of a call that a text begins with, of which there is one at least, to a list without words, and says what
 /// stands after them.
+#[inline(always)]
 fn plain_words<'a>(rest: &'a [u8], words: &mut ArrayVec<u64, 8>) -> Option<&'a [u8]>
     requires { words.old.items ≡ [] }
     ensures { IfSome result (λ behind.
@@ -142,6 +153,7 @@ fn plain_words<'a>(rest: &'a [u8], words: &mut ArrayVec<u64, 8>) -> Option<&'a [
 }
 
 /// The same of the plain line of a call. The list is lent, since a call that is returned would be copied from place to place.
+#[inline(always)]
 pub(crate) fn plain_call<'a>(text: &'a [u8], words: &mut ArrayVec<u64, 8>) -> Option<&'a [u8]>
     requires { words.old.items ≡ [] }
     ensures { IfSome result (λ behind.

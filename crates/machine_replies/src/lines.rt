@@ -1,6 +1,6 @@
 //! The line of a reply, in a buffer of a fixed length.
 
-ghost use Rattle.std.specs.Prelude.{◌≡◌, ◌≢◌, ℕ, [], ◌++◌, ◌+◌, ◌<◌, ◌≤◌, codes, decimal, length, take};
+ghost use Rattle.std.specs.Prelude.{◌≡◌, ◌≢◌, ℕ, [], ◌++◌, ◌+◌, ◌<◌, ◌≤◌, codes, decimal, length, replicate, take};
 ghost use Rattle.std.specs.Fmt.{signed_decimal};
 ghost use Rattle.text_lines.specs.Written.{hex};
 ghost use Rattle.pmp_match.specs.Causes.{cause_number};
@@ -9,7 +9,8 @@ ghost use Rattle.machine_replies.specs.Texts.{reply_text};
 
 use crate::reply::Reply;
 use pmp_match::Cause;
-use text_lines::{Line, push_decimal, push_hex, push_text, push_word_line};
+use std::simd::prelude::*;
+use text_lines::{Line, push_decimal, push_hex, push_text, push_word_line, word_digits};
 
 /// Appends a signed number in decimal.
 fn push_signed(line: &mut Line, n: i64)
@@ -33,39 +34,6 @@ fn push_word(line: &mut Line, value: u64)
     push_hex(line, value, 16);
 }
 
-/// Writes ` call STATUS 0x` and 16 digits.
-fn push_call(line: &mut Line, status: i64, value: u64)
-    requires { line.old ≡ [] }
-    ensures items { line.new ≡ codes " call " ++ signed_decimal status ++ codes " 0x"
-        ++ hex 16 value }
-    ensures len { length line.new ≤ 46 }
-{
-    // Most calls are answered with 0. Each piece that is appended waits for the length that the one before it left.
-    if status == 0 {
-        line.push_front(b" call 0 0x      ", 10);
-        push_hex(line, value, 16);
-        return;
-    }
-    push_text(line, b" call ");
-    push_signed(line, status);
-    push_word(line, value);
-}
-
-/// A world and a number of entries of one digit each, and the end of a line: the first five bytes.
-#[inline(always)]
-fn short_end(world: u64, used: u64) -> [u8; 16]
-    requires world { world < 10 }
-    requires used { used < 10 }
-    ensures { take 5 result ≡ codes " " ++ decimal world ++ codes " " ++ decimal used
-        ++ codes "\n" }
-{
-    let world = b'0' + world as u8;
-    let used = b'0' + used as u8;
-    [
-        b' ', world, b' ', used, b'\n', 0, 0, 0, 0, 0, 0, 0, 0, 0, 0, 0,
-    ]
-}
-
 /// Appends a world and a number of entries, and ends the line.
 fn push_end(line: &mut Line, world: u64, used: u64)
     requires { length line.old + 43 ≤ 128 }
@@ -74,15 +42,76 @@ fn push_end(line: &mut Line, world: u64, used: u64)
         ++ codes "\n" }
     ensures len { length line.new ≤ length line.old + 43 }
 {
-    if world < 10 && used < 10 {
-        line.push_front(&short_end(world, used), 5);
-        return;
-    }
     line.push(b' ');
     push_decimal(line, world);
     line.push(b' ');
     push_decimal(line, used);
     line.push(b'\n');
+}
+
+/// A world and a number of entries of one digit each, and the end of a line: the first five bytes.
+#[inline(always)]
+fn short_end(world: u64, used: u64) -> [u8; 16]
+    requires world { world < 10 }
+    requires used { used < 10 }
+    ensures { result ≡ codes " " ++ decimal world ++ codes " " ++ decimal used ++ codes "\n"
+        ++ replicate 11 0 }
+{
+    let world = b'0' + world as u8;
+    let used = b'0' + used as u8;
+    [
+        b' ', world, b' ', used, b'\n', 0, 0, 0, 0, 0, 0, 0, 0, 0, 0, 0,
+    ]
+}
+
+/// What stands behind the number of the reply to a call that is answered with 0, where the world and the number of entries have one
+/// digit each: sixteen bytes and fifteen. They are put together in lanes, so that a load of either meets what one store wrote, and need
+/// not wait for it.
+#[inline(always)]
+fn short_call(value: u64, world: u64, used: u64) -> (u8x16, u8x16)
+    requires world { world < 10 }
+    requires used { used < 10 }
+    ensures { take 16 result.0 ++ take 15 result.1 ≡ codes " call 0 0x" ++ hex 16 value
+        ++ codes " "
+        ++ decimal world
+        ++ codes " "
+        ++ decimal used
+        ++ codes "\n" }
+{
+    let front = u8x16::from_array(*b" call 0 0x      ");
+    let digits = word_digits(value);
+    let end = u8x16::from_array(short_end(world, used));
+    let first: u8x16 = front.shuffle(
+        digits,
+        [0, 1, 2, 3, 4, 5, 6, 7, 8, 9, 16, 17, 18, 19, 20, 21],
+    );
+    let second: u8x16 = digits.shuffle(
+        end,
+        [6, 7, 8, 9, 10, 11, 12, 13, 14, 15, 16, 17, 18, 19, 20, 21],
+    );
+    (first, second)
+}
+
+/// Writes what stands behind the number of the reply to a call.
+fn push_call(line: &mut Line, status: i64, value: u64, world: u64, used: u64)
+    requires { line.old ≡ [] }
+    ensures { line.new ≡ codes " call " ++ signed_decimal status ++ codes " 0x" ++ hex 16 value
+        ++ codes " "
+        ++ decimal world
+        ++ codes " "
+        ++ decimal used
+        ++ codes "\n" }
+{
+    if status == 0 && world < 10 && used < 10 {
+        let (first, second) = short_call(value, world, used);
+        line.push_lanes(first, 16);
+        line.push_lanes(second, 15);
+        return;
+    }
+    push_text(line, b" call ");
+    push_signed(line, status);
+    push_word(line, value);
+    push_end(line, world, used);
 }
 
 /// What stands behind the number of a reply to an access that failed, by its cause: the first nine bytes.
@@ -121,10 +150,7 @@ pub fn push_reply(line: &mut Line, reply: &Reply)
             value,
             world,
             used,
-        } => {
-            push_call(line, *status, *value);
-            push_end(line, *world, *used);
-        }
+        } => push_call(line, *status, *value, *world, *used),
         Reply::Irq { world, used } => {
             push_text(line, b" irq");
             push_end(line, *world, *used);

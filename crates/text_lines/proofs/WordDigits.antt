@@ -7,7 +7,7 @@ use borrow.Rule.Slice.PartMut.{mid_of, put_mid}
 use lib.Lanes.{Each1, digits_l, number_l, put_chunk, pick_l, sel_l, top, zip2}
 use Rattle.text_lines.specs.Written.{hex, hex_digit}
 use Rattle.text_lines.proofs.Hexadecimals.{selected}
-use Rattle.byte_streams.proofs.Buffered.{length-part}
+use Rattle.byte_streams.proofs.Buffered.{length-part, take-read}
 
 -- two digits for each byte, those of the last byte first
 abbrev pairs : List ℕ → List ℕ
@@ -78,3 +78,11 @@ pub stored : (all lanes : List ℕ) (len : ℕ) → length lanes ≡ 16 → len 
 stored all lanes len long inside =
     let whole : put_chunk 0 (mid_of len (len + 16 - len) all) lanes ≡ lanes = put_chunk_whole (mid_of len (len + 16 - len) all) lanes (length-part all len 16 inside ∙ sym long) in
     ap (λ l. take (len + 16) (put_mid len (len + 16 - len) all l)) whole ∙ take-put_mid len (len + 16 - len) all lanes (len + 16) (omega (arith, long)) (omega (arith, inside))
+
+-- the first of them
+pub stored_front :
+    (all lanes : List ℕ) (len count : ℕ) → length lanes ≡ 16 → count ≤ 16 → len + 16 ≤ length all
+    → take (len + count) (put_mid len (len + 16 - len) all (put_chunk 0 (mid_of len (len + 16 - len) all) lanes)) ≡ take len all ++ take count lanes
+stored_front all lanes len count long few inside =
+    let whole : put_chunk 0 (mid_of len (len + 16 - len) all) lanes ≡ lanes = put_chunk_whole (mid_of len (len + 16 - len) all) lanes (length-part all len 16 inside ∙ sym long) in
+    ap (λ l. take (len + count) (put_mid len (len + 16 - len) all l)) whole ∙ take-read all lanes _ len count (omega (arith, inside)) (omega (arith, long, few))

@@ -66,7 +66,7 @@ pub(crate) fn value_of_all(text: &[u8]) -> u64
 
 /// The sixteen digits of a number, the highest first. Its bytes come lowest first, so the digits of the last of them begin.
 #[inline(always)]
-pub(crate) fn word_digits(value: u64) -> u8x16
+pub fn word_digits(value: u64) -> u8x16
     ensures { result ≡ hex 16 value }
 {
     let bytes = u64x1::splat(value).to_le_bytes();
@@ -89,7 +89,7 @@ pub fn hex_digits(value: u64) -> [u8; 16]
 
 /// Six bytes, the sixteen digits of a number, and a LF: the first sixteen of these, and then the others.
 #[inline(always)]
-pub(crate) fn word_line(before: [u8; 16], value: u64) -> ([u8; 16], [u8; 16])
+pub(crate) fn word_line(before: [u8; 16], value: u64) -> (u8x16, u8x16)
     ensures { take 16 result.0 ++ take 7 result.1 ≡ take 6 before ++ hex 16 value ++ 10 ∷ [] }
 {
     let digits = word_digits(value);
@@ -104,5 +104,5 @@ pub(crate) fn word_line(before: [u8; 16], value: u64) -> ([u8; 16], [u8; 16])
             10, 11, 12, 13, 14, 15, 16, 17, 18, 19, 20, 21, 22, 23, 24, 25,
         ],
     );
-    (first.to_array(), second.to_array())
+    (first, second)
 }

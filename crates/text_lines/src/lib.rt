@@ -34,7 +34,7 @@ mod written;
 
 pub use counter::Counter;
 pub use fault::{ReadFault, RunFault};
-pub use hexadecimal::hex_digits;
+pub use hexadecimal::{hex_digits, word_digits};
 pub use laws::{lines_law, words_law};
 pub use lexical::{
     NotUnderstood, Words, behind_mark, behind_space, leading_numeral, number, numeral, word_len,

@@ -10,6 +10,7 @@ use crate::hexadecimal::{word_digits, word_line};
 use byte_streams::{DeviceFault, Numbered, Sink, TEXT_ROOM, write_numbered};
 use itoa::Buffer;
 use std::marker::Model;
+use std::simd::prelude::*;
 
 /// How many bytes a [`Line`] has room for.
 pub const ROOM: usize = TEXT_ROOM;
@@ -93,6 +94,19 @@ impl Line {
         self.len += len;
     }
 
+    /// Appends the first of sixteen lanes. All of them are stored at once, so that a load of them meets one store: what is stored from an
+    /// array may be stored in pieces.
+    #[inline(always)]
+    pub fn push_lanes(&mut self, lanes: u8x16, len: usize)
+        requires room { length self.old + 16 ≤ 128 }
+        requires few { len ≤ 16 }
+        ensures items { self.new ≡ self.old ++ take len lanes }
+        ensures len { length self.new ≡ length self.old + len }
+    {
+        lanes.copy_to_slice(&mut self.bytes[self.len..self.len + 16]);
+        self.len += len;
+    }
+
     /// Writes a number, and the line behind it.
     #[inline(always)]
     pub fn write_behind<W: Sink>(&self, number: &Counter, sink: &mut W) -> Result<(), DeviceFault>
@@ -155,8 +169,8 @@ pub fn push_word_line(line: &mut Line, before: [u8; 16], value: u64)
     ensures len { length line.new ≡ length line.old + 23 }
 {
     let (first, second) = word_line(before, value);
-    line.push_front(&first, 16);
-    line.push_front(&second, 7);
+    line.push_lanes(first, 16);
+    line.push_lanes(second, 7);
 }
 
 /// Appends a text.

@@ -12,6 +12,7 @@ returns-in-Loaded-clause-text c = λ some n.
 
 pub returns-in-Call-clause-text : goal.returns-in-Call-clause-text
 returns-in-Call-clause-text c = λ some n.
-    let begun : c.push_call.new.line ≡ codes " call " ++ signed_decimal c.in-Call.status ++ codes " 0x" ++ hex 16 c.in-Call.value = search rules in
-    let behind = c.push_end.ensures.items ∙ ap (λ l. l ++ codes " " ++ decimal c.in-Call.world ++ codes " " ++ decimal c.in-Call.used ++ codes "\n") begun in
+    let behind : c.push_call.new.line
+    ≡ codes " call " ++ signed_decimal c.in-Call.status ++ codes " 0x" ++ hex 16 c.in-Call.value ++ codes " " ++ decimal c.in-Call.world ++ codes " " ++ decimal c.in-Call.used ++ codes "\n"
+    = search rules in
     ap (λ l. decimal n ++ l) behind ∙ called n c.in-Call.status c.in-Call.value c.in-Call.world c.in-Call.used ∙ ap (reply_text n) (sym c.in-Call.is)

@@ -1,8 +1,0 @@
-use Rattle.hart_trace.proofs.PlainEvents.{spelled_decimal, spelled_hexadecimal}
-use Rattle.hart_trace.proofs.plain_events.plain_number.Goals as goal
-
-pub returns-in-Some-behind_mark : goal.returns-in-Some-behind_mark
-returns-in-Some-behind_mark c = spelled_hexadecimal c.args.text.now c.in-Some-behind_mark.digits.now c.in_ok-value.behind.now c.in_ok-value.value c.in-Some-behind_mark.ensures c.in_ok-value.ensures.digits
-
-pub returns : goal.returns
-returns c = spelled_decimal c.args.text.now c.in_ok-value-2.behind.now c.in_ok-value-2.value c.in_ok-value-2.ensures.digits
