@@ -2,7 +2,7 @@
 
 use byte_streams::fakes::{PieceSink, PieceSource};
 use pmp_match::{Access, Cause, Kind, Mode};
-use register_judge::{Registers, Ruled, Rules, rules_in};
+use register_judge::{Registers, Reserved, ReservedAt, Ruled, Rules, rules_in};
 use register_width::Xlen;
 use std::alloc::Global;
 use std::process::Abort;
@@ -28,59 +28,34 @@ fn two(first: (u8, u64), second: (u8, u64)) -> Registers {
     registers
 }
 
-/// Two entries, an access of machine mode, which no trace has, by its kind, size and address, and what it comes to.
+/// Eight bytes at the end of the page.
+const IN_PAGE: u64 = 0x8000_0ff8;
+
+/// A load that is denied.
+const NO_LOAD: Result<(), Cause> = Err(Cause::LoadFault);
+
+/// A store that is denied.
+const NO_STORE: Result<(), Cause> = Err(Cause::StoreFault);
+
+/// Two entries, an access by its kind, size and address, and what it comes to.
 type Row = ((u8, u64), (u8, u64), Kind, u8, u64, Result<(), Cause>);
 
+/// Accesses of machine mode, which no trace has.
 const OF_MACHINE_MODE: &[Row] = &[
     // a page that is locked or not
-    (
-        (0x98, PAGE),
-        (0, 0),
-        Kind::Load,
-        8,
-        0x8000_0ff8,
-        Err(Cause::LoadFault),
-    ),
-    ((0x18, PAGE), (0, 0), Kind::Load, 8, 0x8000_0ff8, Ok(())),
-    ((0x99, PAGE), (0, 0), Kind::Load, 8, 0x8000_0ff8, Ok(())),
-    (
-        (0x99, PAGE),
-        (0, 0),
-        Kind::Store,
-        8,
-        0x8000_0ff8,
-        Err(Cause::StoreFault),
-    ),
-    ((0x19, PAGE), (0, 0), Kind::Store, 8, 0x8000_0ff8, Ok(())),
+    ((0x98, PAGE), (0, 0), Kind::Load, 8, IN_PAGE, NO_LOAD),
+    ((0x18, PAGE), (0, 0), Kind::Load, 8, IN_PAGE, Ok(())),
+    ((0x99, PAGE), (0, 0), Kind::Load, 8, IN_PAGE, Ok(())),
+    ((0x99, PAGE), (0, 0), Kind::Store, 8, IN_PAGE, NO_STORE),
+    ((0x19, PAGE), (0, 0), Kind::Store, 8, IN_PAGE, Ok(())),
     // four bytes in front of all else
-    (
-        (0x17, 0x400),
-        (0x1f, ALL),
-        Kind::Load,
-        8,
-        0x1000,
-        Err(Cause::LoadFault),
-    ),
+    ((0x17, 0x400), (0x1f, ALL), Kind::Load, 8, 0x1000, NO_LOAD),
     ((0x17, 0x400), (0x1f, ALL), Kind::Load, 4, 0x1000, Ok(())),
     ((0x17, 0x400), (0x1f, ALL), Kind::Load, 8, 0x1008, Ok(())),
-    (
-        (0x17, 0x401),
-        (0x1f, ALL),
-        Kind::Load,
-        8,
-        0x1000,
-        Err(Cause::LoadFault),
-    ),
+    ((0x17, 0x401), (0x1f, ALL), Kind::Load, 8, 0x1000, NO_LOAD),
     // no entry that is on
     ((0, PAGE), (0, ALL), Kind::Store, 8, 0, Ok(())),
-    (
-        (0, PAGE),
-        (0, ALL),
-        Kind::Load,
-        1,
-        1 << 56,
-        Err(Cause::LoadFault),
-    ),
+    ((0, PAGE), (0, ALL), Kind::Load, 1, 1 << 56, NO_LOAD),
     (
         (0, PAGE),
         (0, ALL),
@@ -99,22 +74,57 @@ const OF_MACHINE_MODE: &[Row] = &[
     ),
 ];
 
-/// Registers with the row's entries judge its access so.
-fn judges_so(rt: &impl Abort, row: &Row) {
+/// Accesses of user mode to ranges, each from the register before.
+const OF_RANGES: &[Row] = &[
+    ((0, 0x400), (0x0b, 0x800), Kind::Load, 8, 0xff8, NO_LOAD),
+    ((0, 0x400), (0x0b, 0x800), Kind::Store, 8, 0x1ff8, Ok(())),
+    ((0, 0x400), (0x0b, 0x800), Kind::Load, 1, 0x2000, NO_LOAD),
+    (
+        (0x1f, PAGE),
+        (0x09, 0x2000_1000),
+        Kind::Load,
+        8,
+        0x8000_1000,
+        Ok(()),
+    ),
+    ((0, 0x800), (0x0f, 0x400), Kind::Load, 8, 0x1000, NO_LOAD),
+];
+
+/// Registers with the row's entries judge its access of that mode so.
+fn judges_so(rt: &impl Abort, mode: Mode, row: &Row) {
     let (first, second, kind, size, addr, wanted) = row;
     let rules = Rules::of(&two(*first, *second)).ok().expect(rt, "rules");
-    let access = Access::new(Mode::Machine, *kind, *size, *addr).expect(rt, "a size");
+    let access = Access::new(mode, *kind, *size, *addr).expect(rt, "a size");
     assert!(rt;
         rules.judge(&access) == *wanted,
-        "{:#x}: {kind:?} {size} {addr:#x}",
+        "{:#x}: {mode:?} {kind:?} {size} {addr:#x}",
         first.0
     );
 }
 
 #[test]
-fn machine_mode_is_bound_by_locked_entries_and_partial_matches(rt: HostRuntime) {
+fn locked_entries_and_partial_matches_bind_machine_mode(rt: HostRuntime) {
     for row in OF_MACHINE_MODE {
-        judges_so(&rt, row);
+        judges_so(&rt, Mode::Machine, row);
+    }
+}
+
+#[test]
+fn a_range_is_from_the_register_before_to_before_its_own(rt: HostRuntime) {
+    for row in OF_RANGES {
+        judges_so(&rt, Mode::User, row);
+    }
+}
+
+#[test]
+fn reserved_values_have_no_rules(rt: HostRuntime) {
+    for (first, second, place, value) in [
+        (0x1f, 0x1a, 1, Reserved::Permission),
+        (0x06, 0x1a, 0, Reserved::Permission),
+        (0x3f, 0x1f, 0, Reserved::Bits),
+    ] {
+        let found = Rules::of(&two((first, ALL), (second, ALL))).err();
+        assert!(rt; found == Some(ReservedAt { place, value }), "{first:#x}");
     }
 }
 

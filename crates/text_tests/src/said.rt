@@ -48,6 +48,12 @@ const ROWS: &[Row<'static>] = &[
     ),
     (
         Reader::PlatformLint,
+        b"monitor = { base = 0, size = 4096 }\nram = [{ base = 0, size = 8192 }]\n",
+        true,
+        "",
+    ),
+    (
+        Reader::PlatformLint,
         b"harts = 2\n",
         false,
         "p: the key monitor is missing\n",
