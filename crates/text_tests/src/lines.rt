@@ -1,61 +1,10 @@
-//! Lines, words and numbers.
+//! Lines and words.
 
 ghost use Rattle.std.specs.Prelude.{◌≡◌};
 
 use byte_streams::fakes::PieceSource;
-use pmp_encoding::Perm;
 use std::process::Abort;
-use text_lines::{LineReader, ReadFault, Words, number};
-
-#[test]
-fn numbers_are_decimal_or_hexadecimal(rt: HostRuntime) {
-    for (word, value) in [
-        ("0", Some(0)),
-        ("0018", Some(18)),
-        ("0x0008", Some(8)),
-        ("0Xff", Some(255)),
-        ("0xAbCdEf", Some(0xABCDEF)),
-        ("18446744073709551615", Some(u64::MAX)),
-        ("0xffffffffffffffff", Some(u64::MAX)),
-        (
-            "00000000000000000000000018446744073709551615",
-            Some(u64::MAX),
-        ),
-        ("", None),
-        ("0x", None),
-        ("x10", None),
-        ("ff", None),
-        ("0xg", None),
-        ("-1", None),
-        ("+1", None),
-        ("1_000", None),
-        ("1:", None),
-        ("1/", None),
-        ("18446744073709551616", None),
-        ("0x10000000000000000", None),
-        ("99999999999999999999x", None),
-    ] {
-        assert!(rt; number(word.as_bytes()) == value, "{word}");
-    }
-}
-
-#[test]
-fn six_words_are_permissions(rt: HostRuntime) {
-    for (word, perm) in [
-        ("none", Some(Perm::NoAccess)),
-        ("r", Some(Perm::Read)),
-        ("rw", Some(Perm::ReadWrite)),
-        ("x", Some(Perm::Execute)),
-        ("rx", Some(Perm::ReadExecute)),
-        ("rwx", Some(Perm::ReadWriteExecute)),
-        ("w", None),
-        ("wx", None),
-        ("RWX", None),
-        ("", None),
-    ] {
-        assert!(rt; Perm::from_word(word.as_bytes()) == perm, "{word}");
-    }
-}
+use text_lines::{LineReader, ReadFault, Words};
 
 /// The line has these words and no more, however often it is asked.
 fn has_words(rt: &impl Abort, line: &[u8], wanted: &[&[u8]]) {

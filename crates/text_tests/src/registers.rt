@@ -2,7 +2,7 @@
 
 use byte_streams::fakes::{PieceSink, PieceSource};
 use pmp_match::{Access, Cause, Kind, Mode};
-use register_judge::{Registers, Reserved, ReservedAt, Ruled, Rules, RulesFault, rules_in};
+use register_judge::{Registers, Reserved, ReservedAt, Ruled, Rules, rules_in};
 use register_width::Xlen;
 use std::alloc::Global;
 use std::process::Abort;
@@ -28,152 +28,45 @@ fn two(first: (u8, u64), second: (u8, u64)) -> Registers {
     registers
 }
 
-/// An access: the mode, the kind, the size, the address, and what it comes to.
-type Row = (Mode, Kind, u8, u64, Result<(), Cause>);
+/// Eight bytes at the end of the page.
+const IN_PAGE: u64 = 0x8000_0ff8;
 
-/// Registers with these two entries judge accesses so.
-fn judge_so(rt: &impl Abort, first: (u8, u64), second: (u8, u64), rows: &[Row]) {
-    let rules = Rules::of(&two(first, second)).ok().expect(rt, "rules");
-    for (mode, kind, size, addr, wanted) in rows {
-        let access = Access::new(*mode, *kind, *size, *addr).expect(rt, "a size");
-        assert!(rt;
-            rules.judge(&access) == *wanted,
-            "{mode:?} {kind:?} {size} {addr:#x}"
-        );
-    }
-}
+/// A load that is denied.
+const NO_LOAD: Result<(), Cause> = Err(Cause::LoadFault);
 
-const IN_A_RANGE: &[Row] = &[
-    (Mode::User, Kind::Load, 8, 0xff8, Err(Cause::LoadFault)),
-    (Mode::User, Kind::Load, 8, 0x1000, Ok(())),
-    (Mode::User, Kind::Store, 8, 0x1ff8, Ok(())),
-    (Mode::User, Kind::Load, 1, 0x2000, Err(Cause::LoadFault)),
-    (Mode::User, Kind::Fetch, 4, 0x1000, Err(Cause::FetchFault)),
-];
+/// A store that is denied.
+const NO_STORE: Result<(), Cause> = Err(Cause::StoreFault);
 
-#[test]
-fn a_range_is_from_the_register_before_to_before_its_own(rt: HostRuntime) {
-    judge_so(&rt, (0, 0x400), (0x0b, 0x800), IN_A_RANGE);
-    judge_so(
-        &rt,
-        (0x0c, 0x400),
-        (0, 0),
-        &[(Mode::User, Kind::Fetch, 4, 0, Ok(()))],
-    );
-    judge_so(
-        &rt,
-        (0, 0x800),
-        (0x0f, 0x400),
-        &[(Mode::User, Kind::Load, 8, 0x1000, Err(Cause::LoadFault))],
-    );
-}
+/// Two entries, an access by its kind, size and address, and what it comes to.
+type Row = ((u8, u64), (u8, u64), Kind, u8, u64, Result<(), Cause>);
 
-const ABOVE_A_PAGE: &[Row] = &[
-    (Mode::Supervisor, Kind::Store, 8, 0x8000_0ff8, Ok(())),
-    (Mode::Supervisor, Kind::Load, 8, 0x8000_1000, Ok(())),
+/// Accesses of machine mode, which no trace has.
+const OF_MACHINE_MODE: &[Row] = &[
+    // a page that is locked or not
+    ((0x98, PAGE), (0, 0), Kind::Load, 8, IN_PAGE, NO_LOAD),
+    ((0x18, PAGE), (0, 0), Kind::Load, 8, IN_PAGE, Ok(())),
+    ((0x99, PAGE), (0, 0), Kind::Load, 8, IN_PAGE, Ok(())),
+    ((0x99, PAGE), (0, 0), Kind::Store, 8, IN_PAGE, NO_STORE),
+    ((0x19, PAGE), (0, 0), Kind::Store, 8, IN_PAGE, Ok(())),
+    // four bytes in front of all else
+    ((0x17, 0x400), (0x1f, ALL), Kind::Load, 8, 0x1000, NO_LOAD),
+    ((0x17, 0x400), (0x1f, ALL), Kind::Load, 4, 0x1000, Ok(())),
+    ((0x17, 0x400), (0x1f, ALL), Kind::Load, 8, 0x1008, Ok(())),
+    ((0x17, 0x401), (0x1f, ALL), Kind::Load, 8, 0x1000, NO_LOAD),
+    // no entry that is on
+    ((0, PAGE), (0, ALL), Kind::Store, 8, 0, Ok(())),
+    ((0, PAGE), (0, ALL), Kind::Load, 1, 1 << 56, NO_LOAD),
     (
-        Mode::Supervisor,
-        Kind::Store,
-        8,
-        0x8000_1000,
-        Err(Cause::StoreFault),
-    ),
-    (
-        Mode::Supervisor,
+        (0, PAGE),
+        (0, ALL),
         Kind::Load,
         8,
-        0x8000_4000,
-        Err(Cause::LoadFault),
+        4,
+        Err(Cause::LoadMisaligned),
     ),
-];
-
-#[test]
-fn a_range_is_from_a_register_of_another_mode(rt: HostRuntime) {
-    judge_so(&rt, (0x1f, PAGE), (0x09, 0x2000_1000), ABOVE_A_PAGE);
-}
-
-/// A page of this configuration byte alone judges one access of eight bytes in it so.
-fn judges_page(rt: &impl Abort, cfg: u8, mode: Mode, kind: Kind, wanted: Result<(), Cause>) {
-    let row = (mode, kind, 8, 0x8000_0ff8, wanted);
-    judge_so(rt, (cfg, PAGE), (0, 0), &[row]);
-}
-
-#[test]
-fn a_locked_entry_binds_machine_mode(rt: HostRuntime) {
-    let (load, store) = (Err(Cause::LoadFault), Err(Cause::StoreFault));
-    judges_page(&rt, 0x98, Mode::Machine, Kind::Load, load);
-    judges_page(&rt, 0x18, Mode::Machine, Kind::Load, Ok(()));
-    judges_page(&rt, 0x99, Mode::Machine, Kind::Load, Ok(()));
-    judges_page(&rt, 0x99, Mode::Machine, Kind::Store, store);
-    judges_page(&rt, 0x19, Mode::Machine, Kind::Store, Ok(()));
-    judge_so(
-        &rt,
-        (0x9d, PAGE),
-        (0, 0),
-        &[(Mode::Supervisor, Kind::Fetch, 4, 0x8000_0000, Ok(()))],
-    );
-}
-
-const PARTLY_MATCHED: &[Row] = &[
-    (Mode::Machine, Kind::Load, 8, 0x1000, Err(Cause::LoadFault)),
-    (Mode::Machine, Kind::Load, 4, 0x1000, Ok(())),
-    (Mode::Machine, Kind::Load, 8, 0x1008, Ok(())),
     (
-        Mode::Supervisor,
-        Kind::Load,
-        8,
-        0x1000,
-        Err(Cause::LoadFault),
-    ),
-    (Mode::Supervisor, Kind::Load, 4, 0x1000, Ok(())),
-    (Mode::Supervisor, Kind::Load, 8, 0x1008, Ok(())),
-    (Mode::User, Kind::Load, 8, 0x1000, Err(Cause::LoadFault)),
-    (Mode::User, Kind::Load, 4, 0x1000, Ok(())),
-    (Mode::User, Kind::Load, 8, 0x1008, Ok(())),
-];
-
-const PARTLY_ABOVE: &[Row] = &[
-    (Mode::Machine, Kind::Load, 8, 0x1000, Err(Cause::LoadFault)),
-    (
-        Mode::Supervisor,
-        Kind::Load,
-        8,
-        0x1000,
-        Err(Cause::LoadFault),
-    ),
-    (Mode::User, Kind::Load, 8, 0x1000, Err(Cause::LoadFault)),
-];
-
-#[test]
-fn a_partial_match_denies_every_mode(rt: HostRuntime) {
-    judge_so(&rt, (0x17, 0x400), (0x1f, ALL), PARTLY_MATCHED);
-    judge_so(&rt, (0x17, 0x401), (0x1f, ALL), PARTLY_ABOVE);
-}
-
-const BEHIND_A_DENIAL: &[Row] = &[
-    (
-        Mode::Supervisor,
-        Kind::Load,
-        8,
-        0x8000_0ff8,
-        Err(Cause::LoadFault),
-    ),
-    (Mode::Supervisor, Kind::Load, 8, 0x8000_1000, Ok(())),
-];
-
-#[test]
-fn the_first_entry_by_number_decides(rt: HostRuntime) {
-    judge_so(&rt, (0x18, PAGE), (0x1f, ALL), BEHIND_A_DENIAL);
-}
-
-const WITHOUT_ENTRIES: &[Row] = &[
-    (Mode::Machine, Kind::Store, 8, 0, Ok(())),
-    (Mode::Supervisor, Kind::Store, 8, 0, Err(Cause::StoreFault)),
-    (Mode::User, Kind::Store, 8, 0, Err(Cause::StoreFault)),
-    (Mode::Machine, Kind::Load, 1, 1 << 56, Err(Cause::LoadFault)),
-    (Mode::Machine, Kind::Load, 8, 4, Err(Cause::LoadMisaligned)),
-    (
-        Mode::Machine,
+        (0, PAGE),
+        (0, ALL),
         Kind::Store,
         4,
         2,
@@ -181,9 +74,46 @@ const WITHOUT_ENTRIES: &[Row] = &[
     ),
 ];
 
+/// Accesses of user mode to ranges, each from the register before.
+const OF_RANGES: &[Row] = &[
+    ((0, 0x400), (0x0b, 0x800), Kind::Load, 8, 0xff8, NO_LOAD),
+    ((0, 0x400), (0x0b, 0x800), Kind::Store, 8, 0x1ff8, Ok(())),
+    ((0, 0x400), (0x0b, 0x800), Kind::Load, 1, 0x2000, NO_LOAD),
+    (
+        (0x1f, PAGE),
+        (0x09, 0x2000_1000),
+        Kind::Load,
+        8,
+        0x8000_1000,
+        Ok(()),
+    ),
+    ((0, 0x800), (0x0f, 0x400), Kind::Load, 8, 0x1000, NO_LOAD),
+];
+
+/// Registers with the row's entries judge its access of that mode so.
+fn judges_so(rt: &impl Abort, mode: Mode, row: &Row) {
+    let (first, second, kind, size, addr, wanted) = row;
+    let rules = Rules::of(&two(*first, *second)).ok().expect(rt, "rules");
+    let access = Access::new(mode, *kind, *size, *addr).expect(rt, "a size");
+    assert!(rt;
+        rules.judge(&access) == *wanted,
+        "{:#x}: {mode:?} {kind:?} {size} {addr:#x}",
+        first.0
+    );
+}
+
 #[test]
-fn no_entry_leaves_machine_mode_alone(rt: HostRuntime) {
-    judge_so(&rt, (0, PAGE), (0, ALL), WITHOUT_ENTRIES);
+fn locked_entries_and_partial_matches_bind_machine_mode(rt: HostRuntime) {
+    for row in OF_MACHINE_MODE {
+        judges_so(&rt, Mode::Machine, row);
+    }
+}
+
+#[test]
+fn a_range_is_from_the_register_before_to_before_its_own(rt: HostRuntime) {
+    for row in OF_RANGES {
+        judges_so(&rt, Mode::User, row);
+    }
 }
 
 #[test]
@@ -234,12 +164,4 @@ fn a_listing_judges_a_trace_or_says_why_not(rt: HostRuntime) {
         b"mstatus 0x0\n0 0x1a 0x400\n",
         "pair 0 0x1a 0x0000000000000400: W without R\n# lines of other registers are passed over, line 1 first\n",
     );
-    answers(
-        &rt,
-        rt.alloc(),
-        b"0 0x1f 0x400\nmseccfg 0x1\n",
-        "mseccfg 0x0000000000000001: no verdict, Smepmp is not modelled\n",
-    );
-    let fault = rules_in(rt.alloc(), Xlen::Rv64, b"pmpaddr0 1\nwhat\n").err();
-    assert!(rt; fault == Some(RulesFault::Line(2)));
 }

@@ -1,4 +1,4 @@
-//! What the rows of texts share: what reads a text and writes what it says of it, and what the rows assert.
+//! What reads a text and writes what it says of it, whatever a write takes: a row of each.
 
 use byte_streams::fakes::PieceSink;
 use map_lint::lint;
@@ -12,60 +12,92 @@ use trace_lint::{Taker, lint_trace};
 
 /// What reads a text and writes what it says of it.
 #[derive(Clone, Copy)]
-pub(crate) enum Reader {
+enum Reader {
     /// The lint of a map, called `m`.
     MapLint,
     /// The lint of a platform, called `p`.
     PlatformLint,
     /// The lint of a trace, called `t`, for whom it is.
     TraceLint(Taker),
-    /// The table of a listing.
-    Table(Xlen),
-    /// The map of a listing.
-    Map(Xlen),
+    /// The table of a listing of RV64.
+    Table,
+    /// The map of such a listing.
+    Map,
 }
 
 /// The answer to the text, where there is one, and what is said of it is in the sink.
-pub(crate) fn answer_of(
-    alloc: Global,
-    reader: Reader,
-    bytes: &[u8],
-    out: &mut PieceSink,
-) -> Option<bool> {
+fn answer_of(alloc: Global, reader: Reader, bytes: &[u8], out: &mut PieceSink) -> Option<bool> {
     match reader {
         Reader::MapLint => lint(alloc, "m", bytes, out).ok(),
         Reader::PlatformLint => lint_platform(alloc, "p", bytes, out).ok(),
         Reader::TraceLint(taker) => lint_trace(alloc, "t", bytes, taker, out).ok(),
-        Reader::Table(xlen) => print_registers(alloc, xlen, bytes, out).ok(),
-        Reader::Map(xlen) => print_map_of(alloc, xlen, bytes, out).ok(),
+        Reader::Table => print_registers(alloc, Xlen::Rv64, bytes, out).ok(),
+        Reader::Map => print_map_of(alloc, Xlen::Rv64, bytes, out).ok(),
     }
 }
 
-/// That each text has this answer, and that this is written of it, whatever a write takes.
-pub(crate) fn expect_said(
-    rt: &impl Abort,
-    alloc: Global,
-    reader: Reader,
-    rows: &[(&[u8], bool, &str)],
-) {
-    for (bytes, answer, wanted) in rows {
-        for piece in [7, 4096] {
-            let mut out = PieceSink::new(piece, None);
-            let said = answer_of(alloc, reader, *bytes, &mut out);
-            let is_written = out.written() == wanted.as_bytes();
-            assert!(rt; said == Some(*answer) && is_written, "{wanted}");
-        }
+/// A reader, a text, the answer to it, and what is said of it.
+type Row<'a> = (Reader, &'a [u8], bool, &'a str);
+
+const ROWS: &[Row<'static>] = &[
+    (
+        Reader::MapLint,
+        b"0 0x1000 r # overwritten below\n\n0 0x2000 rw\n",
+        true,
+        "m:1:1: warning: the line changes nothing of the whole map; it can go\n",
+    ),
+    (
+        Reader::PlatformLint,
+        b"monitor = { base = 0, size = 4096 }\nram = [{ base = 0, size = 8192 }]\n",
+        true,
+        "",
+    ),
+    (
+        Reader::PlatformLint,
+        b"harts = 2\n",
+        false,
+        "p: the key monitor is missing\n",
+    ),
+    (
+        Reader::TraceLint(Taker::Run { harts: 2 }),
+        b"irq\n@2 irq\n",
+        false,
+        "t:2:1: '@2' is none of the harts; H is below 2\n",
+    ),
+    (
+        Reader::TraceLint(Taker::Judge),
+        b"# accesses\nfetch s 4 0x80000000\n\n  load u 8 4096 # a comment\nstore\tu 1 0 0xff",
+        true,
+        "",
+    ),
+    (
+        Reader::Table,
+        b"mtvec 0x80000000\npmpcfg0 0x9f0000000000\npmpaddr5 0xffffffffffffffff\n",
+        true,
+        "from               to                 size    perm by\n0x0000000000000000 0x00ffffffffffffff  64 PiB  rwx  5\n1 entry is not OFF\n# lines of other registers are passed over, line 1 first\n",
+    ),
+    (
+        Reader::Map,
+        b"pmpcfg0 0x0900\npmpaddr0 0x400\npmpaddr1 0x800\nmtvec 1\n",
+        true,
+        "0x0000000000001000 0x0000000000001000 r\n# lines of other registers are passed over, line 4 first\n",
+    ),
+];
+
+/// That the text has this answer, and that this is written of it, whatever a write takes.
+fn is_said(rt: &impl Abort, alloc: Global, row: &Row<'_>) {
+    let (reader, bytes, answer, wanted) = row;
+    for piece in [7, 4096] {
+        let mut out = PieceSink::new(piece, None);
+        let said = answer_of(alloc, *reader, *bytes, &mut out);
+        let is_written = out.written() == wanted.as_bytes();
+        assert!(rt; said == Some(*answer) && is_written, "{wanted}");
     }
 }
 
-/// That each text is at fault, and that this is written of it.
-pub(crate) fn expect_faults(
-    rt: &impl Abort,
-    alloc: Global,
-    reader: Reader,
-    rows: &[(&[u8], &str)],
-) {
-    for (bytes, wanted) in rows {
-        expect_said(rt, alloc, reader, &[(*bytes, false, *wanted)]);
+#[test]
+fn each_reader_says_what_a_text_is(rt: HostRuntime) {
+    for row in ROWS {
+        is_said(&rt, rt.alloc(), row);
     }
 }
