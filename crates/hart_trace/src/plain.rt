@@ -10,20 +10,40 @@ ghost use Rattle.hart_trace.specs.Plain.{BeginsAccess, BeginsEvent, BeginsWith, 
 
 use crate::trace::sized;
 use pmp_match::{Access, Kind, Mode};
-use text_lines::leading_numeral;
+use text_lines::leading_hexadecimal;
 
-/// The modes that the letters from `s` to `u` name. A branch between two of them would be guessed wrong at every other line.
-static MODES: [Option<Mode>; 3] = [Some(Mode::Supervisor), None, Some(Mode::User)];
+/// A letter, and the mode that it names.
+#[derive(Clone, Copy)]
+struct ModeLetter {
+    letter: u8,
+    mode: Mode,
+}
+
+const SUPERVISOR: ModeLetter = ModeLetter {
+    letter: b's',
+    mode: Mode::Supervisor,
+};
+
+const USER: ModeLetter = ModeLetter {
+    letter: b'u',
+    mode: Mode::User,
+};
+
+/// The one that a letter can be, by the letter modulo 8. A branch between two of them would be guessed wrong at every other line.
+static MODES: [ModeLetter; 8] = [
+    SUPERVISOR, SUPERVISOR, SUPERVISOR, SUPERVISOR, SUPERVISOR, USER, SUPERVISOR, SUPERVISOR,
+];
 
 #[inline(always)]
 pub(crate) fn plain_mode(byte: u8) -> Option<Mode>
     ensures mode { IfSome result (λ mode. mode_of (byte ∷ []) ≡ Some mode) }
     ensures letter { IfSome result (λ _. is_letter byte ≡ true) }
 {
-    if byte < b's' || byte > b'u' {
+    let named = MODES[usize::from(byte % 8)];
+    if byte != named.letter {
         return None;
     }
-    MODES[usize::from(byte - b's')]
+    Some(named.mode)
 }
 
 /// The number that a digit spells. Which sizes there are is asked once, with the kind.
@@ -38,14 +58,25 @@ fn plain_size(byte: u8) -> Option<u64>
     }
 }
 
+/// Whether two bytes are the spaces around a size, and a third the `0` behind them. As one number they take one comparison.
+#[inline(always)]
+fn are_between(first: u8, size: u8, second: u8, zero: u8) -> bool
+    ensures { result ≡ true → (first ≡ 32) × (second ≡ 32) × (zero ≡ 48) }
+{
+    u32::from_le_bytes([first, size, second, zero]) == u32::from_le_bytes([b' ', size, b' ', b'0'])
+}
+
 /// The mode and size of an access, and what stands after the `0x` or `0X` of its address.
 #[inline(always)]
 fn plain_start(rest: &[u8]) -> Option<(Mode, u64, &[u8])>
     ensures { IfSome result (λ start. Starts rest.now start.0 start.1 start.2.now) }
 {
-    let [mode, b' ', size, b' ', b'0', b'x' | b'X', digits @ ..] = rest else {
+    let [mode, first, size, second, zero, mark, digits @ ..] = rest else {
         return None;
     };
+    if !are_between(*first, *size, *second, *zero) || *mark != b'x' && *mark != b'X' {
+        return None;
+    }
     let mode = plain_mode(*mode)?;
     let size = plain_size(*size)?;
     Some((mode, size, digits))
@@ -58,7 +89,7 @@ fn plain_look(kind: Kind, rest: &[u8]) -> Option<(Access, &[u8])>
         BeginsAccess kind rest.now found.0 [] found.1.now) }
 {
     let (mode, size, digits) = plain_start(rest)?;
-    let (address, behind) = leading_numeral(digits, 16)?;
+    let (address, behind) = leading_hexadecimal(digits)?;
     let access = sized(mode, kind, size, address)?;
     Some((access, behind))
 }
@@ -83,9 +114,9 @@ fn plain_store(rest: &[u8]) -> Option<(Access, u64, &[u8])>
         × (number_of word ≡ Some store.1)) }
 {
     let (mode, size, digits) = plain_start(rest)?;
-    let (address, behind) = leading_numeral(digits, 16)?;
+    let (address, behind) = leading_hexadecimal(digits)?;
     let digits = behind_blank(behind)?;
-    let (value, end) = leading_numeral(digits, 16)?;
+    let (value, end) = leading_hexadecimal(digits)?;
     let access = sized(mode, Kind::Store, size, address)?;
     Some((access, value, end))
 }

@@ -11,7 +11,7 @@ ghost use Rattle.hart_trace.specs.Plain.{BeginsCall, BeginsEvent, BeginsNumber, 
 use crate::event::Event;
 use crate::trace::has_leading_zero;
 use arrayvec::ArrayVec;
-use text_lines::{behind_mark, behind_space, leading_numeral};
+use text_lines::{behind_mark, behind_space, leading_hexadecimal, leading_numeral};
 
 /// What stands after the letter of a register.
 fn behind_letter(text: &[u8]) -> Option<&[u8]>
@@ -85,7 +85,7 @@ fn long_number(text: &[u8]) -> Option<(u64, &[u8])>
     ensures { IfSome result (λ found. BeginsNumber text.now found.0 found.1.now) }
 {
     if let Some(digits) = behind_mark(text) {
-        let (value, behind) = leading_numeral(digits, 16)?;
+        let (value, behind) = leading_hexadecimal(digits)?;
         return Some((value, behind));
     }
     let (value, behind) = leading_numeral(text, 10)?;

@@ -12,7 +12,7 @@ ghost use Rattle.pmp_match.specs.Segments.{IsWithin, Decides, IsSegmentOf};
 
 use crate::access::Access;
 use crate::cause::Cause;
-use crate::judgement::{access_fault, holds, is_aligned, is_machine, judge};
+use crate::judgement::{holds, is_aligned, is_machine, judge};
 use page_views::SPACE_SIZE;
 use pmp_encoding::{Bank, Extent, Perm};
 
@@ -30,6 +30,17 @@ struct Segment {
     end: u64,
     perm: Perm,
 }
+
+/// What an aligned access within a segment comes to: by its kind where it is not allowed, and then where it is. A branch between them
+/// would be guessed wrong at every access that is not allowed.
+static OUTCOMES: [Result<(), Cause>; 6] = [
+    Err(Cause::FetchFault),
+    Err(Cause::LoadFault),
+    Err(Cause::StoreFault),
+    Ok(()),
+    Ok(()),
+    Ok(()),
+];
 
 /// What stands after the segments of a bank.
 const NOWHERE: Segment = Segment {
@@ -97,10 +108,8 @@ impl Segment {
             (if is_machine access.now.mode || holds self.now.perm access.now.kind then Ok tt
             else Err (access_fault access.now.kind)) }
     {
-        if is_machine(access.mode) || holds(self.perm, access.kind) {
-            return Ok(());
-        }
-        Err(access_fault(access.kind))
+        let allowed = is_machine(access.mode) | holds(self.perm, access.kind);
+        OUTCOMES[3 * usize::from(allowed) + access.kind as usize]
     }
 }
 

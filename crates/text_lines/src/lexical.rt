@@ -223,6 +223,50 @@ fn leading_digits(text: &[u8], base: u8) -> Option<(u64, &[u8])>
     Some((value, &text[len..]))
 }
 
+/// The value of the hexadecimal digits that a short text begins with, and how many they are: none where they are none, or too many.
+#[cold]
+#[inline(never)]
+fn few_digits(text: &[u8]) -> (u64, usize)
+    ensures digits { 0 < result.1
+        → BeginsNumeral 16 text.now result.0 (drop result.1 text.now) }
+    ensures within { result.1 ≤ length text.now }
+{
+    match leading_digits(text, 16) {
+        Some((value, behind)) => (value, text.len() - behind.len()),
+        None => (0, 0),
+    }
+}
+
+/// The same of a text of sixteen bytes or more. It says none of seventeen digits.
+#[inline(always)]
+fn sixteen_digits(text: &[u8]) -> (u64, usize)
+    ensures digits { 0 < result.1
+        → BeginsNumeral 16 text.now result.0 (drop result.1 text.now) }
+    ensures within { result.1 ≤ length text.now }
+{
+    match leading_sixteen(text, 16) {
+        Some(found) => found,
+        None => (0, 0),
+    }
+}
+
+/// The value of the hexadecimal digits that a text begins with, and what stands after them. None says nothing of the text. It takes
+/// fewer steps than [`leading_numeral`], which has more to say.
+#[inline(always)]
+pub fn leading_hexadecimal(text: &[u8]) -> Option<(u64, &[u8])>
+    ensures { IfSome result (λ front. BeginsNumeral 16 text.now front.0 front.1.now) }
+{
+    let (value, len) = if text.len() < LANES {
+        few_digits(text)
+    } else {
+        sixteen_digits(text)
+    };
+    if len == 0 {
+        return None;
+    }
+    Some((value, &text[len..]))
+}
+
 /// What stands after `0x`.
 #[inline(always)]
 pub fn behind_mark(text: &[u8]) -> Option<&[u8]>

@@ -37,7 +37,8 @@ pub use fault::{ReadFault, RunFault};
 pub use hexadecimal::{hex_digits, word_digits};
 pub use laws::{lines_law, words_law};
 pub use lexical::{
-    NotUnderstood, Words, behind_mark, behind_space, leading_numeral, number, numeral, word_len,
+    NotUnderstood, Words, behind_mark, behind_space, leading_hexadecimal, leading_numeral, number,
+    numeral, word_len,
 };
 pub use line_loop::{Interpreter, Refusal, interpret_lines};
 pub use lines::{LONGEST, LineReader, without_return};
