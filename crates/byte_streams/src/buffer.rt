@@ -8,7 +8,7 @@ use crate::streams::{DeviceFault, Source};
 use std::marker::Model;
 
 /// How many bytes a [`Buffer`] has room for.
-pub const BUFFER_SIZE: usize = 65536;
+pub const BUFFER_SIZE: usize = 16384;
 
 /// Bytes that have come and are not yet used, in their order.
 #[derive(Drop)]
@@ -25,7 +25,7 @@ impl Model for Buffer {
 
     ghost view = { λ b. drop b.start (take b.end b.bytes) };
 
-    ghost invariant = { λ b. (b.start ≤ b.end) × (b.end ≤ 65536) };
+    ghost invariant = { λ b. (b.start ≤ b.end) × (b.end ≤ 16384) };
 }
 
 impl Buffer {
@@ -44,7 +44,7 @@ impl Buffer {
     #[inline(always)]
     pub fn as_slice(&self) -> &[u8]
         ensures value { result.now ≡ self.now }
-        ensures most { length self.now ≤ 65536 }
+        ensures most { length self.now ≤ 16384 }
     {
         &self.bytes[self.start..self.end]
     }
@@ -61,7 +61,7 @@ impl Buffer {
     /// Reads at most `most` bytes after the others, and says how many; none at the end of the source alone. The bytes move to
     /// the front of the array first.
     pub fn fill<R: Source>(&mut self, source: &mut R, most: usize) -> Result<usize, DeviceFault>
-        requires room { length self.old < 65536 }
+        requires room { length self.old < 16384 }
         requires some { 0 < most }
         ensures read { MatchResult result
             (λ n. (n ≤ most) × ((bytes : List ℕ) × (length bytes ≡ n)

@@ -8,7 +8,7 @@
 //! entries that mean the map, and no list of fewer entries, of any regions and in any order, means it. Each
 //! [`CheckRefusal`] comes exactly where the fault of that name stands in the bytes, after parts that are right. It takes
 //! no memory. [`check_source`] says the same of the bytes that a source gives. It holds the entries, nine bytes each, and
-//! reads the nodes through a window of 64 KiB. The crate stands on `certificate_format`, and on no crate that knows of
+//! reads the nodes through a window of 16 KiB. The crate stands on `certificate_format`, and on no crate that knows of
 //! trees or plans.
 //!
 //! The entries may stand in any order. Where they stand in at most 45 chains, as a planner's do by rising size and

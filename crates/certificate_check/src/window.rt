@@ -48,7 +48,7 @@ impl Window {
     #[inline(always)]
     pub(crate) fn held(&self) -> &[u8]
         ensures value { result.now ≡ self.now.buffer }
-        ensures most { length self.now.buffer ≤ 65536 }
+        ensures most { length self.now.buffer ≤ 16384 }
     {
         self.buffer.as_slice()
     }
@@ -119,7 +119,7 @@ impl Window {
 
     /// Reads some bytes after those that are there, where more may come.
     fn read_more<R: Source>(&mut self, source: &mut R)
-        requires room { length self.old.buffer < 65536 }
+        requires room { length self.old.buffer < 16384 }
         ensures reads { Reads (place R.remaining R.failures self.old source.old)
             (place R.remaining R.failures self.new source.new) Stays }
         ensures open { self.new.inflow ≡ Open → self.old.inflow ≡ Open }
@@ -142,7 +142,7 @@ impl Window {
     #[cold]
     #[inline(never)]
     fn fill<R: Source>(&mut self, source: &mut R, need: usize)
-        requires { need ≤ 65536 }
+        requires { need ≤ 16384 }
         ensures reads { Reads (place R.remaining R.failures self.old source.old)
             (place R.remaining R.failures self.new source.new) Stays }
         ensures enough { HasEnough need (place R.remaining R.failures self.new source.new) }
@@ -158,7 +158,7 @@ impl Window {
     /// Sees to it that so many bytes are there, or that no more come.
     #[inline(always)]
     pub(crate) fn hold<R: Source>(&mut self, source: &mut R, need: usize)
-        requires { need ≤ 65536 }
+        requires { need ≤ 16384 }
         ensures reads { Reads (place R.remaining R.failures self.old source.old)
             (place R.remaining R.failures self.new source.new) Stays }
         ensures enough { HasEnough need (place R.remaining R.failures self.new source.new) }

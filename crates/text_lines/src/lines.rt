@@ -170,7 +170,7 @@ impl LineReader {
     #[inline(never)]
     fn read_more<R: Source>(&mut self, source: &mut R) -> Result<bool, ReadFault>
         requires taken { self.old.taken ≡ 0 }
-        requires room { length self.old.buffer < 65536 }
+        requires room { length self.old.buffer < 16384 }
         ensures read { (bytes : List ℕ)
             × ReadsMore result self.old self.new (R.remaining source.old)
             (R.remaining source.new) bytes }
