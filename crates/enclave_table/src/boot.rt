@@ -19,6 +19,7 @@ fn no_enclaves(alloc: Global) -> Result<Vec<Option<Enclave>>, Memory>
     ensures { IfOk result (λ v. v.items ≡ replicate 64 None) }
 {
     let mut enclaves = Vec::new(alloc);
+    enclaves.reserve(64)?;
     for _ in 0..64u64 {
         enclaves.push(None)?;
     }
