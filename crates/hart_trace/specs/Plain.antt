@@ -45,7 +45,7 @@ BeginsWith text number = (8 ≤ length text) × (number ≡ from_le_bytes w64 te
 
 -- a line whose first bytes under the mask are the number begins with the keyword and a blank
 pub record Tells (k : Keyword) : Type 0 where
-  pub short : k.len ≤ 8
+  pub short : k.len < 8
   pub said : (line : List ℕ) (first : ℕ) → BeginsWith line first → bit_and first k.mask ≡ k.number → line ≡ keyword k.kind ++ 32 ∷ drop k.len line
 
 -- a text begins with plain words that say an access of that kind, and has these words after it

@@ -12,6 +12,10 @@ use crate::plain_events::{plain_call, plain_event, plain_interrupt, plain_settin
 use arrayvec::ArrayVec;
 use pmp_match::Access;
 
+/// So many bytes have all of the longest plain line of an access, and its LF. Of so many, the compiler asks for no part of a line
+/// whether it is there.
+const ENOUGH: usize = 64;
+
 /// How many bytes stand before a text that begins with a LF.
 #[inline(always)]
 fn len_before(ahead: &[u8], behind: &[u8]) -> Option<usize>
@@ -39,9 +43,13 @@ pub fn access_ahead(ahead: &[u8], harts: u8) -> Option<(u8, Access, u64, usize)>
         meaning_of harts (take found.3 ahead.now)
         ≡ Some (Some (found.0, events.Access found.1 found.2))) }
 {
-    let (hart, rest) = hart_in(ahead, harts);
+    if ahead.len() < ENOUGH {
+        return None;
+    }
+    let front = &ahead[..ENOUGH];
+    let (hart, rest) = hart_in(front, harts);
     let (access, value, behind) = plain_access(rest)?;
-    let len = len_before(ahead, behind)?;
+    let len = len_before(front, behind)?;
     Some((hart, access, value, len))
 }
 

@@ -2,7 +2,7 @@
 //! between two words, the size a digit, the numbers hexadecimal, nothing else. Most lines of a long trace are such, and they
 //! are read in one pass, where the parser of all lines goes over each line several times. What is not plain is left to it.
 
-ghost use Rattle.std.specs.Prelude.{◌≡◌, ℕ, List, ◌∷◌, ◌++◌, [], Some, None, IfSome, true};
+ghost use Rattle.std.specs.Prelude.{◌≡◌, ◌≤◌, ℕ, List, ◌∷◌, ◌++◌, [], Some, None, IfSome, true};
 ghost use Rattle.text_lines.specs.Numbers.{number_of};
 ghost use Rattle.hart_trace.specs.declared.event.Event.TheVariants as events;
 ghost use Rattle.hart_trace.specs.Events.{hart_of, mode_of};
@@ -10,22 +10,24 @@ ghost use Rattle.hart_trace.specs.Plain.{BeginsAccess, BeginsEvent, BeginsWith, 
 
 use crate::trace::sized;
 use pmp_match::{Access, Kind, Mode};
+use std::simd::prelude::*;
 use text_lines::leading_hexadecimal;
 
-/// A letter, and the mode that it names.
+/// The letter of a mode.
 #[derive(Clone, Copy)]
 struct ModeLetter {
-    letter: u8,
+    /// The letter and a space as one number, the letter lowest.
+    number: u16,
     mode: Mode,
 }
 
 const SUPERVISOR: ModeLetter = ModeLetter {
-    letter: b's',
+    number: 0x2073,
     mode: Mode::Supervisor,
 };
 
 const USER: ModeLetter = ModeLetter {
-    letter: b'u',
+    number: 0x2075,
     mode: Mode::User,
 };
 
@@ -34,36 +36,35 @@ static MODES: [ModeLetter; 8] = [
     SUPERVISOR, SUPERVISOR, SUPERVISOR, SUPERVISOR, SUPERVISOR, USER, SUPERVISOR, SUPERVISOR,
 ];
 
+/// The mode that a letter names, where a space stands behind it.
 #[inline(always)]
-pub(crate) fn plain_mode(byte: u8) -> Option<Mode>
-    ensures mode { IfSome result (λ mode. mode_of (byte ∷ []) ≡ Some mode) }
-    ensures letter { IfSome result (λ _. is_letter byte ≡ true) }
+pub(crate) fn plain_mode(letter: u8, space: u8) -> Option<Mode>
+    ensures mode { IfSome result (λ mode. mode_of (letter ∷ []) ≡ Some mode) }
+    ensures letter { IfSome result (λ _. is_letter letter ≡ true) }
+    ensures space { IfSome result (λ _. space ≡ 32) }
 {
-    let named = MODES[usize::from(byte % 8)];
-    if byte != named.letter {
+    let named = MODES[usize::from(letter % 8)];
+    if u16::from_le_bytes([letter, space]) != named.number {
         return None;
     }
     Some(named.mode)
 }
 
-/// The number that a digit spells. Which sizes there are is asked once, with the kind.
+/// The number that a digit spells, and more than 9 of another byte.
 #[inline(always)]
-fn plain_size(byte: u8) -> Option<u64>
-    ensures size { IfSome result (λ size. number_of (byte ∷ []) ≡ Some size) }
-    ensures letter { IfSome result (λ _. is_letter byte ≡ true) }
+fn plain_size(byte: u8) -> u64
+    ensures size { result ≤ 9 → number_of (byte ∷ []) ≡ Some result }
+    ensures letter { result ≤ 9 → is_letter byte ≡ true }
 {
-    match byte {
-        b'0'..=b'9' => Some(u64::from(byte - b'0')),
-        _ => None,
-    }
+    u64::from(byte.wrapping_sub(b'0'))
 }
 
-/// Whether two bytes are the spaces around a size, and a third the `0` behind them. As one number they take one comparison.
+/// Whether two bytes are a space and the `0` behind it. As one number they take one comparison.
 #[inline(always)]
-fn are_between(first: u8, size: u8, second: u8, zero: u8) -> bool
-    ensures { result ≡ true → (first ≡ 32) × (second ≡ 32) × (zero ≡ 48) }
+fn begin_number(space: u8, zero: u8) -> bool
+    ensures { result ≡ true → (space ≡ 32) × (zero ≡ 48) }
 {
-    u32::from_le_bytes([first, size, second, zero]) == u32::from_le_bytes([b' ', size, b' ', b'0'])
+    u16::from_le_bytes([space, zero]) == u16::from_le_bytes([b' ', b'0'])
 }
 
 /// The mode and size of an access, and what stands after the `0x` or `0X` of its address.
@@ -71,27 +72,18 @@ fn are_between(first: u8, size: u8, second: u8, zero: u8) -> bool
 fn plain_start(rest: &[u8]) -> Option<(Mode, u64, &[u8])>
     ensures { IfSome result (λ start. Starts rest.now start.0 start.1 start.2.now) }
 {
-    let [mode, first, size, second, zero, mark, digits @ ..] = rest else {
+    let [letter, first, size, second, zero, mark, digits @ ..] = rest else {
         return None;
     };
-    if !are_between(*first, *size, *second, *zero) || *mark != b'x' && *mark != b'X' {
+    if !begin_number(*second, *zero) || *mark != b'x' && *mark != b'X' {
         return None;
     }
-    let mode = plain_mode(*mode)?;
-    let size = plain_size(*size)?;
+    let mode = plain_mode(*letter, *first)?;
+    let size = plain_size(*size);
+    if size > 8 {
+        return None;
+    }
     Some((mode, size, digits))
-}
-
-/// A fetch or a load, and what stands after it.
-#[inline(always)]
-fn plain_look(kind: Kind, rest: &[u8]) -> Option<(Access, &[u8])>
-    ensures { IfSome result (λ found.
-        BeginsAccess kind rest.now found.0 [] found.1.now) }
-{
-    let (mode, size, digits) = plain_start(rest)?;
-    let (address, behind) = leading_hexadecimal(digits)?;
-    let access = sized(mode, kind, size, address)?;
-    Some((access, behind))
 }
 
 /// What stands after ` 0x`.
@@ -105,31 +97,15 @@ fn behind_blank(text: &[u8]) -> Option<&[u8]>
     }
 }
 
-/// A store, its value, and what stands after them.
-#[inline(always)]
-fn plain_store(rest: &[u8]) -> Option<(Access, u64, &[u8])>
-    ensures { IfSome result (λ store.
-        (word : List ℕ)
-        × BeginsAccess Kind.Store rest.now store.0 (word ∷ []) store.2.now
-        × (number_of word ≡ Some store.1)) }
-{
-    let (mode, size, digits) = plain_start(rest)?;
-    let (address, behind) = leading_hexadecimal(digits)?;
-    let digits = behind_blank(behind)?;
-    let (value, end) = leading_hexadecimal(digits)?;
-    let access = sized(mode, Kind::Store, size, address)?;
-    Some((access, value, end))
-}
-
 /// The first eight bytes of a line as one number, the first of them lowest.
 #[inline(always)]
 fn first_bytes(line: &[u8]) -> Option<u64>
     ensures { IfSome result (λ number. BeginsWith line.now number) }
 {
-    let [a, b, c, d, e, f, g, h, ..] = line else {
+    if line.len() < 8 {
         return None;
-    };
-    Some(u64::from_le_bytes([*a, *b, *c, *d, *e, *f, *g, *h]))
+    }
+    Some(u64::from_le_bytes(u8x8::from_slice(line).to_array()))
 }
 
 /// The keyword of a kind of access, with the blank behind it.
@@ -187,7 +163,7 @@ fn behind_keyword(line: &[u8]) -> Option<(Kind, &[u8])>
     if first & said.mask != said.number {
         return None;
     }
-    Some((said.kind, &line[said.len..]))
+    Some((said.kind, &line[said.len % 8..]))
 }
 
 /// The access of the plain line that a text begins with, which names no hart, the value that a store writes, 0 else, and what stands
@@ -198,15 +174,16 @@ pub(crate) fn plain_access(text: &[u8]) -> Option<(Access, u64, &[u8])>
         BeginsEvent text.now (events.Access found.0 found.1) found.2.now) }
 {
     let (kind, rest) = behind_keyword(text)?;
+    let (mode, size, digits) = plain_start(rest)?;
+    let (address, behind) = leading_hexadecimal(digits)?;
+    let access = sized(mode, kind, size, address)?;
     match kind {
         Kind::Store => {
-            let (access, value, behind) = plain_store(rest)?;
-            Some((access, value, behind))
+            let digits = behind_blank(behind)?;
+            let (value, end) = leading_hexadecimal(digits)?;
+            Some((access, value, end))
         }
-        Kind::Fetch | Kind::Load => {
-            let (access, behind) = plain_look(kind, rest)?;
-            Some((access, 0, behind))
-        }
+        Kind::Fetch | Kind::Load => Some((access, 0, behind)),
     }
 }
 

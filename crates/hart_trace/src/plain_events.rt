@@ -78,16 +78,12 @@ fn one_digit(text: &[u8]) -> Option<(u64, &[u8])>
     Some((u64::from(first - b'0'), behind))
 }
 
-/// The number of any number of digits, decimal or hexadecimal, that a text begins with, and what stands after it. It stands apart, so
-/// that the short ones before it have no room to make.
+/// The number of any number of decimal digits that a text begins with, and what stands after it. It stands apart, so that the others
+/// have no room to make.
 #[inline(never)]
 fn long_number(text: &[u8]) -> Option<(u64, &[u8])>
     ensures { IfSome result (λ found. BeginsNumber text.now found.0 found.1.now) }
 {
-    if let Some(digits) = behind_mark(text) {
-        let (value, behind) = leading_hexadecimal(digits)?;
-        return Some((value, behind));
-    }
     let (value, behind) = leading_numeral(text, 10)?;
     Some((value, behind))
 }
@@ -99,6 +95,10 @@ pub(crate) fn plain_number(text: &[u8]) -> Option<(u64, &[u8])>
 {
     if let Some(found) = one_digit(text) {
         return Some(found);
+    }
+    if let Some(digits) = behind_mark(text) {
+        let (value, behind) = leading_hexadecimal(digits)?;
+        return Some((value, behind));
     }
     long_number(text)
 }

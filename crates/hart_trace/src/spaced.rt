@@ -82,7 +82,7 @@ fn mode_in(text: &[u8]) -> Option<(Mode, &[u8])>
     let [letter, rest @ ..] = text else {
         return None;
     };
-    let mode = plain_mode(*letter)?;
+    let mode = plain_mode(*letter, b' ')?;
     Some((mode, rest))
 }
 

@@ -180,20 +180,21 @@ hands_short old new known len begins text pending number came goes_on =
 pub first_few : (ahead bytes : List ℕ) → ahead ≡ take 1024 bytes → length ahead ≤ 1024
 first_few ahead bytes is = omega (arith, ap length is, length-take 1024 bytes, min-le_left 1024 (length bytes))
 
--- a line of the first 1024 bytes is one of all bytes
-pub same_line : (ahead bytes : List ℕ) (len : ℕ) → ahead ≡ take 1024 bytes → BeginsLine len ahead → take len ahead ≡ take len bytes
-same_line ahead bytes len is begins =
+-- a line of the first bytes is one of all bytes
+pub same_line : (n : ℕ) (ahead bytes : List ℕ) (len : ℕ) → ahead ≡ take n bytes → BeginsLine len ahead → take len ahead ≡ take len bytes
+same_line n ahead bytes len is begins =
     let held : length (take len ahead) ≡ len = front_len len ahead begins.rest begins.parts in
-    let few : len ≤ 1024 = omega (arith, held, begins.short.1) in
-    ap (take len) is ∙ take-take len 1024 bytes few
+    let most : length ahead ≤ n = omega (arith, ap length is, length-take n bytes, min-le_left n (length bytes)) in
+    let few : len ≤ n = omega (arith, held, ap length begins.parts, length-append (take len ahead) (10 ∷ begins.rest), most) in
+    ap (take len) is ∙ take-take len n bytes few
 
-pub begins_line : (ahead bytes : List ℕ) (len : ℕ) → ahead ≡ take 1024 bytes → BeginsLine len ahead → BeginsLine len bytes
-begins_line ahead bytes len is begins =
-    let same = same_line ahead bytes len is begins in
-    let there : bytes ≡ take len ahead ++ 10 ∷ (begins.rest ++ drop 1024 bytes) = sym (take-append-drop 1024 bytes) ∙ ap (λ xs. xs ++ drop 1024 bytes) (sym is ∙ begins.parts) ∙ append_assoc (take len ahead) (10 ∷ begins.rest) (drop 1024 bytes) in
+pub begins_line : (n : ℕ) (ahead bytes : List ℕ) (len : ℕ) → ahead ≡ take n bytes → BeginsLine len ahead → BeginsLine len bytes
+begins_line n ahead bytes len is begins =
+    let same = same_line n ahead bytes len is begins in
+    let there : bytes ≡ take len ahead ++ 10 ∷ (begins.rest ++ drop n bytes) = sym (take-append-drop n bytes) ∙ ap (λ xs. xs ++ drop n bytes) (sym is ∙ begins.parts) ∙ append_assoc (take len ahead) (10 ∷ begins.rest) (drop n bytes) in
     record {
       short = rw same at begins.short;
       whole = rw same at begins.whole;
-      rest = begins.rest ++ drop 1024 bytes;
-      parts = there ∙ ap (λ xs. xs ++ 10 ∷ (begins.rest ++ drop 1024 bytes)) same;
+      rest = begins.rest ++ drop n bytes;
+      parts = there ∙ ap (λ xs. xs ++ 10 ∷ (begins.rest ++ drop n bytes)) same;
     }

@@ -6,9 +6,9 @@ pub interpret_ahead-requires-clause-few : goal.interpret_ahead-requires-clause-f
 interpret_ahead-requires-clause-few g c = first_few _ _ c.ahead.ensures
 
 pub take_short-requires : goal.take_short-requires
-take_short-requires g c = begins_line _ _ c.in-Some.len c.ahead.ensures c.in-Some.ensures.line
+take_short-requires g c = begins_line 1024 _ _ c.in-Some.len c.ahead.ensures c.in-Some.ensures.line
 
 pub returns-in-Some-clause-comes : goal.returns-in-Some-clause-comes
 returns-in-Some-clause-comes g c = λ k.
-    let same = same_line _ _ c.in-Some.len c.ahead.ensures c.in-Some.ensures.line ∙ sym c.take_short.ensures.text in
+    let same = same_line 1024 _ _ c.in-Some.len c.ahead.ensures c.in-Some.ensures.line ∙ sym c.take_short.ensures.text in
     rw same at c.in-Some.ensures.comes k
