@@ -23,7 +23,7 @@ use pmp_encoding::{Limit, PackedEntry, Perm};
 use prefix_tree::{Chain, Halving};
 
 /// How many bytes go to a sink at a time.
-const PIECE: usize = 32768;
+const PIECE: usize = 16384;
 
 fn version_for(limit: Limit) -> Version
     ensures { result ≡ version_for limit }
@@ -36,7 +36,7 @@ fn version_for(limit: Limit) -> Version
 
 /// Puts bytes after those that are held, for which there is room.
 fn hold(piece: &mut ArrayVec<u8, PIECE>, bytes: &[u8])
-    requires { length piece.old.items + length bytes.now ≤ 32768 }
+    requires { length piece.old.items + length bytes.now ≤ 16384 }
     ensures { piece.new.items ≡ piece.old.items ++ bytes.now }
 {
     let Ok(()) = piece.try_extend_from_slice(bytes) else {
@@ -46,7 +46,7 @@ fn hold(piece: &mut ArrayVec<u8, PIECE>, bytes: &[u8])
 
 /// Puts the form after what is held.
 fn hold_version(piece: &mut ArrayVec<u8, PIECE>, version: Version)
-    requires { length piece.old.items ≤ 32766 }
+    requires { length piece.old.items ≤ 16382 }
     ensures { piece.new.items ≡ piece.old.items ++ version_bytes version }
 {
     match version {
@@ -116,8 +116,8 @@ fn make_room<W: Sink>(
     room: usize,
     sink: &mut W,
 ) -> Result<(), DeviceFault>
-    requires small { room ≤ 32768 }
-    ensures room { OnOk result (length piece.new.items + room ≤ 32768) }
+    requires small { room ≤ 16384 }
+    ensures room { OnOk result (length piece.new.items + room ≤ 16384) }
     ensures put { IfOk result (λ _.
         IsPut piece.old.items piece.new.items (taken W.contents W.failures W.stalls sink.old)
         (taken W.contents W.failures W.stalls sink.new) []) }
@@ -142,7 +142,7 @@ fn put<W: Sink>(
     bytes: &[u8],
     sink: &mut W,
 ) -> Result<(), DeviceFault>
-    requires small { length bytes.now ≤ 32768 }
+    requires small { length bytes.now ≤ 16384 }
     ensures put { IfOk result (λ _.
         IsPut piece.old.items piece.new.items (taken W.contents W.failures W.stalls sink.old)
         (taken W.contents W.failures W.stalls sink.new) bytes.now) }
@@ -183,7 +183,7 @@ fn put_entries<W: Sink>(
 fn hold_heads(piece: &mut ArrayVec<u8, PIECE>, chain: Chain, plan: &Plan, i: usize) -> usize
     requires chain { chain.place < 2 ^ chain.levels }
     requires most { chain.levels ≤ 44 }
-    requires room { length piece.old.items + 27 * chain.levels ≤ 32768 }
+    requires room { length piece.old.items + 27 * chain.levels ≤ 16384 }
     requires counted { i + chain.levels ≤ length plan.now.costs }
     requires small { length plan.now.costs < 2 ^ 64 }
     ensures held { piece.new.items
@@ -216,7 +216,7 @@ fn hold_heads(piece: &mut ArrayVec<u8, PIECE>, chain: Chain, plan: &Plan, i: usi
 
 /// Puts so many leaves.
 fn hold_leaves(piece: &mut ArrayVec<u8, PIECE>, count: usize, perm: Perm)
-    requires room { length piece.old.items + 2 * count ≤ 32768 }
+    requires room { length piece.old.items + 2 * count ≤ 16384 }
     ensures { piece.new.items ≡ piece.old.items ++ leaves_bytes count perm }
 {
     let leaf = [0, perm.bits()];

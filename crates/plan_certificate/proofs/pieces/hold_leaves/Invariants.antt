@@ -5,7 +5,7 @@ use Rattle.plan_certificate.proofs.pieces.hold_leaves.Given as goal
 
 abbrev pub invariant-loop-left : goal.invariant-loop-left
 invariant-loop-left l = record {
-  room : length l.piece.items + 2 * l.left ≤ 32768;
+  room : length l.piece.items + 2 * l.left ≤ 16384;
   held : l.piece.items ++ leaves_bytes l.left l.fn.perm ≡ l.fn.piece.items ++ leaves_bytes l.fn.count l.fn.perm;
 }
 
