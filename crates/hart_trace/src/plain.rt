@@ -6,7 +6,7 @@ ghost use Rattle.std.specs.Prelude.{◌≡◌, ◌≤◌, ℕ, List, ◌∷◌, 
 ghost use Rattle.text_lines.specs.Numbers.{number_of};
 ghost use Rattle.hart_trace.specs.declared.event.Event.TheVariants as events;
 ghost use Rattle.hart_trace.specs.Events.{hart_of, mode_of};
-ghost use Rattle.hart_trace.specs.Plain.{BeginsAccess, BeginsEvent, BeginsWith, Named, Starts, Tells, is_letter, keyword};
+ghost use Rattle.hart_trace.specs.Plain.{BeginsEvent, BeginsWith, Named, Starts, Tells, is_letter, keyword};
 
 use crate::trace::sized;
 use pmp_match::{Access, Kind, Mode};
