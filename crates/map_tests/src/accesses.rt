@@ -64,34 +64,12 @@ const WORD_BEFORE_PAGE: &[Block] = &[
     (0x8000_0000, 12, Perm::ReadWriteExecute),
 ];
 
-#[test]
-fn an_access_within_the_first_region_is_allowed(rt: HostRuntime) {
-    configures(&rt, rt.alloc(), WORD_BEFORE_PAGE, 0x1F17);
-    loads(
-        &rt,
-        rt.alloc(),
-        WORD_BEFORE_PAGE,
-        Limit::Sixteen,
-        &[(Mode::Supervisor, 4, 0x8000_0000, Ok(()))],
-    );
-}
-
 const PARTLY_MATCHED: &[Load] = &[
+    (Mode::Supervisor, 4, 0x8000_0000, Ok(())),
     (Mode::Machine, 8, 0x8000_0000, Err(Cause::LoadFault)),
     (Mode::Supervisor, 8, 0x8000_0000, Err(Cause::LoadFault)),
     (Mode::User, 8, 0x8000_0000, Err(Cause::LoadFault)),
 ];
-
-#[test]
-fn a_partial_match_fails_in_every_mode(rt: HostRuntime) {
-    loads(
-        &rt,
-        rt.alloc(),
-        WORD_BEFORE_PAGE,
-        Limit::Sixteen,
-        PARTLY_MATCHED,
-    );
-}
 
 #[test]
 fn the_list_judges_what_no_segment_has_whole(rt: HostRuntime) {
@@ -115,20 +93,12 @@ const PAGE_BEFORE_WORD: &[Block] = &[
     (0x8000_0000, 2, Perm::NoAccess),
 ];
 
-#[test]
-fn the_first_region_wins_over_a_smaller_one(rt: HostRuntime) {
-    configures(&rt, rt.alloc(), PAGE_BEFORE_WORD, 0x101F);
-    loads(
-        &rt,
-        rt.alloc(),
-        PAGE_BEFORE_WORD,
-        Limit::Sixteen,
-        &[
-            (Mode::User, 8, 0x8000_0000, Ok(())),
-            (Mode::User, 4, 0x8000_0000, Ok(())),
-        ],
-    );
-}
+const WHOLLY_MATCHED: &[Load] = &[
+    (Mode::User, 8, 0x8000_0000, Ok(())),
+    (Mode::User, 4, 0x8000_0000, Ok(())),
+];
+
+const WHOLE_SPACE: &[Block] = &[(0, 56, Perm::ReadWriteExecute)];
 
 const UNEVEN_OR_PAST_THE_SPACE: &[Load] = &[
     (Mode::Machine, 8, 0x8000_0004, Err(Cause::LoadMisaligned)),
@@ -144,54 +114,11 @@ const UNEVEN_OR_PAST_THE_SPACE: &[Load] = &[
     ),
 ];
 
-#[test]
-fn misaligned_comes_before_out_of_range(rt: HostRuntime) {
-    loads(
-        &rt,
-        rt.alloc(),
-        &[(0, 56, Perm::ReadWriteExecute)],
-        Limit::Sixteen,
-        UNEVEN_OR_PAST_THE_SPACE,
-    );
-}
-
 const WITHOUT_A_MATCH: &[Load] = &[
     (Mode::Machine, 8, 0x8000_0000, Ok(())),
     (Mode::Supervisor, 8, 0x8000_0000, Err(Cause::LoadFault)),
     (Mode::User, 8, 0x8000_0000, Err(Cause::LoadFault)),
 ];
-
-#[test]
-fn without_a_match_machine_mode_alone_may(rt: HostRuntime) {
-    loads(&rt, rt.alloc(), &[], Limit::SixtyFour, WITHOUT_A_MATCH);
-}
-
-/// Accesses of two bytes by a user fault with the causes of these numbers where no entry matches.
-fn fault(rt: &impl Abort, rows: &[(Kind, u64, u8)]) {
-    let bank = Bank::of([].as_slice(), Limit::Sixteen);
-    for (kind, addr, number) in rows {
-        let access = Access::new(Mode::User, *kind, 2, *addr).expect(rt, "a size");
-        match judge(&bank, &access) {
-            Ok(()) => panic!(rt; "allowed where {number} was wanted"),
-            Err(cause) => assert!(rt; cause.number() == *number, "{number}"),
-        }
-    }
-}
-
-#[test]
-fn causes_of_each_kind(rt: HostRuntime) {
-    fault(
-        &rt,
-        &[
-            (Kind::Fetch, 0x1001, 0),
-            (Kind::Fetch, 0x1000, 1),
-            (Kind::Load, 0x1001, 4),
-            (Kind::Load, 0x1000, 5),
-            (Kind::Store, 0x1001, 6),
-            (Kind::Store, 0x1000, 7),
-        ],
-    );
-}
 
 /// Stores of these sizes have their four parts.
 fn have_their_parts(rt: &impl Abort, sizes: &[u8]) {
@@ -219,6 +146,13 @@ fn sizes_of_each_kind(rt: HostRuntime) {
     are_no_sizes(&rt, Kind::Fetch, &[1, 8]);
 }
 
+/// The entries of a boot: a device, the monitor, memory.
+const BOOT: &[Block] = &[
+    (0x1000_0000, 12, Perm::ReadWrite),
+    (0x8000_0000, 21, Perm::NoAccess),
+    (0x8000_0000, 27, Perm::ReadWriteExecute),
+];
+
 const AT_BOOT: &[Load] = &[
     (Mode::User, 4, 0x1000_0000, Ok(())),
     (Mode::User, 4, 0x801F_FFFC, Err(Cause::LoadFault)),
@@ -228,17 +162,22 @@ const AT_BOOT: &[Load] = &[
     (Mode::User, 8, 0x8800_0000, Err(Cause::LoadFault)),
 ];
 
+/// Entries, the hart's limit, and what loads come to under them.
+type Judged = (&'static [Block], Limit, &'static [Load]);
+
+const JUDGED: &[Judged] = &[
+    (WORD_BEFORE_PAGE, Limit::Sixteen, PARTLY_MATCHED),
+    (PAGE_BEFORE_WORD, Limit::Sixteen, WHOLLY_MATCHED),
+    (WHOLE_SPACE, Limit::Sixteen, UNEVEN_OR_PAST_THE_SPACE),
+    (&[], Limit::SixtyFour, WITHOUT_A_MATCH),
+    (BOOT, Limit::SixtyFour, AT_BOOT),
+];
+
 #[test]
-fn the_views_of_a_boot(rt: HostRuntime) {
-    loads(
-        &rt,
-        rt.alloc(),
-        &[
-            (0x1000_0000, 12, Perm::ReadWrite),
-            (0x8000_0000, 21, Perm::NoAccess),
-            (0x8000_0000, 27, Perm::ReadWriteExecute),
-        ],
-        Limit::SixtyFour,
-        AT_BOOT,
-    );
+fn the_first_entry_that_matches_decides_in_each_mode(rt: HostRuntime) {
+    configures(&rt, rt.alloc(), WORD_BEFORE_PAGE, 0x1F17);
+    configures(&rt, rt.alloc(), PAGE_BEFORE_WORD, 0x101F);
+    for (blocks, limit, rows) in JUDGED {
+        loads(&rt, rt.alloc(), blocks, *limit, rows);
+    }
 }

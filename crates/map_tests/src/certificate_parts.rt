@@ -13,7 +13,7 @@ pub const LOWER_HALF: [u8; 47] = [
 ];
 
 /// The header, and how many bytes are left after the root.
-pub fn read_whole(bytes: &[u8]) -> Result<(Header, usize), ReadFault> {
+fn read_whole(bytes: &[u8]) -> Result<(Header, usize), ReadFault> {
     let mut reader = Reader::new(bytes);
     let header = reader.header()?;
     for _ in 0..header.count {
@@ -48,7 +48,7 @@ fn reads_header(rt: &impl Abort, reader: &mut Reader, count: u32) {
 }
 
 /// The reader comes to an entry that is written as this pair.
-pub fn reads_entry(rt: &impl Abort, reader: &mut Reader, cfg: u8, address: u64) {
+fn reads_entry(rt: &impl Abort, reader: &mut Reader, cfg: u8, address: u64) {
     let entry = reader.entry().expect(rt, "an entry");
     assert!(rt; (entry.cfg(), entry.address()) == (cfg, address));
 }
@@ -90,12 +90,12 @@ fn come_to(rt: &impl Abort, bytes: &[u8], wanted: Option<ReadFault>) {
     assert!(rt; fault_of(bytes) == wanted, "{} bytes", bytes.len());
 }
 
-#[test]
-fn each_cut_of_the_lower_half_is_truncated(rt: HostRuntime) {
+/// What is cut off the lower half anywhere is truncated.
+fn is_needed_whole(rt: &impl Abort) {
     for n in 0..47 {
-        come_to(&rt, &LOWER_HALF[..n], Some(ReadFault::Truncated));
+        come_to(rt, &LOWER_HALF[..n], Some(ReadFault::Truncated));
     }
-    come_to(&rt, &LOWER_HALF, None);
+    come_to(rt, &LOWER_HALF, None);
 }
 
 /// The lower half with one byte changed has this fault.
@@ -110,24 +110,23 @@ fn are_told(rt: &impl Abort, rows: &[(usize, u8, ReadFault)]) {
     }
 }
 
-#[test]
-fn each_fault_is_told(rt: HostRuntime) {
-    are_told(
-        &rt,
-        &[
-            (0, 1, ReadFault::BadMagic),
-            (3, 0, ReadFault::BadMagic),
-            (4, 0, ReadFault::BadVersion),
-            (4, 3, ReadFault::BadVersion),
-            (4, 2, ReadFault::BadLimit),
-            (5, 0, ReadFault::BadTag),
-            (18, 2, ReadFault::BadTag),
-            (43, 0xFF, ReadFault::BadTag),
-            (44, 2, ReadFault::BadPerm),
-            (46, 8, ReadFault::BadPerm),
-            (5, 5, ReadFault::Truncated),
-        ],
-    );
+/// The place of a byte, another byte, and the fault.
+const FAULTS: &[(usize, u8, ReadFault)] = &[
+    (0, 1, ReadFault::BadMagic),
+    (3, 0, ReadFault::BadMagic),
+    (4, 0, ReadFault::BadVersion),
+    (4, 3, ReadFault::BadVersion),
+    (4, 2, ReadFault::BadLimit),
+    (5, 0, ReadFault::BadTag),
+    (18, 2, ReadFault::BadTag),
+    (43, 0xFF, ReadFault::BadTag),
+    (44, 2, ReadFault::BadPerm),
+    (46, 8, ReadFault::BadPerm),
+    (5, 5, ReadFault::Truncated),
+];
+
+/// The numbers of the faults.
+fn have_numbers(rt: &impl Abort) {
     let numbers = [
         ReadFault::BadMagic as u8,
         ReadFault::BadVersion as u8,
@@ -157,7 +156,10 @@ fn has_limit(rt: &impl Abort, byte: u8, limit: Limit) {
 }
 
 #[test]
-fn second_form_names_its_limit(rt: HostRuntime) {
+fn each_fault_is_told(rt: HostRuntime) {
+    is_needed_whole(&rt);
+    are_told(&rt, FAULTS);
+    have_numbers(&rt);
     has_limit(&rt, 0x40, Limit::SixtyFour);
     has_limit(&rt, 0x10, Limit::Sixteen);
     come_to(&rt, &second_form(0x20), Some(ReadFault::BadLimit));

@@ -1,4 +1,4 @@
-//! A map and its fewest entries, cut by hand; and a list that begins and ends inside a page.
+//! A map and its fewest entries, cut by hand.
 
 use crate::plans::map_of;
 use pmp_encoding::{Entry, Perm, Region, SPACE_SIZE};
@@ -40,6 +40,60 @@ fn cut(
     assert!(rt; all.as_slice() == wanted);
 }
 
+/// The first entry from this one on that meets a piece: the entry, the piece from here, to there, the entry that meets it.
+type Meeting = (usize, u64, u64, Option<usize>);
+
+/// A block: where it begins, and its size as a power of two.
+type Block = (u64, u32);
+
+/// The extents of blocks.
+fn tree_of(rt: &impl Abort, alloc: Global, blocks: &[Block]) -> ExtentTree {
+    let mut entries = Vec::new(alloc);
+    for (base, log2) in blocks {
+        let block = entry(rt, *base, *log2, Perm::Read);
+        entries.push(block).expect(rt, "memory");
+    }
+    let extents = extents_of(alloc, &entries).expect(rt, "memory");
+    ExtentTree::new(alloc, extents.as_slice()).expect(rt, "memory")
+}
+
+/// For each row the first of the blocks is found that meets the piece.
+fn meet(rt: &impl Abort, alloc: Global, blocks: &[Block], rows: &[Meeting]) {
+    let tree = tree_of(rt, alloc, blocks);
+    for (from, first, end, wanted) in rows {
+        assert!(rt; tree.next_meeting(*from, *first, *end) == *wanted);
+    }
+}
+
+/// Of five entries: each that has a byte in turn, a piece between them, and a byte more on either side.
+const MEETINGS: &[Meeting] = &[
+    (0, 0x3000, 0x3001, Some(0)),
+    (1, 0x3000, 0x3001, Some(3)),
+    (4, 0x3000, 0x3001, Some(4)),
+    (5, 0x3000, 0x3001, None),
+    (0, 0x4000, 0x8000, None),
+    (0, 0x4000, 0x8001, Some(2)),
+    (0, 0x8fff, 0x9000, Some(2)),
+    (0, 0x9000, 0xa000, None),
+];
+
+const FIVE: &[Block] = &[
+    (0x3000, 12),
+    (0x1000, 12),
+    (0x8000, 12),
+    (0x2000, 13),
+    (0, 14),
+];
+
+/// The third has a byte behind the end of those before it.
+const RISING: &[Block] = &[(0x1000, 12), (0x2000, 12), (0x3000, 12), (0x8000, 12)];
+
+#[test]
+fn the_next_entry_that_meets_a_piece(rt: HostRuntime) {
+    meet(&rt, rt.alloc(), FIVE, MEETINGS);
+    meet(&rt, rt.alloc(), RISING, &[(0, 0x3000, 0x3001, Some(2))]);
+}
+
 #[test]
 fn host_map_and_its_three_entries(rt: HostRuntime) {
     let ranges = [
@@ -64,71 +118,4 @@ fn host_map_and_its_three_entries(rt: HostRuntime) {
         nothing(0x8800_0000, SPACE_SIZE),
     ];
     cut(&rt, rt.alloc(), &ranges, &entries, &wanted);
-}
-
-#[test]
-fn four_bytes_of_a_page_and_a_run_without_entry(rt: HostRuntime) {
-    let ranges = [(1, 2, Perm::Read)];
-    let entries = [
-        entry(&rt, 0x1004, 2, Perm::Execute),
-        entry(&rt, 0x1000, 12, Perm::Read),
-    ];
-    let read = Perm::Read;
-    let none = Perm::NoAccess;
-    let wanted = [
-        nothing(0, 0x1000),
-        stretch(0x1000, 0x1004, read, read, Some(1)),
-        stretch(0x1004, 0x1008, read, Perm::Execute, Some(0)),
-        stretch(0x1008, 0x2000, read, read, Some(1)),
-        stretch(0x2000, 0x3000, read, none, None),
-        nothing(0x3000, SPACE_SIZE),
-    ];
-    cut(&rt, rt.alloc(), &ranges, &entries, &wanted);
-}
-
-/// The first entry from this one on that meets a piece, for each row: the entry, the piece from here, to there.
-fn meet(
-    rt: &impl Abort,
-    alloc: Global,
-    entries: &[Entry],
-    rows: &[(usize, u64, u64, Option<usize>)],
-) {
-    let extents = extents_of(alloc, entries).expect(rt, "memory");
-    let tree = ExtentTree::new(alloc, extents.as_slice()).expect(rt, "memory");
-    for (from, first, end, wanted) in rows {
-        assert!(rt; tree.next_meeting(*from, *first, *end) == *wanted);
-    }
-}
-
-#[test]
-fn next_entry_that_meets_a_piece(rt: HostRuntime) {
-    let entries = [
-        entry(&rt, 0x3000, 12, Perm::Read),
-        entry(&rt, 0x1000, 12, Perm::Read),
-        entry(&rt, 0x8000, 12, Perm::Read),
-        entry(&rt, 0x2000, 13, Perm::Read),
-        entry(&rt, 0, 14, Perm::Read),
-    ];
-    let rows = [
-        (0, 0x3000, 0x3001, Some(0)),
-        (1, 0x3000, 0x3001, Some(3)),
-        (4, 0x3000, 0x3001, Some(4)),
-        (5, 0x3000, 0x3001, None),
-        (0, 0x4000, 0x8000, None),
-        (0, 0x4000, 0x8001, Some(2)),
-        (0, 0x8fff, 0x9000, Some(2)),
-        (0, 0x9000, 0xa000, None),
-    ];
-    meet(&rt, rt.alloc(), &entries, &rows);
-}
-
-#[test]
-fn an_entry_behind_those_that_end_before_the_piece(rt: HostRuntime) {
-    let entries = [
-        entry(&rt, 0x1000, 12, Perm::Read),
-        entry(&rt, 0x2000, 12, Perm::Read),
-        entry(&rt, 0x3000, 12, Perm::Read),
-        entry(&rt, 0x8000, 12, Perm::Read),
-    ];
-    meet(&rt, rt.alloc(), &entries, &[(0, 0x3000, 0x3001, Some(2))]);
 }

@@ -8,58 +8,107 @@ use std::process::Abort;
 /// Pages of the space.
 const SPACE: u64 = 1 << 44;
 
-fn run(first: u64, count: u64, perm: Perm) -> Run {
-    Run { first, count, perm }
-}
+/// A range or a run: the first page, the number of pages, the permission.
+type Range = (u64, u64, Perm);
 
 /// The map in which these ranges were set, one after another.
-fn map_of(alloc: Global, ranges: &[Run]) -> Result<PermissionMap, MapFault> {
+fn map_of(alloc: Global, ranges: &[Range]) -> Result<PermissionMap, MapFault> {
     let mut map = PermissionMap::new(alloc);
-    for range in ranges {
-        map.set_range(range.first, range.count, range.perm)?;
+    for (first, count, perm) in ranges {
+        map.set_range(*first, *count, *perm)?;
     }
     Ok(map)
 }
 
-/// These ranges give these runs, and a copy has them too.
-fn have_runs(rt: &impl Abort, alloc: Global, ranges: &[Run], wanted: &[Run]) {
+/// Whether runs are these, in this order.
+fn are_runs(runs: &[Run], wanted: &[Range]) -> bool {
+    for (run, row) in runs.iter().zip(wanted) {
+        if (run.first, run.count, run.perm) != *row {
+            return false;
+        }
+    }
+    runs.len() == wanted.len()
+}
+
+/// The map of a builder that is given these ranges.
+fn built_of(rt: &impl Abort, alloc: Global, ranges: &[Range]) -> PermissionMap {
+    let mut built = MapBuilder::new(alloc);
+    for (first, count, perm) in ranges {
+        built.set_range(*first, *count, *perm).expect(rt, "memory");
+    }
+    built.finish().expect(rt, "memory")
+}
+
+/// These ranges give these runs, a copy has them too, and so has the map of a builder.
+fn have_runs(rt: &impl Abort, alloc: Global, ranges: &[Range], wanted: &[Range]) {
     let map = map_of(alloc, ranges).expect(rt, "memory");
-    assert!(rt; map.ranges() == wanted);
+    assert!(rt; are_runs(map.ranges(), wanted));
     let copy = map.try_clone().expect(rt, "memory");
-    assert!(rt; copy.ranges() == wanted);
+    assert!(rt; copy.ranges() == map.ranges());
+    let built = built_of(rt, alloc, ranges);
+    assert!(rt; built.ranges() == map.ranges());
 }
 
 /// The example, in which a later range takes the lowest pages of an earlier one away.
-fn example() -> [Run; 3] {
-    [
-        run(0x80000, 0x8000, Perm::ReadWriteExecute),
-        run(0x80000, 0x200, Perm::NoAccess),
-        run(0x10000, 1, Perm::ReadWrite),
-    ]
-}
+const EXAMPLE: &[Range] = &[
+    (0x80000, 0x8000, Perm::ReadWriteExecute),
+    (0x80000, 0x200, Perm::NoAccess),
+    (0x10000, 1, Perm::ReadWrite),
+];
+
+const LAST_PAGE: &[Range] = &[(SPACE - 1, 1, Perm::ReadExecute)];
+
+/// Ranges, and the runs that they give.
+const RUNS: &[(&[Range], &[Range])] = &[
+    (&[], &[]),
+    (
+        EXAMPLE,
+        &[
+            (0x10000, 1, Perm::ReadWrite),
+            (0x80200, 0x7E00, Perm::ReadWriteExecute),
+        ],
+    ),
+    (
+        &[
+            (10, 5, Perm::Read),
+            (20, 5, Perm::Read),
+            (15, 5, Perm::Read),
+        ],
+        &[(10, 15, Perm::Read)],
+    ),
+    (
+        &[(10, 10, Perm::Read), (13, 2, Perm::Execute)],
+        &[
+            (10, 3, Perm::Read),
+            (13, 2, Perm::Execute),
+            (15, 5, Perm::Read),
+        ],
+    ),
+    (LAST_PAGE, LAST_PAGE),
+    (
+        &[
+            (0x80000, 0x8000, Perm::ReadWriteExecute),
+            (0x80000, 0x200, Perm::NoAccess),
+            (0x80400, 2, Perm::Read),
+            (0x80401, 3, Perm::Read),
+            (SPACE - 1, 1, Perm::Execute),
+            (0x803FF, 1, Perm::ReadWrite),
+        ],
+        &[
+            (0x80200, 0x1FF, Perm::ReadWriteExecute),
+            (0x803FF, 1, Perm::ReadWrite),
+            (0x80400, 4, Perm::Read),
+            (0x80404, 0x7BFC, Perm::ReadWriteExecute),
+            (SPACE - 1, 1, Perm::Execute),
+        ],
+    ),
+];
 
 #[test]
 fn ranges_become_maximal_runs(rt: HostRuntime) {
-    let two_runs = [
-        run(0x10000, 1, Perm::ReadWrite),
-        run(0x80200, 0x7E00, Perm::ReadWriteExecute),
-    ];
-    have_runs(&rt, rt.alloc(), &example(), &two_runs);
-    let joining = [
-        run(10, 5, Perm::Read),
-        run(20, 5, Perm::Read),
-        run(15, 5, Perm::Read),
-    ];
-    have_runs(&rt, rt.alloc(), &joining, &[run(10, 15, Perm::Read)]);
-    let splitting = [run(10, 10, Perm::Read), run(13, 2, Perm::Execute)];
-    let split = [
-        run(10, 3, Perm::Read),
-        run(13, 2, Perm::Execute),
-        run(15, 5, Perm::Read),
-    ];
-    have_runs(&rt, rt.alloc(), &splitting, &split);
-    let last_page = [run(SPACE - 1, 1, Perm::ReadExecute)];
-    have_runs(&rt, rt.alloc(), &last_page, &last_page);
+    for (ranges, wanted) in RUNS {
+        have_runs(&rt, rt.alloc(), ranges, wanted);
+    }
 }
 
 /// The page has this permission.
@@ -76,7 +125,7 @@ fn has_blocks(rt: &impl Abort, map: &PermissionMap) {
 
 #[test]
 fn pages_and_blocks_of_the_example(rt: HostRuntime) {
-    let map = map_of(rt.alloc(), &example()).expect(&rt, "memory");
+    let map = map_of(rt.alloc(), EXAMPLE).expect(&rt, "memory");
     for (page, perm) in [
         (0x10000, Perm::ReadWrite),
         (0x801FF, Perm::NoAccess),
@@ -105,12 +154,6 @@ fn fills(rt: &impl Abort, map: &mut PermissionMap) {
     assert!(rt; map.ranges().len() == 4096);
 }
 
-#[test]
-fn one_run_above_the_limit_is_refused(rt: HostRuntime) {
-    let mut map = PermissionMap::new(rt.alloc());
-    fills(&rt, &mut map);
-}
-
 /// Ranges are set or refused so, one after another: the first page, the number of pages, the answer.
 fn sets(rt: &impl Abort, map: &mut PermissionMap, rows: &[(u64, u64, Result<(), MapFault>)]) {
     for (first, count, wanted) in rows {
@@ -129,42 +172,6 @@ const AT_THE_END: &[(u64, u64, Result<(), MapFault>)] = &[
     (SPACE, 0, Ok(())),
 ];
 
-#[test]
-fn ranges_past_the_end_are_refused(rt: HostRuntime) {
-    let mut map = PermissionMap::new(rt.alloc());
-    sets(&rt, &mut map, AT_THE_END);
-}
-
-/// The map of a builder that is given these ranges.
-fn built_of(rt: &impl Abort, alloc: Global, ranges: &[Run]) -> PermissionMap {
-    let mut built = MapBuilder::new(alloc);
-    for Run { first, count, perm } in ranges {
-        built.set_range(*first, *count, *perm).expect(rt, "memory");
-    }
-    built.finish().expect(rt, "memory")
-}
-
-/// A builder that is given these ranges gives these runs.
-fn builds(rt: &impl Abort, alloc: Global, ranges: &[Run], wanted: &[Run]) {
-    let built = built_of(rt, alloc, ranges);
-    assert!(rt; built.ranges() == wanted);
-}
-
-#[test]
-fn a_built_map_is_the_map_of_its_ranges(rt: HostRuntime) {
-    let over = [
-        run(0x80000, 0x8000, Perm::ReadWriteExecute),
-        run(0x80000, 0x200, Perm::NoAccess),
-        run(0x80400, 2, Perm::Read),
-        run(0x80401, 3, Perm::Read),
-        run(SPACE - 1, 1, Perm::Execute),
-        run(0x803FF, 1, Perm::ReadWrite),
-    ];
-    let map = map_of(rt.alloc(), &over).expect(&rt, "memory");
-    builds(&rt, rt.alloc(), &over, map.ranges());
-    builds(&rt, rt.alloc(), &[], &[]);
-}
-
 /// Gives a builder as many runs as there may be; one more is refused, and what grows the last is not.
 fn fills_builder(rt: &impl Abort, built: &mut MapBuilder) {
     for i in 0..4096u64 {
@@ -175,9 +182,18 @@ fn fills_builder(rt: &impl Abort, built: &mut MapBuilder) {
     built.set_range(8191, 1, Perm::Read).expect(rt, "memory");
 }
 
+/// The map of a full builder has as many runs as there may be.
+fn is_full(rt: &impl Abort, alloc: Global) {
+    let mut built = MapBuilder::new(alloc);
+    fills_builder(rt, &mut built);
+    let map = built.finish().expect(rt, "memory");
+    assert!(rt; map.ranges().len() == 4096);
+}
+
 #[test]
-fn a_builder_counts_its_runs(rt: HostRuntime) {
-    let mut built = MapBuilder::new(rt.alloc());
-    fills_builder(&rt, &mut built);
-    assert!(rt; built.finish().expect(&rt, "memory").ranges().len() == 4096);
+fn ranges_past_the_end_and_runs_above_the_limit_are_refused(rt: HostRuntime) {
+    let mut map = PermissionMap::new(rt.alloc());
+    sets(&rt, &mut map, AT_THE_END);
+    fills(&rt, &mut map);
+    is_full(&rt, rt.alloc());
 }

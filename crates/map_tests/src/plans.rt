@@ -68,19 +68,6 @@ fn have_same_costs(one: &Plan, other: &Plan) -> bool {
     true
 }
 
-/// Whether the split blocks of a plan have these costs, under all permissions in their order.
-fn have_costs(plan: &Plan, wanted: &[[u32; 6]]) -> bool {
-    for i in 0..plan.branches() {
-        let costs = wanted.get(i).copied().unwrap_or_default();
-        for k in 0..6 {
-            if plan.cost(i, PERMS[k]) != costs[k] {
-                return false;
-            }
-        }
-    }
-    plan.branches() == wanted.len()
-}
-
 /// Whether a plan without a tree is that of the map's tree, with the same entries and costs.
 fn is_of_tree(rt: &impl Abort, alloc: Global, map: &PermissionMap, of_map: &Plan) -> bool {
     let tree = build(alloc, map).expect(rt, "memory");
@@ -116,34 +103,9 @@ fn configures(rt: &impl Abort, alloc: Global, ranges: &[Range], word: u64) {
     assert!(rt; Bank::of_packed(plan.entries(), Limit::Sixteen).cfg0() == word);
 }
 
-/// The map of the ranges splits as many blocks as there are rows, which have these costs.
-fn costs(rt: &impl Abort, alloc: Global, ranges: &[Range], rows: &[[u32; 6]]) {
-    let tree = build(alloc, &map_of(rt, alloc, ranges)).expect(rt, "memory");
-    let plan = plan(alloc, &tree).expect(rt, "memory");
-    assert!(rt; have_costs(&plan, rows));
-}
-
 #[test]
 fn empty_map_needs_no_entry(rt: HostRuntime) {
     is_planned(&rt, rt.alloc(), &[], &[]);
-    costs(&rt, rt.alloc(), &[], &[]);
-}
-
-#[test]
-fn the_whole_space_needs_one_entry(rt: HostRuntime) {
-    const RANGES: &[Range] = &[(0, 1 << 44, Perm::ReadWriteExecute)];
-    const PAIRS: &[Pair] = &[(0x1F, 0x001F_FFFF_FFFF_FFFF)];
-    is_planned(&rt, rt.alloc(), RANGES, PAIRS);
-}
-
-#[test]
-fn a_page_denied_in_the_whole_space_needs_one_more(rt: HostRuntime) {
-    const RANGES: &[Range] = &[
-        (0, 1 << 44, Perm::ReadWriteExecute),
-        (0x80000, 1, Perm::NoAccess),
-    ];
-    const PAIRS: &[Pair] = &[(0x18, 0x2000_01FF), (0x1F, 0x001F_FFFF_FFFF_FFFF)];
-    is_planned(&rt, rt.alloc(), RANGES, PAIRS);
 }
 
 #[test]
@@ -162,57 +124,69 @@ fn boot_of_the_example_platform_uses_three_entries(rt: HostRuntime) {
     configures(&rt, rt.alloc(), RANGES, 0x1F_181B);
 }
 
-#[test]
-fn seven_pages_need_two_entries(rt: HostRuntime) {
-    const RANGES: &[Range] = &[(0x80208, 7, Perm::ReadExecute)];
-    const PAIRS: &[Pair] = &[(0x18, 0x2008_3DFF), (0x1D, 0x2008_2FFF)];
-    is_planned(&rt, rt.alloc(), RANGES, PAIRS);
-    configures(&rt, rt.alloc(), RANGES, 0x1D18);
-}
+/// Ranges, and the pairs of their plan.
+const PLANNED: &[(&[Range], &[Pair])] = &[
+    // the whole space
+    (
+        &[(0, 1 << 44, Perm::ReadWriteExecute)],
+        &[(0x1F, 0x001F_FFFF_FFFF_FFFF)],
+    ),
+    // a page denied in it
+    (
+        &[
+            (0, 1 << 44, Perm::ReadWriteExecute),
+            (0x80000, 1, Perm::NoAccess),
+        ],
+        &[(0x18, 0x2000_01FF), (0x1F, 0x001F_FFFF_FFFF_FFFF)],
+    ),
+    // seven pages: eight, and one of them denied
+    (
+        &[(0x80208, 7, Perm::ReadExecute)],
+        &[(0x18, 0x2008_3DFF), (0x1D, 0x2008_2FFF)],
+    ),
+    // one page of four is overridden
+    (
+        &[(0x80000, 4, Perm::Read), (0x80001, 1, Perm::ReadWrite)],
+        &[(0x1B, 0x2000_05FF), (0x19, 0x2000_07FF)],
+    ),
+    // the inherited permission stays where it is best for a half
+    (
+        &[(0x80000, 4, Perm::Read), (0x80001, 1, Perm::NoAccess)],
+        &[(0x19, 0x2000_01FF), (0x19, 0x2000_0BFF)],
+    ),
+    // the first permission that is best for both halves is placed
+    (
+        &[
+            (0x80000, 4, Perm::Read),
+            (0x80001, 1, Perm::ReadWrite),
+            (0x80003, 1, Perm::ReadWrite),
+        ],
+        &[
+            (0x1B, 0x2000_05FF),
+            (0x1B, 0x2000_0DFF),
+            (0x19, 0x2000_07FF),
+        ],
+    ),
+    // a tie is settled as two pages
+    (
+        &[
+            (0x80200, 1, Perm::ReadExecute),
+            (0x80201, 1, Perm::ReadWrite),
+            (0x80400, 1, Perm::ReadWrite),
+        ],
+        &[
+            (0x1D, 0x2008_01FF),
+            (0x1B, 0x2008_05FF),
+            (0x1B, 0x2010_01FF),
+        ],
+    ),
+];
 
 #[test]
-fn one_page_of_four_is_overridden(rt: HostRuntime) {
-    const RANGES: &[Range] = &[(0x80000, 4, Perm::Read), (0x80001, 1, Perm::ReadWrite)];
-    const PAIRS: &[Pair] = &[(0x1B, 0x2000_05FF), (0x19, 0x2000_07FF)];
-    is_planned(&rt, rt.alloc(), RANGES, PAIRS);
-}
-
-#[test]
-fn the_inherited_permission_stays_where_it_is_best_for_a_half(rt: HostRuntime) {
-    const RANGES: &[Range] = &[(0x80000, 4, Perm::Read), (0x80001, 1, Perm::NoAccess)];
-    const PAIRS: &[Pair] = &[(0x19, 0x2000_01FF), (0x19, 0x2000_0BFF)];
-    is_planned(&rt, rt.alloc(), RANGES, PAIRS);
-}
-
-#[test]
-fn the_first_permission_that_is_best_for_both_halves_is_placed(rt: HostRuntime) {
-    const RANGES: &[Range] = &[
-        (0x80000, 4, Perm::Read),
-        (0x80001, 1, Perm::ReadWrite),
-        (0x80003, 1, Perm::ReadWrite),
-    ];
-    const PAIRS: &[Pair] = &[
-        (0x1B, 0x2000_05FF),
-        (0x1B, 0x2000_0DFF),
-        (0x19, 0x2000_07FF),
-    ];
-    is_planned(&rt, rt.alloc(), RANGES, PAIRS);
-}
-
-#[test]
-fn a_tie_is_settled_as_two_pages(rt: HostRuntime) {
-    const RANGES: &[Range] = &[
-        (0x80200, 1, Perm::ReadExecute),
-        (0x80201, 1, Perm::ReadWrite),
-        (0x80400, 1, Perm::ReadWrite),
-    ];
-    const PAIRS: &[Pair] = &[
-        (0x1D, 0x2008_01FF),
-        (0x1B, 0x2008_05FF),
-        (0x1B, 0x2010_01FF),
-    ];
-    is_planned(&rt, rt.alloc(), RANGES, PAIRS);
-    configures(&rt, rt.alloc(), RANGES, 0x1B_1B1D);
+fn maps_have_the_fewest_entries_with_and_without_a_tree(rt: HostRuntime) {
+    for (ranges, pairs) in PLANNED {
+        is_planned(&rt, rt.alloc(), ranges, pairs);
+    }
 }
 
 /// The map needs that many entries.
@@ -244,36 +218,28 @@ fn scattered_pages_need(rt: &impl Abort, alloc: Global, pages: u32, wanted: u32)
     needs(rt, alloc, &map, wanted);
 }
 
-#[test]
-fn thirteen_scattered_pages_fit_sixteen_entries(rt: HostRuntime) {
-    scattered_pages_need(&rt, rt.alloc(), 13, 16);
-    scattered_pages_need(&rt, rt.alloc(), 14, 17);
-}
-
 /// The map of the ranges needs that many entries.
 fn ranges_need(rt: &impl Abort, alloc: Global, ranges: &[Range], wanted: u32) {
     let map = map_of(rt, alloc, ranges);
     needs(rt, alloc, &map, wanted);
 }
 
-#[test]
-fn one_shared_page_more_needs_one_entry_more(rt: HostRuntime) {
-    const TEN: &[Range] = &[
-        (0x804AB, 170, Perm::ReadExecute),
-        (0x80555, 342, Perm::ReadWrite),
-        (0x81000, 10, Perm::ReadWrite),
-    ];
-    const ELEVEN: &[Range] = &[
-        (0x804AB, 170, Perm::ReadExecute),
-        (0x80555, 342, Perm::ReadWrite),
-        (0x81000, 11, Perm::ReadWrite),
-    ];
-    ranges_need(&rt, rt.alloc(), TEN, 16);
-    ranges_need(&rt, rt.alloc(), ELEVEN, 17);
-}
+const TEN_SHARED: &[Range] = &[
+    (0x804AB, 170, Perm::ReadExecute),
+    (0x80555, 342, Perm::ReadWrite),
+    (0x81000, 10, Perm::ReadWrite),
+];
+
+const ELEVEN_SHARED: &[Range] = &[
+    (0x804AB, 170, Perm::ReadExecute),
+    (0x80555, 342, Perm::ReadWrite),
+    (0x81000, 11, Perm::ReadWrite),
+];
 
 #[test]
-fn the_lower_half_costs_one_under_either_permission(rt: HostRuntime) {
-    const RANGES: &[Range] = &[(0, 1 << 43, Perm::ReadWriteExecute)];
-    costs(&rt, rt.alloc(), RANGES, &[[1, 2, 2, 2, 2, 1]]);
+fn one_page_more_needs_one_entry_more(rt: HostRuntime) {
+    scattered_pages_need(&rt, rt.alloc(), 13, 16);
+    scattered_pages_need(&rt, rt.alloc(), 14, 17);
+    ranges_need(&rt, rt.alloc(), TEN_SHARED, 16);
+    ranges_need(&rt, rt.alloc(), ELEVEN_SHARED, 17);
 }

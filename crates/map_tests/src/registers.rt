@@ -20,53 +20,47 @@ fn goes_both_ways(rt: &impl Abort, entry: Entry, cfg: u8, addr: u64) {
     means(rt, cfg, addr, Ok(Some(entry)));
 }
 
-#[test]
-fn four_bytes_and_more_up_to_the_whole_space(rt: HostRuntime) {
-    let all = Perm::ReadWriteExecute;
-    let rows = [
-        (0x8000_0000, 2, Perm::Read, 0x11, 0x2000_0000),
-        (0x8000_0008, 3, Perm::ReadWrite, 0x1B, 0x2000_0002),
-        (0x8000_0010, 4, Perm::Execute, 0x1C, 0x2000_0005),
-        (0x8000_0000, 12, all, 0x1F, 0x2000_01FF),
-        (0x8000_0000, 21, Perm::NoAccess, 0x18, 0x2003_FFFF),
-        (
-            0x00FF_FFFF_FFFF_F000,
-            12,
-            Perm::ReadExecute,
-            0x1D,
-            0x003F_FFFF_FFFF_FDFF,
-        ),
-        (0, 56, all, 0x1F, 0x001F_FFFF_FFFF_FFFF),
-    ];
-    for (base, log2, perm, cfg, addr) in rows {
-        goes_both_ways(&rt, entry(&rt, base, log2, perm), cfg, addr);
-    }
-}
+/// A block, where it begins and its size as a power of two, the permission, and the pair.
+const BOTH_WAYS: &[(u64, u32, Perm, u8, u64)] = &[
+    (0x8000_0000, 2, Perm::Read, 0x11, 0x2000_0000),
+    (0x8000_0008, 3, Perm::ReadWrite, 0x1B, 0x2000_0002),
+    (0x8000_0010, 4, Perm::Execute, 0x1C, 0x2000_0005),
+    (0x8000_0000, 12, Perm::ReadWriteExecute, 0x1F, 0x2000_01FF),
+    (0x8000_0000, 21, Perm::NoAccess, 0x18, 0x2003_FFFF),
+    (
+        0x00FF_FFFF_FFFF_F000,
+        12,
+        Perm::ReadExecute,
+        0x1D,
+        0x003F_FFFF_FFFF_FDFF,
+    ),
+    (0, 56, Perm::ReadWriteExecute, 0x1F, 0x001F_FFFF_FFFF_FFFF),
+];
+
+/// Pairs with a fault, the least of theirs.
+const FAULTY: &[(u8, u64, EncodingFault)] = &[
+    (0x0A, 0, EncodingFault::ReservedPerm),
+    (0x8F, 0, EncodingFault::Tor),
+    (0x97, 0, EncodingFault::Locked),
+    (0x37, 0, EncodingFault::ReservedBits),
+    (0x00, 1 << 54, EncodingFault::AddressBits),
+];
 
 #[test]
-fn the_whole_space_is_read_from_54_ones_too(rt: HostRuntime) {
+fn pairs_mean_entries_or_have_a_least_fault(rt: HostRuntime) {
+    for (base, log2, perm, cfg, addr) in BOTH_WAYS {
+        goes_both_ways(&rt, entry(&rt, *base, *log2, *perm), *cfg, *addr);
+    }
     let whole = entry(&rt, 0, 56, Perm::ReadWriteExecute);
     means(&rt, 0x1F, 0x003F_FFFF_FFFF_FFFF, Ok(Some(whole)));
-    assert!(rt; whole.encode().1 == 0x001F_FFFF_FFFF_FFFF);
-}
-
-#[test]
-fn the_least_fault_is_named(rt: HostRuntime) {
-    let pairs = [
-        (0x00u8, 0u64, Ok(None)),
-        (0x0A, 0, Err(EncodingFault::ReservedPerm)),
-        (0x8F, 0, Err(EncodingFault::Tor)),
-        (0x97, 0, Err(EncodingFault::Locked)),
-        (0x37, 0, Err(EncodingFault::ReservedBits)),
-        (0x00, 1 << 54, Err(EncodingFault::AddressBits)),
-    ];
-    for (cfg, addr, meaning) in pairs {
-        means(&rt, cfg, addr, meaning);
+    means(&rt, 0x00, 0, Ok(None));
+    for (cfg, addr, fault) in FAULTY {
+        means(&rt, *cfg, *addr, Err(*fault));
     }
 }
 
-#[test]
-fn numbers_of_faults_and_limits(rt: HostRuntime) {
+/// Faults and limits have these numbers.
+fn have_numbers(rt: &impl Abort) {
     let faults = (
         EncodingFault::ReservedPerm.number(),
         EncodingFault::NoSuchCsr.number(),
@@ -78,10 +72,10 @@ fn numbers_of_faults_and_limits(rt: HostRuntime) {
     assert!(rt; of == [Some(Limit::Sixteen), Some(Limit::SixtyFour), None, None]);
 }
 
-#[test]
-fn bits_of_permissions(rt: HostRuntime) {
+/// Six bytes are a permission's bits, and others are none.
+fn have_bits(rt: &impl Abort) {
     for bits in [0u8, 1, 3, 4, 5, 7] {
-        let perm = Perm::from_bits(bits).expect(&rt, "a permission");
+        let perm = Perm::from_bits(bits).expect(rt, "a permission");
         assert!(rt; perm.bits() == bits, "{bits}");
     }
     for bits in [2u8, 6, 8, 255] {
@@ -89,8 +83,8 @@ fn bits_of_permissions(rt: HostRuntime) {
     }
 }
 
-#[test]
-fn indices_and_blanks(rt: HostRuntime) {
+/// The indices of permissions, and the entry that is none.
+fn have_indices_and_blanks(rt: &impl Abort) {
     let indices = (Perm::default().index(), Perm::ReadWriteExecute.index());
     assert!(rt; indices == (0, 5));
     let blank = Entry {
@@ -100,13 +94,21 @@ fn indices_and_blanks(rt: HostRuntime) {
     assert!(rt; Entry::default() == blank);
 }
 
-#[test]
-fn blocks_are_aligned_and_in_the_space(rt: HostRuntime) {
-    let last = Region::new((1 << 56) - 4, 2).expect(&rt, "a block");
+/// A block is aligned, and in the space.
+fn are_blocks(rt: &impl Abort) {
+    let last = Region::new((1 << 56) - 4, 2).expect(rt, "a block");
     assert!(rt; (last.base(), last.log2()) == ((1 << 56) - 4, 2));
     for (base, log2) in [(0x1000u64, 13u32), (0, 1), (0, 57), (1 << 56, 12)] {
         assert!(rt; Region::new(base, log2) == None, "{base:#x} {log2}");
     }
+}
+
+#[test]
+fn parts_of_entries(rt: HostRuntime) {
+    have_numbers(&rt);
+    have_bits(&rt);
+    have_indices_and_blanks(&rt);
+    are_blocks(&rt);
 }
 
 /// A write to a register of the bank answers this.
@@ -123,34 +125,21 @@ fn writes(
     );
 }
 
-#[test]
-fn refused_writes_change_nothing(rt: HostRuntime) {
-    let page = entry(&rt, 0x8000_0000, 12, Perm::ReadWriteExecute);
-    let before = Bank::of([page].as_slice(), Limit::Sixteen);
-    let mut bank = before;
-    let refusals = [
-        (0x3A1u16, 0u64, EncodingFault::NoSuchCsr),
-        (0x3A0, 0x8F, EncodingFault::Tor),
-        (0x3A0, 0x9F, EncodingFault::Locked),
-        (0x3A0, 0x0A, EncodingFault::ReservedPerm),
-        (0x3B0, 1 << 54, EncodingFault::AddressBits),
-    ];
-    for (number, value, fault) in refusals {
-        writes(&rt, &mut bank, number, value, Err(fault));
-        assert!(rt; bank == before, "{number:#x} {value:#x}");
-    }
-}
+/// Writes that are refused: the register, the value, the fault. Of a word the lowest faulty byte is named.
+const REFUSED: &[(u16, u64, EncodingFault)] = &[
+    (0x3A1, 0, EncodingFault::NoSuchCsr),
+    (0x3A0, 0x8F, EncodingFault::Tor),
+    (0x3A0, 0x9F, EncodingFault::Locked),
+    (0x3A0, 0x0A, EncodingFault::ReservedPerm),
+    (0x3A2, 0x0A80_1F00, EncodingFault::Locked),
+    (0x3B0, 1 << 54, EncodingFault::AddressBits),
+];
 
-#[test]
-fn the_lowest_faulty_byte_of_a_word_is_named(rt: HostRuntime) {
-    let mut bank = Bank::of([].as_slice(), Limit::Sixteen);
-    writes(
-        &rt,
-        &mut bank,
-        0x3A2,
-        0x0A80_1F00,
-        Err(EncodingFault::Locked),
-    );
+/// A write of the value is refused with the fault, and the bank stays as it is.
+fn refuses(rt: &impl Abort, before: &Bank, number: u16, value: u64, fault: EncodingFault) {
+    let mut bank = *before;
+    writes(rt, &mut bank, number, value, Err(fault));
+    assert!(rt; bank == *before, "{number:#x} {value:#x}");
 }
 
 #[test]
@@ -184,35 +173,42 @@ fn writes_zero(
     writes(rt, &mut bank, number, 0, large);
 }
 
-#[test]
-fn csrs_past_the_sixteenth_are_known_with_sixty_four_alone(rt: HostRuntime) {
-    for number in [0x3A4u16, 0x3AE, 0x3C0, 0x3EF] {
-        writes_zero(&rt, number, Err(EncodingFault::NoSuchCsr), Ok(()));
-    }
-}
+/// Registers that a bank of sixty-four has and one of sixteen lacks.
+const PAST_THE_SIXTEENTH: [u16; 4] = [0x3A4, 0x3AE, 0x3C0, 0x3EF];
+
+/// Registers of odd numbers, and others, that neither has.
+const IN_NEITHER: [u16; 3] = [0x3A1, 0x3F0, 0x300];
 
 #[test]
-fn odd_and_foreign_csrs_are_known_with_neither_limit(rt: HostRuntime) {
+fn refused_writes_change_nothing(rt: HostRuntime) {
+    let page = entry(&rt, 0x8000_0000, 12, Perm::ReadWriteExecute);
+    let before = Bank::of([page].as_slice(), Limit::Sixteen);
+    for (number, value, fault) in REFUSED {
+        refuses(&rt, &before, *number, *value, *fault);
+    }
     let none = Err(EncodingFault::NoSuchCsr);
-    for number in [0x3A1u16, 0x3F0, 0x300] {
+    for number in PAST_THE_SIXTEENTH {
+        writes_zero(&rt, number, none, Ok(()));
+    }
+    for number in IN_NEITHER {
         writes_zero(&rt, number, none, none);
     }
 }
 
-#[test]
-fn three_entries_of_a_boot(rt: HostRuntime) {
-    let device = entry(&rt, 0x1000_0000, 12, Perm::ReadWrite);
-    let monitor = entry(&rt, 0x8000_0000, 21, Perm::NoAccess);
-    let ram = entry(&rt, 0x8000_0000, 27, Perm::ReadWriteExecute);
+/// The bank of the three entries of a boot has these words.
+fn boots(rt: &impl Abort) {
+    let device = entry(rt, 0x1000_0000, 12, Perm::ReadWrite);
+    let monitor = entry(rt, 0x8000_0000, 21, Perm::NoAccess);
+    let ram = entry(rt, 0x8000_0000, 27, Perm::ReadWriteExecute);
     let bank = Bank::of([device, monitor, ram].as_slice(), Limit::Sixteen);
     assert!(rt; (bank.cfg0(), bank.cfg2()) == (0x001F_181B, 0));
     let addrs = [bank.addr(0), bank.addr(1), bank.addr(2), bank.addr(3)];
     assert!(rt; addrs == [0x0400_01FF, 0x2003_FFFF, 0x20FF_FFFF, 0]);
 }
 
-#[test]
-fn a_full_bank_of_sixteen(rt: HostRuntime) {
-    let page = entry(&rt, 0x8000_0000, 12, Perm::NoAccess);
+/// The words of a full bank of sixteen.
+fn fills_sixteen(rt: &impl Abort) {
+    let page = entry(rt, 0x8000_0000, 12, Perm::NoAccess);
     let bank = Bank::of([page; 16].as_slice(), Limit::Sixteen);
     assert!(rt; bank.limit() == Limit::Sixteen);
     let words = [bank.cfg(0), bank.cfg(2), bank.cfg(4)];
@@ -220,11 +216,18 @@ fn a_full_bank_of_sixteen(rt: HostRuntime) {
     assert!(rt; (bank.entry(15), bank.entry(16)) == (Some(page), None));
 }
 
-#[test]
-fn a_full_bank_of_sixty_four(rt: HostRuntime) {
-    let page = entry(&rt, 0x8000_0000, 12, Perm::NoAccess);
+/// The words of a full bank of sixty-four.
+fn fills_sixty_four(rt: &impl Abort) {
+    let page = entry(rt, 0x8000_0000, 12, Perm::NoAccess);
     let bank = Bank::of([page; 64].as_slice(), Limit::SixtyFour);
     assert!(rt; bank.limit() == Limit::SixtyFour);
     let last = (bank.cfg(14), bank.addr(63), bank.entry(63));
     assert!(rt; last == (0x1818_1818_1818_1818, 0x2000_01FF, Some(page)));
+}
+
+#[test]
+fn banks_of_three_sixteen_and_sixty_four_entries(rt: HostRuntime) {
+    boots(&rt);
+    fills_sixteen(&rt);
+    fills_sixty_four(&rt);
 }

@@ -75,23 +75,6 @@ fn is_one_leaf(rt: &impl Abort, alloc: Global, ranges: &[(u64, u64, Perm)], want
     is_leaf(rt, tree.root(), wanted);
 }
 
-#[test]
-fn empty_map_is_one_leaf(rt: HostRuntime) {
-    is_one_leaf(&rt, rt.alloc(), &[], Perm::NoAccess);
-}
-
-#[test]
-fn whole_space_is_one_leaf(rt: HostRuntime) {
-    let whole = [(0, PAGES, Perm::ReadWriteExecute)];
-    is_one_leaf(&rt, rt.alloc(), &whole, Perm::ReadWriteExecute);
-}
-
-#[test]
-fn one_page_splits_each_block_around_it(rt: HostRuntime) {
-    let page = [(0x80000, 1, Perm::ReadWriteExecute)];
-    splits(&rt, rt.alloc(), &page, 44);
-}
-
 /// The block is split in two leaves with these permissions.
 fn has_leaves(rt: &impl Abort, block: &Block, lower: Perm, upper: Perm) {
     let Parts::Halves(low, high) = block.parts() else {
@@ -101,15 +84,28 @@ fn has_leaves(rt: &impl Abort, block: &Block, lower: Perm, upper: Perm) {
     is_leaf(rt, high, upper);
 }
 
+const WHOLE: &[(u64, u64, Perm)] = &[(0, PAGES, Perm::ReadWriteExecute)];
+
+const PAGE: &[(u64, u64, Perm)] = &[(0x80000, 1, Perm::ReadWriteExecute)];
+
+const HALVES: &[(u64, u64, Perm)] = &[
+    (0, PAGES / 2, Perm::Read),
+    (PAGES / 2, PAGES / 2, Perm::Execute),
+];
+
+/// The tree of the halves splits the space, and no block of it.
+fn is_split_once(rt: &impl Abort, alloc: Global) {
+    splits(rt, alloc, HALVES, 1);
+    let tree = tree_of(rt, alloc, HALVES);
+    has_leaves(rt, tree.root(), Perm::Read, Perm::Execute);
+}
+
 #[test]
-fn halves_of_the_space_split_it_once(rt: HostRuntime) {
-    let halves = [
-        (0, PAGES / 2, Perm::Read),
-        (PAGES / 2, PAGES / 2, Perm::Execute),
-    ];
-    splits(&rt, rt.alloc(), &halves, 1);
-    let tree = tree_of(&rt, rt.alloc(), &halves);
-    has_leaves(&rt, tree.root(), Perm::Read, Perm::Execute);
+fn no_block_of_one_permission_is_split(rt: HostRuntime) {
+    is_one_leaf(&rt, rt.alloc(), &[], Perm::NoAccess);
+    is_one_leaf(&rt, rt.alloc(), WHOLE, Perm::ReadWriteExecute);
+    is_split_once(&rt, rt.alloc());
+    splits(&rt, rt.alloc(), PAGE, 44);
 }
 
 #[test]

@@ -98,14 +98,13 @@ fn mean_in_any_order(
     answers(rt, alloc, map, rising, 50, WRONG);
 }
 
-#[test]
-fn entries_in_any_order_mean_a_map(rt: HostRuntime) {
-    let alloc = rt.alloc();
+/// Fifty entries mean their map by falling and by rising address.
+fn mean_a_map(rt: &impl Abort, alloc: Global) {
     let mut map = PermissionMap::new(alloc);
-    set_pages(&mut map, Perm::ReadWriteExecute).expect(&rt, "memory");
-    let falling = falling_pages(alloc).expect(&rt, "memory");
-    let rising = reversed(alloc, &falling).expect(&rt, "memory");
-    mean_in_any_order(&rt, alloc, &mut map, &falling, &rising);
+    set_pages(&mut map, Perm::ReadWriteExecute).expect(rt, "memory");
+    let falling = falling_pages(alloc).expect(rt, "memory");
+    let rising = reversed(alloc, &falling).expect(rt, "memory");
+    mean_in_any_order(rt, alloc, &mut map, &falling, &rising);
 }
 
 /// The block of 256 pages from 0x80000 on, with read alone.
@@ -161,16 +160,15 @@ fn wide_answers(
     answers(rt, alloc, &map, entries, count, wanted);
 }
 
-#[test]
-fn of_entries_in_any_order_the_first_decides(rt: HostRuntime) {
-    let alloc = rt.alloc();
-    let last = wide_last(&rt, alloc);
-    wide_answers(&rt, alloc, Perm::ReadWriteExecute, &last, 51, Ok(51));
-    wide_answers(&rt, alloc, Perm::ReadExecute, &last, 51, WRONG);
-    wide_answers(&rt, alloc, Perm::Read, &last, 51, TOO_MANY);
-    let first = wide_first(&rt, alloc);
-    wide_answers(&rt, alloc, Perm::ReadWriteExecute, &first, 51, WRONG);
-    wide_answers(&rt, alloc, Perm::Read, &first, 51, TOO_MANY);
+/// Of the falling pages and the block of 256 pages the first decides on each page.
+fn the_first_decides(rt: &impl Abort, alloc: Global) {
+    let last = wide_last(rt, alloc);
+    wide_answers(rt, alloc, Perm::ReadWriteExecute, &last, 51, Ok(51));
+    wide_answers(rt, alloc, Perm::ReadExecute, &last, 51, WRONG);
+    wide_answers(rt, alloc, Perm::Read, &last, 51, TOO_MANY);
+    let first = wide_first(rt, alloc);
+    wide_answers(rt, alloc, Perm::ReadWriteExecute, &first, 51, WRONG);
+    wide_answers(rt, alloc, Perm::Read, &first, 51, TOO_MANY);
 }
 
 /// The falling pages, the block of 256 pages, and the pages again with read alone.
@@ -180,17 +178,17 @@ fn wide_last_and_again(rt: &impl Abort, alloc: Global) -> Vec<u8> {
     joined(alloc, &wide_last(rt, alloc), &again).expect(rt, "memory")
 }
 
+/// Entries that come twice are too many.
+fn are_too_many(rt: &impl Abort, alloc: Global) {
+    let twice = wide_last_and_again(rt, alloc);
+    wide_answers(rt, alloc, Perm::ReadWriteExecute, &twice, 101, TOO_MANY);
+}
+
 #[test]
-fn entries_that_come_twice_are_too_many(rt: HostRuntime) {
-    let twice = wide_last_and_again(&rt, rt.alloc());
-    wide_answers(
-        &rt,
-        rt.alloc(),
-        Perm::ReadWriteExecute,
-        &twice,
-        101,
-        TOO_MANY,
-    );
+fn entries_in_any_order_mean_a_map(rt: HostRuntime) {
+    mean_a_map(&rt, rt.alloc());
+    the_first_decides(&rt, rt.alloc());
+    are_too_many(&rt, rt.alloc());
 }
 
 /// The map of 2,200 runs, each of the 0x55555555 pages on either side of the middle of 2^32. Each side needs a block of

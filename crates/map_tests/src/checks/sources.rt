@@ -7,7 +7,6 @@ use certificate_check::check_source;
 use permission_map::PermissionMap;
 use std::alloc::Global;
 use std::process::Abort;
-use std::test::Fail;
 
 /// How many bytes may come where nothing else is said.
 const MOST: u32 = 1 << 26;

@@ -1,6 +1,6 @@
 //! Certificates of trees that are split down to one page, written by hand.
 
-use super::{SEVEN_PAGES, answers, code, map_of, range_answers};
+use super::{SEVEN_PAGES, answers, code, map_of};
 use crate::certificates::by_map;
 use certificate_check::CheckRefusal;
 use permission_map::PermissionMap;
@@ -136,21 +136,6 @@ fn is_refused_with(
     );
 }
 
-#[test]
-fn one_page_needs_one_entry(rt: HostRuntime) {
-    let way = Way {
-        page: 0x80000,
-        perm: Perm::ReadWriteExecute,
-        near: 0,
-        near_perm: Perm::NoAccess,
-    };
-    let entries = [(0x1F, 0x2000_01FF)];
-    let bytes = certificate(rt.alloc(), entries.as_slice(), way).expect(&rt, "memory");
-    assert!(rt; bytes.len() == 1208);
-    let page = (0x80000, 1, Perm::ReadWriteExecute);
-    range_answers(&rt, rt.alloc(), page, bytes.as_slice(), Ok(1));
-}
-
 /// The certificate of seven pages is right, and what is cut off it anywhere is truncated.
 fn are_all_needed(rt: &impl Abort, map: &PermissionMap, bytes: &[u8]) {
     assert!(rt; bytes.len() == 1217);
@@ -174,24 +159,22 @@ fn seven_pages_need_two_entries_and_all_their_bytes(rt: HostRuntime) {
     are_all_needed(&rt, &map, bytes.as_slice());
 }
 
-#[test]
-fn each_refusal_has_its_place_in_the_seven_pages(rt: HostRuntime) {
-    let map = map_of(&rt, rt.alloc(), SEVEN_PAGES);
-    let cases = [
-        (1216, 7, 10),
-        (1216, 2, 5),
-        (1215, 2, 4),
-        (1215, 1, 3),
-        (9, 0x1A, 6),
-        (9, 0x10, 7),
-        (28, 1, 13),
-    ];
-    for (place, byte, refusal) in cases {
-        is_refused_with(&rt, rt.alloc(), &map, place, byte, refusal);
-    }
-    let mut longer = seven_pages(&rt, rt.alloc());
-    longer.push(0).expect(&rt, "memory");
-    answers(&rt, &map, &longer, Err(CheckRefusal::Trailing));
+/// The place of a byte, another byte, and the number of the refusal.
+const REFUSALS: &[(usize, u8, u8)] = &[
+    (1216, 7, 10),
+    (1216, 2, 5),
+    (1215, 2, 4),
+    (1215, 1, 3),
+    (9, 0x1A, 6),
+    (9, 0x10, 7),
+    (28, 1, 13),
+];
+
+/// One byte more than the certificate of seven pages is trailing.
+fn is_trailing(rt: &impl Abort, alloc: Global, map: &PermissionMap) {
+    let mut longer = seven_pages(rt, alloc);
+    longer.push(0).expect(rt, "memory");
+    answers(rt, map, &longer, Err(CheckRefusal::Trailing));
 }
 
 /// The certificate of seven pages with three entries, the last of them for nothing, and with this cost at the root.
@@ -206,18 +189,33 @@ fn with_three_entries(rt: &impl Abort, alloc: Global, cost: u8) -> Vec<u8> {
 }
 
 /// The check of three entries, with this cost at the root, refuses them so.
-fn three_are_refused(rt: &impl Abort, alloc: Global, cost: u8, refusal: CheckRefusal) {
+fn three_are_refused(
+    rt: &impl Abort,
+    alloc: Global,
+    map: &PermissionMap,
+    cost: u8,
+    refusal: CheckRefusal,
+) {
     let bytes = with_three_entries(rt, alloc, cost);
-    range_answers(rt, alloc, SEVEN_PAGES, bytes.as_slice(), Err(refusal));
+    answers(rt, map, bytes.as_slice(), Err(refusal));
+}
+
+/// The two entries the other way round mean another map.
+fn is_another_meaning(rt: &impl Abort, alloc: Global, map: &PermissionMap) {
+    let entries = [EIGHT_PAGES, HOLE];
+    let exchanged = certificate(alloc, entries.as_slice(), seven_pages_way()).expect(rt, "memory");
+    answers(rt, map, &exchanged, Err(CheckRefusal::WrongMeaning));
 }
 
 #[test]
-fn other_entries_are_refused_for_seven_pages(rt: HostRuntime) {
+fn each_refusal_has_its_place_in_the_seven_pages(rt: HostRuntime) {
     let alloc = rt.alloc();
-    three_are_refused(&rt, alloc, 2, CheckRefusal::EntriesTooMany);
-    three_are_refused(&rt, alloc, 3, CheckRefusal::CostTooHigh);
-    let entries = [EIGHT_PAGES, HOLE];
-    let exchanged = certificate(alloc, entries.as_slice(), seven_pages_way()).expect(&rt, "memory");
-    let wrong = Err(CheckRefusal::WrongMeaning);
-    range_answers(&rt, alloc, SEVEN_PAGES, &exchanged, wrong);
+    let map = map_of(&rt, alloc, SEVEN_PAGES);
+    for (place, byte, refusal) in REFUSALS {
+        is_refused_with(&rt, alloc, &map, *place, *byte, *refusal);
+    }
+    is_trailing(&rt, alloc, &map);
+    three_are_refused(&rt, alloc, &map, 2, CheckRefusal::EntriesTooMany);
+    three_are_refused(&rt, alloc, &map, 3, CheckRefusal::CostTooHigh);
+    is_another_meaning(&rt, alloc, &map);
 }
