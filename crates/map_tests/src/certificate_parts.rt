@@ -1,7 +1,7 @@
 //! The reader of certificates, part by part.
 
 use certificate_format::{Header, ReadFault, Reader, Tag, Version};
-use pmp_encoding::{Limit, Perm};
+use pmp_encoding::Limit;
 use std::process::Abort;
 
 /// The lower half of the space with every right, in one entry.
@@ -38,51 +38,6 @@ fn fault_of(bytes: &[u8]) -> Option<ReadFault> {
         Ok(_) => None,
         Err(fault) => Some(fault),
     }
-}
-
-/// The reader comes to a header of the first version, with that many entries.
-fn reads_header(rt: &impl Abort, reader: &mut Reader, count: u32) {
-    let header = reader.header().expect(rt, "a header");
-    assert!(rt; header.version == Version::One);
-    assert!(rt; (header.version.limit(), header.count) == (Limit::Sixteen, count));
-}
-
-/// The reader comes to an entry that is written as this pair.
-fn reads_entry(rt: &impl Abort, reader: &mut Reader, cfg: u8, address: u64) {
-    let entry = reader.entry().expect(rt, "an entry");
-    assert!(rt; (entry.cfg(), entry.address()) == (cfg, address));
-}
-
-/// The reader comes to a split block with these costs, under all permissions in their order.
-fn reads_costs(rt: &impl Abort, reader: &mut Reader, wanted: [u32; 6]) {
-    assert!(rt; reader.tag() == Ok(Tag::Branch));
-    let costs = reader.costs().expect(rt, "costs");
-    let all = [
-        costs.cost(Perm::NoAccess),
-        costs.cost(Perm::Read),
-        costs.cost(Perm::ReadWrite),
-        costs.cost(Perm::Execute),
-        costs.cost(Perm::ReadExecute),
-        costs.cost(Perm::ReadWriteExecute),
-    ];
-    assert!(rt; all == wanted);
-}
-
-/// The reader comes to a leaf with this permission.
-fn reads_leaf(rt: &impl Abort, reader: &mut Reader, wanted: Perm) {
-    assert!(rt; reader.tag() == Ok(Tag::Leaf));
-    assert!(rt; reader.perm() == Ok(wanted));
-}
-
-#[test]
-fn lower_half_reads_part_by_part(rt: HostRuntime) {
-    let mut reader = Reader::new(LOWER_HALF.as_slice());
-    reads_header(&rt, &mut reader, 1);
-    reads_entry(&rt, &mut reader, 0x1F, 0x000F_FFFF_FFFF_FFFF);
-    reads_costs(&rt, &mut reader, [1, 2, 2, 2, 2, 1]);
-    reads_leaf(&rt, &mut reader, Perm::ReadWriteExecute);
-    reads_leaf(&rt, &mut reader, Perm::NoAccess);
-    assert!(rt; reader.rest().len() == 0);
 }
 
 /// The bytes are at fault so, or not at all.
