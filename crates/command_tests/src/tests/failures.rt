@@ -1,13 +1,25 @@
 //! Each read and each write fails in turn under each command.
 
 use super::devices::{Failing, Tried, try_on};
-use super::runs::{certificate, printed};
 use std::alloc::Global;
 use std::process::Abort;
 
 const MAP: &[u8] = b"0x80000000 0x1000 rwx\n0x10000000 0x1000 rw\n";
 
-const PLAN: [&str; 4] = ["pmpmon", "plan", "m", "c"];
+/// The registers that mean it.
+const LISTING: &[u8] = b"pmpcfg0 0x1f1b\npmpaddr0 0x40001ff\npmpaddr1 0x200001ff\n";
+
+/// A map of which a line changes nothing.
+const IDLE: &[u8] = b"0 0x1000 r\n0 0x2000 rw\n";
+
+/// The lower half of the space is rwx.
+const HALF: &[u8] = b"0 0x80000000000000 rwx\n";
+
+/// Its certificate: one entry, and a branch of two leaves.
+const OF_HALF: &[u8] =
+    b"PMPC\x01\x01\0\0\0\x1F\xFF\xFF\xFF\xFF\xFF\xFF\x0F\0\x01\x01\0\0\0\x02\0\0\0\x02\0\0\0\x02\0\0\0\x02\0\0\0\x01\0\0\0\0\x07\0\0";
+
+const PLAN: &[&str] = &["pmpmon", "plan", "m", "c"];
 
 const CERTIFICATE: &str = "pmpmon: c: cannot write\n";
 
@@ -77,13 +89,17 @@ fn ended_by(rt: &impl Abort, device: Device, tried: &Tried, ample: &Tried) {
     assert!(rt; device.may_place() || !tried.is_placed);
 }
 
+/// A command line, and its inputs.
+type Row<'a> = (&'a [&'a str], &'a [u8], &'a [u8]);
+
 /// Each call of a device fails in turn, until none is left that could.
-fn each_call_fails(rt: &impl Abort, alloc: Global, words: &[&str], second: &[u8], device: Device) {
-    let ample = try_on(rt, alloc, words, MAP, second, Failing::none(9));
+fn each_call_fails(rt: &impl Abort, alloc: Global, row: Row<'_>, device: Device) {
+    let (words, first, second) = row;
+    let ample = try_on(rt, alloc, words, first, second, Failing::none(9));
     assert!(rt; ample.status == 0);
     assert!(rt; !ample.has_failed);
     for k in 1..2000u64 {
-        let tried = try_on(rt, alloc, words, MAP, second, device.failing_at(k));
+        let tried = try_on(rt, alloc, words, first, second, device.failing_at(k));
         if !tried.has_failed {
             assert!(rt; tried.status == 0);
             assert!(rt; tried.out.as_slice() == ample.out.as_slice());
@@ -94,48 +110,35 @@ fn each_call_fails(rt: &impl Abort, alloc: Global, words: &[&str], second: &[u8]
     panic!(rt; "no end")
 }
 
-/// Each call of each device fails in turn.
-fn each_device_fails(rt: &impl Abort, alloc: Global, words: &[&str], second: &[u8]) {
-    for device in DEVICES {
-        each_call_fails(rt, alloc, words, second, device);
+/// Each call of each device fails in turn, of each command line.
+fn each_device_fails(rt: &impl Abort, alloc: Global, rows: &[Row<'_>]) {
+    for row in rows {
+        for device in DEVICES {
+            each_call_fails(rt, alloc, *row, device);
+        }
     }
 }
 
 #[test]
-fn a_failing_device_ends_a_plan_with_its_text(rt: HostRuntime) {
-    each_device_fails(&rt, rt.alloc(), &PLAN, b"");
-    let large = ["pmpmon", "plan", "m", "c", "--entries", "64"];
-    each_device_fails(&rt, rt.alloc(), &large, b"")
-}
-
-#[test]
-fn a_failing_device_ends_a_judgement_with_its_text(rt: HostRuntime) {
-    let words = ["pmpmon", "judge", "m", "s"];
+fn a_failing_device_ends_each_command_with_its_text(rt: HostRuntime) {
     each_device_fails(
         &rt,
         rt.alloc(),
-        &words,
-        b"load s 8 0x80000000\nload s 8 0\n",
+        &[
+            (PLAN, MAP, b""),
+            (&["pmpmon", "plan", "m", "c", "--entries", "64"], MAP, b""),
+            (
+                &["pmpmon", "judge", "m", "s"],
+                MAP,
+                b"load s 8 0x80000000\nload s 8 0\n",
+            ),
+            (&["pmpmon", "check", "m", "s"], HALF, OF_HALF),
+            (&["pmpmon", "audit", "m", "s"], MAP, LISTING),
+            (&["pmpmon", "show", "m"], MAP, b""),
+            (&["pmpmon", "map", "m"], LISTING, b""),
+            (&["pmpmon", "lint", "m"], IDLE, b""),
+        ],
     )
-}
-
-#[test]
-fn a_failing_device_ends_a_check_with_its_text(rt: HostRuntime) {
-    let cert = certificate(&rt, rt.alloc(), &PLAN, MAP);
-    let words = ["pmpmon", "check", "m", "s"];
-    each_device_fails(&rt, rt.alloc(), &words, cert.as_slice())
-}
-
-#[test]
-fn a_failing_device_ends_an_audit_with_its_text(rt: HostRuntime) {
-    let listing = printed(&rt, rt.alloc(), &["pmpmon", "plan", "m"], MAP, b"");
-    let words = ["pmpmon", "audit", "m", "s"];
-    each_device_fails(&rt, rt.alloc(), &words, listing.as_slice())
-}
-
-#[test]
-fn a_failing_device_ends_a_table_with_its_text(rt: HostRuntime) {
-    each_device_fails(&rt, rt.alloc(), &["pmpmon", "show", "m"], b"")
 }
 
 /// What a command leaves behind: its status and what it says, whether it prints, and whether a certificate is in its place.
@@ -160,40 +163,24 @@ fn each_leaves(rt: &impl Abort, alloc: Global, rows: &[(&[&str], &[u8], Failing,
 }
 
 #[test]
-fn a_certificate_is_put_in_its_place_before_the_plan_is_printed(rt: HostRuntime) {
+fn a_certificate_has_its_place_before_a_plan_is_printed_and_a_map_is_read_before_all(
+    rt: HostRuntime,
+) {
     let none = Failing::none(9);
     let cut = Device::Output.failing_at(1);
     let said = Device::Output.said();
-    each_leaves(
-        &rt,
-        rt.alloc(),
-        &[
-            (&PLAN, MAP, none, (0, "", true, true)),
-            (&PLAN, MAP, cut, (3, said, false, true)),
-            (&["pmpmon", "plan", "m"], MAP, none, (0, "", true, false)),
-        ],
-    )
-}
-
-#[test]
-fn a_certificate_that_is_not_put_in_its_place_ends_a_plan(rt: HostRuntime) {
     // The certificate of the empty map is one write of eleven bytes, and the second call puts it in its place.
-    let second = Device::Certificate.failing_at(2);
-    each_leaves(
-        &rt,
-        rt.alloc(),
-        &[(&PLAN, b"", second, (3, CERTIFICATE, false, false))],
-    )
-}
-
-#[test]
-fn a_map_at_fault_is_told_before_the_second_file_is_opened(rt: HostRuntime) {
+    let moved = Device::Certificate.failing_at(2);
     let second = Device::Second.failing_at(1);
     let left = (2, "pmpmon: m: line 1 is not understood\n", false, false);
     each_leaves(
         &rt,
         rt.alloc(),
         &[
+            (PLAN, MAP, none, (0, "", true, true)),
+            (PLAN, MAP, cut, (3, said, false, true)),
+            (&["pmpmon", "plan", "m"], MAP, none, (0, "", true, false)),
+            (PLAN, b"", moved, (3, CERTIFICATE, false, false)),
             (&["pmpmon", "check", "m", "s"], b"what\n", second, left),
             (&["pmpmon", "judge", "m", "s"], b"what\n", second, left),
             (&["pmpmon", "audit", "m", "s"], b"what\n", second, left),

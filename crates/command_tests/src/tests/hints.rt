@@ -1,6 +1,5 @@
 //! What is said of the inputs of a task that ended for bad input.
 
-use super::runs::Row;
 use byte_streams::Counted;
 use byte_streams::fakes::PieceSource;
 use command_line::command_of;
@@ -21,8 +20,11 @@ fn hints(rt: &impl Abort, alloc: Global, words: &[&str], first: &[u8], second: &
     err.into_inner()
 }
 
+/// A command line, its two inputs, and the hints of its task on them.
+type Row<'a> = (&'a [&'a str], &'a [u8], &'a [u8], &'a str);
+
 /// The hints of each command line's task on its inputs are its text.
-pub fn all_hint(rt: &impl Abort, alloc: Global, rows: &[Row<'_>]) {
+fn all_hint(rt: &impl Abort, alloc: Global, rows: &[Row<'_>]) {
     for (words, first, second, wanted) in rows {
         let said = hints(rt, alloc, words, first, second);
         assert!(rt; said.as_slice() == wanted.as_bytes(), "{words:?}, {wanted}");
@@ -45,6 +47,21 @@ const OF_LISTING: &str =
 
 const OF_TRACE: &str = "hint: t:1:1: 'lead' is no event; write load\n";
 
+const RUN: &[&str] = &["pmpmon", "run", "p", "t"];
+
+const LINT: &[&str] = &["pmpmon", "lint", "--trace", "t", "--platform", "p"];
+
+const OF_HARTS: &str = "hint: t:2:1: '@2' is none of the harts; H is below 2\n";
+
+const OF_PLATFORM: &str = "hint: p: the key monitor is missing\n";
+
+/// A map that needs three entries.
+const HOST: &[u8] = b"0x80000000 0x8000000 rwx\n0x80000000 0x200000 none\n0x10000000 0x1000 rw\n";
+
+const OF_TWO: &str = "hint: m: needs 3 entries, at most 2\n";
+
+const OF_WORDS: &str = "hint: m: needs 3 entries, 2 are there: no configuration words\n";
+
 #[test]
 fn the_first_input_at_fault_has_its_hints(rt: HostRuntime) {
     all_hint(
@@ -58,61 +75,25 @@ fn the_first_input_at_fault_has_its_hints(rt: HostRuntime) {
             (JUDGE, MAP, b"", ""),
             (&["pmpmon", "audit", "m", "r"], MAP, LISTING, OF_LISTING),
             (JUDGE, MAP, b"lead s 8 0\n", OF_TRACE),
-        ],
-    )
-}
-
-#[test]
-fn a_file_that_is_too_large_has_its_limit(rt: HostRuntime) {
-    let large = vec![in rt.alloc(); b'\n'; (1 << 20) + 1].expect(&rt, "memory");
-    let bytes = large.as_slice();
-    let of_map = "hint: m: more than 1048576 bytes; a map has at most 1 MiB\n";
-    all_hint(
-        &rt,
-        rt.alloc(),
-        &[
-            (&["pmpmon", "plan", "m"], bytes, b"", of_map),
-            (&["pmpmon", "lint", "m"], bytes, b"", of_map),
-            (
-                &["pmpmon", "lint", "m.toml"],
-                bytes,
-                b"",
-                "hint: m.toml: more than 1048576 bytes; a platform has at most 1 MiB\n",
-            ),
-            (
-                &["pmpmon", "run", "p", "t"],
-                bytes,
-                b"",
-                "hint: p: more than 1048576 bytes; a platform has at most 1 MiB\n",
-            ),
-            (
-                &["pmpmon", "judge", "--registers", "r", "t"],
-                bytes,
-                b"",
-                "hint: r: more than 1048576 bytes; a listing of registers has at most 1 MiB\n",
-            ),
-        ],
-    )
-}
-
-const RUN: &[&str] = &["pmpmon", "run", "p", "t"];
-
-const LINT: &[&str] = &["pmpmon", "lint", "--trace", "t", "--platform", "p"];
-
-const OF_HARTS: &str = "hint: t:2:1: '@2' is none of the harts; H is below 2\n";
-
-const OF_PLATFORM: &str = "hint: p: the key monitor is missing\n";
-
-#[test]
-fn a_trace_is_for_the_harts_of_its_platform(rt: HostRuntime) {
-    all_hint(
-        &rt,
-        rt.alloc(),
-        &[
             (RUN, PLATFORM, b"@1 irq\n@2 irq\n", OF_HARTS),
             (RUN, PLATFORM, b"@1 irq\n", ""),
             (LINT, b"leap\n", b"harts = 1\n", OF_PLATFORM),
             (&["pmpmon", "lint", "m"], b"leap\n", b"", ""),
+            (
+                &["pmpmon", "plan", "m", "--at-most", "2"],
+                HOST,
+                b"",
+                OF_TWO,
+            ),
+            (&["pmpmon", "show", "m", "--at-most", "3"], HOST, b"", ""),
+            (
+                &["pmpmon", "plan", "m", "--first", "14"],
+                HOST,
+                b"",
+                OF_WORDS,
+            ),
+            (&["pmpmon", "plan", "m", "--first", "13"], HOST, b"", ""),
+            (JUDGE, HOST, b"", ""),
         ],
     )
 }
