@@ -1,2 +1,1 @@
-mod Entered
 mod InTurn

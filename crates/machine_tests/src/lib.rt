@@ -19,8 +19,6 @@ mod headline;
 #[cfg(test)]
 mod machines;
 #[cfg(test)]
-mod outgrown;
-#[cfg(test)]
 mod refused_frames;
 #[cfg(test)]
 mod runs;
