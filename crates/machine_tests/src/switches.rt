@@ -1,7 +1,7 @@
 //! Switches between worlds.
 
 use context_switch::{Contexts, Hart, switch};
-use pmp_encoding::{Bank, Entry, Limit, Perm, Region};
+use pmp_encoding::{Entry, Limit, Perm, Region};
 use sbi_decode::Registers;
 use std::process::Abort;
 use worlds::World;

@@ -163,9 +163,7 @@ fn each_leaves(rt: &impl Abort, alloc: Global, rows: &[(&[&str], &[u8], Failing,
 }
 
 #[test]
-fn a_certificate_has_its_place_before_a_plan_is_printed_and_a_map_is_read_before_all(
-    rt: HostRuntime,
-) {
+fn files_are_read_and_placed_in_their_order(rt: HostRuntime) {
     let none = Failing::none(9);
     let cut = Device::Output.failing_at(1);
     let said = Device::Output.said();
