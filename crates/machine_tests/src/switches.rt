@@ -1,7 +1,7 @@
 //! Switches between worlds.
 
 use context_switch::{Contexts, Hart, switch};
-use pmp_encoding::{Entry, Limit, Perm, Region};
+use pmp_encoding::{Bank, Entry, Limit, Perm, Region};
 use sbi_decode::Registers;
 use std::process::Abort;
 use worlds::World;
@@ -23,6 +23,48 @@ fn page(rt: &impl Abort, base: u64) -> Entry {
         region,
         perm: Perm::ReadWriteExecute,
     }
+}
+
+/// A new hart is in the host's world.
+fn begins_at_its_host(rt: &impl Abort) {
+    let entries = [page(rt, 0x8000_0000)];
+    let hart = Hart::new(3, entries.as_slice(), Limit::SixtyFour);
+    assert!(rt; hart.number() == 3);
+    assert!(rt; hart.world() == World::Host);
+    assert!(rt; *hart.registers() == Registers::new());
+    assert!(rt; hart.bank().cfg0() == 0x1F);
+    assert!(rt; hart.bank().addr(0) == 0x2000_01FF);
+    assert!(rt; hart.bank().limit() == Limit::SixtyFour);
+}
+
+/// Registers and a bank are put in place.
+fn takes_registers_and_bank(rt: &impl Abort) {
+    let mut hart = Hart::new(1, [].as_slice(), Limit::Sixteen);
+    hart.registers_mut().set(A0, 7);
+    hart.registers_mut().set_pc(0x8000_0000);
+    assert!(rt; *hart.registers() == registers_of(0x8000_0000, 7));
+    let bank = Bank::of([page(rt, 0x8020_0000)].as_slice(), Limit::Sixteen);
+    hart.put_bank(bank);
+    assert!(rt; *hart.bank() == bank);
+    assert!(rt; *hart.registers() == registers_of(0x8000_0000, 7));
+    assert!(rt; hart.number() == 1);
+}
+
+/// Each of the entries is loaded.
+fn loads_each_entry(rt: &impl Abort) {
+    let entries = [page(rt, 0x8000_0000), page(rt, 0x8000_1000)];
+    let mut hart = Hart::new(2, [].as_slice(), Limit::Sixteen);
+    hart.load(entries.as_slice());
+    assert!(rt; hart.bank().cfg0() == 0x1F1F);
+    assert!(rt; hart.bank().addr(0) == 0x2000_01FF);
+    assert!(rt; hart.bank().addr(1) == 0x2000_05FF);
+}
+
+#[test]
+fn a_hart_has_a_world_registers_and_a_bank(rt: HostRuntime) {
+    begins_at_its_host(&rt);
+    takes_registers_and_bank(&rt);
+    loads_each_entry(&rt);
 }
 
 /// Each host and each enclave has registers of its own.
