@@ -1,9 +1,12 @@
-//! Worked rows of the program that no transcript shows, as tests alone: each command on devices that fail, hints of inputs in
-//! memory, and names as messages show them.
+//! Worked rows of the program, as tests alone: of the command line, words that are a task and words that are none and how they
+//! fail; of the commands, what each prints and writes on files in memory, and on devices that fail; hints of inputs in memory, and
+//! names as messages show them.
 //!
-//! They stand apart from the commands so that these are proved once, and their tests beside other crates. What a command
-//! prints and answers on files stands in transcripts.
+//! They stand apart from the commands so that these are proved once, and their tests beside other crates. The proofs of the
+//! command line over `clap` take the longest of all. More of what a command prints and answers stands in transcripts.
 #![tactic(auto)]
 
+#[cfg(test)]
+mod command_lines;
 #[cfg(test)]
 mod tests;

@@ -1,9 +1,11 @@
-//! The tests, in a module for each subject.
+//! The tests of the commands, in a module for each subject.
 
 mod devices;
 mod failures;
 mod hints;
+mod judged;
 mod machine;
 mod names;
 mod on_files;
-mod places;
+mod plans;
+mod runs;

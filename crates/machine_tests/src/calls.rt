@@ -3,6 +3,8 @@
 use sbi_decode::{Call, EXTENSION_ID, NotSupported, Registers, decode};
 use std::process::Abort;
 
+const A0: usize = 10;
+
 const A6: usize = 16;
 
 const A7: usize = 17;
@@ -53,7 +55,7 @@ const ROWS: &[Row] = &[
     (EXTENSION_ID, 2, Ok(Call::Run { id: 11 })),
     (EXTENSION_ID, 3, Ok(Call::Stop)),
     (EXTENSION_ID, 4, Ok(Call::Resume { id: 11 })),
-    (0x0845_4E43, 5, Ok(Call::Exit { value: 11 })),
+    (EXTENSION_ID, 5, Ok(Call::Exit { value: 11 })),
     (EXTENSION_ID, 6, Ok(Call::Measure { id: 11, k: 12 })),
     (EXTENSION_ID, 7, Err(NotSupported)),
     (EXTENSION_ID, 1 << 32, Err(NotSupported)),
@@ -65,4 +67,13 @@ const ROWS: &[Row] = &[
 #[test]
 fn each_function_has_its_arguments_and_others_are_not_supported(rt: HostRuntime) {
     all_are(&rt, ROWS);
+}
+
+#[test]
+fn exit_hands_its_value_to_the_host(rt: HostRuntime) {
+    let mut registers = Registers::new();
+    registers.set(A7, 0x0845_4E43);
+    registers.set(A6, 5);
+    registers.set(A0, 9);
+    assert!(rt; decode(&registers) == Ok(Call::Exit { value: 9 }));
 }

@@ -3,8 +3,9 @@
 ghost use Rattle.std.specs.Prelude.{replicate, ◌<◌, ◌^◌};
 
 mod anew;
+mod needs;
+mod refusals;
 mod scattered;
-mod steps;
 mod views;
 
 use enclave_requests::{Create, Pages};
@@ -109,13 +110,13 @@ enum Step {
     Keeps(u64),
     Uses(usize),
     Owns(u32, Owner),
+    /// How many entries an enclave's list has.
+    ListsMany(u64, usize),
     Configures(u64),
-    /// The host's view and the enclave's own would need that many entries after this creation; nothing where it is refused by
-    /// another check.
-    WouldNeed(Create, Option<CreateNeeds>),
-    /// The host's view would need that many entries after the destruction of this enclave; nothing where it is refused by
-    /// another check.
-    WouldNeedWithout(u64, Option<u32>),
+    /// The host's view and the enclave's own would need that many entries after this creation.
+    WouldNeed(Create, u32, u32),
+    /// The host's view would need that many entries after the destruction of this enclave.
+    WouldNeedWithout(u64, u32),
 }
 
 /// Takes the steps, one after the other.
@@ -135,9 +136,12 @@ fn takes(rt: &impl Abort, alloc: Global, table: &mut Table, steps: &[Step]) {
             Step::Keeps(id) => anew::keeps(rt, table, id),
             Step::Uses(wanted) => uses(rt, table, wanted),
             Step::Owns(page, wanted) => owns(rt, table, page, wanted),
+            Step::ListsMany(id, wanted) => views::lists_many(rt, table, id, wanted),
             Step::Configures(wanted) => configures(rt, table, wanted),
-            Step::WouldNeed(asked, wanted) => steps::needs(rt, table, asked, wanted),
-            Step::WouldNeedWithout(id, wanted) => steps::needs_without(rt, table, id, wanted),
+            Step::WouldNeed(asked, host, own) => {
+                needs::of_creation(rt, table, asked, Some(CreateNeeds { host, own }))
+            }
+            Step::WouldNeedWithout(id, host) => needs::of_destruction(rt, table, id, Some(host)),
         }
     }
 }

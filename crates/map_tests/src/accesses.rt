@@ -120,6 +120,33 @@ const WITHOUT_A_MATCH: &[Load] = &[
     (Mode::User, 8, 0x8000_0000, Err(Cause::LoadFault)),
 ];
 
+/// Accesses of two bytes by a user fault with the causes of these numbers where no entry matches.
+fn fault(rt: &impl Abort, rows: &[(Kind, u64, u8)]) {
+    let bank = Bank::of([].as_slice(), Limit::Sixteen);
+    for (kind, addr, number) in rows {
+        let access = Access::new(Mode::User, *kind, 2, *addr).expect(rt, "a size");
+        match judge(&bank, &access) {
+            Ok(()) => panic!(rt; "allowed where {number} was wanted"),
+            Err(cause) => assert!(rt; cause.number() == *number, "{number}"),
+        }
+    }
+}
+
+#[test]
+fn causes_of_each_kind(rt: HostRuntime) {
+    fault(
+        &rt,
+        &[
+            (Kind::Fetch, 0x1001, 0),
+            (Kind::Fetch, 0x1000, 1),
+            (Kind::Load, 0x1001, 4),
+            (Kind::Load, 0x1000, 5),
+            (Kind::Store, 0x1001, 6),
+            (Kind::Store, 0x1000, 7),
+        ],
+    );
+}
+
 /// Stores of these sizes have their four parts.
 fn have_their_parts(rt: &impl Abort, sizes: &[u8]) {
     for size in sizes {

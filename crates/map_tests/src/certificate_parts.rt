@@ -1,7 +1,7 @@
 //! The reader of certificates, part by part.
 
 use certificate_format::{Header, ReadFault, Reader, Tag, Version};
-use pmp_encoding::Limit;
+use pmp_encoding::{Limit, Perm};
 use std::process::Abort;
 
 /// The lower half of the space with every right, in one entry.
@@ -13,7 +13,7 @@ pub const LOWER_HALF: [u8; 47] = [
 ];
 
 /// The header, and how many bytes are left after the root.
-fn read_whole(bytes: &[u8]) -> Result<(Header, usize), ReadFault> {
+pub fn read_whole(bytes: &[u8]) -> Result<(Header, usize), ReadFault> {
     let mut reader = Reader::new(bytes);
     let header = reader.header()?;
     for _ in 0..header.count {
@@ -40,17 +40,62 @@ fn fault_of(bytes: &[u8]) -> Option<ReadFault> {
     }
 }
 
+/// The reader comes to a header of the first version, with that many entries.
+fn reads_header(rt: &impl Abort, reader: &mut Reader, count: u32) {
+    let header = reader.header().expect(rt, "a header");
+    assert!(rt; header.version == Version::One);
+    assert!(rt; (header.version.limit(), header.count) == (Limit::Sixteen, count));
+}
+
+/// The reader comes to an entry that is written as this pair.
+pub fn reads_entry(rt: &impl Abort, reader: &mut Reader, cfg: u8, address: u64) {
+    let entry = reader.entry().expect(rt, "an entry");
+    assert!(rt; (entry.cfg(), entry.address()) == (cfg, address));
+}
+
+/// The reader comes to a split block with these costs, under all permissions in their order.
+fn reads_costs(rt: &impl Abort, reader: &mut Reader, wanted: [u32; 6]) {
+    assert!(rt; reader.tag() == Ok(Tag::Branch));
+    let costs = reader.costs().expect(rt, "costs");
+    let all = [
+        costs.cost(Perm::NoAccess),
+        costs.cost(Perm::Read),
+        costs.cost(Perm::ReadWrite),
+        costs.cost(Perm::Execute),
+        costs.cost(Perm::ReadExecute),
+        costs.cost(Perm::ReadWriteExecute),
+    ];
+    assert!(rt; all == wanted);
+}
+
+/// The reader comes to a leaf with this permission.
+fn reads_leaf(rt: &impl Abort, reader: &mut Reader, wanted: Perm) {
+    assert!(rt; reader.tag() == Ok(Tag::Leaf));
+    assert!(rt; reader.perm() == Ok(wanted));
+}
+
+#[test]
+fn lower_half_reads_part_by_part(rt: HostRuntime) {
+    let mut reader = Reader::new(LOWER_HALF.as_slice());
+    reads_header(&rt, &mut reader, 1);
+    reads_entry(&rt, &mut reader, 0x1F, 0x000F_FFFF_FFFF_FFFF);
+    reads_costs(&rt, &mut reader, [1, 2, 2, 2, 2, 1]);
+    reads_leaf(&rt, &mut reader, Perm::ReadWriteExecute);
+    reads_leaf(&rt, &mut reader, Perm::NoAccess);
+    assert!(rt; reader.rest().len() == 0);
+}
+
 /// The bytes are at fault so, or not at all.
 fn come_to(rt: &impl Abort, bytes: &[u8], wanted: Option<ReadFault>) {
     assert!(rt; fault_of(bytes) == wanted, "{} bytes", bytes.len());
 }
 
-/// What is cut off the lower half anywhere is truncated.
-fn is_needed_whole(rt: &impl Abort) {
+#[test]
+fn each_cut_of_the_lower_half_is_truncated(rt: HostRuntime) {
     for n in 0..47 {
-        come_to(rt, &LOWER_HALF[..n], Some(ReadFault::Truncated));
+        come_to(&rt, &LOWER_HALF[..n], Some(ReadFault::Truncated));
     }
-    come_to(rt, &LOWER_HALF, None);
+    come_to(&rt, &LOWER_HALF, None);
 }
 
 /// The lower half with one byte changed has this fault.
@@ -65,23 +110,24 @@ fn are_told(rt: &impl Abort, rows: &[(usize, u8, ReadFault)]) {
     }
 }
 
-/// The place of a byte, another byte, and the fault.
-const FAULTS: &[(usize, u8, ReadFault)] = &[
-    (0, 1, ReadFault::BadMagic),
-    (3, 0, ReadFault::BadMagic),
-    (4, 0, ReadFault::BadVersion),
-    (4, 3, ReadFault::BadVersion),
-    (4, 2, ReadFault::BadLimit),
-    (5, 0, ReadFault::BadTag),
-    (18, 2, ReadFault::BadTag),
-    (43, 0xFF, ReadFault::BadTag),
-    (44, 2, ReadFault::BadPerm),
-    (46, 8, ReadFault::BadPerm),
-    (5, 5, ReadFault::Truncated),
-];
-
-/// The numbers of the faults.
-fn have_numbers(rt: &impl Abort) {
+#[test]
+fn each_fault_is_told(rt: HostRuntime) {
+    are_told(
+        &rt,
+        &[
+            (0, 1, ReadFault::BadMagic),
+            (3, 0, ReadFault::BadMagic),
+            (4, 0, ReadFault::BadVersion),
+            (4, 3, ReadFault::BadVersion),
+            (4, 2, ReadFault::BadLimit),
+            (5, 0, ReadFault::BadTag),
+            (18, 2, ReadFault::BadTag),
+            (43, 0xFF, ReadFault::BadTag),
+            (44, 2, ReadFault::BadPerm),
+            (46, 8, ReadFault::BadPerm),
+            (5, 5, ReadFault::Truncated),
+        ],
+    );
     let numbers = [
         ReadFault::BadMagic as u8,
         ReadFault::BadVersion as u8,
@@ -111,10 +157,7 @@ fn has_limit(rt: &impl Abort, byte: u8, limit: Limit) {
 }
 
 #[test]
-fn each_fault_is_told(rt: HostRuntime) {
-    is_needed_whole(&rt);
-    are_told(&rt, FAULTS);
-    have_numbers(&rt);
+fn second_form_names_its_limit(rt: HostRuntime) {
     has_limit(&rt, 0x40, Limit::SixtyFour);
     has_limit(&rt, 0x10, Limit::Sixteen);
     come_to(&rt, &second_form(0x20), Some(ReadFault::BadLimit));

@@ -1,11 +1,11 @@
 //! Certificates, byte by byte.
 
-use crate::certificate_parts::LOWER_HALF;
+use crate::certificate_parts::{LOWER_HALF, read_whole, reads_entry};
 use crate::plans::map_of;
 use byte_streams::fakes::PieceSink;
 use entry_planner::{plan, plan_map};
 use permission_map::PermissionMap;
-use plan_certificate::{send_map, write, write_map};
+use plan_certificate::{Reader, Tag, send_map, write, write_map};
 use pmp_encoding::{Limit, Perm};
 use prefix_tree::build;
 use std::alloc::Global;
@@ -47,10 +47,22 @@ fn has_bytes(rt: &impl Abort, alloc: Global, range: (u64, u64, Perm), limit: Lim
 }
 
 #[test]
-fn a_certificate_names_its_limit_where_that_is_sixty_four(rt: HostRuntime) {
-    let half = (0, 1 << 43, Perm::ReadWriteExecute);
-    has_bytes(&rt, rt.alloc(), half, Limit::Sixteen, &LOWER_HALF);
+fn empty_map_has_eleven_bytes(rt: HostRuntime) {
+    let none = (0, 0, Perm::Read);
+    let wanted = b"PMPC\x01\x00\x00\x00\x00\x00\x00".as_slice();
+    has_bytes(&rt, rt.alloc(), none, Limit::Sixteen, wanted);
+}
+
+#[test]
+fn whole_space_has_twenty_bytes(rt: HostRuntime) {
     let whole = (0, 1 << 44, Perm::ReadWriteExecute);
+    has_bytes(
+        &rt,
+        rt.alloc(),
+        whole,
+        Limit::Sixteen,
+        b"PMPC\x01\x01\0\0\0\x1F\xFF\xFF\xFF\xFF\xFF\xFF\x1F\0\0\x07",
+    );
     has_bytes(
         &rt,
         rt.alloc(),
@@ -58,6 +70,51 @@ fn a_certificate_names_its_limit_where_that_is_sixty_four(rt: HostRuntime) {
         Limit::SixtyFour,
         b"PMPC\x02\x40\x01\0\0\0\x1F\xFF\xFF\xFF\xFF\xFF\xFF\x1F\0\0\x07",
     );
+}
+
+#[test]
+fn lower_half_has_forty_seven_bytes(rt: HostRuntime) {
+    let half = (0, 1 << 43, Perm::ReadWriteExecute);
+    has_bytes(&rt, rt.alloc(), half, Limit::Sixteen, &LOWER_HALF);
+}
+
+/// A certificate has that many bytes, and is read to its end, with that many entries.
+fn is_read(rt: &impl Abort, bytes: &[u8], length: usize, count: u32) {
+    assert!(rt; bytes.len() == length);
+    let (header, left) = read_whole(bytes).expect(rt, "memory");
+    assert!(rt; (header.count, left) == (count, 0));
+}
+
+#[test]
+fn one_page_splits_forty_four_blocks(rt: HostRuntime) {
+    let all = Perm::ReadWriteExecute;
+    let bytes = certificate(&rt, rt.alloc(), 0x80000, 1, all, Limit::Sixteen);
+    is_read(&rt, bytes.as_slice(), 1208, 1);
+}
+
+/// The reader comes to a split block, which costs so much where nothing is inherited.
+fn reads_cost(rt: &impl Abort, reader: &mut Reader, wanted: u32) {
+    assert!(rt; reader.tag().expect(rt, "memory") == Tag::Branch);
+    let costs = reader.costs().expect(rt, "memory");
+    assert!(rt; costs.cost(Perm::NoAccess) == wanted);
+}
+
+/// A certificate begins with the two entries of seven pages, and with what they cost.
+fn begins_with_two_entries(rt: &impl Abort, bytes: &[u8]) {
+    let mut reader = Reader::new(bytes);
+    let header = reader.header().expect(rt, "memory");
+    assert!(rt; header.count == 2);
+    reads_entry(rt, &mut reader, 0x18, 0x2008_3DFF);
+    reads_entry(rt, &mut reader, 0x1D, 0x2008_2FFF);
+    reads_cost(rt, &mut reader, 2);
+}
+
+#[test]
+fn seven_pages_take_two_entries(rt: HostRuntime) {
+    let perm = Perm::ReadExecute;
+    let bytes = certificate(&rt, rt.alloc(), 0x80208, 7, perm, Limit::Sixteen);
+    is_read(&rt, bytes.as_slice(), 1217, 2);
+    begins_with_two_entries(&rt, bytes.as_slice());
 }
 
 /// A sink takes the whole certificate of a map, and it is these bytes.

@@ -9,6 +9,14 @@ use permission_map::PermissionMap;
 use pmp_encoding::Perm;
 use std::alloc::Global;
 use std::process::Abort;
+use std::test::Fail;
+
+/// The whole space with every right, in one entry.
+const WHOLE: [u8; 20] = [
+    0x50, 0x4D, 0x50, 0x43, 1, 1, 0, 0, 0, // header
+    0x1F, 0xFF, 0xFF, 0xFF, 0xFF, 0xFF, 0xFF, 0x1F, 0, // entry
+    0, 7, // leaf
+];
 
 /// The lower half of the space with every right, in one entry.
 const LOWER_HALF: [u8; 47] = [
@@ -20,6 +28,10 @@ const LOWER_HALF: [u8; 47] = [
 
 /// A range of a map: the first page, the number of pages, the permission.
 type Range = (u64, u64, Perm);
+
+const EMPTY: Range = (0, 0, Perm::Read);
+
+const WHOLE_SPACE: Range = (0, 1 << 44, Perm::ReadWriteExecute);
 
 const LOWER_HALF_SPACE: Range = (0, 1 << 43, Perm::ReadWriteExecute);
 
@@ -59,6 +71,63 @@ fn code(map: &PermissionMap, bytes: &[u8]) -> u8 {
     }
 }
 
+/// The lower half's certificate with one byte changed is refused with this number.
+fn is_refused_with(rt: &impl Abort, alloc: Global, place: usize, byte: u8, refusal: u8) {
+    let mut bytes = LOWER_HALF;
+    if let Some(there) = bytes.get_mut(place) {
+        *there = byte;
+    }
+    let map = map_of(rt, alloc, LOWER_HALF_SPACE);
+    assert!(rt;
+        code(&map, bytes.as_slice()) == refusal,
+        "{byte} at {place}"
+    );
+}
+
+#[test]
+fn empty_map_needs_no_entry(rt: HostRuntime) {
+    let bytes = [0x50, 0x4D, 0x50, 0x43, 1, 0, 0, 0, 0, 0, 0];
+    range_answers(&rt, rt.alloc(), EMPTY, &bytes, Ok(0));
+}
+
+#[test]
+fn whole_space_needs_one_entry(rt: HostRuntime) {
+    range_answers(&rt, rt.alloc(), WHOLE_SPACE, &WHOLE, Ok(1));
+    let mut one_more_one = WHOLE;
+    one_more_one[16] = 0x3F;
+    range_answers(&rt, rt.alloc(), WHOLE_SPACE, &one_more_one, Ok(1));
+    let wrong_leaf = Err(CheckRefusal::WrongLeaf);
+    range_answers(&rt, rt.alloc(), EMPTY, &WHOLE, wrong_leaf);
+    let not_uniform = Err(CheckRefusal::LeafNotUniform);
+    range_answers(&rt, rt.alloc(), LOWER_HALF_SPACE, &WHOLE, not_uniform);
+}
+
+#[test]
+fn needless_split_is_accepted(rt: HostRuntime) {
+    let bytes = [
+        0x50, 0x4D, 0x50, 0x43, 1, 1, 0, 0, 0, // header
+        0x1F, 0xFF, 0xFF, 0xFF, 0xFF, 0xFF, 0xFF, 0x1F, 0, // entry
+        1, 1, 0, 0, 0, 1, 0, 0, 0, 1, 0, 0, 0, 1, 0, 0, 0, 1, 0, 0, 0, 0, 0, 0, 0, // branch
+        0, 7, 0, 7, // leaves
+    ];
+    range_answers(&rt, rt.alloc(), WHOLE_SPACE, &bytes, Ok(1));
+}
+
+#[test]
+fn second_version_names_its_limit(rt: HostRuntime) {
+    let mut bytes = [
+        0x50, 0x4D, 0x50, 0x43, 2, 0x40, 1, 0, 0, 0, // header
+        0x1F, 0xFF, 0xFF, 0xFF, 0xFF, 0xFF, 0xFF, 0x1F, 0, // entry
+        0, 7, // leaf
+    ];
+    range_answers(&rt, rt.alloc(), WHOLE_SPACE, &bytes, Ok(1));
+    bytes[5] = 0x10;
+    range_answers(&rt, rt.alloc(), WHOLE_SPACE, &bytes, Ok(1));
+    bytes[5] = 0x20;
+    let bad_limit = Err(CheckRefusal::BadLimit);
+    range_answers(&rt, rt.alloc(), WHOLE_SPACE, &bytes, bad_limit);
+}
+
 #[test]
 fn lower_half_needs_one_entry_and_all_its_bytes(rt: HostRuntime) {
     range_answers(&rt, rt.alloc(), LOWER_HALF_SPACE, &LOWER_HALF, Ok(1));
@@ -72,6 +141,29 @@ fn lower_half_needs_one_entry_and_all_its_bytes(rt: HostRuntime) {
             truncated,
         );
     }
+}
+
+#[test]
+fn each_refusal_has_its_place_in_the_lower_half(rt: HostRuntime) {
+    let cases = [
+        (0, 0, 1),
+        (4, 3, 2),
+        (5, 0, 4),
+        (5, 2, 6),
+        (10, 0, 7),
+        (16, 0x1F, 14),
+        (18, 0, 9),
+        (19, 0, 13),
+    ];
+    for (place, byte, refusal) in cases {
+        is_refused_with(&rt, rt.alloc(), place, byte, refusal);
+    }
+    let mut bytes = LOWER_HALF;
+    for place in 19..23 {
+        bytes[place] = 0xFF;
+    }
+    let too_high = Err(CheckRefusal::CostTooHigh);
+    range_answers(&rt, rt.alloc(), LOWER_HALF_SPACE, &bytes, too_high);
 }
 
 /// Whether a lesser bound for another permission than none was written: it is sound, and the root's number for none
@@ -124,4 +216,33 @@ fn changes_of_one_byte(rt: &impl Abort, map: &PermissionMap) -> (u32, u32) {
 fn of_all_changes_of_one_byte_nine_are_right(rt: HostRuntime) {
     let map = map_of(&rt, rt.alloc(), LOWER_HALF_SPACE);
     assert!(rt; changes_of_one_byte(&rt, &map) == (9, 11976));
+    let mut second_version = LOWER_HALF;
+    second_version[4] = 2;
+    answers(&rt, &map, &second_version, Err(CheckRefusal::BadLimit));
+}
+
+/// A certificate without entries that splits 44 blocks around the first page, and ends there.
+fn split_down_to_a_page(alloc: Global) -> Result<Vec<u8>, Fail> {
+    let mut bytes = Vec::new(alloc);
+    bytes.extend_from_slice(b"PMPC\x01\x00\x00\x00\x00".as_slice())?;
+    for _ in 0..44 {
+        bytes.push(1)?;
+        bytes.extend_from_slice([0; 24].as_slice())?;
+    }
+    Ok(bytes)
+}
+
+#[test]
+fn a_page_that_is_split_is_too_deep(rt: HostRuntime) -> Result<(), Fail> {
+    let alloc = rt.alloc();
+    let mut bytes = split_down_to_a_page(alloc)?;
+    assert!(rt; bytes.len() == 1109);
+    for range in [EMPTY, WHOLE_SPACE, SEVEN_PAGES] {
+        range_answers(&rt, alloc, range, &bytes, Err(CheckRefusal::Truncated));
+    }
+    bytes.push(1)?;
+    for range in [EMPTY, WHOLE_SPACE, SEVEN_PAGES] {
+        range_answers(&rt, alloc, range, &bytes, Err(CheckRefusal::TooDeep));
+    }
+    Ok(())
 }

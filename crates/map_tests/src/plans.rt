@@ -68,6 +68,19 @@ fn have_same_costs(one: &Plan, other: &Plan) -> bool {
     true
 }
 
+/// Whether the split blocks of a plan have these costs, under all permissions in their order.
+fn have_costs(plan: &Plan, wanted: &[[u32; 6]]) -> bool {
+    for i in 0..plan.branches() {
+        let costs = wanted.get(i).copied().unwrap_or_default();
+        for k in 0..6 {
+            if plan.cost(i, PERMS[k]) != costs[k] {
+                return false;
+            }
+        }
+    }
+    plan.branches() == wanted.len()
+}
+
 /// Whether a plan without a tree is that of the map's tree, with the same entries and costs.
 fn is_of_tree(rt: &impl Abort, alloc: Global, map: &PermissionMap, of_map: &Plan) -> bool {
     let tree = build(alloc, map).expect(rt, "memory");
@@ -103,9 +116,17 @@ fn configures(rt: &impl Abort, alloc: Global, ranges: &[Range], word: u64) {
     assert!(rt; Bank::of_packed(plan.entries(), Limit::Sixteen).cfg0() == word);
 }
 
+/// The map of the ranges splits as many blocks as there are rows, which have these costs.
+fn costs(rt: &impl Abort, alloc: Global, ranges: &[Range], rows: &[[u32; 6]]) {
+    let tree = build(alloc, &map_of(rt, alloc, ranges)).expect(rt, "memory");
+    let plan = plan(alloc, &tree).expect(rt, "memory");
+    assert!(rt; have_costs(&plan, rows));
+}
+
 #[test]
 fn empty_map_needs_no_entry(rt: HostRuntime) {
     is_planned(&rt, rt.alloc(), &[], &[]);
+    costs(&rt, rt.alloc(), &[], &[]);
 }
 
 #[test]
@@ -242,4 +263,10 @@ fn one_page_more_needs_one_entry_more(rt: HostRuntime) {
     scattered_pages_need(&rt, rt.alloc(), 14, 17);
     ranges_need(&rt, rt.alloc(), TEN_SHARED, 16);
     ranges_need(&rt, rt.alloc(), ELEVEN_SHARED, 17);
+}
+
+#[test]
+fn the_lower_half_costs_one_under_either_permission(rt: HostRuntime) {
+    const RANGES: &[Range] = &[(0, 1 << 43, Perm::ReadWriteExecute)];
+    costs(&rt, rt.alloc(), RANGES, &[[1, 2, 2, 2, 2, 1]]);
 }

@@ -8,7 +8,7 @@ use pmp_encoding::Limit;
 use register_width::Xlen;
 
 /// How a plan is printed.
-#[derive(Clone, Copy)]
+#[derive(Clone, Copy, PartialEq, Eq)]
 pub enum Format {
     /// A line for each entry, and the configuration words after them.
     Text,
@@ -21,7 +21,7 @@ pub enum Format {
 }
 
 /// How a table is printed.
-#[derive(Clone, Copy)]
+#[derive(Clone, Copy, PartialEq, Eq)]
 pub enum TableFormat {
     /// A row for each stretch.
     Text,
@@ -32,7 +32,7 @@ pub enum TableFormat {
 }
 
 /// What is written of the answers to a trace.
-#[derive(Clone, Copy)]
+#[derive(Clone, Copy, PartialEq, Eq)]
 pub enum Answers {
     /// The answers alone.
     Plain,
@@ -43,7 +43,7 @@ pub enum Answers {
 }
 
 /// What a file that is linted should be.
-#[derive(Clone, Copy)]
+#[derive(Clone, Copy, PartialEq, Eq)]
 pub enum LintKind<'a> {
     /// What its name says: a platform where it ends in `.toml`, otherwise a map.
     ByName,
@@ -57,7 +57,7 @@ pub enum LintKind<'a> {
 }
 
 /// One command of the program. The names of files are the words that were given.
-#[derive(Clone, Copy)]
+#[derive(Clone, Copy, PartialEq, Eq)]
 pub enum Task<'a> {
     /// Boot a platform, run a trace on it, and report every answer.
     Run {

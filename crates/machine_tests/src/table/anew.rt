@@ -72,3 +72,21 @@ fn destroying_every_second_page_is_refused_at_seventeen(rt: HostRuntime) {
     ];
     takes_on(&rt, rt.alloc(), 16, 32, 0x1000, steps.as_slice());
 }
+
+#[test]
+fn all_of_every_second_page_fit_sixty_four_entries(rt: HostRuntime) {
+    let steps = [
+        Step::Uses(4),
+        Step::DestroysEverySecond(1, 13),
+        Step::Uses(17),
+        Step::DestroysEverySecond(27, 3),
+        Step::Uses(19),
+    ];
+    takes_on(&rt, rt.alloc(), 64, 32, 0x1000, steps.as_slice());
+}
+
+#[test]
+fn each_of_thirty_two_creations_leaves_the_tree_as_if_built_anew(rt: HostRuntime) {
+    let steps = [Step::CreatesSideBySide(32), Step::Uses(4)];
+    takes_on(&rt, rt.alloc(), 16, 0, 0, steps.as_slice());
+}

@@ -12,6 +12,8 @@ enum Seen<'a> {
     Lists(u64, Option<&'a [u64]>),
     /// How many maximal runs an enclave's view has; none where there is no such enclave.
     Runs(u64, Option<usize>),
+    /// What the host may do with a page.
+    HostPage(u32, Perm),
     /// What an enclave may do with a page.
     Page(u64, u32, Perm),
     /// Where an enclave is entered.
@@ -27,6 +29,7 @@ fn is_so(rt: &impl Abort, table: &Table, seen: Seen) {
         Seen::HostLists(wanted) => assert!(rt; have_addresses(table.host_entries(), wanted)),
         Seen::Lists(id, wanted) => assert!(rt; lists(table, id, wanted)),
         Seen::Runs(id, wanted) => assert!(rt; run_count(rt, table, id) == wanted),
+        Seen::HostPage(page, perm) => host_sees(rt, table, page, perm),
         Seen::Page(id, page, perm) => enclave_sees(rt, table, id, page, perm),
         Seen::EnteredAt(id, wanted) => assert!(rt; table.entry_point(id) == Some(wanted)),
         Seen::Uses(wanted) => uses(rt, table, wanted),
@@ -50,6 +53,11 @@ fn all_are_so(rt: &impl Abort, table: &Table, seen: &[Seen]) {
     }
 }
 
+/// The list of an enclave has that many entries.
+pub fn lists_many(rt: &impl Abort, table: &Table, id: u64, wanted: usize) {
+    assert!(rt; table.enclave_entries(id).map(|entries| entries.len()) == Some(wanted));
+}
+
 /// How many maximal runs the view of an enclave has.
 fn run_count(rt: &impl Abort, table: &Table, id: u64) -> Option<usize> {
     let view = table.enclave_view(id).expect(rt, "memory");
@@ -68,6 +76,12 @@ fn enclave_sees(rt: &impl Abort, table: &Table, id: u64, page: u32, perm: Perm) 
     gives(rt, &view, page, perm);
 }
 
+/// A page of the host's view has this permission.
+fn host_sees(rt: &impl Abort, table: &Table, page: u32, perm: Perm) {
+    let view = table.host_view().expect(rt, "memory");
+    gives(rt, &view, page, perm);
+}
+
 #[test]
 fn boot_of_the_example_platform_uses_three_entries(rt: HostRuntime) {
     let seen = [
@@ -79,58 +93,81 @@ fn boot_of_the_example_platform_uses_three_entries(rt: HostRuntime) {
     sees(&rt, rt.alloc(), None, seen.as_slice());
 }
 
-/// A creation, and what is seen of its enclave.
-type Row<'a> = (Create, &'a [Seen<'a>]);
+#[test]
+fn seven_pages_need_two_entries(rt: HostRuntime) {
+    let mut asked = page_at(0x8020_8000);
+    asked.text_pages = 7;
+    let seen = [
+        Seen::Lists(1, Some(&[0x2008_3DFF, 0x2008_2FFF])),
+        Seen::Uses(5),
+    ];
+    sees(&rt, rt.alloc(), Some(asked), seen.as_slice());
+}
 
-const ROWS: &[Row<'static>] = &[
-    // Seven pages of text.
-    (
-        Create {
-            base: 0x8020_8000,
-            text_pages: 7,
-            data_pages: 0,
-            shared_base: 0,
-            shared_count: 0,
-            entry_offset: 0,
-        },
-        &[
-            Seen::Lists(1, Some(&[0x2008_3DFF, 0x2008_2FFF])),
-            Seen::Uses(5),
-        ],
-    ),
-    // A page of text, one of data and one that is shared.
-    (
-        Create {
-            base: 0x8020_0000,
-            text_pages: 1,
-            data_pages: 1,
-            shared_base: 0x8040_0000,
-            shared_count: 1,
-            entry_offset: 0,
-        },
-        &[
-            Seen::Lists(1, Some(&[0x2008_01FF, 0x2008_05FF, 0x2010_01FF])),
-            Seen::Uses(4),
-            Seen::Owns(0x80201, Owner::Private(1)),
-            Seen::Owns(0x80400, Owner::Shared(1)),
-            Seen::EnteredAt(1, 0x8020_0000),
-            Seen::Runs(1, Some(3)),
-            Seen::Runs(2, None),
-            Seen::Page(1, 0x80200, Perm::ReadExecute),
-            Seen::Page(1, 0x80201, Perm::ReadWrite),
-            Seen::Page(1, 0x80400, Perm::ReadWrite),
-        ],
-    ),
-];
-
-/// All this is seen of each row's enclave, on a new table.
-fn are_seen(rt: &impl Abort, alloc: Global, rows: &[Row<'_>]) {
-    for (asked, seen) in rows {
-        sees(rt, alloc, Some(*asked), seen);
-    }
+/// A page of text, one of data and one that is shared.
+fn three_pages() -> Create {
+    let mut asked = page_at(0x8020_0000);
+    asked.data_pages = 1;
+    asked.shared_base = 0x8040_0000;
+    asked.shared_count = 1;
+    asked
 }
 
 #[test]
-fn lists_owners_and_views_of_enclaves(rt: HostRuntime) {
-    are_seen(&rt, rt.alloc(), ROWS);
+fn lists_and_owners_of_text_data_and_shared_pages(rt: HostRuntime) {
+    let list = [0x2008_01FF, 0x2008_05FF, 0x2010_01FF];
+    let seen = [
+        Seen::Lists(1, Some(list.as_slice())),
+        Seen::Uses(4),
+        Seen::Owns(0x80201, Owner::Private(1)),
+        Seen::Owns(0x80400, Owner::Shared(1)),
+        Seen::EnteredAt(1, 0x8020_0000),
+    ];
+    sees(&rt, rt.alloc(), Some(three_pages()), seen.as_slice());
+}
+
+#[test]
+fn view_of_an_enclave_with_text_data_and_shared_pages(rt: HostRuntime) {
+    let seen = [
+        Seen::Runs(1, Some(3)),
+        Seen::Runs(2, None),
+        Seen::Page(1, 0x80200, Perm::ReadExecute),
+        Seen::Page(1, 0x80201, Perm::ReadWrite),
+        Seen::Page(1, 0x80400, Perm::ReadWrite),
+    ];
+    sees(&rt, rt.alloc(), Some(three_pages()), seen.as_slice());
+}
+
+#[test]
+fn view_of_the_host_beside_an_enclave(rt: HostRuntime) {
+    let seen = [
+        Seen::HostPage(0x801FF, Perm::NoAccess),
+        Seen::HostPage(0x80200, Perm::NoAccess),
+        Seen::HostPage(0x80201, Perm::NoAccess),
+        Seen::HostPage(0x80202, Perm::ReadWriteExecute),
+        Seen::HostPage(0x80400, Perm::ReadWriteExecute),
+    ];
+    sees(&rt, rt.alloc(), Some(three_pages()), seen.as_slice());
+}
+
+#[test]
+fn an_enclaves_own_view_can_need_too_many(rt: HostRuntime) {
+    let too_many = Create {
+        base: 0x804A_B000,
+        text_pages: 170,
+        data_pages: 342,
+        shared_base: 0x8100_0000,
+        shared_count: 11,
+        entry_offset: 0,
+    };
+    let mut asked = too_many;
+    asked.shared_count = 10;
+    let steps = [
+        Step::WouldNeed(too_many, 13, 17),
+        Step::Creates(too_many, Err(Refusal::NoEntries)),
+        Step::Creates(asked, Ok(1)),
+        Step::Uses(13),
+        Step::ListsMany(1, 16),
+    ];
+    takes_on(&rt, rt.alloc(), 16, 0, 0, steps.as_slice());
 }

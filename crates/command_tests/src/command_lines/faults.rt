@@ -1,0 +1,33 @@
+//! Words that are no task, and what is said of them.
+
+use clap::error::ErrorKind;
+use command_line::{command_of, takes_place};
+use std::alloc::Global;
+use std::process::Abort;
+
+/// The words name no task, and that is said of them.
+fn is_told(rt: &impl Abort, alloc: Global, words: &[&str], said: &str) {
+    match command_of(alloc, &*words) {
+        Ok(_) => panic!(rt; "a task: {words:?}"),
+        Err(error) => {
+            let text = format!(in alloc; "{error}").expect(rt, "memory");
+            assert!(rt; text.as_str() == said, "{said}");
+        }
+    }
+}
+
+#[test]
+fn a_fault_names_the_value_and_the_usage(rt: HostRuntime) {
+    is_told(
+        &rt,
+        rt.alloc(),
+        &["pmpmon", "show", "map.txt", "--at-most", "few"],
+        "error: invalid value 'few' for '--at-most <N>': no number below 2^64\n\nUsage: pmpmon show [OPTIONS] <MAP>\n\nFor more information, try '--help'.\n",
+    );
+}
+
+#[test]
+fn a_certificate_takes_no_other_files_place(rt: HostRuntime) {
+    let fault = takes_place(rt.alloc(), "m").expect(&rt, "memory");
+    assert!(rt; fault.kind() == ErrorKind::ArgumentConflict);
+}
