@@ -1,1 +1,2 @@
+mod Entered
 mod InTurn

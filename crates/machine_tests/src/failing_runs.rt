@@ -1,9 +1,58 @@
-//! A run whose sink fails.
+//! Runs whose source or sink fails.
 
 use crate::machines::{example_machine, x};
 use byte_streams::fakes::{PieceSink, PieceSource};
 use hart_sim::{Machine, RunFault, run};
+use std::alloc::Global;
 use std::process::Abort;
+
+fn fails(
+    machine: &mut Machine,
+    trace: &[u8],
+    read: Option<u64>,
+    write: Option<u64>,
+    report: &[u8],
+) -> Option<RunFault> {
+    let mut source = PieceSource::new(trace, 1, read);
+    let mut sink = PieceSink::new(1, write);
+    let end = run(machine, &mut source, &mut sink);
+    if sink.written() == report {
+        return end.err();
+    }
+    None
+}
+
+/// A run on a new machine: the trace, the read or the write that fails, how the run ends, and its report.
+type Row<'a> = (&'a [u8], Option<u64>, Option<u64>, RunFault, &'a str);
+
+/// The run of each row ends so behind its report.
+fn all_fail(rt: &impl Abort, alloc: Global, rows: &[Row<'_>]) {
+    for (trace, read, write, end, report) in rows {
+        let mut machine = example_machine(rt, alloc, 1);
+        let ended = fails(&mut machine, trace, *read, *write, report.as_bytes());
+        assert!(rt; ended == Some(*end), "behind {report:?}");
+    }
+}
+
+#[test]
+fn a_failing_device_ends_a_run_behind_what_it_took(rt: HostRuntime) {
+    all_fail(
+        &rt,
+        rt.alloc(),
+        &[
+            (
+                b"irq\nirq\n",
+                None,
+                Some(14),
+                RunFault::Write,
+                "1 irq 0 3\n2 i",
+            ),
+            (b"irq\nir", Some(7), None, RunFault::Read, "1 irq 0 3\n"),
+            (b"irq", Some(4), None, RunFault::Read, ""),
+            (b"irq\nirq\n", None, Some(1), RunFault::Write, ""),
+        ],
+    );
+}
 
 /// The sink fails in the second reply, and the second event has happened.
 fn is_cut_in_a_reply(rt: &impl Abort, machine: &mut Machine) {

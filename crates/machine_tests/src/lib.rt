@@ -2,8 +2,8 @@
 //! measured bytes, and traces on booted machines with the report of each. And how the headline of the machine is used, as two
 //! functions.
 //!
-//! Of the table these are sequences of calls with the entries that each view then needs. The table knows nothing of
-//! certificates, by which its tree is compared with a new one here.
+//! Of the table these are platforms, the life of an enclave, and sequences of calls with the entries that each view then
+//! needs. The table knows nothing of certificates, by which its tree is compared with a new one here.
 //!
 //! They stand apart from the crates that they are of so that the gate proves each of these once, and tries its edits
 //! beside the rows. More of what a run answers stands in transcripts.
@@ -18,6 +18,8 @@ mod failing_runs;
 mod headline;
 #[cfg(test)]
 mod machines;
+#[cfg(test)]
+mod outgrown;
 #[cfg(test)]
 mod refused_frames;
 #[cfg(test)]

@@ -3,7 +3,9 @@
 ghost use Rattle.std.specs.Prelude.{replicate, ◌<◌, ◌^◌};
 
 mod anew;
+mod life;
 mod needs;
+mod platform_rules;
 mod refusals;
 mod scattered;
 mod views;
