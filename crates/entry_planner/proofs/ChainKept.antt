@@ -89,10 +89,8 @@ kept_chosen shape tree chain k j first start p old new is before behind inside h
     let T : PermTree → Type 0 = λ t. IsChosenAt k first p t adds.0 in
     let top : chain.levels + j ≡ k = omega (arith, height) in (
       adds.0,
-      adds.1,
+      subst T (sym same) (subst N top (kept chain.levels j first chain.place p tree adds.0 inside (subst A at adds.1))),
       adds.2,
-      subst T (sym same) (subst N top (kept chain.levels j first chain.place p tree adds.0 inside (subst A at adds.3))),
-      adds.4,
     )
 
 -- ---- the smallest block

@@ -1,13 +1,13 @@
 -- What a walk down a chain of blocks adds, where an upper half's entries wait for those of the lower half.
 use Rattle.std.proofs.Common.{◌≡◌, ℕ, ◌+◌, ◌-◌, ◌^◌, List, [], ◌++◌, length, ◌<◌, ◌≤◌, reverse, if◌then◌else◌, Bool, true, false, refl, sym, ap, subst, ◌∙◌, arith, IsPermutation}
 use Rattle.std.proofs.lemmas.Grind.{common_steps}
-use Rattle.std.proofs.lemmas.List.{nil_from_length}
+use Rattle.std.proofs.lemmas.List.{append-nil, nil_from_length}
 use Rattle.std.proofs.lemmas.List.Sorted.{IsPermutation-append_left, IsPermutation-append_right, IsPermutation-append_comm, IsPermutation-refl, IsPermutation-trans}
 use Rattle.pmp_encoding.specs.declared.perm.Perm.{Perm}
 use Rattle.pmp_encoding.specs.declared.region.Entry.{Entry}
 use Rattle.pmp_encoding.specs.Perms.{perm_eq}
 use Rattle.prefix_tree.specs.Trees.{PermTree, Uniform, Split}
-use Rattle.entry_planner.specs.Choice.{AddsChosen, IsChosenAt, handed_on}
+use Rattle.entry_planner.specs.Choice.{AddsChosen, AddsOwn, IsChosenAt, handed_on}
 use Rattle.entry_planner.specs.Placement.{IsOwn}
 use Rattle.entry_planner.proofs.SamePerm.{perm_eq-same}
 use Rattle.prefix_tree.specs.declared.chains.Chain.{Chain}
@@ -15,13 +15,14 @@ use Rattle.prefix_tree.specs.Chains.{chained, goes_up, nested}
 use Rattle.prefix_tree.proofs.Nested.{smaller_lower, smaller_upper}
 use Rattle.entry_planner.specs.declared.costs.SplitCost.{SplitCost}
 use Rattle.entry_planner.specs.Plans.{costs_in}
-use Rattle.entry_planner.proofs.Walked.{AddsOwn, some_left, split_is}
+use Rattle.entry_planner.proofs.Added.{both_added}
+use Rattle.entry_planner.proofs.Walked.{some_left, split_is}
 
 -- with what a block still adds, and with what waits, the entries that were added are chosen for the largest block
 abbrev pub Completes :
     (k first : ℕ) (p : Perm) (tree : PermTree) (j next : ℕ) (q : Perm) (rest : PermTree) (m far : ℕ) (r s : Perm) (old new : List Entry) → Type 0
 Completes k first p tree j next q rest m far r s old new =
-    (added : List Entry) × (new ≡ old ++ added)
+    (added : List Entry) × IsPermutation (old ++ added) new
     × ((low wait : List Entry) → IsChosenAt j next q rest low → IsOwn m far r s wait
     → (es : List Entry) × IsChosenAt k first p tree es × IsPermutation es (added ++ (wait ++ low)))
 
@@ -36,7 +37,7 @@ pub begun :
     (k first : ℕ) (p : Perm) (tree : PermTree) (m far : ℕ) (r : Perm) (old : List Entry) → Completes k first p tree k first p tree m far r r old old
 begun k first p tree m far r old = (
   [],
-  grind (arith, common_steps),
+  subst (λ l. IsPermutation l old) (sym (append-nil old)) (IsPermutation-refl old),
   λ low wait chosen none. (low, chosen, subst (λ w. IsPermutation low (w ++ low)) (sym (own_none m far r wait none)) (IsPermutation-refl low)),
 )
 
@@ -75,10 +76,10 @@ pub went_up :
 went_up top root t whole tree next before k i j first lower upper p q m far r s n beyond u old a b c d split low_height height at_lower at_upper handed so own late leaf =
     let added = so.0 in (
       ((added ++ own.0) ++ late.0) ++ leaf.0,
-      leaf.1 ∙ ap (λ l. l ++ leaf.0) (late.1 ∙ ap (λ l. l ++ late.0) (own.1 ∙ ap (λ l. l ++ own.0) so.1)) ∙ (let e : (((old ++ added) ++ own.0) ++ late.0) ++ leaf.0 ≡ old ++ (((added ++ own.0) ++ late.0) ++ leaf.0) = grind (arith, common_steps) in e),
+      both_added old c d ((added ++ own.0) ++ late.0) leaf.0 (both_added old b c (added ++ own.0) late.0 (both_added old a b added own.0 so.1 own.2) late.2) leaf.2,
       λ low wait chosen none.
           let g = so.2 (leaf.0 ++ (low ++ own.0)) late.0
-          (split_is tree (Uniform before) next k i j first lower upper p q leaf.0 low own.0 split low_height height at_lower at_upper handed leaf.2 chosen own.2) late.2 in
+          (split_is tree (Uniform before) next k i j first lower upper p q leaf.0 low own.0 split low_height height at_lower at_upper handed leaf.1 chosen own.1) late.1 in
           (g.0, g.1, IsPermutation-trans _ _ _ g.2 (moved_up added own.0 late.0 leaf.0 low wait (own_none n beyond u wait none))),
     )
 
@@ -91,10 +92,10 @@ pub went_down :
 went_down top root t whole tree next behind k i j first lower upper p q m far r s old a b c split low_height height at_lower at_upper handed so own late =
     let added = so.0 in (
       (added ++ own.0) ++ late.0,
-      late.1 ∙ ap (λ l. l ++ late.0) (own.1 ∙ ap (λ l. l ++ own.0) so.1) ∙ (let e : ((old ++ added) ++ own.0) ++ late.0 ≡ old ++ ((added ++ own.0) ++ late.0) = grind (arith, common_steps) in e),
+      both_added old b c (added ++ own.0) late.0 (both_added old a b added own.0 so.1 own.2) late.2,
       λ low wait chosen leaf.
           let g = so.2 (low ++ (wait ++ own.0)) late.0
-          (split_is tree next (Uniform behind) k i j first lower upper p q low wait own.0 split low_height height at_lower at_upper handed chosen leaf own.2) late.2 in
+          (split_is tree next (Uniform behind) k i j first lower upper p q low wait own.0 split low_height height at_lower at_upper handed chosen leaf own.1) late.1 in
           (g.0, g.1, IsPermutation-trans _ _ _ g.2 (moved_down added own.0 late.0 low wait)),
     )
 
@@ -109,16 +110,12 @@ pub completed :
 completed top root t whole rest smallest k first p m far r s old a b c is so small late =
     let added = so.0 in
     let es = small.0 in
-    let its = small.1 in
-    let g = so.2 es late.0 (subst (λ x. IsChosenAt k first p x es) (sym is) small.3) late.2 in
-    let turned : IsPermutation (late.0 ++ es) (its ++ late.0) =
-    IsPermutation-trans (late.0 ++ es) (es ++ late.0) (its ++ late.0) (IsPermutation-append_comm late.0 es) (IsPermutation-append_left late.0 es its small.4) in
-    let behind : ((old ++ added) ++ its) ++ late.0 ≡ old ++ (added ++ (its ++ late.0)) = grind (arith, common_steps) in (
+    let g = so.2 es late.0 (subst (λ x. IsChosenAt k first p x es) (sym is) small.1) late.1 in
+    let all : IsPermutation (old ++ (added ++ (es ++ late.0))) c = both_added old a c added (es ++ late.0) so.1 (both_added a b c es late.0 small.2 late.2) in
+    let its : IsPermutation g.0 (added ++ (es ++ late.0)) = IsPermutation-trans g.0 (added ++ (late.0 ++ es)) (added ++ (es ++ late.0)) g.2 (moved added es late.0) in (
       g.0,
-      added ++ (its ++ late.0),
-      late.1 ∙ ap (λ l. l ++ late.0) (small.2 ∙ ap (λ l. l ++ its) so.1) ∙ behind,
       g.1,
-      IsPermutation-trans _ _ _ g.2 (IsPermutation-append_right added (late.0 ++ es) (its ++ late.0) turned),
+      IsPermutation-trans (old ++ g.0) (old ++ (added ++ (es ++ late.0))) c (IsPermutation-append_right old g.0 (added ++ (es ++ late.0)) its) all,
     )
 
 -- a chain's largest block has its cost in the list

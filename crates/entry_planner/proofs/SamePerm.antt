@@ -39,3 +39,10 @@ perm_eq-other p q t is holds = perm_eq-false p q (λ same. go (sameb the_type p 
     go : (b : Bool) → not b ≡ true → b ≡ true → ⊥
     go true h k = cc
     go false h k = cc
+
+pub not_other : (p q : Perm) (t : Bool) → t ≡ not (sameb the_type p q) → t ≡ false → p ≡ q
+not_other p q t is fails = same_true the_type (search rules) p q (go (sameb the_type p q) (sym is ∙ fails))
+  where
+    go : (b : Bool) → not b ≡ false → b ≡ true
+    go true h = refl
+    go false h = cc

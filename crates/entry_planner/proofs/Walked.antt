@@ -1,17 +1,18 @@
 -- What a walk down a split block adds, from what it adds in the halves.
-use Rattle.std.proofs.Common.{◌≡◌, ℕ, suc, ◌+◌, ◌-◌, ◌^◌, ◌≤◌, List, [], ◌∷◌, ◌++◌, length, take, get_or, Some, IsPermutation, reverse, refl, sym, ap, subst, ◌∙◌, arith, append_assoc, length-append}
+use Rattle.std.proofs.Common.{◌≡◌, ℕ, suc, ◌+◌, ◌-◌, ◌^◌, ◌≤◌, List, [], ◌∷◌, ◌++◌, length, take, get_or, Some, IsPermutation, reverse, refl, sym, ap, subst, ◌∙◌, arith, length-append}
 use Rattle.std.proofs.lemmas.Grind.{common_steps}
 use Rattle.std.proofs.lemmas.List.{append_cancel_right}
-use Rattle.std.proofs.lemmas.List.Sorted.{IsPermutation-append_left, IsPermutation-append_right, IsPermutation-refl, IsPermutation-trans}
+use Rattle.std.proofs.lemmas.List.Sorted.{IsPermutation-trans}
 use Rattle.pmp_encoding.specs.declared.perm.Perm.{Perm}
 use Rattle.pmp_encoding.specs.declared.perm.Perm.TheVariants.{NoAccess}
 use Rattle.pmp_encoding.specs.declared.region.Entry.{Entry}
 use Rattle.prefix_tree.specs.Trees.{PermTree, Uniform, Split, Fits}
 use Rattle.prefix_tree.specs.Joined.{one_perm}
 use Rattle.entry_planner.specs.declared.costs.SplitCost.{SplitCost}
-use Rattle.entry_planner.specs.Choice.{AddsChosen, AreChosen, IsChosenAt, handed_on}
+use Rattle.entry_planner.specs.Choice.{AddsChosen, AddsOwn, AreChosen, IsChosenAt, handed_on}
 use Rattle.entry_planner.specs.Placement.{ArePages, IsOwn}
 use Rattle.entry_planner.specs.Plans.{costs_in, split_cost}
+use Rattle.entry_planner.proofs.Added.{both_added}
 use Rattle.entry_planner.proofs.BlockCosts.{added_both}
 use Rattle.entry_planner.proofs.BlockPages.{lower_pages, upper_pages}
 
@@ -101,9 +102,6 @@ rest_is costs rest before tree low high split ends lower upper =
 
 -- ---- the entries that are added
 
-abbrev pub AddsOwn : ℕ → ℕ → Perm → Perm → List Entry → List Entry → Type 0
-AddsOwn k first p q old new = (own : List Entry) × (new ≡ old ++ own) × IsOwn k first p q own
-
 -- the entries of a split block are those of its halves and its own
 pub split_is :
     (tree low high : PermTree) (k i j first lower upper : ℕ) (p q : Perm) (l h o : List Entry) → tree ≡ Split low high → i + 1 ≡ k → j + 1 ≡ k → lower ≡ first
@@ -135,11 +133,8 @@ pub split_chosen :
     → AddsChosen k first p tree a d
 split_chosen tree low high k i j first lower upper p q a b c d split low_height height at_lower at_upper handed l h o = (
   l.0 ++ (h.0 ++ o.0),
-  l.1 ++ (h.1 ++ o.0),
-  o.1 ∙ ap (λ x. x ++ o.0) (h.2 ∙ ap (λ x. x ++ h.1) l.2) ∙ append_assoc (a ++ l.1) h.1 o.0 ∙ append_assoc a l.1 (h.1 ++ o.0),
-  split_is tree low high k i j first lower upper p q l.0 h.0 o.0 split low_height height at_lower at_upper handed l.3 h.3 o.2,
-  IsPermutation-trans (l.0 ++ (h.0 ++ o.0)) (l.1 ++ (h.0 ++ o.0)) (l.1 ++ (h.1 ++ o.0)) (IsPermutation-append_left (h.0 ++ o.0) l.0 l.1 l.4)
-      (IsPermutation-append_right l.1 (h.0 ++ o.0) (h.1 ++ o.0) (IsPermutation-append_left o.0 h.0 h.1 h.4)),
+  split_is tree low high k i j first lower upper p q l.0 h.0 o.0 split low_height height at_lower at_upper handed l.1 h.1 o.1,
+  both_added a b d l.0 (h.0 ++ o.0) l.2 (both_added b c d h.0 o.0 h.2 o.2),
 )
 
 is_uniform : (tree : PermTree) (q : Perm) → Some q ≡ one_perm tree → tree ≡ Uniform q
@@ -150,11 +145,11 @@ pub uniform_chosen :
     (tree : PermTree) (k first : ℕ) (p q : Perm) (a b : List Entry) → Some q ≡ one_perm tree → AddsOwn k first p q a b → AddsChosen k first p tree a b
 uniform_chosen tree k first p q a b one own =
     let T : PermTree → Type 0 = λ t. IsChosenAt k first p t own.0 in
-    (own.0, own.0, own.1, subst T (sym (is_uniform tree q one)) own.2, IsPermutation-refl own.0)
+    (own.0, subst T (sym (is_uniform tree q one)) own.1, own.2)
 
 -- what is added to no entries, in another order, is what is chosen for the whole space
 pub all_chosen :
     (tree : PermTree) (old placed entries : List Entry) → old ≡ [] → AddsChosen 44 0 NoAccess tree old placed → IsPermutation placed entries → AreChosen tree entries
 all_chosen tree old placed entries none adds same =
-    let are : adds.1 ≡ placed = sym (adds.2 ∙ ap (λ l. l ++ adds.1) none) in
-    (adds.0, adds.3, IsPermutation-trans adds.0 placed entries (subst (IsPermutation adds.0) are adds.4) same)
+    let P : List Entry → Type 0 = λ l. IsPermutation (l ++ adds.0) placed in
+    (adds.0, adds.1, IsPermutation-trans adds.0 placed entries (subst P none adds.2) same)

@@ -36,6 +36,10 @@ IsChosenAt (suc k) first p (Split lower upper) es =
 abbrev pub AreChosen : PermTree → List Entry → Type 0
 AreChosen tree entries = (es : List Entry) × IsChosenAt 44 0 NoAccess tree es × IsPermutation es entries
 
--- entries that are added to a list are chosen for the 2 ^ k pages from `first` on, in some order
+-- with those that are chosen for the 2 ^ k pages from `first` on the old entries are the new ones, in some order
 abbrev pub AddsChosen : ℕ → ℕ → Perm → PermTree → List Entry → List Entry → Type 0
-AddsChosen k first p tree old new = (es : List Entry) × (added : List Entry) × (new ≡ old ++ added) × IsChosenAt k first p tree es × IsPermutation es added
+AddsChosen k first p tree old new = (es : List Entry) × IsChosenAt k first p tree es × IsPermutation (old ++ es) new
+
+-- with those that make these pages' permission q, where they inherit p, the old entries are the new ones, in some order
+abbrev pub AddsOwn : ℕ → ℕ → Perm → Perm → List Entry → List Entry → Type 0
+AddsOwn k first p q old new = (own : List Entry) × IsOwn k first p q own × IsPermutation (old ++ own) new

@@ -2,6 +2,7 @@
 
 use crate::costs::SplitCost;
 use crate::packed_cost::PackedCost;
+use crate::shelves::Shelves;
 use page_views::{PAGE_SIZE, pages_of};
 use pmp_encoding::{Entry, PackedEntry, Perm, Region};
 use prefix_tree::{Chain, Halving};
@@ -27,7 +28,7 @@ ghost use Rattle.pmp_encoding.specs.declared.region.Entry.{Entry};
 ghost use Rattle.prefix_tree.specs.Chains.{chained};
 ghost use Rattle.prefix_tree.specs.Trees.{PermTree, Fits};
 ghost use Rattle.entry_planner.specs.declared.costs.SplitCost.{SplitCost};
-ghost use Rattle.entry_planner.specs.Choice.{AddsChosen, handed_on};
+ghost use Rattle.entry_planner.specs.Choice.{AddsChosen, AddsOwn, handed_on};
 ghost use Rattle.entry_planner.specs.Placement.{ArePages, IsBlockOf, IsOwn};
 ghost use Rattle.entry_planner.specs.Plans.{costs_in, split_cost};
 
@@ -115,15 +116,9 @@ fn entry_of(pages: Pages, perm: Perm) -> Entry
 
 /// Adds the entry that gives a block another permission than the inherited one.
 #[inline(always)]
-fn turn(
-    pages: Pages,
-    inherited: Perm,
-    perm: Perm,
-    entries: &mut Vec<PackedEntry>,
-) -> Result<(), AllocError>
+fn turn(pages: Pages, inherited: Perm, perm: Perm, entries: &mut Shelves) -> Result<(), AllocError>
     requires { ArePages pages.log2 pages.first }
-    ensures { OnOk result ((own : List Entry) × (entries.new.items ≡ entries.old.items ++ own)
-        × IsOwn pages.log2 pages.first inherited perm own) }
+    ensures { OnOk result (AddsOwn pages.log2 pages.first inherited perm entries.old entries.new) }
 {
     if perm != inherited {
         entries.push(PackedEntry::new(entry_of(pages, perm)))?;
@@ -140,7 +135,7 @@ fn place_chain<'a, H: Halving>(
     pages: Pages,
     inherited: Perm,
     costs: &'a [PackedCost],
-    entries: &mut Vec<PackedEntry>,
+    entries: &mut Shelves,
 ) -> Result<&'a [PackedCost], AllocError>
     requires chain { chain.place < 2 ^ chain.levels }
     requires most { chain.levels ≤ 44 }
@@ -152,7 +147,7 @@ fn place_chain<'a, H: Halving>(
         costs.now ≡ rest.now ++ reverse (costs_in (chained chain (H.shape smallest.now)))) }
     ensures placed { OnOk result
         (AddsChosen pages.log2 pages.first inherited (chained chain (H.shape smallest.now))
-        entries.old.items entries.new.items) }
+        entries.old entries.new) }
 {
     let mut rest = chain;
     let mut block = pages;
@@ -194,7 +189,7 @@ pub fn place<'a, H: Halving>(
     pages: Pages,
     inherited: Perm,
     costs: &'a [PackedCost],
-    entries: &mut Vec<PackedEntry>,
+    entries: &mut Shelves,
 ) -> Result<&'a [PackedCost], AllocError>
     requires fits { Fits pages.log2 (H.shape block.now) }
     requires pages { ArePages pages.log2 pages.first }
@@ -203,7 +198,7 @@ pub fn place<'a, H: Halving>(
     ensures rest { IfOk result (λ rest. costs.now ≡ rest.now
         ++ reverse (costs_in (H.shape block.now))) }
     ensures placed { OnOk result (AddsChosen pages.log2 pages.first inherited (H.shape block.now)
-        entries.old.items entries.new.items) }
+        entries.old entries.new) }
 {
     if let Some(perm) = block.one_perm() {
         turn(pages, inherited, perm, entries)?;

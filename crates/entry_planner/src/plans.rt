@@ -18,6 +18,7 @@ use crate::order::in_order;
 use crate::packed_cost::PackedCost;
 use crate::placement::{Pages, place};
 use crate::planned::Plan;
+use crate::shelves::Shelves;
 use permission_map::{Memory, PermissionMap};
 use pmp_encoding::{PackedEntry, Perm};
 use prefix_tree::{Halving, MapBlock, Tree};
@@ -35,7 +36,7 @@ fn entries_of<H: Halving>(
     ensures chosen { IfOk result (λ v. AreChosen (H.shape root.now) v.items) }
     ensures order { IfOk result (λ v. AreInOrder v.items) }
 {
-    let mut placed = Vec::with_capacity(alloc, least as usize)?;
+    let mut placed = Shelves::with_room(alloc, least as usize)?;
     let space = Pages { first: 0, log2: 44 };
     let _ = place(root, space, Perm::NoAccess, costs, &mut placed)?;
     Ok(in_order(alloc, placed))

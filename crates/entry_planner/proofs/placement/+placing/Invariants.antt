@@ -32,5 +32,5 @@ invariant-place_chain-loop-rest g l =
       late : ArePages l.late.pages.log2 l.late.pages.first;
       ends : (rest : List SplitCost) × (l.left ≡ rest ++ reverse (costs_in (chained l.rest tree)));
       back : (rest : List SplitCost) → l.left ≡ rest ++ reverse (costs_in (chained l.rest tree)) → l.fn.costs ≡ rest ++ reverse (costs_in (chained l.fn.chain tree));
-      placed : Completes l.fn.pages.log2 l.fn.pages.first l.fn.inherited (chained l.fn.chain tree) l.block.log2 l.block.first l.from (chained l.rest tree) l.late.pages.log2 l.late.pages.first l.late.from l.late.perm l.fn.entries.items l.entries.items;
+      placed : Completes l.fn.pages.log2 l.fn.pages.first l.fn.inherited (chained l.fn.chain tree) l.block.log2 l.block.first l.from (chained l.rest tree) l.late.pages.log2 l.late.pages.first l.late.from l.late.perm l.fn.entries l.entries;
     }
