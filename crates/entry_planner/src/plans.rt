@@ -36,7 +36,7 @@ fn entries_of<H: Halving>(
     ensures chosen { IfOk result (λ v. AreChosen (H.shape root.now) v.items) }
     ensures order { IfOk result (λ v. AreInOrder v.items) }
 {
-    let mut placed = Shelves::with_room(alloc, least as usize)?;
+    let mut placed = Shelves::with_room(alloc, least)?;
     let space = Pages { first: 0, log2: 44 };
     let _ = place(root, space, Perm::NoAccess, costs, &mut placed)?;
     Ok(in_order(alloc, placed))
