@@ -1,5 +1,5 @@
 -- The entry is of the whole block, or there is none.
-use Rattle.std.proofs.Common.{◌≡◌, ◌∙◌, ℕ, Bool, true, List, inl, inr, [], ◌∷◌, IsPermutation, refl, ap, sym, subst, if◌then◌else◌}
+use Rattle.std.proofs.Common.{◌≡◌, ◌∙◌, ℕ, Bool, true, List, inl, inr, [], ◌∷◌, IsPermutation, refl, ap, sym, subst, if◌then◌else◌, rules}
 use Rattle.std.proofs.lemmas.List.{append-nil}
 use Rattle.std.proofs.lemmas.List.Sorted.{IsPermutation-refl}
 use Rattle.pmp_encoding.specs.declared.region.Entry.{Entry}
@@ -19,7 +19,7 @@ returns-in_ok-push c = (
 
 pub returns-else-ne : goal.returns-else-ne
 returns-else-ne c =
-    let same : c.args.perm ≡ c.args.inherited = not_other c.args.perm c.args.inherited c.ne.result c.ne.ensures c.if-ne.false in
+    let same : c.args.perm ≡ c.args.inherited = not_other c.args.perm c.args.inherited c.ne.result c.ne.ensures (search rules) in
     let none : perm_eq c.args.perm c.args.inherited ≡ true = ap (perm_eq c.args.perm) (sym same) ∙ perm_eq-same c.args.perm in
     let P : List Entry → Type 0 = λ l. IsPermutation l c.args.entries.now in
     ([], (inl (same, refl), sym (ap unless none)), subst P (sym (append-nil c.args.entries.now)) (IsPermutation-refl c.args.entries.now))
