@@ -12,33 +12,26 @@ const A7: usize = 17;
 /// The registers of a call with these words in a7 and a6, and with 11, 12, 13, 14, 15, 16 in a0 to a5.
 fn registers_of(extension: u64, function: u64) -> Registers {
     let mut registers = Registers::new();
-    registers.set_pc(0x8000_0000);
-    for n in 0..32usize {
-        registers.set(n, 1 + n as u64);
-    }
     registers.set(A7, extension);
     registers.set(A6, function);
+    for i in 0..6usize {
+        registers.set(A0 + i, 11 + i as u64);
+    }
     registers
 }
 
 /// An extension, its function, and the call that they are.
 type Row = (u64, u64, Result<Call, NotSupported>);
 
-/// Each extension with its function is that call, or none. x0 is zero, whatever is put there.
+/// Each extension with its function is that call, or none.
 fn all_are(rt: &impl Abort, rows: &[Row]) {
     for (extension, function, wanted) in rows {
-        let registers = registers_of(*extension, *function);
-        assert!(rt;
-            decode(&registers) == *wanted,
-            "{extension:#x} {function:#x}"
-        );
-        assert!(rt; registers.get(0) == 0);
-        assert!(rt; registers.get(31) == 32);
-        assert!(rt; registers.pc() == 0x8000_0000);
+        let found = decode(&registers_of(*extension, *function));
+        assert!(rt; found == *wanted, "{extension:#x} {function:#x}");
     }
 }
 
-const ROWS: &[Row] = &[
+const FUNCTIONS: &[Row] = &[
     (
         EXTENSION_ID,
         0,
@@ -57,16 +50,11 @@ const ROWS: &[Row] = &[
     (EXTENSION_ID, 4, Ok(Call::Resume { id: 11 })),
     (EXTENSION_ID, 5, Ok(Call::Exit { value: 11 })),
     (EXTENSION_ID, 6, Ok(Call::Measure { id: 11, k: 12 })),
-    (EXTENSION_ID, 7, Err(NotSupported)),
-    (EXTENSION_ID, 1 << 32, Err(NotSupported)),
-    (0x1_0845_4E43, 5, Err(NotSupported)),
-    (0x10, 0, Err(NotSupported)),
-    (0, 0, Err(NotSupported)),
 ];
 
 #[test]
-fn each_function_has_its_arguments_and_others_are_not_supported(rt: HostRuntime) {
-    all_are(&rt, ROWS);
+fn each_function_has_its_arguments(rt: HostRuntime) {
+    all_are(&rt, FUNCTIONS);
 }
 
 #[test]
@@ -76,4 +64,30 @@ fn exit_hands_its_value_to_the_host(rt: HostRuntime) {
     registers.set(A6, 5);
     registers.set(A0, 9);
     assert!(rt; decode(&registers) == Ok(Call::Exit { value: 9 }));
+}
+
+const OTHERS: &[Row] = &[
+    (EXTENSION_ID, 7, Err(NotSupported)),
+    (EXTENSION_ID, 1 << 32, Err(NotSupported)),
+    (0x1_0845_4E43, 5, Err(NotSupported)),
+    (0x10, 0, Err(NotSupported)),
+    (0, 0, Err(NotSupported)),
+];
+
+#[test]
+fn other_functions_and_extensions_are_not_supported(rt: HostRuntime) {
+    all_are(&rt, OTHERS);
+}
+
+#[test]
+fn x0_stays_zero_and_the_others_keep_their_values(rt: HostRuntime) {
+    let mut registers = Registers::new();
+    registers.set_pc(0x8000_0000);
+    for n in 0..32usize {
+        registers.set(n, 100 + n as u64);
+    }
+    assert!(rt; registers.get(0) == 0);
+    assert!(rt; registers.get(1) == 101);
+    assert!(rt; registers.get(31) == 131);
+    assert!(rt; registers.pc() == 0x8000_0000);
 }

@@ -6,7 +6,7 @@
 //! needs. The table knows nothing of certificates, by which its tree is compared with a new one here.
 //!
 //! They stand apart from the crates that they are of so that the gate proves each of these once, and tries its edits
-//! beside the rows. More of what a run answers stands in transcripts.
+//! beside the rows.
 #![tactic(auto)]
 
 #[cfg(test)]

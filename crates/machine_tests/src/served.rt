@@ -98,26 +98,34 @@ fn standing(monitor: &Monitor) -> (World, u64, bool, bool) {
     )
 }
 
-/// A creation marks the other hart, which is woken, and goes on past the call with the id.
+/// An enclave of one page of text at 0x80200000 is created on the first hart, and the second hart is woken.
+fn created(rt: &impl Abort, monitor: &mut Monitor) {
+    let served = served(rt, monitor, 0, 0, [0x8020_0000, 1, 0]);
+    monitor.wake(1);
+    assert!(rt; told(&served) == (0, 1, true));
+}
+
+/// It runs on the first hart.
+fn entered(rt: &impl Abort, monitor: &mut Monitor) {
+    created(rt, monitor);
+    let served = served(rt, monitor, 0, 2, [1, 0, 0]);
+    assert!(rt; told(&served) == (0, 0, true));
+    assert!(rt; pc_a0_a1(&served.onward) == [0x8020_0000, 1, 0]);
+}
+
+/// A creation marks the other hart, and goes on past the call with the id.
 fn creation_marks(rt: &impl Abort, monitor: &mut Monitor) {
     let served = served(rt, monitor, 0, 0, [0x8020_0000, 1, 0]);
     assert!(rt; told(&served) == (0, 1, true));
     assert!(rt; served.zero == None);
     assert!(rt; pc_a0_a1(&served.onward) == [0x8040_0004, 0, 1]);
     assert!(rt; standing(monitor) == (World::Host, 4, false, true));
-    monitor.wake(1);
 }
 
-/// The enclave runs on the first hart.
-fn entered(rt: &impl Abort, monitor: &mut Monitor) {
-    let served = served(rt, monitor, 0, 2, [1, 0, 0]);
-    assert!(rt; told(&served) == (0, 0, true));
-    assert!(rt; pc_a0_a1(&served.onward) == [0x8020_0000, 1, 0]);
-    assert!(rt; standing(monitor) == (World::Enclave(1), 1, false, false));
-}
-
-/// An interrupt stops it, it is resumed on the other hart as it was, and leaves there.
+/// An interrupt stops an enclave, it is resumed on the other hart as it was, and leaves there.
 fn interrupt_stops(rt: &impl Abort, monitor: &mut Monitor) {
+    entered(rt, monitor);
+    assert!(rt; standing(monitor) == (World::Enclave(1), 1, false, false));
     let onward = interrupted(rt, monitor, 0, 77);
     assert!(rt; onward.load);
     assert!(rt; pc_a0_a1(&onward) == [0x8040_0004, 1, 0]);
@@ -134,6 +142,7 @@ fn destruction_clears(rt: &impl Abort, monitor: &mut Monitor) {
         first: 0x8_0200,
         count: 1,
     };
+    created(rt, monitor);
     let first = served(rt, monitor, 0, 1, [1, 0, 0]);
     assert!(rt; told(&first) == (0, 0, true));
     assert!(rt; first.zero == Some(pages));
@@ -143,16 +152,20 @@ fn destruction_clears(rt: &impl Abort, monitor: &mut Monitor) {
     assert!(rt; standing(monitor) == (World::Host, 3, false, true));
 }
 
-/// An enclave lives on both harts.
-fn lives(rt: &impl Abort, monitor: &mut Monitor) {
-    creation_marks(rt, monitor);
-    entered(rt, monitor);
-    interrupt_stops(rt, monitor);
-    destruction_clears(rt, monitor);
+#[test]
+fn a_creation_marks_the_other_hosts(rt: HostRuntime) {
+    let mut monitor = example_monitor(&rt, rt.alloc());
+    creation_marks(&rt, &mut monitor);
 }
 
 #[test]
-fn a_monitor_serves_the_life_of_an_enclave_on_two_harts(rt: HostRuntime) {
+fn an_interrupt_stops_an_enclave(rt: HostRuntime) {
     let mut monitor = example_monitor(&rt, rt.alloc());
-    lives(&rt, &mut monitor);
+    interrupt_stops(&rt, &mut monitor);
+}
+
+#[test]
+fn a_destruction_hands_out_the_pages(rt: HostRuntime) {
+    let mut monitor = example_monitor(&rt, rt.alloc());
+    destruction_clears(&rt, &mut monitor);
 }

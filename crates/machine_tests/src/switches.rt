@@ -25,9 +25,9 @@ fn page(rt: &impl Abort, base: u64) -> Entry {
     }
 }
 
-/// A new hart is in the host's world.
-fn begins_at_its_host(rt: &impl Abort) {
-    let entries = [page(rt, 0x8000_0000)];
+#[test]
+fn a_new_hart_is_in_the_hosts_world(rt: HostRuntime) {
+    let entries = [page(&rt, 0x8000_0000)];
     let hart = Hart::new(3, entries.as_slice(), Limit::SixtyFour);
     assert!(rt; hart.number() == 3);
     assert!(rt; hart.world() == World::Host);
@@ -37,34 +37,27 @@ fn begins_at_its_host(rt: &impl Abort) {
     assert!(rt; hart.bank().limit() == Limit::SixtyFour);
 }
 
-/// Registers and a bank are put in place.
-fn takes_registers_and_bank(rt: &impl Abort) {
+#[test]
+fn registers_and_bank_are_put_in_place(rt: HostRuntime) {
     let mut hart = Hart::new(1, [].as_slice(), Limit::Sixteen);
     hart.registers_mut().set(A0, 7);
     hart.registers_mut().set_pc(0x8000_0000);
     assert!(rt; *hart.registers() == registers_of(0x8000_0000, 7));
-    let bank = Bank::of([page(rt, 0x8020_0000)].as_slice(), Limit::Sixteen);
+    let bank = Bank::of([page(&rt, 0x8020_0000)].as_slice(), Limit::Sixteen);
     hart.put_bank(bank);
     assert!(rt; *hart.bank() == bank);
     assert!(rt; *hart.registers() == registers_of(0x8000_0000, 7));
     assert!(rt; hart.number() == 1);
 }
 
-/// Each of the entries is loaded.
-fn loads_each_entry(rt: &impl Abort) {
-    let entries = [page(rt, 0x8000_0000), page(rt, 0x8000_1000)];
+#[test]
+fn a_hart_loads_each_of_the_entries(rt: HostRuntime) {
+    let entries = [page(&rt, 0x8000_0000), page(&rt, 0x8000_1000)];
     let mut hart = Hart::new(2, [].as_slice(), Limit::Sixteen);
     hart.load(entries.as_slice());
     assert!(rt; hart.bank().cfg0() == 0x1F1F);
     assert!(rt; hart.bank().addr(0) == 0x2000_01FF);
     assert!(rt; hart.bank().addr(1) == 0x2000_05FF);
-}
-
-#[test]
-fn a_hart_has_a_world_registers_and_a_bank(rt: HostRuntime) {
-    begins_at_its_host(&rt);
-    takes_registers_and_bank(&rt);
-    loads_each_entry(&rt);
 }
 
 /// Each host and each enclave has registers of its own.
@@ -87,6 +80,13 @@ fn keep_apart(rt: &impl Abort, contexts: &mut Contexts) {
 fn begin_at_zero(rt: &impl Abort, contexts: &Contexts) {
     assert!(rt; contexts.get(3, World::Host) == Registers::new());
     assert!(rt; contexts.get(0, World::Enclave(64)) == Registers::new());
+}
+
+#[test]
+fn each_host_and_each_enclave_has_its_own_registers(rt: HostRuntime) {
+    let mut contexts = Contexts::new();
+    begin_at_zero(&rt, &contexts);
+    keep_apart(&rt, &mut contexts);
 }
 
 /// The host of the first hart runs the first enclave, which is stopped and resumed.
@@ -116,6 +116,12 @@ fn goes_on(rt: &impl Abort, contexts: &mut Contexts) {
     switch(&mut hart, contexts, enclave, enclave_entries.as_slice());
     assert!(rt; *hart.registers() == registers_of(0x8020_0040, 7));
     assert!(rt; contexts.get(0, World::Host) == registers_of(4, 1));
+}
+
+#[test]
+fn a_stopped_enclave_goes_on_where_it_stopped(rt: HostRuntime) {
+    let mut contexts = Contexts::new();
+    goes_on(&rt, &mut contexts);
 }
 
 /// A hart of sixty-four entries, with the host of that number in its registers, goes to the last enclave.
@@ -155,10 +161,7 @@ fn returns_to_its_hart(rt: &impl Abort, contexts: &mut Contexts) {
 }
 
 #[test]
-fn worlds_have_registers_of_their_own_and_go_on_where_they_stopped(rt: HostRuntime) {
+fn an_enclave_resumed_on_another_hart_returns_to_that_harts_host(rt: HostRuntime) {
     let mut contexts = Contexts::new();
-    begin_at_zero(&rt, &contexts);
-    keep_apart(&rt, &mut contexts);
-    goes_on(&rt, &mut contexts);
     returns_to_its_hart(&rt, &mut contexts);
 }

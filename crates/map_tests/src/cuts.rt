@@ -1,4 +1,4 @@
-//! A map and its fewest entries, cut by hand.
+//! A map and its fewest entries, cut by hand; and a list that begins and ends inside a page.
 
 use crate::plans::map_of;
 use pmp_encoding::{Entry, Perm, Region, SPACE_SIZE};
@@ -116,6 +116,26 @@ fn host_map_and_its_three_entries(rt: HostRuntime) {
         stretch(0x8000_0000, 0x8020_0000, none, none, Some(1)),
         stretch(0x8020_0000, 0x8800_0000, all, all, Some(2)),
         nothing(0x8800_0000, SPACE_SIZE),
+    ];
+    cut(&rt, rt.alloc(), &ranges, &entries, &wanted);
+}
+
+#[test]
+fn four_bytes_of_a_page_and_a_run_without_entry(rt: HostRuntime) {
+    let ranges = [(1, 2, Perm::Read)];
+    let entries = [
+        entry(&rt, 0x1004, 2, Perm::Execute),
+        entry(&rt, 0x1000, 12, Perm::Read),
+    ];
+    let read = Perm::Read;
+    let none = Perm::NoAccess;
+    let wanted = [
+        nothing(0, 0x1000),
+        stretch(0x1000, 0x1004, read, read, Some(1)),
+        stretch(0x1004, 0x1008, read, Perm::Execute, Some(0)),
+        stretch(0x1008, 0x2000, read, read, Some(1)),
+        stretch(0x2000, 0x3000, read, none, None),
+        nothing(0x3000, SPACE_SIZE),
     ];
     cut(&rt, rt.alloc(), &ranges, &entries, &wanted);
 }

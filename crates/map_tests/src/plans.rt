@@ -145,6 +145,15 @@ fn boot_of_the_example_platform_uses_three_entries(rt: HostRuntime) {
     configures(&rt, rt.alloc(), RANGES, 0x1F_181B);
 }
 
+const SEVEN_PAGES: &[Range] = &[(0x80208, 7, Perm::ReadExecute)];
+
+/// Two pages and one, of which the second has the permission of the third.
+const TIE: &[Range] = &[
+    (0x80200, 1, Perm::ReadExecute),
+    (0x80201, 1, Perm::ReadWrite),
+    (0x80400, 1, Perm::ReadWrite),
+];
+
 /// Ranges, and the pairs of their plan.
 const PLANNED: &[(&[Range], &[Pair])] = &[
     // the whole space
@@ -161,10 +170,7 @@ const PLANNED: &[(&[Range], &[Pair])] = &[
         &[(0x18, 0x2000_01FF), (0x1F, 0x001F_FFFF_FFFF_FFFF)],
     ),
     // seven pages: eight, and one of them denied
-    (
-        &[(0x80208, 7, Perm::ReadExecute)],
-        &[(0x18, 0x2008_3DFF), (0x1D, 0x2008_2FFF)],
-    ),
+    (SEVEN_PAGES, &[(0x18, 0x2008_3DFF), (0x1D, 0x2008_2FFF)]),
     // one page of four is overridden
     (
         &[(0x80000, 4, Perm::Read), (0x80001, 1, Perm::ReadWrite)],
@@ -190,11 +196,7 @@ const PLANNED: &[(&[Range], &[Pair])] = &[
     ),
     // a tie is settled as two pages
     (
-        &[
-            (0x80200, 1, Perm::ReadExecute),
-            (0x80201, 1, Perm::ReadWrite),
-            (0x80400, 1, Perm::ReadWrite),
-        ],
+        TIE,
         &[
             (0x1D, 0x2008_01FF),
             (0x1B, 0x2008_05FF),
@@ -208,6 +210,8 @@ fn maps_have_the_fewest_entries_with_and_without_a_tree(rt: HostRuntime) {
     for (ranges, pairs) in PLANNED {
         is_planned(&rt, rt.alloc(), ranges, pairs);
     }
+    configures(&rt, rt.alloc(), SEVEN_PAGES, 0x1D18);
+    configures(&rt, rt.alloc(), TIE, 0x1B_1B1D);
 }
 
 /// The map needs that many entries.

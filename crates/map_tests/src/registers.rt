@@ -53,6 +53,7 @@ fn pairs_mean_entries_or_have_a_least_fault(rt: HostRuntime) {
     }
     let whole = entry(&rt, 0, 56, Perm::ReadWriteExecute);
     means(&rt, 0x1F, 0x003F_FFFF_FFFF_FFFF, Ok(Some(whole)));
+    assert!(rt; whole.encode().1 == 0x001F_FFFF_FFFF_FFFF);
     means(&rt, 0x00, 0, Ok(None));
     for (cfg, addr, fault) in FAULTY {
         means(&rt, *cfg, *addr, Err(*fault));

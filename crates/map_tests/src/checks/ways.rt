@@ -1,6 +1,6 @@
 //! Certificates of trees that are split down to one page, written by hand.
 
-use super::{SEVEN_PAGES, answers, code, map_of};
+use super::{SEVEN_PAGES, answers, code, map_of, range_answers};
 use crate::certificates::by_map;
 use certificate_check::CheckRefusal;
 use permission_map::PermissionMap;
@@ -134,6 +134,21 @@ fn is_refused_with(
         code(map, changed.as_slice()) == refusal,
         "{byte} at {place}"
     );
+}
+
+#[test]
+fn one_page_needs_one_entry(rt: HostRuntime) {
+    let way = Way {
+        page: 0x80000,
+        perm: Perm::ReadWriteExecute,
+        near: 0,
+        near_perm: Perm::NoAccess,
+    };
+    let entries = [(0x1F, 0x2000_01FF)];
+    let bytes = certificate(rt.alloc(), entries.as_slice(), way).expect(&rt, "memory");
+    assert!(rt; bytes.len() == 1208);
+    let page = (0x80000, 1, Perm::ReadWriteExecute);
+    range_answers(&rt, rt.alloc(), page, bytes.as_slice(), Ok(1));
 }
 
 /// The certificate of seven pages is right, and what is cut off it anywhere is truncated.
