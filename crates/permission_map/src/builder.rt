@@ -6,13 +6,11 @@ ghost use Rattle.permission_map.specs.declared.fault.MapFault as MapFault;
 ghost use Rattle.permission_map.specs.Overwrite.{AreOverwritten, Becomes};
 ghost use Rattle.permission_map.specs.Points.{IsBuilt, Rise, page_of, run_to, runs_of, turns};
 
+use crate::changes::{MOST_IDLE, Setting, change};
 use crate::fault::MapFault;
 use crate::map::{Memory, PermissionMap};
 use crate::overwrite::MOST_RUNS;
-use crate::points::{
-    MOST_IDLE, Point, Setting, before, begun_at, begun_between, change, standing_behind, stop,
-    turn, up_to,
-};
+use crate::points::{Point, before, begun_at, begun_between, standing_behind, stop, turn, up_to};
 use crate::runs::Run;
 use page_views::SPACE_PAGES;
 use pmp_encoding::Perm;

@@ -23,6 +23,7 @@
 #![tactic(auto)]
 
 mod builder;
+mod changes;
 mod fault;
 mod laws;
 mod map;

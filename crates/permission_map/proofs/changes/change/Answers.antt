@@ -3,7 +3,7 @@ use Rattle.pmp_encoding.specs.declared.perm.Perm.TheVariants.{NoAccess}
 use Rattle.permission_map.specs.declared.points.Point.{Point}
 use Rattle.permission_map.specs.Points.{Rise, standing, turns}
 use Rattle.permission_map.proofs.Changed.{over_changed, over_rise, replaced_changed, replaced_idle, replaced_rise}
-use Rattle.permission_map.proofs.points.change.Goals as goal
+use Rattle.permission_map.proofs.changes.change.Goals as goal
 
 pub returns-then-range-lt-SPACE_PAGES-clause-rise : goal.returns-then-range-lt-SPACE_PAGES-clause-rise
 returns-then-range-lt-SPACE_PAGES-clause-rise c =

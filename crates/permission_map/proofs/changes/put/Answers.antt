@@ -1,6 +1,6 @@
 use Rattle.std.proofs.Common.{◌∙◌, ◌≡◌, ◌≤◌, ◌+◌, ap, arith, take, drop, length}
 use Rattle.permission_map.proofs.PointLists.{inserted_front, inserted_back}
-use Rattle.permission_map.proofs.points.put.Goals as goal
+use Rattle.permission_map.proofs.changes.put.Goals as goal
 
 pub returns-clause-front : goal.returns-clause-front
 returns-clause-front c =

@@ -1,6 +1,6 @@
 use Rattle.std.proofs.Common.{◌∙◌, ◌≤◌, ◌++◌, ◌∷◌, [], ap, arith, length, slice_set, ◌+◌}
 use Rattle.permission_map.proofs.Opened.{opened}
-use Rattle.permission_map.proofs.points.put_two.Goals as goal
+use Rattle.permission_map.proofs.changes.put_two.Goals as goal
 
 pub returns-clause-items : goal.returns-clause-items
 returns-clause-items c =

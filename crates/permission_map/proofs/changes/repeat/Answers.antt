@@ -1,6 +1,6 @@
 use Rattle.std.proofs.Common.{arith}
 use Rattle.permission_map.proofs.Changed.{repeated_more}
-use Rattle.permission_map.proofs.points.repeat.Goals as goal
+use Rattle.permission_map.proofs.changes.repeat.Goals as goal
 
 pub loop-at-preserved : goal.loop-at-preserved
 loop-at-preserved c =

@@ -1,6 +1,6 @@
 use Rattle.std.proofs.Common.{◌≡◌, ◌≤◌, ◌-◌, ◌++◌, map, take, drop, vec_len, vec_capacity}
 use Rattle.permission_map.specs.Points.{with_perm}
-use Rattle.permission_map.proofs.points.repeat.Given as goal
+use Rattle.permission_map.proofs.changes.repeat.Given as goal
 
 abbrev pub invariant-loop-at : goal.invariant-loop-at
 invariant-loop-at l = record {

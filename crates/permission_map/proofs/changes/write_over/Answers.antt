@@ -1,6 +1,6 @@
 use Rattle.std.proofs.Common.{arith}
 use Rattle.permission_map.proofs.Changed.{written}
-use Rattle.permission_map.proofs.points.write_over.Goals as goal
+use Rattle.permission_map.proofs.changes.write_over.Goals as goal
 
 pub returns-clause-items : goal.returns-clause-items
 returns-clause-items c =

@@ -1,0 +1,183 @@
+//! A range that is written into the points of a map.
+
+ghost use Rattle.std.specs.Prelude.{◌≡◌, ◌≤◌, ◌<◌, ◌+◌, ◌-◌, ◌^◌, ◌++◌, ◌∷◌, Some, length, map, take, drop, option_to_list, vec_len, vec_capacity};
+ghost use Rattle.pmp_encoding.specs.declared.perm.Perm.TheVariants.{NoAccess};
+ghost use Rattle.permission_map.specs.Points.{IsChanged, IsCut, IsStop, IsTurn, Rise, standing, turns, with_perm};
+
+use crate::points::{Point, standing_behind};
+use page_views::SPACE_PAGES;
+use pmp_encoding::Perm;
+
+/// As many points may be idle: at them the permission does not change.
+pub(crate) const MOST_IDLE: usize = 4096;
+
+/// As many points of a range are written anew where they stand. Of more, most go.
+const MOST_WRITTEN: usize = 8;
+
+/// Puts a point at an index, in the place of the first of those up to `end`, otherwise before what stands there. It answers
+/// how far those to be replaced reach now.
+fn put(points: &mut Vec<Point>, at: usize, end: usize, point: Point) -> usize
+    requires order { at ≤ end }
+    requires inside { end ≤ vec_len points.old }
+    requires room { vec_len points.old < vec_capacity points.old }
+    ensures front { take (at + 1) points.new.items ≡ take at points.old.items
+        ++ option_to_list (Some point) }
+    ensures back { drop result points.new.items ≡ drop end points.old.items }
+    ensures order { at + 1 ≤ result }
+    ensures inside { result ≤ vec_len points.new }
+    ensures at_most { vec_len points.new ≤ vec_len points.old + 1 }
+    ensures longer { vec_len points.new + end ≡ vec_len points.old + result }
+    ensures room { vec_capacity points.old ≤ vec_capacity points.new }
+{
+    if at < end {
+        points[at] = point;
+        return end;
+    }
+    let Ok(()) = points.insert(at, point) else {
+        unreachable!();
+    };
+    end + 1
+}
+
+/// Puts two points before what stands at an index. What stands there and after it moves once for both: where the lines of a
+/// map come in no order, most of the time goes by such moves.
+fn put_two(points: &mut Vec<Point>, at: usize, start: Point, stop: Point)
+    requires inside { at ≤ vec_len points.old }
+    requires room { vec_len points.old + 2 ≤ vec_capacity points.old }
+    ensures items { points.new.items ≡ take at points.old.items ++
+        (start ∷ stop ∷ drop at points.old.items) }
+    ensures room { vec_capacity points.old ≤ vec_capacity points.new }
+{
+    let len = points.len();
+    let Ok(()) = points.push(start) else {
+        unreachable!();
+    };
+    let Ok(()) = points.push(stop) else {
+        unreachable!();
+    };
+    points.copy_within(at..len, at + 2);
+    points[at] = start;
+    points[at + 1] = stop;
+}
+
+/// Puts at most two points in the place of those with the indices from `from` to before `to`. It stands apart, so that how its
+/// loops lie in memory does not depend on who sets ranges.
+#[inline(never)]
+fn replace(
+    points: &mut Vec<Point>,
+    from: usize,
+    to: usize,
+    start: Option<Point>,
+    stop: Option<Point>,
+)
+    requires order { from ≤ to }
+    requires inside { to ≤ vec_len points.old }
+    requires room { vec_len points.old + 2 ≤ vec_capacity points.old }
+    ensures items { points.new.items ≡ take from points.old.items ++
+        (option_to_list start ++ (option_to_list stop ++ drop to points.old.items)) }
+    ensures room { vec_capacity points.old ≤ vec_capacity points.new }
+{
+    if from == to {
+        if let (Some(start), Some(stop)) = (start, stop) {
+            put_two(points, from, start, stop);
+            return;
+        }
+    }
+    let mut at = from;
+    let mut end = to;
+    if let Some(start) = start {
+        end = put(points, at, end, start);
+        at += 1;
+    }
+    if let Some(stop) = stop {
+        end = put(points, at, end, stop);
+        at += 1;
+    }
+    drop(points.drain(at..end));
+}
+
+/// Gives the points with the indices from `from` to before `to` the permission, each at its page.
+fn repeat(points: &mut Vec<Point>, from: usize, to: usize, perm: Perm)
+    requires order { from ≤ to }
+    requires inside { to ≤ vec_len points.old }
+    ensures items { points.new.items ≡ take from points.old.items ++
+        (map (with_perm perm) (take (to - from) (drop from points.old.items)) ++ drop to points.old.items) }
+    ensures len { vec_len points.new ≡ vec_len points.old }
+    ensures room { vec_capacity points.old ≤ vec_capacity points.new }
+{
+    let mut at = from;
+    while at < to {
+        points[at] = points[at].with_perm(perm);
+        at += 1;
+    }
+}
+
+/// Writes a range over the points that stand in it, two at least: the first becomes its start and the last its stop. None moves,
+/// and those between them change nothing. The permission comes beside its start, so that it is not read back from there.
+fn write_over(
+    points: &mut Vec<Point>,
+    from: usize,
+    to: usize,
+    start: Point,
+    perm: Perm,
+    stop: Point,
+)
+    requires order { from + 2 ≤ to }
+    requires inside { to ≤ vec_len points.old }
+    ensures items { points.new.items ≡ take from points.old.items ++
+        (start ∷ (map (with_perm perm) (take (to - 1 - (from + 1)) (drop (from + 1) points.old.items))
+        ++ stop ∷ drop to points.old.items)) }
+    ensures len { vec_len points.new ≡ vec_len points.old }
+    ensures room { vec_capacity points.old ≤ vec_capacity points.new }
+{
+    repeat(points, from + 1, to - 1, perm);
+    points[from] = start;
+    points[to - 1] = stop;
+}
+
+/// The pages of a range, and the permission that it sets.
+#[derive(Clone, Copy)]
+pub(crate) struct Setting {
+    pub(crate) first: u64,
+    pub(crate) end: u64,
+    pub(crate) perm: Perm,
+}
+
+/// Sets a range between the first `from` points and those after the first `to`. Where a few points stand in it, they stay, some
+/// of them idle: so lines that override one another over and over move no points. Otherwise at most two stand in their place.
+pub(crate) fn change(
+    points: &mut Vec<Point>,
+    from: usize,
+    to: usize,
+    range: Setting,
+    start: Option<Point>,
+    stop: Option<Point>,
+)
+    requires rise { Rise points.old.items }
+    requires order { from ≤ to }
+    requires inside { to ≤ vec_len points.old }
+    requires some { range.first < range.end }
+    requires small { range.end ≤ 2 ^ 44 }
+    requires cut { IsCut points.old.items range.first range.end from to }
+    requires turn { IsTurn (standing NoAccess (take from points.old.items))
+        range.first range.perm start }
+    requires ends { IsStop range.perm range.end
+        (standing NoAccess (take to points.old.items)) stop }
+    requires idle { vec_len points.old ≤ length (turns points.old.items) + 4096 }
+    requires room { vec_len points.old + 2 ≤ vec_capacity points.old }
+    ensures rise { Rise points.new.items }
+    ensures changed { IsChanged points.old.items points.new.items from to
+        range.first range.end range.perm }
+    ensures idle { vec_len points.new ≤ length (turns points.new.items) + 4096 }
+    ensures room { vec_capacity points.old ≤ vec_capacity points.new }
+{
+    let few = points.len() <= MOST_IDLE && to <= from + MOST_WRITTEN;
+    if few && from + 2 <= to && range.end < SPACE_PAGES {
+        let after = standing_behind(points, to);
+        let start = Point::new(range.first, range.perm);
+        let stop = Point::new(range.end, after);
+        write_over(points, from, to, start, range.perm, stop);
+    } else {
+        replace(points, from, to, start, stop);
+    }
+}
