@@ -1,6 +1,7 @@
 //! Each read and each write fails in turn under each command.
 
 use super::devices::{Failing, Tried, try_on};
+use super::runs::{certificate, printed};
 use std::alloc::Global;
 use std::process::Abort;
 
@@ -119,6 +120,20 @@ fn each_device_fails(rt: &impl Abort, alloc: Global, rows: &[Row<'_>]) {
     }
 }
 
+/// The same of a check of the map's certificate, and of an audit of its plan as it is printed.
+fn each_device_fails_on_a_plan(rt: &impl Abort, alloc: Global) {
+    let cert = certificate(rt, alloc, PLAN, MAP);
+    let plan = printed(rt, alloc, &["pmpmon", "plan", "m"], MAP, b"");
+    each_device_fails(
+        rt,
+        alloc,
+        &[
+            (&["pmpmon", "check", "m", "s"], MAP, cert.as_slice()),
+            (&["pmpmon", "audit", "m", "s"], MAP, plan.as_slice()),
+        ],
+    )
+}
+
 #[test]
 fn a_failing_device_ends_each_command_with_its_text(rt: HostRuntime) {
     each_device_fails(
@@ -138,7 +153,8 @@ fn a_failing_device_ends_each_command_with_its_text(rt: HostRuntime) {
             (&["pmpmon", "map", "m"], LISTING, b""),
             (&["pmpmon", "lint", "m"], IDLE, b""),
         ],
-    )
+    );
+    each_device_fails_on_a_plan(&rt, rt.alloc())
 }
 
 /// What a command leaves behind: its status and what it says, whether it prints, and whether a certificate is in its place.
