@@ -163,6 +163,8 @@ fn behind_keyword(line: &[u8]) -> Option<(Kind, &[u8])>
     if first & said.mask != said.number {
         return None;
     }
+    // Each length of the table is below 8. The remainder says so to the compiler: of 64 bytes it then knows that enough are left, and asks
+    // for no part of the line whether it is there.
     Some((said.kind, &line[said.len % 8..]))
 }
 
