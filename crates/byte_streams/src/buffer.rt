@@ -7,34 +7,31 @@ ghost use Rattle.byte_streams.specs.Streams.{CountsFailure};
 use crate::streams::{DeviceFault, Source};
 use std::marker::Model;
 
-/// How many bytes a [`Buffer`] has room for.
-pub const BUFFER_SIZE: usize = 16384;
-
-/// Bytes that have come and are not yet used, in their order.
+/// Bytes that have come and are not yet used, in their order. There is room for `SIZE`.
 #[derive(Drop)]
-pub struct Buffer {
-    bytes: [u8; BUFFER_SIZE],
+pub struct Buffer<const SIZE: usize> {
+    bytes: [u8; SIZE],
     start: usize,
     end: usize,
 }
 
-impl Model for Buffer {
-    ghost use Rattle.std.specs.Prelude.{ℕ, List, ◌≤◌, take, drop};
+impl<const SIZE: usize> Model for Buffer<SIZE> {
+    ghost use Rattle.std.specs.Prelude.{ℕ, List, ◌≤◌, ◌≡◌, length, take, drop};
 
     ghost Value = { List ℕ };
 
     ghost view = { λ b. drop b.start (take b.end b.bytes) };
 
-    ghost invariant = { λ b. (b.start ≤ b.end) × (b.end ≤ 16384) };
+    ghost invariant = { λ b. (b.start ≤ b.end) × (b.end ≤ SIZE) × (length b.bytes ≡ SIZE) };
 }
 
-impl Buffer {
+impl<const SIZE: usize> Buffer<SIZE> {
     /// No bytes.
-    pub fn new() -> Buffer
+    pub fn new() -> Buffer<SIZE>
         ensures { result ≡ [] }
     {
         Buffer {
-            bytes: [0; BUFFER_SIZE],
+            bytes: [0; SIZE],
             start: 0,
             end: 0,
         }
@@ -44,9 +41,10 @@ impl Buffer {
     #[inline(always)]
     pub fn as_slice(&self) -> &[u8]
         ensures value { result.now ≡ self.now }
-        ensures most { length self.now ≤ 16384 }
+        ensures most { length self.now ≤ SIZE }
     {
-        &self.bytes[self.start..self.end]
+        let all = &self.bytes[..];
+        &all[self.start..self.end]
     }
 
     /// Lets go of the first bytes.
@@ -61,7 +59,7 @@ impl Buffer {
     /// Reads at most `most` bytes after the others, and says how many; none at the end of the source alone. The bytes move to
     /// the front of the array first.
     pub fn fill<R: Source>(&mut self, source: &mut R, most: usize) -> Result<usize, DeviceFault>
-        requires room { length self.old < 16384 }
+        requires room { length self.old < SIZE }
         requires some { 0 < most }
         ensures read { MatchResult result
             (λ n. (n ≤ most) × ((bytes : List ℕ) × (length bytes ≡ n)
@@ -71,11 +69,13 @@ impl Buffer {
         ensures failures { CountsFailure result (R.failures source.old) (R.failures source.new) }
     {
         let held = self.end - self.start;
-        self.bytes.copy_within(self.start..self.end, 0);
+        let all = &mut self.bytes[..];
+        all.copy_within(self.start..self.end, 0);
         self.start = 0;
         self.end = held;
-        let room = most.min(BUFFER_SIZE - self.end);
-        let Ok(n) = source.read(&mut self.bytes[self.end..self.end + room]) else {
+        let room = most.min(SIZE - self.end);
+        let all = &mut self.bytes[..];
+        let Ok(n) = source.read(&mut all[self.end..self.end + room]) else {
             return Err(DeviceFault);
         };
         self.end += n;

@@ -8,7 +8,7 @@ use std::alloc::{AllocError, Global};
 use std::marker::Model;
 
 /// How many bytes are held at most. A signal that ends the program can lose so many.
-pub const HELD: usize = 8192;
+pub const HELD: usize = 32768;
 
 /// How many bytes behind a number [`HeldBytes::push_numbered`] copies. Nearly all answers have fewer.
 pub const COPIED: usize = 48;
@@ -30,7 +30,7 @@ impl Model for HeldBytes {
 
     ghost view = { λ held. take held.len held.bytes.value };
 
-    ghost invariant = { λ held. held.len ≤ 8192 };
+    ghost invariant = { λ held. held.len ≤ 32768 };
 }
 
 impl HeldBytes {
@@ -47,7 +47,7 @@ impl HeldBytes {
     #[inline(always)]
     pub fn as_slice(&self) -> &[u8]
         ensures value { result.now ≡ self.now }
-        ensures most { length self.now ≤ 8192 }
+        ensures most { length self.now ≤ 32768 }
     {
         &self.bytes[..self.len]
     }
@@ -63,7 +63,7 @@ impl HeldBytes {
     /// How many more bytes there is room for.
     #[inline(always)]
     pub fn room(&self) -> usize
-        ensures { result + length self.now ≡ 8192 }
+        ensures { result + length self.now ≡ 32768 }
     {
         HELD - self.as_slice().len()
     }
@@ -71,7 +71,7 @@ impl HeldBytes {
     /// Appends bytes.
     #[inline(always)]
     pub fn push(&mut self, bytes: &[u8])
-        requires { length self.old + length bytes.now ≤ 8192 }
+        requires { length self.old + length bytes.now ≤ 32768 }
         ensures { self.new ≡ self.old ++ bytes.now }
     {
         let end = self.len + bytes.len();
@@ -82,7 +82,7 @@ impl HeldBytes {
     /// Appends the first digits of a number. All of the array is copied in any case, as in [`push_front`](HeldBytes::push_front).
     #[inline(always)]
     fn push_digits(&mut self, digits: &[u8; DIGITS_ROOM], count: usize)
-        requires room { length self.old + 20 ≤ 8192 }
+        requires room { length self.old + 20 ≤ 32768 }
         requires few { count ≤ 20 }
         ensures { self.new ≡ self.old ++ take count digits.now }
     {
@@ -94,7 +94,7 @@ impl HeldBytes {
     /// Appends a byte.
     #[inline(always)]
     fn push_byte(&mut self, byte: u8)
-        requires { length self.old < 8192 }
+        requires { length self.old < 32768 }
         ensures { self.new ≡ self.old ++ byte ∷ [] }
     {
         self.bytes[self.len] = byte;
@@ -105,7 +105,7 @@ impl HeldBytes {
     /// appended. They go through an array that nothing else can be in, or the compiler would ask where text and bytes overlap.
     #[inline(always)]
     fn push_front(&mut self, text: &[u8; TEXT_ROOM], len: usize)
-        requires room { length self.old + 48 ≤ 8192 }
+        requires room { length self.old + 48 ≤ 32768 }
         requires few { len ≤ 48 }
         ensures { self.new ≡ self.old ++ take len text.now }
     {
@@ -118,7 +118,7 @@ impl HeldBytes {
     /// Appends a numbered text. No copy reads what another has written, so none waits for one.
     #[inline(always)]
     pub fn push_numbered(&mut self, text: Numbered<'_>)
-        requires room { length self.old + 69 ≤ 8192 }
+        requires room { length self.old + 69 ≤ 32768 }
         requires front { text.front_len ≤ 20 }
         requires few { text.text_len ≤ 48 }
         ensures { self.new ≡ self.old ++ numbered_text text.entry }

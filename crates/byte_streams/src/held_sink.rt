@@ -11,7 +11,7 @@ use crate::streams::{DeviceFault, Numbered, Sink};
 use std::alloc::{AllocError, Global};
 use std::io::Write;
 
-/// A sink over a writer of std. It holds up to 8192 bytes, and hands them on where more come, where it is flushed and where it is
+/// A sink over a writer of std. It holds up to 32768 bytes, and hands them on where more come, where it is flushed and where it is
 /// closed. What a write of the writer leaves stays held, in its order. Bytes that are let go of with the sink are not written:
 /// [`close`](HeldSink::close) ends it. A call that a signal interrupts is a failure here, so the writer tries it again by itself.
 #[derive(Drop)]
@@ -164,7 +164,7 @@ impl<T: Write> Sink for HeldSink<T> {
             (failed_writes self.old) (failed_writes self.new) }
         ensures stalls { CountsStall result buf.now
             (stalled_writes self.old) (stalled_writes self.new) }
-        ensures room { length (held_in self.old) + length buf.now < 8192
+        ensures room { length (held_in self.old) + length buf.now < 32768
             → result ≡ Ok (length buf.now) }
     {
         if buf.len() < self.held.room() {
@@ -184,7 +184,7 @@ impl<T: Write> Sink for HeldSink<T> {
         ensures untouched { result ≡ false → self.new ≡ self.old }
         ensures failures { failed_writes self.new ≡ failed_writes self.old }
         ensures stalls { stalled_writes self.new ≡ stalled_writes self.old }
-        ensures room { text.entry.text_len ≤ 48 → length (held_in self.old) + 69 ≤ 8192
+        ensures room { text.entry.text_len ≤ 48 → length (held_in self.old) + 69 ≤ 32768
             → result ≡ true }
     {
         if text.text_len > COPIED || self.held.len() > HELD - MOST {

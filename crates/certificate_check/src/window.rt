@@ -1,6 +1,9 @@
 //! A window of fixed size through which the bytes of a source are read.
 
-use byte_streams::{BUFFER_SIZE, Buffer, Source, SourceFault};
+use byte_streams::{Buffer, Source, SourceFault};
+
+/// How many bytes a window has room for.
+const ROOM: usize = 16384;
 
 /// Whether more bytes may come, and why not.
 #[derive(Clone, Copy)]
@@ -18,7 +21,7 @@ pub(crate) enum Inflow {
 /// A window over a source: the bytes that have come and are not yet used.
 #[derive(Drop)]
 pub(crate) struct Window {
-    buffer: Buffer,
+    buffer: Buffer<ROOM>,
     came: u64,
     most: u64,
     pub(crate) inflow: Inflow,
@@ -131,7 +134,7 @@ impl Window {
         if !self.is_open() {
             return;
         }
-        match self.buffer.fill(source, BUFFER_SIZE) {
+        match self.buffer.fill(source, ROOM) {
             Ok(0) => self.inflow = Inflow::AtEnd,
             Ok(n) => self.count(n),
             Err(_) => self.inflow = Inflow::Failed,

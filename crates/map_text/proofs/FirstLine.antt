@@ -57,10 +57,10 @@ first_of [] h = absurd (omega (arith, h))
 first_of (line ∷ lines) h = (line, lines, refl, h)
 
 -- what was left, by what came and what is after it
-left_as : (old : LineReader) (before bytes middle : List ℕ) → before ≡ bytes ++ middle → left_of old before ≡ (pending_of old ++ bytes) ++ middle
+left_as : {size : ℕ} (old : LineReader size) (before bytes middle : List ℕ) → before ≡ bytes ++ middle → left_of old before ≡ (pending_of old ++ bytes) ++ middle
 left_as old before bytes middle e = ap (λ xs. pending_of old ++ xs) e ∙ sym (append_assoc (pending_of old) bytes middle)
 
-handed : (old new : LineReader) (before after bytes line : List ℕ) → before ≡ bytes ++ after → Hands old new (pending_of old ++ bytes) (Some after) line → HandsFirst old new before after line
+handed : {size : ℕ} (old new : LineReader size) (before after bytes line : List ℕ) → before ≡ bytes ++ after → Hands old new (pending_of old ++ bytes) (Some after) line → HandsFirst old new before after line
 handed old new before after bytes line e h = elim h.ends [
   | inl p ↦ let left : left_of old before ≡ line ++ 10 ∷ left_of new after = left_as old before bytes after e ∙ ap (λ xs. xs ++ after) p.0 ∙ append_assoc line (10 ∷ pending_of new) after in record {
     lines = ap raw_lines left ∙ ended_first line (left_of new after) h.short.0;
@@ -84,14 +84,14 @@ came_from : (before after : List ℕ) (bytes beyond : List ℕ) (middle : Option
 came_from before after bytes beyond None a b e = absurd a
 came_from before after bytes beyond (Some rest) a b e = a ∙ ap (λ xs. bytes ++ xs) (b ∙ ap (λ xs. xs ++ after) e)
 
-pub handed_next : (old new : LineReader) (before after : List ℕ) → NextLine (Ok true) old new (Some before) (Some after) → NextOf (Ok true) old new before after
+pub handed_next : {size : ℕ} (old new : LineReader size) (before after : List ℕ) → NextLine (Ok true) old new (Some before) (Some after) → NextOf (Ok true) old new before after
 handed_next old new before after n = (n.6.0, handed old new before after n.0 n.6.0 (came_from before after n.0 n.1 n.2 n.3.consumed n.4 n.5) n.6.1)
 
-pub none_next : (old new : LineReader) (before after : List ℕ) → NextLine (Ok false) old new (Some before) (Some after) → NextOf (Ok false) old new before after
+pub none_next : {size : ℕ} (old new : LineReader size) (before after : List ℕ) → NextLine (Ok false) old new (Some before) (Some after) → NextOf (Ok false) old new before after
 none_next old new before after n =
     left_as old before n.0 after (came_from before after n.0 n.1 n.2 n.3.consumed n.4 n.5) ∙ ap (λ xs. xs ++ after) n.6.0 ∙ n.6.1
 
-pub long_next : (n : ℕ) (old new : LineReader) (before after : List ℕ) → NextLine (Err (LongLine n)) old new (Some before) (Some after) → NextOf (Err n) old new before after
+pub long_next : {size : ℕ} (n : ℕ) (old new : LineReader size) (before after : List ℕ) → NextLine (Err (LongLine n)) old new (Some before) (Some after) → NextOf (Err n) old new before after
 long_next m old new before after n =
     let bytes = pending_of old ++ n.0 in
     let left = left_as old before n.0 after (came_from before after n.0 n.1 n.2 n.3.consumed n.4 n.5) in
@@ -100,5 +100,5 @@ long_next m old new before after n =
     (first.0, first.1, record { lines = ap raw_lines left ∙ first.2; long = first.3; number = n.6.0 })
 
 -- how many came and how many are left
-pub counted : (old new : LineReader) (before after : List ℕ) (bytes beyond : List ℕ) (middle : Option (List ℕ)) → Consumes (Some before) middle bytes → Consumes middle (Some after) beyond → beyond ≡ [] → came_of new ≡ came_of old + length bytes → came_of new + length after ≡ came_of old + length before
+pub counted : {size : ℕ} (old new : LineReader size) (before after : List ℕ) (bytes beyond : List ℕ) (middle : Option (List ℕ)) → Consumes (Some before) middle bytes → Consumes middle (Some after) beyond → beyond ≡ [] → came_of new ≡ came_of old + length bytes → came_of new + length after ≡ came_of old + length before
 counted old new before after bytes beyond middle a b e n = omega (arith, n, ap length (came_from before after bytes beyond middle a b e), length-append bytes after)

@@ -12,5 +12,5 @@
 mod map_file;
 mod map_lines;
 
-pub use map_file::{MAP_BYTES, MapFileFault, map_of, next_line};
+pub use map_file::{AT_ONCE, MAP_BYTES, MapFileFault, map_of, next_line};
 pub use map_lines::raw_says;

@@ -14,6 +14,9 @@ use thiserror::Error;
 /// How many bytes a map file may have.
 pub const MAP_BYTES: usize = 1 << 20;
 
+/// How many bytes of a text that is all there are looked at in one piece: a copy of them stands on the stack.
+pub const AT_ONCE: usize = 4096;
+
 /// Why a file gives no map.
 #[derive(Clone, Copy, Debug, PartialEq, Eq, Error)]
 pub enum MapFileFault {
@@ -38,7 +41,10 @@ enum LineFault {
 
 /// Hands out the next line of bytes that are all there, or says that there is none; or which line is too long.
 #[tactic(auto, unfolding(byte_streams::specs::Streams::one_failure_more))]
-pub fn next_line(lines: &mut LineReader, rest: &mut &[u8]) -> Result<bool, u64>
+pub fn next_line<const SIZE: usize>(
+    lines: &mut LineReader<SIZE>,
+    rest: &mut &[u8],
+) -> Result<bool, u64>
     requires limit { most_of lines.old ≡ 2 ^ 64 - 1 }
     requires few { came_of lines.old + length rest.old.now < 2 ^ 64 - 1 }
     ensures next { NextOf result lines.old lines.new rest.old.now rest.new.now }
@@ -91,7 +97,7 @@ pub fn map_of(alloc: Global, bytes: &[u8]) -> Result<PermissionMap, MapFileFault
         × FaultAt bytes.now n MakesFirst }
 {
     let mut map = MapBuilder::new(alloc);
-    let mut lines = LineReader::with_limit(u64::MAX);
+    let mut lines = LineReader::<AT_ONCE>::with_limit(u64::MAX);
     let mut rest = bytes;
     'lines: loop {
         match next_line(&mut lines, &mut rest) {

@@ -9,7 +9,7 @@ use crate::log::log_listing;
 use crate::register_lines::line_sets;
 use crate::setting::nothing_set;
 use boot_log::is_boot_log;
-use map_text::next_line;
+use map_text::{AT_ONCE, next_line};
 use pmp_registers::Registers;
 use register_width::Xlen;
 use text_lines::LineReader;
@@ -33,7 +33,7 @@ fn register_listing(xlen: Xlen, bytes: &[u8]) -> Result<Listing, u64>
     ensures unknown { IfErr result (IsFirstUnknownBy xlen (raw_sets xlen) bytes.now) }
 {
     let mut listing = nothing_set(xlen);
-    let mut lines = LineReader::with_limit(u64::MAX);
+    let mut lines = LineReader::<AT_ONCE>::with_limit(u64::MAX);
     let mut rest = bytes;
     while next_line(&mut lines, &mut rest)? {
         let number = lines.number();

@@ -8,47 +8,47 @@ use Rattle.text_lines.specs.declared.lines.LineReader.{LineReader}
 use Rattle.text_lines.specs.Lines.{has_no_end, IsShortLine, BeginsLongLine, without_return}
 
 -- the line that was handed out last, without its end
-abbrev pub line_of : LineReader → List ℕ
+abbrev pub line_of : {size : ℕ} → LineReader size → List ℕ
 line_of reader = take reader.text_len reader.buffer
 
 -- the bytes after it that have come
-abbrev pub pending_of : LineReader → List ℕ
+abbrev pub pending_of : {size : ℕ} → LineReader size → List ℕ
 pending_of reader = drop reader.taken reader.buffer
 
 -- how many lines were handed out, how many bytes came, and how many may
-abbrev pub number_of : LineReader → ℕ
+abbrev pub number_of : {size : ℕ} → LineReader size → ℕ
 number_of reader = reader.number
 
-abbrev pub came_of : LineReader → ℕ
+abbrev pub came_of : {size : ℕ} → LineReader size → ℕ
 came_of reader = reader.came
 
-abbrev pub most_of : LineReader → ℕ
+abbrev pub most_of : {size : ℕ} → LineReader size → ℕ
 most_of reader = reader.limit
 
 -- whether that line was the last, which lacks its LF
-abbrev pub ended_of : LineReader → Bool
+abbrev pub ended_of : {size : ℕ} → LineReader size → Bool
 ended_of reader = reader.ended
 
 -- these bytes left the source, came to the reader and are counted; none did where a line was there already
-pub record Came (old new : LineReader) (before after : Option (List ℕ)) (bytes : List ℕ) : Type 0 where
+pub record Came {size : ℕ} (old new : LineReader size) (before after : Option (List ℕ)) (bytes : List ℕ) : Type 0 where
   pub consumed : Consumes before after bytes
   pub counted : came_of new ≡ came_of old + length bytes
   pub needed : (bytes ≡ []) ⊎ (has_no_end (pending_of old) ≡ true)
 
 -- a line was handed out, at the front of the bytes that were there
-pub record Hands (old new : LineReader) (bytes : List ℕ) (after : Option (List ℕ)) (line : List ℕ) : Type 0 where
+pub record Hands {size : ℕ} (old new : LineReader size) (bytes : List ℕ) (after : Option (List ℕ)) (line : List ℕ) : Type 0 where
   pub short : IsShortLine line
   pub text : line_of new ≡ without_return line
   pub number : number_of new ≡ number_of old + 1
   pub ends : ((bytes ≡ line ++ 10 ∷ pending_of new) × (ended_of new ≡ false)) ⊎ ((0 < length line) × (bytes ≡ line) × (pending_of new ≡ []) × IsAtEnd after × (ended_of new ≡ true))
 
 -- the bytes stay there, and no line was handed out
-pub record Holds (old new : LineReader) (bytes : List ℕ) : Type 0 where
+pub record Holds {size : ℕ} (old new : LineReader size) (bytes : List ℕ) : Type 0 where
   pub pending : pending_of new ≡ bytes
   pub number : number_of new ≡ number_of old
 
 -- the answer of a reader, by the bytes that were there in the end
-abbrev pub Answers : Result Bool ReadFault → LineReader → LineReader → List ℕ → Option (List ℕ) → Type 0
+abbrev pub Answers : {size : ℕ} → Result Bool ReadFault → LineReader size → LineReader size → List ℕ → Option (List ℕ) → Type 0
 Answers (Ok true) old new bytes after = (line : List ℕ) × Hands old new bytes after line
 Answers (Ok false) old new bytes after = (bytes ≡ []) × IsAtEnd after × Holds old new bytes
 Answers (Err (LongLine n)) old new bytes after = (n ≡ number_of old + 1) × BeginsLongLine bytes × Holds old new bytes
@@ -66,11 +66,11 @@ FailsOnRead (Err Device) before after = after ≡ one_failure_more before
 FailsOnRead _ before after = after ≡ before
 
 -- what a call did
-abbrev pub NextLine : Result Bool ReadFault → LineReader → LineReader → Option (List ℕ) → Option (List ℕ) → Type 0
+abbrev pub NextLine : {size : ℕ} → Result Bool ReadFault → LineReader size → LineReader size → Option (List ℕ) → Option (List ℕ) → Type 0
 NextLine result old new before after = (bytes beyond : List ℕ) × (middle : Option (List ℕ)) × Came old new before middle bytes × Consumes middle after beyond × BeyondLimit result beyond × Answers result old new (pending_of old ++ bytes) after
 
 -- the same of one read: new bytes stand after the others, and none came at the end alone
-abbrev pub ReadsMore : Result Bool ReadFault → LineReader → LineReader → Option (List ℕ) → Option (List ℕ) → List ℕ → Type 0
+abbrev pub ReadsMore : {size : ℕ} → Result Bool ReadFault → LineReader size → LineReader size → Option (List ℕ) → Option (List ℕ) → List ℕ → Type 0
 ReadsMore (Ok more) old new before after bytes = Consumes before after bytes × (new.buffer ≡ old.buffer ++ bytes) × (new.came ≡ old.came + length bytes) × (more ≡ nat_lt 0 (length bytes)) × (more ≡ false → IsAtEnd after)
 ReadsMore (Err TooManyBytes) old new before after bytes = Consumes before after bytes × (length bytes ≡ 1) × (new.buffer ≡ old.buffer) × (old.came ≡ old.limit) × (new.came ≡ old.came)
 ReadsMore (Err Device) old new before after bytes = Consumes before after bytes × (bytes ≡ []) × (new.buffer ≡ old.buffer) × (new.came ≡ old.came)

@@ -10,7 +10,7 @@
 //! read to the lines that were interpreted, in their order, and to the answers that were written.
 //!
 //! ```text
-//! let mut lines = LineReader::new();
+//! let mut lines = LineReader::<4096>::new();
 //! while lines.next_line(&mut source)? {
 //!     let mut words = Words::of(lines.line())?;
 //!     while let Some(word) = words.next_word() {

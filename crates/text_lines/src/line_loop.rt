@@ -16,6 +16,10 @@ use crate::written::Line;
 use byte_streams::{DeviceFault, Sink, Source};
 use thiserror::Error;
 
+/// How many bytes are read at once where they are there. The answers are handed on before each read, so fewer bytes would
+/// mean more writes too.
+const AT_ONCE: usize = 65536;
+
 /// Why a line has no answer that should have one.
 #[derive(Clone, Copy, Debug, PartialEq, Eq, Error)]
 pub enum Refusal {
@@ -109,7 +113,7 @@ fn write_answer<W: Sink>(
 /// Hands out the next line. Where it has to be read, the sink hands on the answers before: a read may have to wait.
 #[inline(always)]
 fn next_line<R: Source, W: Sink>(
-    reader: &mut LineReader,
+    reader: &mut LineReader<AT_ONCE>,
     source: &mut R,
     sink: &mut W,
 ) -> Result<bool, ReadFault>
@@ -133,7 +137,7 @@ fn next_line<R: Source, W: Sink>(
 #[inline(always)]
 fn interpret_next<I: Interpreter, R: Source, W: Sink>(
     interpreter: &mut I,
-    reader: &mut LineReader,
+    reader: &mut LineReader<AT_ONCE>,
     source: &mut R,
     sink: &mut W,
     count: u64,
@@ -200,7 +204,7 @@ pub fn interpret_lines<I: Interpreter, R: Source, W: Sink>(
     ensures writes { CountsWrites result (W.failures sink.old)
         (W.failures sink.new) (W.stalls sink.old) (W.stalls sink.new) }
 {
-    let mut reader = LineReader::new();
+    let mut reader = LineReader::<AT_ONCE>::new();
     let mut answer = Line::new();
     let mut number = Counter::of(1);
     let mut count: u64 = 0;

@@ -5,7 +5,7 @@ ghost use Rattle.std.specs.List.{position_or_len};
 ghost use Rattle.text_lines.specs.Lines.{without_return, EndsInput};
 
 use crate::fault::ReadFault;
-use byte_streams::{BUFFER_SIZE, Buffer, Source};
+use byte_streams::{Buffer, Source};
 use memchr::memchr;
 
 /// How many bytes may come in all to a reader for which nothing else is said.
@@ -55,10 +55,11 @@ fn read_end<R: Source>(source: &mut R) -> Result<(), ReadFault>
     }
 }
 
-/// Hands out the lines of a source one by one.
+/// Hands out the lines of a source one by one. It has room for `SIZE` bytes that have come, at least a line of [`LONGEST`] and its
+/// LF, and reads so many at once where they are there.
 #[derive(Drop)]
-pub struct LineReader {
-    buffer: Buffer,
+pub struct LineReader<const SIZE: usize> {
+    buffer: Buffer<SIZE>,
     text_len: usize,
     taken: usize,
     came: u64,
@@ -69,14 +70,16 @@ pub struct LineReader {
     ghost taken_inside: { taken ≤ length buffer },
     ghost few: { came ≤ limit },
     ghost numbered: { number + (length buffer - taken) ≤ came },
+    ghost roomy: { 1024 ≤ SIZE },
 }
 
-impl LineReader {
+impl<const SIZE: usize> LineReader<SIZE> {
     ghost use Rattle.text_lines.specs.Lines.{without_return, BeginsLine};
     ghost use Rattle.text_lines.specs.LineReaders.{line_of, pending_of, number_of, came_of, most_of, ended_of, NextLine, FailsOnRead, ReadsMore};
 
     /// A reader to which no byte has come, and to which at most 2^40 may.
-    pub fn new() -> LineReader
+    pub fn new() -> LineReader<SIZE>
+        requires { 1024 ≤ SIZE }
         ensures line { line_of result ≡ [] }
         ensures pending { pending_of result ≡ [] }
         ensures number { number_of result ≡ 0 }
@@ -88,7 +91,8 @@ impl LineReader {
     }
 
     /// A reader to which no byte has come, and to which at most `limit` may.
-    pub fn with_limit(limit: u64) -> LineReader
+    pub fn with_limit(limit: u64) -> LineReader<SIZE>
+        requires { 1024 ≤ SIZE }
         ensures line { line_of result ≡ [] }
         ensures pending { pending_of result ≡ [] }
         ensures number { number_of result ≡ 0 }
@@ -170,7 +174,7 @@ impl LineReader {
     #[inline(never)]
     fn read_more<R: Source>(&mut self, source: &mut R) -> Result<bool, ReadFault>
         requires taken { self.old.taken ≡ 0 }
-        requires room { length self.old.buffer < 16384 }
+        requires room { length self.old.buffer < SIZE }
         ensures read { (bytes : List ℕ)
             × ReadsMore result self.old self.new (R.remaining source.old)
             (R.remaining source.new) bytes }
@@ -184,7 +188,7 @@ impl LineReader {
             read_end(source)?;
             return Ok(false);
         }
-        let room = (self.limit - self.came).min(BUFFER_SIZE as u64) as usize;
+        let room = (self.limit - self.came).min(SIZE as u64) as usize;
         let Ok(n) = self.buffer.fill(source, room) else {
             return Err(ReadFault::Device);
         };

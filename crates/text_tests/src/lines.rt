@@ -6,6 +6,9 @@ use byte_streams::fakes::PieceSource;
 use std::process::Abort;
 use text_lines::{LineReader, ReadFault, Words};
 
+/// A reader of as little room as one may have: a line of 1023 bytes and its LF.
+type Reader = LineReader<1024>;
+
 /// The line has these words and no more, however often it is asked.
 fn has_words(rt: &impl Abort, line: &[u8], wanted: &[&[u8]]) {
     let mut words = Words::of(line).ok().expect(rt, "allowed");
@@ -23,7 +26,7 @@ fn words_are_parted_by_blanks_and_end_at_a_comment(rt: HostRuntime) {
 
 fn hands_out(input: &[u8], piece: usize, wanted: &[&[u8]]) -> bool {
     let mut source = PieceSource::new(input, piece, None);
-    let mut reader = LineReader::new();
+    let mut reader = Reader::new();
     for line in wanted {
         let Ok(true) = reader.next_line(&mut source) else {
             return false;
@@ -78,7 +81,7 @@ fn one_carriage_return_at_the_end_of_a_line_is_dropped(rt: HostRuntime) {
 fn ends(source: &mut PieceSource<'_>) -> (u64, Result<bool, ReadFault>)
     requires { source.old.failures ≡ 0 }
 {
-    let mut reader = LineReader::new();
+    let mut reader = Reader::new();
     for _ in 0..9 {
         match reader.next_line(source) {
             Ok(true) => {}
@@ -132,7 +135,7 @@ fn the_1024th_byte_is_answered_before_a_further_read(rt: HostRuntime) {
 /// The reader with a limit of five bytes hands out two lines, and then the sixth byte is too much.
 fn is_too_much(rt: &impl Abort, piece: usize) {
     let mut source = PieceSource::new(b"a\nbc\nd", piece, None);
-    let mut reader = LineReader::with_limit(5);
+    let mut reader = Reader::with_limit(5);
     assert!(rt; reader.next_line(&mut source) == Ok(true));
     assert!(rt; reader.next_line(&mut source) == Ok(true));
     assert!(rt; reader.line() == b"bc".as_slice());
@@ -144,7 +147,7 @@ fn is_too_much(rt: &impl Abort, piece: usize) {
 /// Five bytes are not too much.
 fn is_within(rt: &impl Abort) {
     let mut source = b"a\nbc\n".as_slice();
-    let mut reader = LineReader::with_limit(5);
+    let mut reader = Reader::with_limit(5);
     assert!(rt; reader.next_line(&mut source) == Ok(true));
     assert!(rt; reader.next_line(&mut source) == Ok(true));
     assert!(rt; reader.next_line(&mut source) == Ok(false));

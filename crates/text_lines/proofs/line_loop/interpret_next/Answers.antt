@@ -1,4 +1,4 @@
-use Rattle.std.proofs.Common.{◌∙◌, sym}
+use Rattle.std.proofs.Common.{◌∙◌, arith, sym}
 use Rattle.text_lines.proofs.LinesRead.{begins_line, first_few, same_line}
 use Rattle.text_lines.proofs.line_loop.interpret_next.Goals as goal
 
@@ -6,7 +6,7 @@ pub interpret_ahead-requires-clause-few : goal.interpret_ahead-requires-clause-f
 interpret_ahead-requires-clause-few g c = first_few _ _ c.ahead.ensures
 
 pub take_short-requires : goal.take_short-requires
-take_short-requires g c = begins_line 1024 _ _ c.in-Some.len c.ahead.ensures c.in-Some.ensures.line
+take_short-requires g c = (omega arith, begins_line 1024 _ _ c.in-Some.len c.ahead.ensures c.in-Some.ensures.line)
 
 pub returns-in-Some-clause-comes : goal.returns-in-Some-clause-comes
 returns-in-Some-clause-comes g c = λ k.
