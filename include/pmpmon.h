@@ -30,7 +30,7 @@
  * extended as the calling convention of RV64 wants it. That object is tested on QEMU (tests/on_hart), and the verdict of
  * the proofs does not cover it. A firmware supplies rattle_alloc, rattle_realloc and rattle_dealloc, memcpy, memmove and
  * memset, of which firmware/ has an example. The maps of that test, of up to 16 entries, took at most 8 KB of heap and
- * 18 KB of stack to plan.
+ * 22 KB of stack to plan.
  */
 #ifndef PMPMON_H
 #define PMPMON_H
