@@ -108,7 +108,7 @@ fn more_under(best: PermSet, perm: Perm) -> u32
     ensures value { result ≡ (if has best.bits perm then 0 else 1) }
     ensures most { result ≤ 1 }
 {
-    MORE[usize::from(best.bits % 64)][perm.index()]
+    MORE[(best.bits % 64) as usize][perm.index()]
 }
 
 impl BlockCost {

@@ -29,10 +29,10 @@ impl PackedCost {
         requires { cost.least < 2 ^ 20 }
         ensures { cost.both.bits < 64 → cost.either.bits < 64 → result ≡ cost }
     {
-        let both = u32::from(cost.both.bits % 64);
-        let either = u32::from(cost.either.bits % 64);
+        let both = cost.both.bits % 64;
+        let either = cost.either.bits % 64;
         PackedCost {
-            number: cost.least * 4096 + both * 64 + either,
+            number: (cost.least * 64 + both) * 64 + either,
         }
     }
 
@@ -44,10 +44,10 @@ impl PackedCost {
         SplitCost {
             least: self.number / 4096,
             both: PermSet {
-                bits: (self.number / 64 % 64) as u8,
+                bits: self.number / 64 % 64,
             },
             either: PermSet {
-                bits: (self.number % 64) as u8,
+                bits: self.number % 64,
             },
         }
     }

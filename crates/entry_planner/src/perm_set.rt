@@ -5,7 +5,7 @@ use pmp_encoding::Perm;
 /// A set of permissions: a bit for each, in the fixed order, that of no access lowest.
 #[derive(Clone, Copy)]
 pub struct PermSet {
-    pub bits: u8,
+    pub bits: u32,
 }
 
 ghost use Rattle.std.specs.Prelude.{◌≡◌, ◌<◌, bit_and, bit_or, false, true, IfSome, IfNone, ◌==◌};
@@ -13,20 +13,17 @@ ghost use Rattle.pmp_encoding.specs.declared.perm.Perm.{Perm};
 ghost use Rattle.pmp_encoding.specs.Perms.{index_of, perm_eq};
 ghost use Rattle.entry_planner.specs.PermSets.{has, set_of};
 
+/// The set of each permission, in the fixed order.
+static ONLY: [u32; 6] = [0x01, 0x02, 0x04, 0x08, 0x10, 0x20];
+
 impl PermSet {
     /// The set of one permission.
     pub fn only(perm: Perm) -> PermSet
         ensures { result.bits ≡ set_of (perm_eq perm) }
     {
-        let bits = match perm {
-            Perm::NoAccess => 0x01,
-            Perm::Read => 0x02,
-            Perm::ReadWrite => 0x04,
-            Perm::Execute => 0x08,
-            Perm::ReadExecute => 0x10,
-            Perm::ReadWriteExecute => 0x20,
-        };
-        PermSet { bits }
+        PermSet {
+            bits: ONLY[perm.index()],
+        }
     }
 
     /// The permissions of both sets.

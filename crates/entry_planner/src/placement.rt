@@ -15,15 +15,7 @@ pub struct Pages {
     pub log2: u32,
 }
 
-/// A block that waits for the entry that gives it another permission than the inherited one.
-#[derive(Clone, Copy)]
-struct Waiting {
-    pages: Pages,
-    from: Perm,
-    perm: Perm,
-}
-
-ghost use Rattle.std.specs.Prelude.{◌≡◌, ◌+◌, ◌-◌, ◌*◌, ◌≤◌, ◌<◌, ◌^◌, ◌++◌, List, IfOk, OnOk, reverse};
+ghost use Rattle.std.specs.Prelude.{◌≡◌, ◌+◌, ◌-◌, ◌*◌, ◌≤◌, ◌<◌, ◌^◌, ◌++◌, List, [], ◌∷◌, false, IfOk, OnOk, IfSome, IfNone, reverse};
 ghost use Rattle.pmp_encoding.specs.declared.region.Entry.{Entry};
 ghost use Rattle.prefix_tree.specs.Chains.{chained};
 ghost use Rattle.prefix_tree.specs.Trees.{PermTree, Fits};
@@ -31,14 +23,7 @@ ghost use Rattle.entry_planner.specs.declared.costs.SplitCost.{SplitCost};
 ghost use Rattle.entry_planner.specs.Choice.{AddsChosen, AddsOwn, handed_on};
 ghost use Rattle.entry_planner.specs.Placement.{ArePages, IsBlockOf, IsOwn};
 ghost use Rattle.entry_planner.specs.Plans.{costs_in, split_cost};
-
-impl Waiting {
-    fn new(pages: Pages, from: Perm, perm: Perm) -> Waiting
-        ensures { result ≡ record { pages = pages; from = from; perm = perm } }
-    {
-        Waiting { pages, from, perm }
-    }
-}
+ghost use Rattle.entry_planner.specs.Shelves.{is_free};
 
 impl Pages {
     fn lower(self) -> Pages
@@ -114,20 +99,51 @@ fn entry_of(pages: Pages, perm: Perm) -> Entry
     }
 }
 
-/// Adds the entry that gives a block another permission than the inherited one.
+/// The entry that gives a block another permission than the inherited one.
+#[inline(always)]
+fn own_entry(pages: Pages, inherited: Perm, perm: Perm) -> Option<PackedEntry>
+    requires { ArePages pages.log2 pages.first }
+    ensures some { IfSome result (λ e. IsOwn pages.log2 pages.first inherited perm (e ∷ [])) }
+    ensures none { IfNone result (IsOwn pages.log2 pages.first inherited perm []) }
+    ensures whole { IfSome result (λ e. is_free e ≡ false) }
+{
+    if perm != inherited {
+        return Some(PackedEntry::new(entry_of(pages, perm)));
+    }
+    None
+}
+
+/// Adds the entry that gives a block another permission than the inherited one, which goes before that of the upper half where
+/// this is the lower.
 #[inline(always)]
 fn turn(pages: Pages, inherited: Perm, perm: Perm, entries: &mut Shelves) -> Result<(), AllocError>
     requires { ArePages pages.log2 pages.first }
     ensures { OnOk result (AddsOwn pages.log2 pages.first inherited perm entries.old entries.new) }
 {
-    if perm != inherited {
-        entries.push(PackedEntry::new(entry_of(pages, perm)))?;
+    if let Some(entry) = own_entry(pages, inherited, perm) {
+        entries.push_in_order(entry)?;
     }
     Ok(())
 }
 
-/// Adds the entries of the largest block of a chain, as [`place`] does. An upper half's waits for those of the lower half
-/// that are as large, so that those of one size come by rising address.
+/// The same, where no entry of the block's size has a higher address.
+#[inline(always)]
+fn turn_next(
+    pages: Pages,
+    inherited: Perm,
+    perm: Perm,
+    entries: &mut Shelves,
+) -> Result<(), AllocError>
+    requires { ArePages pages.log2 pages.first }
+    ensures { OnOk result (AddsOwn pages.log2 pages.first inherited perm entries.old entries.new) }
+{
+    if let Some(entry) = own_entry(pages, inherited, perm) {
+        entries.push(entry)?;
+    }
+    Ok(())
+}
+
+/// Adds the entries of the largest block of a chain, as [`place`] does.
 #[cycle(placing)]
 fn place_chain<'a, H: Halving>(
     chain: Chain,
@@ -153,31 +169,28 @@ fn place_chain<'a, H: Halving>(
     let mut block = pages;
     let mut from = inherited;
     let mut left = costs;
-    let mut late = Waiting::new(pages, inherited, inherited);
     while rest.levels > 0 {
         let [others @ .., packed] = left else {
             unreachable!();
         };
         let perm = chosen(packed.cost(), from);
         turn(block, from, perm, entries)?;
-        turn(late.pages, late.from, late.perm, entries)?;
         let lower = block.lower();
         let upper = block.upper();
-        if rest.goes_up() {
-            turn(lower, perm, rest.before, entries)?;
-            late.perm = late.from;
-            block = upper;
+        // Which half is the next makes a difference of values alone: a branch on it would often be guessed wrong.
+        let (next, beside, other) = if rest.goes_up() {
+            (upper, lower, rest.before)
         } else {
-            late = Waiting::new(upper, perm, rest.behind);
-            block = lower;
-        }
+            (lower, upper, rest.behind)
+        };
+        turn_next(beside, perm, other, entries)?;
         let smaller = rest.smaller();
         rest = smaller;
+        block = next;
         from = perm;
         left = others;
     }
     let others = place(smallest, block, from, left, entries)?;
-    turn(late.pages, late.from, late.perm, entries)?;
     Ok(others)
 }
 

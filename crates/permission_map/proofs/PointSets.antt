@@ -2,7 +2,8 @@
 use Rattle.std.proofs.Common.{◌≡◌, ℕ, zero, suc, ◌+◌, ◌-◌, ◌*◌, ◌^◌, ◌<◌, ◌≤◌, ⊎_elim, List, [], ◌∷◌, ◌++◌, length, take, drop, get_or, count_by, All, nat_lt, cond, Option, None, Some, option_to_list, refl, sym, ap, subst, ◌∙◌, arith}
 use Rattle.std.specs.List.{AllByRecursion}
 use Rattle.std.proofs.lemmas.Bool.{cases_lt, cond-true, cond-false, lt-ltb, le-ltb}
-use Rattle.std.proofs.lemmas.List.{take-append-drop, get_or_default, get_or-drop, length-drop}
+use Rattle.std.proofs.Math.Seq.{get_or-append_seam}
+use Rattle.std.proofs.lemmas.List.{take-append-drop, get_or_default, get_or-take, get_or-drop, length-append, length-take, length-drop}
 use Rattle.std.proofs.lemmas.List.Elements.{recursion_from_All}
 use Rattle.pmp_encoding.specs.declared.perm.Perm.{Perm}
 use Rattle.pmp_encoding.specs.declared.perm.Perm.TheVariants.{NoAccess}
@@ -211,6 +212,17 @@ replaced_count ps from to gone start stop parts =
 
 pub gone_few : (ps : List Point) (from to gone : ℕ) → count_by allows (take from ps) + (gone + count_by allows (drop to ps)) ≡ count_by allows ps → gone ≤ length (runs_of ps)
 gone_few ps from to gone parts = omega (arith, parts, runs_count ps)
+
+-- where the last of so many comes before the page, so do they all
+pub front_to :
+    (ps qs more : List Point) (q : Point) (count page : ℕ) → Rise ps → ps ≡ qs ++ q ∷ more → count ≡ length qs + 1 → page_of q < page
+    → All (λ p. page_of p < page) (take count ps)
+front_to ps qs more q count page are is counted low = λ k d inside.
+    let below : k < count = omega (arith, length-take count ps, inside) in
+    let at : get_or ps (length qs) d ≡ q = ap (λ l. get_or l (length qs) d) is ∙ get_or-append_seam qs q more d in
+    let long : length ps ≡ length qs + suc (length more) = ap length is ∙ length-append qs (q ∷ more) in
+    let rise : page_of (get_or ps k d) ≤ page_of (get_or ps (length qs) d) = pages_rise ps are k (length qs) d (omega (arith, below, counted)) (omega (arith, long)) in
+    rw (get_or-take count ps k d below) (omega (arith, rise, ap page_of at, low))
 
 -- where a point is after a page, so are those from it on
 pub behind_from : (ps : List Point) (i page : ℕ) (e : Point) → Rise ps → i < length ps → page < page_of (get_or ps i e) → All (λ q. page < page_of q) (drop i ps)

@@ -9,7 +9,7 @@ use page_views::SPACE_PAGES;
 use pmp_encoding::Perm;
 
 /// The permission with each three bits. Read from a table, since the compiler makes a jump of a `match` and guesses it wrong.
-const PERMS: [Perm; 8] = [
+static PERMS: [Perm; 8] = [
     Perm::NoAccess,
     Perm::Read,
     Perm::ReadWriteExecute,
@@ -115,8 +115,9 @@ fn before_within(points: &[Point], page: u64, bits: u32) -> usize
     low
 }
 
-/// How many of the points come before the page.
-pub(crate) fn before(points: &[Point], page: u64) -> usize
+/// How many of the points come before the page, by a search.
+#[inline(never)]
+fn searched(points: &[Point], page: u64) -> usize
     requires points { Rise points.now }
     requires inside { page ≤ 2 ^ 44 }
     ensures bound { result ≤ length points.now }
@@ -129,6 +130,27 @@ pub(crate) fn before(points: &[Point], page: u64) -> usize
         16..=255 => before_within(points, page, 8),
         256..=16383 => before_within(points, page, 14),
         _ => before_within(points, page, 45),
+    }
+}
+
+/// How many of the points come before the page. The lines of most maps name ranges by rising address, so all but the last
+/// often do.
+pub(crate) fn before(points: &[Point], page: u64) -> usize
+    requires points { Rise points.now }
+    requires inside { page ≤ 2 ^ 44 }
+    ensures bound { result ≤ length points.now }
+    ensures front { All (λ p. page_of p < page) (take result points.now) }
+    ensures rest { All (λ p. page ≤ page_of p) (drop result points.now) }
+{
+    let Some((last, others)) = points.split_last() else {
+        return 0;
+    };
+    if last.page() < page {
+        return points.len();
+    }
+    match others.split_last() {
+        Some((point, _)) if point.page() < page => others.len(),
+        _ => searched(points, page),
     }
 }
 

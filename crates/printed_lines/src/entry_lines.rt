@@ -1,6 +1,6 @@
 //! The lines of entries, put one after another into a buffer.
 
-ghost use Rattle.std.specs.Prelude.{◌≡◌, ℕ, ◌+◌, ◌*◌, ◌<◌, ◌≤◌, ◌^◌, ◌++◌, take, length, decimal};
+ghost use Rattle.std.specs.Prelude.{◌≡◌, ℕ, ◌+◌, ◌*◌, ◌<◌, ◌≤◌, ◌^◌, ◌++◌, take, length, codes, decimal};
 ghost use Rattle.pmp_encoding.specs.Encoding.{address_of, cfg_of};
 ghost use Rattle.text_lines.specs.Counters.{digits_of};
 ghost use Rattle.text_lines.specs.Written.{hex};
@@ -62,11 +62,22 @@ fn put_register(buffer: &mut [u8], at: usize, xlen: Xlen, value: u64) -> usize
     ensures text { take result buffer.new ≡ take at buffer.old ++ register_text xlen value }
     ensures room { length buffer.new ≡ length buffer.old }
 {
-    let digits = hex_digits(value);
     match xlen {
-        Xlen::Rv32 => put(buffer, at, &digits[8..]),
-        Xlen::Rv64 => put(buffer, at, digits.as_slice()),
+        Xlen::Rv32 => put(buffer, at, &hex_digits(value)[8..]),
+        Xlen::Rv64 => put(buffer, at, hex_digits(value).as_slice()),
     }
+}
+
+/// Puts what stands before the digits of a register. Of an array of its own the compiler knows that it lies apart from the
+/// buffer.
+#[inline(always)]
+fn put_prefix(buffer: &mut [u8], at: usize) -> usize
+    requires room { at + 3 ≤ length buffer.old }
+    ensures end { result ≡ at + 3 }
+    ensures text { take result buffer.new ≡ take at buffer.old ++ codes " 0x" }
+    ensures room { length buffer.new ≡ length buffer.old }
+{
+    put(buffer, at, &[b' ', b'0', b'x'])
 }
 
 /// Puts the line of an entry.
@@ -87,9 +98,9 @@ fn put_entry(
 {
     let (cfg, address) = entry.encode();
     let at = put_number(buffer, at, number);
-    let at = put(buffer, at, b" 0x");
+    let at = put_prefix(buffer, at);
     let at = put_byte(buffer, at, cfg);
-    let at = put(buffer, at, b" 0x");
+    let at = put_prefix(buffer, at);
     let at = put_register(buffer, at, xlen, address);
     put(buffer, at, b"\n")
 }

@@ -5,11 +5,12 @@ use Rattle.prefix_tree.specs.Counts.{splits}
 use Rattle.prefix_tree.specs.Trees.{PermTree, Uniform, Fits}
 use Rattle.prefix_tree.specs.Chains.{chained}
 use Rattle.prefix_tree.proofs.Nested.{splits-chained}
+use Rattle.entry_planner.specs.Choice.{AddsOwn}
 use Rattle.entry_planner.specs.Plans.{costs_in}
 use Rattle.entry_planner.proofs.ChainWalked.{split_down, split_up, chain_high}
 use Rattle.entry_planner.proofs.ChainKept.{kept_chosen, smallest_costs, smallest_fits}
 use Rattle.entry_planner.proofs.ChainPlaced.{begun, chain_ended, chain_left, completed, went_down, went_up}
-use Rattle.entry_planner.proofs.placement.+placing.Goals.{place_chain-then-goes_up+in_ok-turn-3, place_chain-else-goes_up}
+use Rattle.entry_planner.proofs.placement.+placing.Goals.{place_chain-then-goes_up, place_chain-else-goes_up}
 use Rattle.entry_planner.proofs.SamePerm.{same_perm}
 use Rattle.entry_planner.proofs.Walked.{halves_fit_in, last_is, lower_ends, upper_ends, rest_is, split_chosen, uniform_chosen}
 use Rattle.entry_planner.proofs.placement.+placing.Goals as goal
@@ -108,18 +109,17 @@ place-returns-clause-placed g t c =
 -- ---- of a chain
 
 pub place_chain-loop-rest-init : goal.place_chain-loop-rest-init
-place_chain-loop-rest-init g t c = rw c.new-late.ensures (record {
+place_chain-loop-rest-init g t c = record {
   place = c.requires.chain;
   most = c.requires.most;
   sides = (refl, refl);
   fits = c.requires.fits;
   pages = c.requires.pages;
   few = omega arith;
-  late = c.requires.pages;
   ends = c.requires.costs;
   back = λ rest same. same;
-  placed = begun _ _ _ _ _ _ _ _;
-})
+  placed = begun _ _ _ _ _;
+}
 
 pub place_chain-unreachable-requires : goal.place_chain-unreachable-requires
 place_chain-unreachable-requires g t c =
@@ -147,38 +147,38 @@ place_chain-loop-rest-preserved g t c =
     let sides : (next.before ≡ c.args.chain.before) × (next.behind ≡ c.args.chain.behind) =
     (ap (λ x. x.before) c.smaller-smaller.ensures ∙ i.sides.0, ap (λ x. x.behind) c.smaller-smaller.ensures ∙ i.sides.1) in
     elim c.if-goes_up.branch [
-      | place_chain-then-goes_up+in_ok-turn-3 w ↦
+      | place_chain-then-goes_up w ↦
           let s = split_up l.rest next tree _ some i.place c.smaller-smaller.ensures c.goes_up.ensures w.if-goes_up.true in
           let handed = c.chosen-perm.ensures (Uniform l.rest.before) (chained next tree) (c.cost.ensures ∙ c.packed-item.is ∙ last_is _ _ _ _ _ s.0 i.ends) in
-          rw (w.entries-is, w.block-is, w.late-is) (record {
+          let side = subst (λ o. AddsOwn o.1.log2 o.1.first c.chosen-perm.result o.2 c.turn.new.entries c.turn_next.new.entries) w.other-is c.in_ok-turn_next.ensures in
+          rw (w.other-is) (record {
             place = s.1;
             most = omega (arith, level, i.most);
             sides = sides;
             fits = (halves_fit_in _ _ _ _ _ s.0 c.upper-upper.ensures.log2 i.fits).1;
             pages = c.upper-upper.ensures.pages;
             few = omega (arith, i.few, length-take (length l.left.now - 1) l.left.now);
-            late = i.late;
             ends = upper_ends _ _ _ _ _ s.0 i.ends (sym (append-nil _));
             back = λ rest same. i.back rest (rest_is _ _ _ _ _ _ s.0 i.ends (sym (append-nil _)) same);
-            placed = went_up _ _ _ _ _ _ _ _ _ _ _ _ _ _ _ _ _ _ _ _ _ _ _ _ _ _ _ s.0 c.lower-lower.ensures.log2 c.upper-upper.ensures.log2 c.lower-lower.ensures.first c.upper-upper.ensures.first handed i.placed c.in_ok-turn.ensures c.in_ok-turn-2.ensures w.in_ok-turn-3.ensures;
+            placed = went_up _ _ _ _ _ _ _ _ _ _ _ _ _ _ _ _ _ _ _ s.0 c.lower-lower.ensures.log2 c.upper-upper.ensures.log2 c.lower-lower.ensures.first c.upper-upper.ensures.first handed i.placed c.in_ok-turn.ensures side;
           })
       | place_chain-else-goes_up w ↦
           let s = split_down l.rest next tree _ some c.smaller-smaller.ensures c.goes_up.ensures w.if-goes_up.false in
           let handed = c.chosen-perm.ensures (chained next tree) (Uniform l.rest.behind) (c.cost.ensures ∙ c.packed-item.is ∙ last_is _ _ _ _ _ s.0 i.ends) in
-          rw (w.entries-is, w.block-is, w.late-is, w.new-late-else-goes_up.ensures) (record {
+          let side = subst (λ o. AddsOwn o.1.log2 o.1.first c.chosen-perm.result o.2 c.turn.new.entries c.turn_next.new.entries) w.other-is c.in_ok-turn_next.ensures in
+          rw (w.other-is) (record {
             place = s.1;
             most = omega (arith, level, i.most);
             sides = sides;
             fits = (halves_fit_in _ _ _ _ _ s.0 c.lower-lower.ensures.log2 i.fits).0;
             pages = c.lower-lower.ensures.pages;
             few = omega (arith, i.few, length-take (length l.left.now - 1) l.left.now);
-            late = c.upper-upper.ensures.pages;
             ends = lower_ends _ _ _ _ s.0 i.ends;
             back = λ rest same. i.back rest (rest_is _ _ _ _ _ _ s.0 i.ends same (sym (append-nil _)));
-            placed = went_down _ _ _ _ _ _ _ _ _ _ _ _ _ _ _ _ _ _ _ _ _ _ _ s.0 c.lower-lower.ensures.log2 c.upper-upper.ensures.log2 c.lower-lower.ensures.first c.upper-upper.ensures.first handed i.placed c.in_ok-turn.ensures c.in_ok-turn-2.ensures;
+            placed = went_down _ _ _ _ _ _ _ _ _ _ _ _ _ _ _ _ _ _ _ s.0 c.lower-lower.ensures.log2 c.upper-upper.ensures.log2 c.lower-lower.ensures.first c.upper-upper.ensures.first handed i.placed c.in_ok-turn.ensures side;
           })
     ]
 
 pub place_chain-returns-clause-placed : goal.place_chain-returns-clause-placed
 place_chain-returns-clause-placed g t c =
-    completed _ _ _ _ _ _ _ _ _ _ _ _ _ _ _ _ _ (chain_ended c.loop-rest.rest (g.H.Halving.shape c.args.smallest.now) c.loop-rest-test.false) c.loop-rest.invariant.placed c.in_ok-others.ensures.placed c.in_ok-turn-4.ensures
+    completed _ _ _ _ _ _ _ _ _ _ _ _ (chain_ended c.loop-rest.rest (g.H.Halving.shape c.args.smallest.now) c.loop-rest-test.false) c.loop-rest.invariant.placed c.in_ok-others.ensures.placed

@@ -29,8 +29,7 @@ invariant-place_chain-loop-rest g l =
       fits : Fits l.block.log2 (chained l.rest tree);
       pages : ArePages l.block.log2 l.block.first;
       few : length l.left ≤ length l.fn.costs;
-      late : ArePages l.late.pages.log2 l.late.pages.first;
       ends : (rest : List SplitCost) × (l.left ≡ rest ++ reverse (costs_in (chained l.rest tree)));
       back : (rest : List SplitCost) → l.left ≡ rest ++ reverse (costs_in (chained l.rest tree)) → l.fn.costs ≡ rest ++ reverse (costs_in (chained l.fn.chain tree));
-      placed : Completes l.fn.pages.log2 l.fn.pages.first l.fn.inherited (chained l.fn.chain tree) l.block.log2 l.block.first l.from (chained l.rest tree) l.late.pages.log2 l.late.pages.first l.late.from l.late.perm l.fn.entries l.entries;
+      placed : Completes l.fn.pages.log2 l.fn.pages.first l.fn.inherited (chained l.fn.chain tree) l.block.log2 l.block.first l.from (chained l.rest tree) l.fn.entries l.entries;
     }
