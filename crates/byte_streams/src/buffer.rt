@@ -43,6 +43,7 @@ impl<const SIZE: usize> Buffer<SIZE> {
         ensures value { result.now ≡ self.now }
         ensures most { length self.now ≤ SIZE }
     {
+        // Of an array whose length is a parameter the prover knows the length where the whole of it is taken first.
         let all = &self.bytes[..];
         &all[self.start..self.end]
     }
@@ -69,6 +70,7 @@ impl<const SIZE: usize> Buffer<SIZE> {
         ensures failures { CountsFailure result (R.failures source.old) (R.failures source.new) }
     {
         let held = self.end - self.start;
+        // (the whole array first, as in `as_slice`)
         let all = &mut self.bytes[..];
         all.copy_within(self.start..self.end, 0);
         self.start = 0;

@@ -126,9 +126,9 @@ fn turn(pages: Pages, inherited: Perm, perm: Perm, entries: &mut Shelves) -> Res
     Ok(())
 }
 
-/// The same, where no entry of the block's size has a higher address.
+/// The same for the half beside the next block of a chain: no entry of its size has a higher address.
 #[inline(always)]
-fn turn_next(
+fn turn_beside(
     pages: Pages,
     inherited: Perm,
     perm: Perm,
@@ -183,7 +183,7 @@ fn place_chain<'a, H: Halving>(
         } else {
             (lower, upper, rest.behind)
         };
-        turn_next(beside, perm, other, entries)?;
+        turn_beside(beside, perm, other, entries)?;
         let smaller = rest.smaller();
         rest = smaller;
         block = next;

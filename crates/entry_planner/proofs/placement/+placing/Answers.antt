@@ -150,7 +150,7 @@ place_chain-loop-rest-preserved g t c =
       | place_chain-then-goes_up w ↦
           let s = split_up l.rest next tree _ some i.place c.smaller-smaller.ensures c.goes_up.ensures w.if-goes_up.true in
           let handed = c.chosen-perm.ensures (Uniform l.rest.before) (chained next tree) (c.cost.ensures ∙ c.packed-item.is ∙ last_is _ _ _ _ _ s.0 i.ends) in
-          let side = subst (λ o. AddsOwn o.1.log2 o.1.first c.chosen-perm.result o.2 c.turn.new.entries c.turn_next.new.entries) w.other-is c.in_ok-turn_next.ensures in
+          let side = subst (λ o. AddsOwn o.1.log2 o.1.first c.chosen-perm.result o.2 c.turn.new.entries c.turn_beside.new.entries) w.other-is c.in_ok-turn_beside.ensures in
           rw (w.other-is) (record {
             place = s.1;
             most = omega (arith, level, i.most);
@@ -165,7 +165,7 @@ place_chain-loop-rest-preserved g t c =
       | place_chain-else-goes_up w ↦
           let s = split_down l.rest next tree _ some c.smaller-smaller.ensures c.goes_up.ensures w.if-goes_up.false in
           let handed = c.chosen-perm.ensures (chained next tree) (Uniform l.rest.behind) (c.cost.ensures ∙ c.packed-item.is ∙ last_is _ _ _ _ _ s.0 i.ends) in
-          let side = subst (λ o. AddsOwn o.1.log2 o.1.first c.chosen-perm.result o.2 c.turn.new.entries c.turn_next.new.entries) w.other-is c.in_ok-turn_next.ensures in
+          let side = subst (λ o. AddsOwn o.1.log2 o.1.first c.chosen-perm.result o.2 c.turn.new.entries c.turn_beside.new.entries) w.other-is c.in_ok-turn_beside.ensures in
           rw (w.other-is) (record {
             place = s.1;
             most = omega (arith, level, i.most);
