@@ -3,7 +3,7 @@ use Rattle.std.proofs.Common.{◌≡◌, ℕ, ◌<◌, ◌≤◌, List, [], ◌�
 use Rattle.pmp_encoding.specs.declared.region.Entry.{Entry}
 use Rattle.certificate_format.specs.Spelling.{SpellsEntry, SpellsEntries}
 use Rattle.certificate_check.specs.declared.stop.Stop.{Stop}
-use Rattle.certificate_check.specs.declared.stop.Stop.TheVariants.{Refused, Memory}
+use Rattle.certificate_check.specs.declared.stop.Stop.TheVariants.{Refused, Unheld}
 use Rattle.certificate_check.specs.Listed.{IsListed, EntryFault, ListFault}
 use Rattle.certificate_check.specs.Windows.{StandsIn}
 use Rattle.certificate_check.proofs.InTurn.{listed_append, spells_append}
@@ -21,4 +21,4 @@ held_one count next held new left mid rest is (es, listed, all, spelled) (e, fro
 -- the stop at an entry is one at the list
 pub stop_after : (count total : ℕ) (held left mid : List ℕ) (stop : Stop) → count < total → AreHeld count held left mid → StandsIn (EntryFault mid) stop → StandsIn (ListFault left total) stop
 stop_after count total held left mid (Refused refusal) less (es, listed, all, spelled) fault = record { entries = es; rest = mid; before = listed; fewer = omega (arith, all, less); fault = fault }
-stop_after count total held left mid Memory less are fault = tt
+stop_after count total held left mid Unheld less are fault = tt

@@ -15,7 +15,7 @@ use Rattle.certificate_check.specs.declared.refusal.CheckRefusal.{CheckRefusal}
 use Rattle.certificate_format.specs.declared.header.Header.{Header}
 use Rattle.page_views.specs.Views.{View}
 use Rattle.certificate_check.specs.declared.stop.Stop.{Stop}
-use Rattle.certificate_check.specs.declared.stop.Stop.TheVariants.{Refused, Memory}
+use Rattle.certificate_check.specs.declared.stop.Stop.TheVariants.{Refused, Unheld}
 use Rattle.certificate_check.specs.Certificates.{IsJudged, IsRightWith, RefusalStands}
 use Rattle.certificate_check.specs.declared.window.Inflow.{Inflow}
 use Rattle.certificate_check.specs.declared.window.Inflow.TheVariants.{Open, AtEnd, TooLarge, Failed}
@@ -323,15 +323,15 @@ stopped_match (Err s) stop P F h f = subst (StandsIn F) (sym h) f
 
 pub stands_on : (stop : Stop) (F G : CheckRefusal → Type 0) → ((refusal : CheckRefusal) → F refusal → G refusal) → StandsIn F stop → StandsIn G stop
 stands_on (Refused refusal) F G on f = on refusal f
-stands_on Memory F G on f = tt
+stands_on Unheld F G on f = tt
 
--- what was found, where memory was not refused
+-- what was found, where the entries could be held
 pub judged_from :
     (view : View) (bytes : List ℕ) (parts : Result Header Stop) (found : Result Header CheckRefusal) → found_of parts ≡ Some found
     → MatchResult parts (IsRightWith view bytes) (StandsIn (RefusalStands view bytes)) → IsJudged view bytes found
 judged_from view bytes (Ok header) found is p = let e : Ok header ≡ found = cc is in subst (IsJudged view bytes) e p
 judged_from view bytes (Err (Refused refusal)) found is p = let e : Err refusal ≡ found = cc is in subst (IsJudged view bytes) e p
-judged_from view bytes (Err Memory) found is p = absurd (cc)
+judged_from view bytes (Err Unheld) found is p = absurd (cc)
 
 pub stopped_large : (i : Inflow) → stopped_by i ≡ faults.TooLarge → fault_of i ≡ Some faults.TooLarge
 stopped_large Open e = absurd (cc)

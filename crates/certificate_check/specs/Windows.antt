@@ -10,7 +10,7 @@ use Rattle.certificate_check.specs.declared.window.Inflow.TheVariants.{Open, AtE
 use Rattle.certificate_check.specs.declared.window.Window.{Window}
 use Rattle.certificate_check.specs.declared.refusal.CheckRefusal.{CheckRefusal}
 use Rattle.certificate_check.specs.declared.stop.Stop.{Stop}
-use Rattle.certificate_check.specs.declared.stop.Stop.TheVariants.{Refused, Memory}
+use Rattle.certificate_check.specs.declared.stop.Stop.TheVariants.{Refused, Unheld}
 
 -- a count of 64 bits goes on, and stays at its greatest
 abbrev pub counted : ℕ → ℕ → ℕ
@@ -57,10 +57,10 @@ Stays left rest = left ≡ rest
 abbrev pub HasEnough : ℕ → Place → Type 0
 HasEnough need at = (at.window.inflow ≡ Open) → need ≤ length at.window.buffer
 
--- a stop for what is at fault in the bytes is one where it stands, and one for memory says nothing of them
+-- a stop for what is at fault in the bytes is one where it stands, and one for entries that are not held says nothing of them
 abbrev pub StandsIn : (CheckRefusal → Type 0) → Stop → Type 0
 StandsIn fault (Refused refusal) = fault refusal
-StandsIn fault Memory = Unit {0}
+StandsIn fault Unheld = Unit {0}
 
 -- why not all of the bytes came
 abbrev pub fault_of : Inflow → Option SourceFault
@@ -69,15 +69,15 @@ fault_of AtEnd = None
 fault_of TooLarge = Some faults.TooLarge
 fault_of Failed = Some faults.Read
 
--- why the parts are not read on, where memory was refused: what became of the source goes before
+-- why the parts are not read on, where the entries are not held: what became of the source goes before
 abbrev pub stopped_by : Inflow → SourceFault
 stopped_by Open = faults.Memory
 stopped_by AtEnd = faults.Memory
 stopped_by TooLarge = faults.TooLarge
 stopped_by Failed = faults.Read
 
--- what was found of the bytes: nothing where memory was refused
+-- what was found of the bytes: nothing where the entries are not held
 abbrev pub found_of : Result Header Stop → Option (Result Header CheckRefusal)
 found_of (Ok header) = Some (Ok header)
 found_of (Err (Refused refusal)) = Some (Err refusal)
-found_of (Err Memory) = None
+found_of (Err Unheld) = None

@@ -22,6 +22,9 @@ use certificate_format::Header;
 use permission_map::PermissionMap;
 use std::alloc::Global;
 
+/// How many bytes an entry has.
+const ENTRY_BYTES: u64 = 9;
+
 /// Reads that many entries of at least a page, and answers their bytes.
 fn entries_from<R: Source>(
     alloc: Global,
@@ -40,10 +43,25 @@ fn entries_from<R: Source>(
     for _ in 0..count {
         let nine = entry_bytes(window, source)?;
         let Ok(()) = list.extend_from_slice(nine.as_slice()) else {
-            return Err(Stop::Memory);
+            return Err(Stop::Unheld);
         };
     }
     Ok(list)
+}
+
+/// Reads the entries of a certificate that tells more than may come, and holds none: they end with the one that is at fault.
+fn stop_among<R: Source>(window: &mut Window, source: &mut R, count: u32) -> Stop
+    ensures { Reads (place R.remaining R.failures window.old source.old)
+        (place R.remaining R.failures window.new source.new)
+        (λ left _. StandsIn (ListFault left count) result) }
+{
+    for _ in 0..count {
+        match entry_bytes(window, source) {
+            Ok(_) => (),
+            Err(refusal) => return Stop::Refused(refusal),
+        }
+    }
+    Stop::Unheld
 }
 
 /// Reads the parts in their order, and answers the header of a right certificate.
@@ -59,6 +77,9 @@ fn read_parts<R: Source>(
         (StandsIn (RefusalStands (view_of_runs map.now) left))) }
 {
     let header = header(window, source)?;
+    if ENTRY_BYTES * u64::from(header.count) > window.most() {
+        return Err(stop_among(window, source, header.count));
+    }
     let list = entries_from(alloc, window, source, header.count)?;
     let entries = Entries {
         bytes: list.as_slice(),
@@ -67,14 +88,14 @@ fn read_parts<R: Source>(
     Ok(header)
 }
 
-/// What was found of the bytes, where memory was not refused.
+/// What was found of the bytes, where the entries could be held.
 fn found_in(parts: Result<Header, Stop>) -> Option<Result<Header, CheckRefusal>>
     ensures { result ≡ found_of parts }
 {
     match parts {
         Ok(header) => Some(Ok(header)),
         Err(Stop::Refused(refusal)) => Some(Err(refusal)),
-        Err(Stop::Memory) => None,
+        Err(Stop::Unheld) => None,
     }
 }
 
@@ -82,7 +103,8 @@ fn found_in(parts: Result<Header, Stop>) -> Option<Result<Header, CheckRefusal>>
 /// header or the refusal, as [`check`](crate::check) of all the bytes does. They are read to their end. `Read` is answered only
 /// where the source failed in this call, and nothing else where it did.
 ///
-/// What is held at a time is the entries, nine bytes each, and a window of fixed size.
+/// What is held at a time is the entries, nine bytes each, and a window of fixed size. Where the header tells more entries than
+/// may come, none is held.
 pub fn check_source<R: Source>(
     alloc: Global,
     map: &PermissionMap,

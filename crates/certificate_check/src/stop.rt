@@ -8,8 +8,8 @@ use certificate_format::ReadFault;
 pub(crate) enum Stop {
     /// A part is refused.
     Refused(CheckRefusal),
-    /// Memory for the entries was refused.
-    Memory,
+    /// The entries are not held: memory was refused, or more have come than may.
+    Unheld,
 }
 
 impl From<CheckRefusal> for Stop {

@@ -47,6 +47,13 @@ impl Window {
         }
     }
 
+    /// How many bytes may come.
+    pub(crate) fn most(&self) -> u64
+        ensures { result ≡ self.now.most }
+    {
+        self.most
+    }
+
     /// The bytes that are there.
     #[inline(always)]
     pub(crate) fn held(&self) -> &[u8]
@@ -92,7 +99,7 @@ impl Window {
         }
     }
 
-    /// Why there is no verdict, where memory was refused. What became of the source goes before.
+    /// Why there is no verdict, where the entries are not held. What became of the source goes before.
     pub(crate) fn stopped_by(&self) -> SourceFault
         ensures { result ≡ stopped_by self.now.inflow }
     {

@@ -15,6 +15,11 @@ returns-in_err-header g c =
     stopped_match c.from_residual.result (Refused (refusal_of c.in_err-header.field-0.0)) (IsRightWith (view_of_runs c.args.map.now) left) (RefusalStands (view_of_runs c.args.map.now) left) c.from_residual.ensures.1
     (in_header c.in_err-header.field-0.0 fault))
 
+pub returns-then-from-most : goal.returns-then-from-most
+returns-then-from-most g c =
+    reads_then _ _ _ _ _ _ c.in_ok-header.ensures c.stop_among.ensures (λ left mid rest head fault.
+    stands_on c.stop_among.result (ListFault mid c.in_ok-header.header.count) (RefusalStands (view_of_runs c.args.map.now) left) (λ refusal f. in_entries c.in_ok-header.header mid refusal head.0 head.1 f) fault)
+
 pub returns-in_err-list : goal.returns-in_err-list
 returns-in_err-list g c =
     reads_then _ _ _ _ _ _ c.in_ok-header.ensures c.in_err-list.ensures.read (λ left mid rest head fault.
