@@ -1,5 +1,5 @@
 -- What is left to be read through a window goes on from place to place.
-use Rattle.std.proofs.Common.{◌≡◌, ◌≢◌, ℕ, ◌+◌, ◌-◌, ◌^◌, ◌<◌, ◌≤◌, ◌⊎◌, ◌↔◌, inl, inr, ⊎_elim, List, [], ◌∷◌, ◌++◌, length, append_assoc, length-append, arith, refl, sym, ap, subst, ◌∙◌, Option, Some, None, Result, Ok, Err}
+use Rattle.std.proofs.Common.{◌≡◌, ◌≢◌, ℕ, ◌+◌, ◌*◌, ◌-◌, ◌^◌, ◌<◌, ◌≤◌, ◌⊎◌, ◌↔◌, inl, inr, ⊎_elim, List, [], ◌∷◌, ◌++◌, length, append_assoc, length-append, arith, refl, sym, ap, subst, ◌∙◌, Option, Some, None, Result, Ok, Err}
 use Rattle.std.specs.Prelude.{Bool, IsTrue, eqb, MatchResult}
 use Rattle.std.specs.Result.{IfOk, IfErr, IsErrAnd}
 use Rattle.std.specs.Io.KnownBytes.{Consumes, IsAtEnd}
@@ -16,7 +16,10 @@ use Rattle.certificate_format.specs.declared.header.Header.{Header}
 use Rattle.page_views.specs.Views.{View}
 use Rattle.certificate_check.specs.declared.stop.Stop.{Stop}
 use Rattle.certificate_check.specs.declared.stop.Stop.TheVariants.{Refused, Unheld}
-use Rattle.certificate_check.specs.Certificates.{IsJudged, IsRightWith, RefusalStands}
+use Rattle.certificate_check.specs.Certificates.{AreUnheld, IsJudged, IsRightWith, RefusalStands, TellsOfFew}
+use Rattle.certificate_check.specs.Listed.{AreListed}
+use Rattle.certificate_format.specs.Spelling.{header_bytes}
+use Rattle.certificate_check.proofs.Entered.{listed_long}
 use Rattle.certificate_check.specs.declared.window.Inflow.{Inflow}
 use Rattle.certificate_check.specs.declared.window.Inflow.TheVariants.{Open, AtEnd, TooLarge, Failed}
 use Rattle.certificate_check.specs.Refusals.{refusal_of}
@@ -344,6 +347,45 @@ stopped_failed Open e = absurd (cc)
 stopped_failed AtEnd e = absurd (cc)
 stopped_failed TooLarge e = absurd (cc)
 stopped_failed Failed e = refl
+
+-- nothing was found where the entries are not held
+pub unheld_from : (parts : Result Header Stop) → found_of parts ≡ None → parts ≡ Err Unheld
+unheld_from (Ok header) e = absurd (cc)
+unheld_from (Err (Refused refusal)) e = absurd (cc)
+unheld_from (Err Unheld) e = refl
+
+-- memory was refused only where no more came than may
+within_as : (i : Inflow) (n : ℕ) (at : Place) → IsSoundAs i n at → stopped_by i ≡ faults.Memory → at.window.came ≤ at.window.most
+within_as Open n at h is = h.1
+within_as AtEnd n at h is = h.1
+within_as TooLarge n at h is = absurd (cc)
+within_as Failed n at h is = absurd (cc)
+
+-- entries that are all listed have come
+few_listed : (count : ℕ) (bytes behind rest : List ℕ) (header : Header) → bytes ≡ header_bytes header ++ behind → AreListed count behind rest → 9 * count ≤ length bytes
+few_listed count bytes behind rest header headed (es, listed, all) =
+    let whole : length bytes ≡ length (header_bytes header) + (length listed.listed + length rest) =
+    ap length headed ∙ length-append (header_bytes header) behind ∙ ap (λ n. length (header_bytes header) + n) (ap length listed.split ∙ length-append listed.listed rest)
+    in
+    let long = listed_long listed.listed es listed.spelled in
+    omega (arith, whole, long, all)
+
+few_told : (most : ℕ) (bytes rest : List ℕ) → AreUnheld most bytes rest → length bytes ≤ most → TellsOfFew most bytes
+few_told most bytes rest are short = record {
+  header = are.header;
+  rest = are.behind;
+  headed = are.headed;
+  few = ⊎_elim (λ few. few) (λ listed. (let long = few_listed are.header.count bytes are.behind rest are.header are.headed listed in omega (arith, long, short))) are.why;
+}
+
+pub memory_from :
+    (old new : Place) (most : ℕ) → Reads old new (AreUnheld old.window.most) → IsFresh old most → most < 2 ^ 32 → stopped_by new.window.inflow ≡ faults.Memory
+    → (bytes : List ℕ) × Consumes old.remaining new.remaining bytes × TellsOfFew most bytes
+memory_from old new most read fresh small is =
+    let came = came_from old new (AreUnheld old.window.most) read fresh.empty fresh.zero in
+    let within = within_as new.window.inflow old.failures new (read.sound old.failures (fresh_sound old most fresh)) is in
+    let short = few_came (length came.0) new.window.came most came.2 (omega (arith, within, read.most, fresh.most)) small in
+    (came.0, came.1, few_told most came.0 new.window.buffer (subst (λ (n : ℕ). AreUnheld n came.0 new.window.buffer) fresh.most came.3) short)
 
 pub stopped_well : (i : Inflow) → stopped_by i ≢ faults.Read → fault_of i ≢ Some faults.Read
 stopped_well Open other = λ e. cc

@@ -1,5 +1,5 @@
 -- Right certificates for a view, and why bytes are none.
-use Rattle.std.specs.Prelude.{◌≡◌, ◌≢◌, ℕ, ◌^◌, ◌<◌, ◌≤◌, List, [], ◌++◌, length, Result, MatchResult}
+use Rattle.std.specs.Prelude.{◌≡◌, ◌≢◌, ℕ, ◌*◌, ◌^◌, ◌<◌, ◌≤◌, ◌⊎◌, List, [], ◌++◌, length, Result, MatchResult}
 use Rattle.pmp_encoding.specs.declared.perm.Perm.TheVariants.{NoAccess}
 use Rattle.pmp_encoding.specs.declared.region.Entry.{Entry}
 use Rattle.pmp_match.specs.Meaning.{View, IsFewest, Means}
@@ -12,7 +12,7 @@ use Rattle.certificate_format.specs.Spelling.{header_bytes, node_bytes, Spells, 
 use Rattle.certificate_check.specs.declared.refusal.CheckRefusal.{CheckRefusal}
 use Rattle.certificate_check.specs.declared.refusal.CheckRefusal.TheVariants.{EntriesTooMany, WrongMeaning, Trailing}
 use Rattle.certificate_check.specs.Refusals.{refusal_of}
-use Rattle.certificate_check.specs.Listed.{IsListed, ListFault}
+use Rattle.certificate_check.specs.Listed.{AreListed, IsListed, ListFault}
 use Rattle.certificate_check.specs.Nodes.{IsRightNode, NodeFault}
 
 -- the bytes are a certificate of n entries that mean the view, whose table is a sound bound of it
@@ -82,3 +82,17 @@ pub record IsRightWith (view : View) (bytes : List ℕ) (header : Header) : Type
 -- what was found of the bytes is so: they are a right certificate with that header, or the fault of that refusal stands in them
 abbrev pub IsJudged : View → List ℕ → Result Header CheckRefusal → Type 0
 IsJudged view bytes found = MatchResult found (IsRightWith view bytes) (RefusalStands view bytes)
+
+-- the bytes begin with a header, and the entries that it tells of may come: nine bytes each, and so many bytes may
+pub record TellsOfFew (most : ℕ) (bytes : List ℕ) : Type 0 where
+  pub header : Header
+  pub rest : List ℕ
+  pub headed : bytes ≡ header_bytes header ++ rest
+  pub few : 9 * header.count ≤ most
+
+-- the entries of a header are not held: they may come, and memory was refused, or all of them have come and are more than may
+pub record AreUnheld (most : ℕ) (bytes rest : List ℕ) : Type 0 where
+  pub header : Header
+  pub behind : List ℕ
+  pub headed : bytes ≡ header_bytes header ++ behind
+  pub why : (9 * header.count ≤ most) ⊎ AreListed header.count behind rest

@@ -13,6 +13,10 @@ pub record IsListed (bytes rest : List ℕ) (entries : List Entry) : Type 0 wher
   pub spelled : SpellsEntries listed entries
   pub pages : AreNoSubPages entries
 
+-- so many entries stand before the rest
+abbrev pub AreListed : ℕ → List ℕ → List ℕ → Type 0
+AreListed count bytes rest = (es : List Entry) × IsListed bytes rest es × (length es ≡ count)
+
 -- the fault of a refusal stands in the nine bytes of an entry
 abbrev pub EntryFault : List ℕ → CheckRefusal → Type 0
 EntryFault bytes Truncated = length bytes < 9

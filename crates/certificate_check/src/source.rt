@@ -6,10 +6,11 @@ ghost use Rattle.byte_streams.specs.Streams.{one_failure_more};
 ghost use Rattle.pmp_encoding.specs.declared.region.Entry.{Entry};
 ghost use Rattle.certificate_format.specs.Spelling.{SpellsEntries};
 ghost use Rattle.permission_map.specs.Runs.{view_of_runs};
-ghost use Rattle.certificate_check.specs.Certificates.{IsJudged, IsRightWith, RefusalStands};
-ghost use Rattle.certificate_check.specs.Listed.{IsListed, ListFault};
+ghost use Rattle.certificate_check.specs.Certificates.{AreUnheld, IsJudged, IsRightWith, RefusalStands, TellsOfFew};
+ghost use Rattle.certificate_check.specs.Listed.{AreListed, IsListed, ListFault};
 ghost use Rattle.certificate_check.specs.Spans.{count_in, AreEntries};
 ghost use Rattle.certificate_check.specs.Windows.{found_of, place, Reads, StandsIn};
+ghost use Rattle.certificate_check.specs.declared.stop.Stop.TheVariants.{Unheld};
 
 use crate::certificate::rest_is_right;
 use crate::entries::Entries;
@@ -51,9 +52,12 @@ fn entries_from<R: Source>(
 
 /// Reads the entries of a certificate that tells more than may come, and holds none: they end with the one that is at fault.
 fn stop_among<R: Source>(window: &mut Window, source: &mut R, count: u32) -> Stop
-    ensures { Reads (place R.remaining R.failures window.old source.old)
+    ensures refused { Reads (place R.remaining R.failures window.old source.old)
         (place R.remaining R.failures window.new source.new)
         (λ left _. StandsIn (ListFault left count) result) }
+    ensures unheld { result ≡ Unheld
+        → Reads (place R.remaining R.failures window.old source.old)
+        (place R.remaining R.failures window.new source.new) (AreListed count) }
 {
     for _ in 0..count {
         match entry_bytes(window, source) {
@@ -71,10 +75,13 @@ fn read_parts<R: Source>(
     window: &mut Window,
     source: &mut R,
 ) -> Result<Header, Stop>
-    ensures { Reads (place R.remaining R.failures window.old source.old)
+    ensures read { Reads (place R.remaining R.failures window.old source.old)
         (place R.remaining R.failures window.new source.new)
         (λ left rest. MatchResult result (IsRightWith (view_of_runs map.now) left)
         (StandsIn (RefusalStands (view_of_runs map.now) left))) }
+    ensures unheld { result ≡ Err Unheld
+        → Reads (place R.remaining R.failures window.old source.old)
+        (place R.remaining R.failures window.new source.new) (AreUnheld window.old.most) }
 {
     let header = header(window, source)?;
     if ENTRY_BYTES * u64::from(header.count) > window.most() {
@@ -104,7 +111,7 @@ fn found_in(parts: Result<Header, Stop>) -> Option<Result<Header, CheckRefusal>>
 /// where the source failed in this call, and nothing else where it did.
 ///
 /// What is held at a time is the entries, nine bytes each, and a window of fixed size. Where the header tells more entries than
-/// may come, none is held.
+/// may come, none is held: `Memory` is answered of no such certificate.
 pub fn check_source<R: Source>(
     alloc: Global,
     map: &PermissionMap,
@@ -118,6 +125,9 @@ pub fn check_source<R: Source>(
     ensures large { result ≡ Err SourceFault.TooLarge
         → (bytes : List ℕ) × Consumes (R.remaining source.old) (R.remaining source.new) bytes
         × (most < length bytes) }
+    ensures memory { result ≡ Err SourceFault.Memory
+        → (bytes : List ℕ) × Consumes (R.remaining source.old) (R.remaining source.new) bytes
+        × TellsOfFew most bytes }
     ensures failed { result ≡ Err SourceFault.Read
         → R.failures source.new ≡ one_failure_more (R.failures source.old) }
     ensures well { result ≢ Err SourceFault.Read
