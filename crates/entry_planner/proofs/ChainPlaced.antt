@@ -1,5 +1,5 @@
 -- What a walk down a chain of blocks adds.
-use Rattle.std.proofs.Common.{◌≡◌, ℕ, ◌+◌, ◌-◌, ◌^◌, List, [], ◌++◌, length, ◌<◌, ◌≤◌, reverse, Bool, true, false, refl, sym, ap, subst, arith, IsPermutation}
+use Rattle.std.proofs.Common.{◌≡◌, ℕ, ◌+◌, ◌-◌, ◌^◌, List, [], ◌++◌, sym, subst, arith, IsPermutation}
 use Rattle.std.proofs.lemmas.Grind.{common_steps}
 use Rattle.std.proofs.lemmas.List.{append-nil}
 use Rattle.std.proofs.lemmas.List.Sorted.{IsPermutation-append_right, IsPermutation-append_comm, IsPermutation-refl, IsPermutation-trans}
@@ -7,13 +7,8 @@ use Rattle.pmp_encoding.specs.declared.perm.Perm.{Perm}
 use Rattle.pmp_encoding.specs.declared.region.Entry.{Entry}
 use Rattle.prefix_tree.specs.Trees.{PermTree, Uniform, Split}
 use Rattle.entry_planner.specs.Choice.{AddsChosen, AddsOwn, IsChosenAt, handed_on}
-use Rattle.prefix_tree.specs.declared.chains.Chain.{Chain}
-use Rattle.prefix_tree.specs.Chains.{chained, goes_up, nested}
-use Rattle.prefix_tree.proofs.Nested.{smaller_lower, smaller_upper}
-use Rattle.entry_planner.specs.declared.costs.SplitCost.{SplitCost}
-use Rattle.entry_planner.specs.Plans.{costs_in}
 use Rattle.entry_planner.proofs.Added.{both_added, exchanged}
-use Rattle.entry_planner.proofs.Walked.{some_left, split_is}
+use Rattle.entry_planner.proofs.Walked.{split_is}
 
 -- with what a block still adds, the entries that were added are chosen for the largest block
 abbrev pub Completes : (k first : ℕ) (p : Perm) (tree : PermTree) (j next : ℕ) (q : Perm) (rest : PermTree) (old new : List Entry) → Type 0
@@ -73,10 +68,6 @@ went_down top root t whole tree next behind k i j first lower upper p q old a b 
           (g.0, g.1, IsPermutation-trans _ _ _ g.2 (moved_down added own.0 leaf.0 low)),
     )
 
--- no block of the chain is left
-pub chain_ended : (chain : Chain) (tree : PermTree) → chain.levels ≤ 0 → chained chain tree ≡ tree
-chain_ended chain tree none = let end : chain.levels ≡ 0 = omega arith in ap (λ n. nested n chain.place chain.before chain.behind tree) end
-
 -- the smallest block
 pub completed :
     (top root : ℕ) (t : Perm) (whole rest smallest : PermTree) (k first : ℕ) (p : Perm) (old a b : List Entry) → rest ≡ smallest
@@ -87,13 +78,3 @@ completed top root t whole rest smallest k first p old a b is so small =
     let g = so.2 es (subst (λ x. IsChosenAt k first p x es) (sym is) small.1) in
     let all : IsPermutation (old ++ (added ++ es)) b = both_added old a b added es so.1 small.2 in
     (g.0, g.1, IsPermutation-trans (old ++ g.0) (old ++ (added ++ es)) b (IsPermutation-append_right old g.0 (added ++ es) g.2) all)
-
--- a chain's largest block has its cost in the list
-pub chain_left :
-    (costs : List SplitCost) (chain : Chain) (tree : PermTree) → 0 < chain.levels → chain.place < 2 ^ chain.levels
-    → (rest : List SplitCost) × (costs ≡ rest ++ reverse (costs_in (chained chain tree))) → 1 ≤ length costs
-chain_left costs chain tree some placed ends = go (goes_up chain) refl
-  where
-    go : (t : Bool) → goes_up chain ≡ t → 1 ≤ length costs
-    go true up = some_left costs (chained chain tree) _ _ (smaller_upper chain tree some placed up).0 ends
-    go false down = some_left costs (chained chain tree) _ _ (smaller_lower chain tree some down).0 ends

@@ -15,13 +15,13 @@ pub struct Pages {
     pub log2: u32,
 }
 
-ghost use Rattle.std.specs.Prelude.{◌≡◌, ◌+◌, ◌-◌, ◌*◌, ◌≤◌, ◌<◌, ◌^◌, ◌++◌, List, [], ◌∷◌, false, IfOk, OnOk, IfSome, IfNone, reverse};
+ghost use Rattle.std.specs.Prelude.{◌≡◌, ◌+◌, ◌-◌, ◌*◌, ◌%◌, ◌≤◌, ◌<◌, ◌^◌, ◌++◌, List, [], ◌∷◌, false, IfOk, OnOk, IfSome, IfNone, reverse};
 ghost use Rattle.pmp_encoding.specs.declared.region.Entry.{Entry};
 ghost use Rattle.prefix_tree.specs.Chains.{chained};
 ghost use Rattle.prefix_tree.specs.Trees.{PermTree, Fits};
 ghost use Rattle.entry_planner.specs.declared.costs.SplitCost.{SplitCost};
 ghost use Rattle.entry_planner.specs.Choice.{AddsChosen, AddsOwn, handed_on};
-ghost use Rattle.entry_planner.specs.Placement.{ArePages, IsBlockOf, IsOwn};
+ghost use Rattle.entry_planner.specs.Placement.{ArePages, IsBlockOf, IsOwn, place_at};
 ghost use Rattle.entry_planner.specs.Plans.{costs_in, split_cost};
 ghost use Rattle.entry_planner.specs.Shelves.{is_free};
 
@@ -39,18 +39,19 @@ impl Pages {
         }
     }
 
-    /// The smallest block of a chain of which this is the largest.
-    fn smallest(self, chain: Chain) -> Pages
-        requires levels { chain.levels ≤ self.log2 }
-        requires place { chain.place < 2 ^ chain.levels }
+    /// One of the parts that are left where a block is halved so often, by how many come before it.
+    #[inline(always)]
+    fn part(self, levels: u32, place: u64) -> Pages
+        requires levels { levels ≤ self.log2 }
+        requires place { place < 2 ^ levels }
         requires pages { ArePages self.log2 self.first }
-        ensures first { result.first ≡ self.first + chain.place * 2 ^ result.log2 }
-        ensures log2 { result.log2 + chain.levels ≡ self.log2 }
+        ensures first { result.first ≡ self.first + place * 2 ^ result.log2 }
+        ensures log2 { result.log2 + levels ≡ self.log2 }
         ensures pages { ArePages result.log2 result.first }
     {
-        let log2 = self.log2 - chain.levels;
+        let log2 = self.log2 - levels;
         Pages {
-            first: self.first + chain.place * pages_of(log2),
+            first: self.first + place * pages_of(log2),
             log2,
         }
     }
@@ -143,6 +144,39 @@ fn turn_beside(
     Ok(())
 }
 
+/// How many blocks of its size come before the block of a chain that is reached where the largest is halved so often.
+#[inline(always)]
+fn place_at(chain: Chain, depth: u32) -> u64
+    requires depth { depth ≤ chain.levels }
+    requires most { chain.levels ≤ 44 }
+    ensures { result ≡ place_at chain depth }
+{
+    chain.place / pages_of(chain.levels - depth)
+}
+
+/// The place of the other half, by that of one.
+#[inline(always)]
+fn place_beside(place: u64) -> u64
+    requires { place < 2 ^ 44 }
+    ensures upper { place % 2 ≡ 1 → result + 1 ≡ place }
+    ensures lower { place % 2 ≡ 0 → result ≡ place + 1 }
+{
+    if place % 2 == 1 { place - 1 } else { place + 1 }
+}
+
+/// The permission of the half beside a block of a chain, by the block's place.
+#[inline(always)]
+fn perm_beside(chain: Chain, place: u64) -> Perm
+    ensures upper { place % 2 ≡ 1 → result ≡ chain.before }
+    ensures lower { place % 2 ≡ 0 → result ≡ chain.behind }
+{
+    if place % 2 == 1 {
+        chain.before
+    } else {
+        chain.behind
+    }
+}
+
 /// Adds the entries of the largest block of a chain, as [`place`] does.
 #[cycle(placing)]
 fn place_chain<'a, H: Halving>(
@@ -165,31 +199,27 @@ fn place_chain<'a, H: Halving>(
         (AddsChosen pages.log2 pages.first inherited (chained chain (H.shape smallest.now))
         entries.old entries.new) }
 {
-    let mut rest = chain;
-    let mut block = pages;
     let mut from = inherited;
     let mut left = costs;
-    while rest.levels > 0 {
+    for depth in 0..chain.levels {
         let [others @ .., packed] = left else {
             unreachable!();
         };
         let perm = chosen(packed.cost(), from);
-        turn(block, from, perm, entries)?;
-        let lower = block.lower();
-        let upper = block.upper();
+        turn(
+            pages.part(depth, place_at(chain, depth)),
+            from,
+            perm,
+            entries,
+        )?;
         // Which half is the next makes a difference of values alone: a branch on it would often be guessed wrong.
-        let (next, beside, other) = if rest.goes_up() {
-            (upper, lower, rest.before)
-        } else {
-            (lower, upper, rest.behind)
-        };
-        turn_beside(beside, perm, other, entries)?;
-        let smaller = rest.smaller();
-        rest = smaller;
-        block = next;
+        let place = place_at(chain, depth + 1);
+        let beside = pages.part(depth + 1, place_beside(place));
+        turn_beside(beside, perm, perm_beside(chain, place), entries)?;
         from = perm;
         left = others;
     }
+    let block = pages.part(chain.levels, chain.place);
     let others = place(smallest, block, from, left, entries)?;
     Ok(others)
 }
@@ -221,7 +251,8 @@ pub fn place<'a, H: Halving>(
         if chain.before == inherited && chain.behind == inherited {
             // No entry is placed on the way down.
             let others = &costs[..costs.len() - chain.levels as usize];
-            let rest = place(&smallest, pages.smallest(chain), inherited, others, entries)?;
+            let block = pages.part(chain.levels, chain.place);
+            let rest = place(&smallest, block, inherited, others, entries)?;
             return Ok(rest);
         }
         let rest = place_chain(chain, &smallest, pages, inherited, costs, entries)?;

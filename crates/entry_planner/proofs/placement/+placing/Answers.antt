@@ -1,16 +1,14 @@
 -- The costs of the split blocks come last, and the entries are those that are placed.
-use Rattle.std.proofs.Common.{◌≡◌, ℕ, ◌-◌, ◌*◌, Fits as FitsWidth, w64, rules, length, length-take, refl, ◌++◌, ◌∙◌, reverse, ap, sym, subst, arith}
+use Rattle.std.proofs.Common.{◌≡◌, ℕ, ◌+◌, ◌-◌, ◌*◌, ◌%◌, ◌^◌, ◌≤◌, eq-zero-or-pos, inl, inr, pow_mono, Fits as FitsWidth, w64, rules, length, length-take, take, refl, ◌++◌, ◌∙◌, reverse, ap, sym, subst, arith}
 use Rattle.std.proofs.lemmas.List.{append-nil}
 use Rattle.prefix_tree.specs.Counts.{splits}
 use Rattle.prefix_tree.specs.Trees.{PermTree, Uniform, Fits}
-use Rattle.prefix_tree.specs.Chains.{chained}
 use Rattle.prefix_tree.proofs.Nested.{splits-chained}
 use Rattle.entry_planner.specs.Choice.{AddsOwn}
+use Rattle.entry_planner.specs.Placement.{place_at}
 use Rattle.entry_planner.specs.Plans.{costs_in}
-use Rattle.entry_planner.proofs.ChainWalked.{split_down, split_up, chain_high}
+use Rattle.entry_planner.proofs.ChainWalked.{all_costs, begun_at, beside_small, cost_left, ended, left_at, place_small, split_at_lower, split_at_upper, stepped_lower, stepped_upper}
 use Rattle.entry_planner.proofs.ChainKept.{kept_chosen, smallest_costs, smallest_fits}
-use Rattle.entry_planner.proofs.ChainPlaced.{begun, chain_ended, chain_left, completed, went_down, went_up}
-use Rattle.entry_planner.proofs.placement.+placing.Goals.{place_chain-then-goes_up, place_chain-else-goes_up}
 use Rattle.entry_planner.proofs.SamePerm.{same_perm}
 use Rattle.entry_planner.proofs.Walked.{halves_fit_in, last_is, lower_ends, upper_ends, rest_is, split_chosen, uniform_chosen}
 use Rattle.entry_planner.proofs.placement.+placing.Goals as goal
@@ -39,8 +37,8 @@ pub place-slice_bounds-others-count : goal.place-slice_bounds-others-count
 place-slice_bounds-others-count g t c =
     (smallest_costs c.args.costs.now c.in-Some-chain.chain (g.H.Halving.shape c.args.block.now) (g.H.Halving.shape c.in-Some-chain.smallest) c.in-Some-chain.ensures.1 c.requires.costs).levels
 
-pub place-smallest-requires-clause-levels : goal.place-smallest-requires-clause-levels
-place-smallest-requires-clause-levels g t c =
+pub place-part-block-requires-clause-levels : goal.place-part-block-requires-clause-levels
+place-part-block-requires-clause-levels g t c =
     (smallest_fits (g.H.Halving.shape c.args.block.now) (g.H.Halving.shape c.in-Some-chain.smallest) c.in-Some-chain.chain c.args.pages.log2 c.in-Some-chain.ensures.1 c.requires.fits).0
 
 pub place-place-requires : goal.place-place-requires
@@ -48,14 +46,14 @@ place-place-requires g t c = λ κs lives.
     let is = c.in-Some-chain.ensures in
     let tree = g.H.Halving.shape c.in-Some-chain.smallest in
     let inside = smallest_fits (g.H.Halving.shape c.args.block.now) tree c.in-Some-chain.chain c.args.pages.log2 is.1 c.requires.fits in
-    let high : c.args.pages.log2 - c.in-Some-chain.chain.levels ≡ c.smallest.result.log2 = omega (arith, c.smallest.ensures.log2) in
+    let high : c.args.pages.log2 - c.in-Some-chain.chain.levels ≡ c.part-block.result.log2 = omega (arith, c.part-block.ensures.log2) in
     let F : ℕ → Type 0 = λ k. Fits k tree in (
       omega (arith, c.decreases, is.0.some, splits-chained _ tree c.in-Some-chain.chain is.1),
       (
         lives,
         (
           subst F high inside.1,
-          (c.smallest.ensures.pages, (smallest_costs c.args.costs.now c.in-Some-chain.chain (g.H.Halving.shape c.args.block.now) tree is.1 c.requires.costs).ends),
+          (c.part-block.ensures.pages, (smallest_costs c.args.costs.now c.in-Some-chain.chain (g.H.Halving.shape c.args.block.now) tree is.1 c.requires.costs).ends),
         ),
       ),
     )
@@ -70,7 +68,7 @@ place-returns-then-eq-2-clause-placed g t c =
     let is = c.in-Some-chain.ensures in
     kept_chosen (g.H.Halving.shape c.args.block.now) (g.H.Halving.shape c.in-Some-chain.smallest) c.in-Some-chain.chain _ _ _ _ _ _ _ is.1
     (same_perm c.in-Some-chain.chain.before c.args.inherited c.eq.result c.eq.ensures c.if-eq.true)
-    (same_perm c.in-Some-chain.chain.behind c.args.inherited c.eq-then-eq.result c.eq-then-eq.ensures c.if-eq-2.true) is.0.place c.smallest.ensures.log2 c.smallest.ensures.first
+    (same_perm c.in-Some-chain.chain.behind c.args.inherited c.eq-then-eq.result c.eq-then-eq.ensures c.if-eq-2.true) is.0.place c.part-block.ensures.log2 c.part-block.ensures.first
     c.in_ok-rest.ensures.placed
 
 pub place-place-requires-2 : goal.place-place-requires-2
@@ -108,77 +106,114 @@ place-returns-clause-placed g t c =
 
 -- ---- of a chain
 
-pub place_chain-loop-rest-init : goal.place_chain-loop-rest-init
-place_chain-loop-rest-init g t c = record {
-  place = c.requires.chain;
-  most = c.requires.most;
-  sides = (refl, refl);
-  fits = c.requires.fits;
-  pages = c.requires.pages;
-  few = omega arith;
-  ends = c.requires.costs;
-  back = λ rest same. same;
-  placed = begun _ _ _ _ _;
-}
+pub place_chain-loop-depth-init : goal.place_chain-loop-depth-init
+place_chain-loop-depth-init g t c =
+    let costs = all_costs c.args.costs.now c.args.chain (g.H.Halving.shape c.args.smallest.now) c.requires.chain in
+    record {
+      few = omega arith;
+      ends = (c.requires.costs.0, costs.1 c.requires.costs.0 c.requires.costs.1);
+      back = costs.0;
+      walked = begun_at _ _ _ _ _ _ c.requires.chain c.requires.fits;
+    }
 
 pub place_chain-unreachable-requires : goal.place_chain-unreachable-requires
 place_chain-unreachable-requires g t c =
-    let i = c.loop-rest.invariant in
-    omega (arith, c.in_default.len_below, chain_left _ c.loop-rest.rest (g.H.Halving.shape c.args.smallest.now) c.loop-rest-test.true i.place i.ends)
+    omega (arith, c.in_default.len_below, cost_left _ c.args.chain (g.H.Halving.shape c.args.smallest.now) c.loop-depth.depth c.loop-depth-test.true c.loop-depth.invariant.ends)
 
 pub place_chain-offset_bounds-left-left : goal.place_chain-offset_bounds-left-left
 place_chain-offset_bounds-left-left g t c =
     let all : FitsWidth w64 (length c.args.costs.now * 2) = search rules in
-    omega (arith, c.loop-rest.invariant.few, all)
+    omega (arith, c.loop-depth.invariant.few, all)
 
-pub place_chain-lower-lower-requires-clause-split : goal.place_chain-lower-lower-requires-clause-split
-place_chain-lower-lower-requires-clause-split g t c =
-    let i = c.loop-rest.invariant in
-    chain_high _ c.loop-rest.rest (g.H.Halving.shape c.args.smallest.now) c.loop-rest-test.true i.place i.fits
+pub place_chain-part-requires-clause-levels : goal.place_chain-part-requires-clause-levels
+place_chain-part-requires-clause-levels g t c =
+    let inside = smallest_fits _ (g.H.Halving.shape c.args.smallest.now) c.args.chain c.args.pages.log2 refl c.requires.fits in
+    omega (arith, c.loop-depth-test.true, inside.0)
 
-pub place_chain-loop-rest-preserved : goal.place_chain-loop-rest-preserved
-place_chain-loop-rest-preserved g t c =
+pub place_chain-part-requires-clause-place : goal.place_chain-part-requires-clause-place
+place_chain-part-requires-clause-place g t c =
+    let less = c.loop-depth-test.true in
+    let small = place_small c.args.chain c.loop-depth.depth (omega (arith, less)) c.requires.chain in
+    omega (arith, small, c.place_at.ensures)
+
+pub place_chain-place_beside-requires : goal.place_chain-place_beside-requires
+place_chain-place_beside-requires g t c =
+    let less = c.loop-depth-test.true in
+    let small = place_small c.args.chain (c.loop-depth.depth + 1) (omega (arith, less)) c.requires.chain in
+    let most : 2 ^ (c.loop-depth.depth + 1) ≤ 2 ^ 44 = (let top : c.loop-depth.depth + 1 ≤ 44 = omega (arith, less, c.requires.most) in pow_mono top) in
+    omega (arith, small, most, c.place_at-place.ensures)
+
+pub place_chain-part-beside-requires-clause-levels : goal.place_chain-part-beside-requires-clause-levels
+place_chain-part-beside-requires-clause-levels g t c =
+    let inside = smallest_fits _ (g.H.Halving.shape c.args.smallest.now) c.args.chain c.args.pages.log2 refl c.requires.fits in
+    omega (arith, c.loop-depth-test.true, inside.0)
+
+pub place_chain-part-beside-requires-clause-place : goal.place_chain-part-beside-requires-clause-place
+place_chain-part-beside-requires-clause-place g t c =
+    let at = c.place_at-place.ensures in
+    let other = c.place_beside.ensures in
+    beside_small c.args.chain c.loop-depth.depth _ c.loop-depth-test.true c.requires.chain
+    (λ odd. other.upper (ap (λ n. n % 2) at ∙ odd) ∙ at) (λ even. other.lower (ap (λ n. n % 2) at ∙ even) ∙ ap (λ n. n + 1) at)
+
+pub place_chain-loop-depth-preserved : goal.place_chain-loop-depth-preserved
+place_chain-loop-depth-preserved g t c =
     let tree = g.H.Halving.shape c.args.smallest.now in
-    let l = c.loop-rest in
+    let l = c.loop-depth in
     let i = l.invariant in
-    let some = c.loop-rest-test.true in
-    let next = c.smaller-smaller.result in
-    let level = ap (λ x. x.levels) c.smaller-smaller.ensures in
-    let sides : (next.before ≡ c.args.chain.before) × (next.behind ≡ c.args.chain.behind) =
-    (ap (λ x. x.before) c.smaller-smaller.ensures ∙ i.sides.0, ap (λ x. x.behind) c.smaller-smaller.ensures ∙ i.sides.1) in
-    elim c.if-goes_up.branch [
-      | place_chain-then-goes_up w ↦
-          let s = split_up l.rest next tree _ some i.place c.smaller-smaller.ensures c.goes_up.ensures w.if-goes_up.true in
-          let handed = c.chosen-perm.ensures (Uniform l.rest.before) (chained next tree) (c.cost.ensures ∙ c.packed-item.is ∙ last_is _ _ _ _ _ s.0 i.ends) in
-          let side = subst (λ o. AddsOwn o.1.log2 o.1.first c.chosen-perm.result o.2 c.turn.new.entries c.turn_beside.new.entries) w.other-is c.in_ok-turn_beside.ensures in
-          rw (w.other-is) (record {
-            place = s.1;
-            most = omega (arith, level, i.most);
-            sides = sides;
-            fits = (halves_fit_in _ _ _ _ _ s.0 c.upper-upper.ensures.log2 i.fits).1;
-            pages = c.upper-upper.ensures.pages;
-            few = omega (arith, i.few, length-take (length l.left.now - 1) l.left.now);
-            ends = upper_ends _ _ _ _ _ s.0 i.ends (sym (append-nil _));
-            back = λ rest same. i.back rest (rest_is _ _ _ _ _ _ s.0 i.ends (sym (append-nil _)) same);
-            placed = went_up _ _ _ _ _ _ _ _ _ _ _ _ _ _ _ _ _ _ _ s.0 c.lower-lower.ensures.log2 c.upper-upper.ensures.log2 c.lower-lower.ensures.first c.upper-upper.ensures.first handed i.placed c.in_ok-turn.ensures side;
+    let some = c.loop-depth-test.true in
+    let at = c.place_at-place.ensures in
+    let few : length (take (length l.left.now - 1) l.left.now) ≤ length c.args.costs.now = omega (arith, i.few, length-take (length l.left.now - 1) l.left.now) in
+    elim (eq-zero-or-pos (place_at c.args.chain (l.depth + 1) % 2)) [
+      | inl even ↦
+          let s = split_at_lower c.args.chain tree l.depth some even in
+          let parity = ap (λ n. n % 2) at ∙ even in
+          let handed = c.chosen-perm.ensures (left_at c.args.chain (l.depth + 1) tree) (Uniform c.args.chain.behind) (c.cost.ensures ∙ c.packed-item.is ∙ last_is _ _ _ _ _ s i.ends) in (record {
+            few = few;
+            ends = lower_ends _ _ _ _ s i.ends;
+            back = λ rest same. i.back rest (rest_is _ _ _ _ _ _ s i.ends same (sym (append-nil _)));
+            walked = stepped_lower _ _ _ _ tree l.depth _ _ _ _ _ _ some even i.walked
+                (record {
+                  k = c.part.result.log2;
+                  first = c.part.result.first;
+                  height = c.part.ensures.log2;
+                  starts = c.part.ensures.first ∙ ap (λ n. c.args.pages.first + n * 2 ^ c.part.result.log2) c.place_at.ensures;
+                  own = c.in_ok-turn.ensures;
+                  half = c.part-beside.result.log2;
+                  beside = c.part-beside.result.first;
+                  place = c.place_beside.result;
+                  below = c.part-beside.ensures.log2;
+                  stands = c.part-beside.ensures.first;
+                  leaf = subst (λ p. AddsOwn c.part-beside.result.log2 c.part-beside.result.first c.chosen-perm.result p c.turn.new.entries c.turn_beside.new.entries) (c.perm_beside.ensures.lower parity) c.in_ok-turn_beside.ensures;
+                })
+                (c.place_beside.ensures.lower parity ∙ ap (λ n. n + 1) at) handed;
           })
-      | place_chain-else-goes_up w ↦
-          let s = split_down l.rest next tree _ some c.smaller-smaller.ensures c.goes_up.ensures w.if-goes_up.false in
-          let handed = c.chosen-perm.ensures (chained next tree) (Uniform l.rest.behind) (c.cost.ensures ∙ c.packed-item.is ∙ last_is _ _ _ _ _ s.0 i.ends) in
-          let side = subst (λ o. AddsOwn o.1.log2 o.1.first c.chosen-perm.result o.2 c.turn.new.entries c.turn_beside.new.entries) w.other-is c.in_ok-turn_beside.ensures in
-          rw (w.other-is) (record {
-            place = s.1;
-            most = omega (arith, level, i.most);
-            sides = sides;
-            fits = (halves_fit_in _ _ _ _ _ s.0 c.lower-lower.ensures.log2 i.fits).0;
-            pages = c.lower-lower.ensures.pages;
-            few = omega (arith, i.few, length-take (length l.left.now - 1) l.left.now);
-            ends = lower_ends _ _ _ _ s.0 i.ends;
-            back = λ rest same. i.back rest (rest_is _ _ _ _ _ _ s.0 i.ends same (sym (append-nil _)));
-            placed = went_down _ _ _ _ _ _ _ _ _ _ _ _ _ _ _ _ _ _ _ s.0 c.lower-lower.ensures.log2 c.upper-upper.ensures.log2 c.lower-lower.ensures.first c.upper-upper.ensures.first handed i.placed c.in_ok-turn.ensures side;
+      | inr more ↦
+          let odd : place_at c.args.chain (l.depth + 1) % 2 ≡ 1 = omega (arith, more) in
+          let s = split_at_upper c.args.chain tree l.depth some odd in
+          let parity = ap (λ n. n % 2) at ∙ odd in
+          let handed = c.chosen-perm.ensures (Uniform c.args.chain.before) (left_at c.args.chain (l.depth + 1) tree) (c.cost.ensures ∙ c.packed-item.is ∙ last_is _ _ _ _ _ s i.ends) in (record {
+            few = few;
+            ends = upper_ends _ _ _ _ _ s i.ends (sym (append-nil _));
+            back = λ rest same. i.back rest (rest_is _ _ _ _ _ _ s i.ends (sym (append-nil _)) same);
+            walked = stepped_upper _ _ _ _ tree l.depth _ _ _ _ _ _ some odd i.walked
+                (record {
+                  k = c.part.result.log2;
+                  first = c.part.result.first;
+                  height = c.part.ensures.log2;
+                  starts = c.part.ensures.first ∙ ap (λ n. c.args.pages.first + n * 2 ^ c.part.result.log2) c.place_at.ensures;
+                  own = c.in_ok-turn.ensures;
+                  half = c.part-beside.result.log2;
+                  beside = c.part-beside.result.first;
+                  place = c.place_beside.result;
+                  below = c.part-beside.ensures.log2;
+                  stands = c.part-beside.ensures.first;
+                  leaf = subst (λ p. AddsOwn c.part-beside.result.log2 c.part-beside.result.first c.chosen-perm.result p c.turn.new.entries c.turn_beside.new.entries) (c.perm_beside.ensures.upper parity) c.in_ok-turn_beside.ensures;
+                })
+                (c.place_beside.ensures.upper parity ∙ at) handed;
           })
     ]
 
 pub place_chain-returns-clause-placed : goal.place_chain-returns-clause-placed
 place_chain-returns-clause-placed g t c =
-    completed _ _ _ _ _ _ _ _ _ _ _ _ (chain_ended c.loop-rest.rest (g.H.Halving.shape c.args.smallest.now) c.loop-rest-test.false) c.loop-rest.invariant.placed c.in_ok-others.ensures.placed
+    let end : c.loop-depth.depth ≡ c.args.chain.levels = omega (arith, c.loop-depth-test.false, c.loop-depth.auto.depth-end) in
+    ended _ _ _ c.args.chain (g.H.Halving.shape c.args.smallest.now) _ _ _ _ _ _ _ end c.loop-depth.invariant.walked c.part-block.ensures.log2 c.part-block.ensures.first c.in_ok-others.ensures.placed
