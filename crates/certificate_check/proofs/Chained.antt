@@ -16,32 +16,32 @@ chains_append spans a (x ∷ xs) m k r chain = (r.0, chains_append spans x xs m 
 
 -- one more span that begins where all before it have ended
 pub chain_grown :
-    (spans : ℕ → Span) (from i last : ℕ) (s : Span) → s ≡ spans i → last ≤ s.first → IsChain spans from i → ((j : ℕ) → from ≤ j → j < i → (spans j).end ≤ last)
+    (spans : ℕ → Span) (from i last first : ℕ) → first ≡ (spans i).first → last ≤ first → IsChain spans from i → ((j : ℕ) → from ≤ j → j < i → (spans j).end ≤ last)
     → IsChain spans from (i + 1)
-chain_grown spans from i last s is after chain ended j k low less high =
+chain_grown spans from i last first is after chain ended j k low less high =
     ⊎_elim (λ below. chain j k low less below)
     (λ over.
     let same : i ≡ k = omega arith in
-    let first : s.first ≡ (spans k).first = ap (λ (x : Span). x.first) is ∙ ap (λ n. (spans n).first) same in
+    let next : first ≡ (spans k).first = is ∙ ap (λ n. (spans n).first) same in
     let end : (spans j).end ≤ last = ended j low (omega arith) in
     omega arith)
     (cases_lt k i)
 
 pub ends_grown :
-    (spans : ℕ → Span) (from i last : ℕ) (s : Span) → s ≡ spans i → s.first < s.end → last ≤ s.first → ((j : ℕ) → from ≤ j → j < i → (spans j).end ≤ last)
-    → (j : ℕ) → from ≤ j → j < i + 1 → (spans j).end ≤ s.end
-ends_grown spans from i last s is some after ended j low high =
-    ⊎_elim (λ below. let end : (spans j).end ≤ last = ended j low below in omega arith)
-    (λ over. let same : j ≡ i = omega arith in let end : (spans j).end ≡ s.end = ap (λ n. (spans n).end) same ∙ ap (λ (x : Span). x.end) (sym is) in omega arith)
+    (spans : ℕ → Span) (from i last first end : ℕ) → end ≡ (spans i).end → first < end → last ≤ first → ((j : ℕ) → from ≤ j → j < i → (spans j).end ≤ last)
+    → (j : ℕ) → from ≤ j → j < i + 1 → (spans j).end ≤ end
+ends_grown spans from i last first end is some after ended j low high =
+    ⊎_elim (λ below. let before : (spans j).end ≤ last = ended j low below in omega arith)
+    (λ over. let same : j ≡ i = omega arith in let own : (spans j).end ≡ end = ap (λ n. (spans n).end) same ∙ sym is in omega arith)
     (cases_lt j i)
 
 -- a chain of one span
 pub chain_begun : (spans : ℕ → Span) (i : ℕ) → IsChain spans i (i + 1)
 chain_begun spans i j k low less high = absurd (omega arith)
 
-pub ends_begun : (spans : ℕ → Span) (i : ℕ) (s : Span) → s ≡ spans i → (j : ℕ) → i ≤ j → j < i + 1 → (spans j).end ≤ s.end
-ends_begun spans i s is j low high =
-    let same : j ≡ i = omega arith in let end : (spans j).end ≡ s.end = ap (λ n. (spans n).end) same ∙ ap (λ (x : Span). x.end) (sym is) in omega arith
+pub ends_begun : (spans : ℕ → Span) (i end : ℕ) → end ≡ (spans i).end → (j : ℕ) → i ≤ j → j < i + 1 → (spans j).end ≤ end
+ends_begun spans i end is j low high =
+    let same : j ≡ i = omega arith in let own : (spans j).end ≡ end = ap (λ n. (spans n).end) same ∙ sym is in omega arith
 
 -- a list of numbers at a place
 pub drop_at : (xs : List ℕ) (i : ℕ) → i < length xs → drop i xs ≡ get_or xs i 0 ∷ drop (i + 1) xs

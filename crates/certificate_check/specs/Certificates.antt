@@ -90,7 +90,7 @@ pub record TellsOfFew (most : ℕ) (bytes : List ℕ) : Type 0 where
   pub headed : bytes ≡ header_bytes header ++ rest
   pub few : 9 * header.count ≤ most
 
--- the entries of a header are not held: they may come, and memory was refused, or all of them have come and are more than may
+-- the entries that a header tells of are not held: so many may come, or all of them have come
 pub record AreUnheld (most : ℕ) (bytes rest : List ℕ) : Type 0 where
   pub header : Header
   pub behind : List ℕ

@@ -5,6 +5,7 @@ use Rattle.pmp_encoding.specs.declared.perm.Perm.{Perm}
 use Rattle.pmp_encoding.specs.declared.perm.Perm.TheVariants.{NoAccess}
 use Rattle.pmp_encoding.specs.declared.region.Entry.{Entry}
 use Rattle.pmp_encoding.specs.Encoding.{MeansEntry}
+use Rattle.certificate_check.specs.declared.entries.Bounds.{Bounds}
 use Rattle.certificate_check.specs.declared.entries.Span.{Span}
 
 -- the span has the pages of the entry's region, all of them whole, and its permission
@@ -13,6 +14,11 @@ pub record IsSpanOf (e : Entry) (s : Span) : Type 0 where
   pub last : s.end * 4096 ≡ e.region.base + 2 ^ e.region.log2
   pub size : s.size + 12 ≡ e.region.log2
   pub perm : s.perm ≡ e.perm
+
+-- the pages of the entry's region are those, all of them whole
+pub record AreBoundsOf (e : Entry) (b : Bounds) : Type 0 where
+  pub first : b.first * 4096 ≡ e.region.base
+  pub end : b.end * 4096 ≡ e.region.base + 2 ^ e.region.log2
 
 -- the nine bytes of number i mean an entry of at least a page, with the pages of the span
 pub record IsSpanAt (bytes : List ℕ) (i : ℕ) (s : Span) : Type 0 where

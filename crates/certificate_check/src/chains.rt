@@ -44,6 +44,17 @@ fn taken_apart(span: Span) -> Span
     }
 }
 
+/// The number of the entry with which a chain begins.
+fn start_of(ends: &[usize], i: usize) -> usize
+    requires { i < length ends.now }
+    ensures { result ≡ start_of ends.now i }
+{
+    if i == 0 {
+        return 0;
+    }
+    ends[i - 1]
+}
+
 /// Goes on in the chain of the entries from `from` to before `to`, to the first span that ends after the page.
 fn next_in_chain(entries: &Entries, place: Place, from: usize, to: usize, page: u64) -> Place
     requires inside { to ≤ count_in entries.now }
@@ -111,12 +122,11 @@ pub(crate) fn piece_of_chains(
         → ArePlaces spans ends.now page places.new }
 {
     let mut end = SPACE_PAGES;
-    let mut from = 0;
-    for (i, to) in ends.iter().enumerate() {
+    for i in 0..ends.len() {
         if page < places[i].span.first {
             end = end.min(places[i].span.first);
         } else {
-            go_on(entries, places, i, from, *to, page);
+            go_on(entries, places, i, start_of(ends, i), ends[i], page);
             if page < places[i].span.end {
                 if places[i].span.first <= page {
                     return Piece {
@@ -127,7 +137,6 @@ pub(crate) fn piece_of_chains(
                 end = end.min(places[i].span.first);
             }
         }
-        from = *to;
     }
     Piece {
         end,
@@ -146,13 +155,13 @@ pub(crate) fn chains_of(entries: &Entries) -> Option<ArrayVec<usize, SIZES>>
     let mut ends = ArrayVec::new();
     let mut last = 0;
     for i in 0..entries.len() {
-        let span = entries.span(i);
-        if span.first < last {
+        let bounds = entries.bounds(i);
+        if bounds.first < last {
             let Ok(()) = ends.try_push(i) else {
                 return None;
             };
         }
-        last = span.end;
+        last = bounds.end;
     }
     let Ok(()) = ends.try_push(entries.len()) else {
         return None;

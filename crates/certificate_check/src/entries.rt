@@ -4,7 +4,8 @@ ghost use Rattle.std.specs.Prelude.{◌≡◌, ℕ, ◌+◌, ◌*◌, ◌/◌, �
 ghost use Rattle.pmp_encoding.specs.declared.region.Entry.{Entry};
 
 use byteorder::{ByteOrder, LittleEndian};
-use pmp_encoding::{Entry, Perm, decode};
+use page_views::SPACE_PAGES;
+use pmp_encoding::Perm;
 use std::marker::Model;
 
 /// How many sizes a region of at least a page can have.
@@ -17,6 +18,13 @@ pub(crate) struct Span {
     pub(crate) end: u64,
     pub(crate) size: usize,
     pub(crate) perm: Perm,
+}
+
+/// The pages of an entry, from the first to before the end.
+#[derive(Clone, Copy)]
+pub(crate) struct Bounds {
+    pub(crate) first: u64,
+    pub(crate) end: u64,
 }
 
 /// The entries of a certificate, nine bytes each: a configuration byte and an address. Each is of at least a page.
@@ -36,22 +44,21 @@ impl<'a> Model for Entries<'a> {
     ghost invariant = { λ e. AreEntries e.bytes.now };
 }
 
-ghost use Rattle.certificate_check.specs.Spans.{IsSpanOf, ReadsAs, count_in};
+ghost use Rattle.pmp_encoding.specs.Encoding.{MeansEntry};
+ghost use Rattle.certificate_check.specs.Spans.{AreBoundsOf, IsSpanAt, ReadsAs, count_in};
 
-/// The pages that the entry's region reaches, all whole for a region of at least a page.
-fn span_of(entry: &Entry) -> Span
-    ensures some { result.first < result.end }
-    ensures inside { result.end ≤ 2 ^ 44 }
-    ensures small { result.size < 45 }
-    ensures value { 12 ≤ entry.now.region.log2 → IsSpanOf entry.now result }
+/// The pages of an entry of at least a page, by its address: its trailing ones say how large the region is, and what stands above
+/// them where it begins.
+#[inline(always)]
+fn bounds_of(address: u64) -> Bounds
+    ensures { (cfg : ℕ) (e : Entry) → MeansEntry cfg address e → 12 ≤ e.region.log2
+        → AreBoundsOf e result }
 {
-    let base = entry.region.base;
-    let end = base + (1 << entry.region.log2);
-    Span {
-        first: base / 4096,
-        end: (end + 4095) / 4096,
-        size: entry.region.log2.saturating_sub(12) as usize,
-        perm: entry.perm,
+    let next = address.wrapping_add(1);
+    let end = (address | next) / 1024 + 1;
+    Bounds {
+        first: (address & next) / 1024,
+        end: end.min(SPACE_PAGES),
     }
 }
 
@@ -63,21 +70,21 @@ impl<'a> Entries<'a> {
         self.bytes.len() / 9
     }
 
-    /// The first page of one of them. The trailing ones of its address say how large it is, and what stands above them
-    /// where it begins.
-    pub(crate) fn first(&self, i: usize) -> u64
+    /// The pages of one of them.
+    #[inline(always)]
+    pub(crate) fn bounds(&self, i: usize) -> Bounds
         requires { i < count_in self.now }
-        ensures inside { result < 2 ^ 44 }
-        ensures value { (spans : ℕ → Span) → ReadsAs self.now spans
-            → result ≡ (spans i).first }
+        ensures some { result.first < result.end }
+        ensures inside { result.end ≤ 2 ^ 44 }
+        ensures first { (s : Span) → IsSpanAt self.now i s → result.first ≡ s.first }
+        ensures end { (s : Span) → IsSpanAt self.now i s → result.end ≡ s.end }
     {
         let bytes = self.bytes;
         let at = 9 * i;
-        let address = LittleEndian::read_u64(&bytes[at + 1..]);
-        (address & address.wrapping_add(1)) / 1024
+        bounds_of(LittleEndian::read_u64(&bytes[at + 1..]))
     }
 
-    /// The pages of one of them.
+    /// The pages of one of them, with their permission.
     pub(crate) fn span(&self, i: usize) -> Span
         requires { i < count_in self.now }
         ensures some { result.first < result.end }
@@ -86,15 +93,15 @@ impl<'a> Entries<'a> {
         ensures value { (spans : ℕ → Span) → ReadsAs self.now spans → result ≡ spans i }
     {
         let bytes = self.bytes;
-        let at = 9 * i;
-        let cfg = bytes[at];
-        let address = LittleEndian::read_u64(&bytes[at + 1..]);
-        let Ok(decoded) = decode(cfg, address) else {
+        let Some(perm) = Perm::from_bits(bytes[9 * i] % 8) else {
             unreachable!();
         };
-        let Some(entry) = decoded else {
-            unreachable!();
-        };
-        span_of(&entry)
+        let Bounds { first, end } = self.bounds(i);
+        Span {
+            first,
+            end,
+            size: (end - first).trailing_zeros() as usize,
+            perm,
+        }
     }
 }

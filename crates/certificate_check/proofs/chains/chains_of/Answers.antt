@@ -3,7 +3,7 @@ use Rattle.std.proofs.Common.{◌≡◌, ℕ, ◌≤◌, List, [], ◌∷◌, �
 use Rattle.certificate_check.specs.Spans.{RiseTo, AreChains, IsChain, count_in}
 use Rattle.certificate_check.proofs.Chained.{rise_append, chains_append, chain_grown, ends_grown, chain_begun, ends_begun}
 use Rattle.certificate_check.proofs.chains.chains_of.Goals as goal
-use Rattle.certificate_check.proofs.chains.chains_of.Goals.{then-span-last+in-Ok, else-span-last}
+use Rattle.certificate_check.proofs.chains.chains_of.Goals.{then-bounds-last+in-Ok, else-bounds-last}
 
 pub loop-i-preserved : goal.loop-i-preserved
 loop-i-preserved c =
@@ -11,9 +11,9 @@ loop-i-preserved c =
     let low : from ≤ c.loop-i.i = c.loop-i.invariant.1 in
     let rise = c.loop-i.invariant.2 in
     let chains = c.loop-i.invariant.3 in
-    elim c.if-span-last.branch [
-      | then-span-last+in-Ok w ↦
-          let items : c.if-span-last.ends.items ≡ c.loop-i.ends.items ++ c.loop-i.i ∷ [] = ap (λ v. v.items) w.ends-is ∙ w.in-Ok.ensures.ok in (
+    elim c.if-bounds-last.branch [
+      | then-bounds-last+in-Ok w ↦
+          let items : c.if-bounds-last.ends.items ≡ c.loop-i.ends.items ++ c.loop-i.i ∷ [] = ap (λ v. v.items) w.ends-is ∙ w.in-Ok.ensures.ok in (
             c.loop-i.i,
             omega arith,
             subst (λ (xs : List ℕ). RiseTo 0 xs c.loop-i.i) (sym items) (rise_append 0 c.loop-i.ends.items from c.loop-i.i rise low),
@@ -21,21 +21,20 @@ loop-i-preserved c =
                 let known = chains spans reads in (
                   subst (λ (xs : List ℕ). AreChains spans 0 xs c.loop-i.i) (sym items) (chains_append spans 0 c.loop-i.ends.items from c.loop-i.i known.0 known.1),
                   chain_begun spans c.loop-i.i,
-                  ends_begun spans c.loop-i.i c.span-span.result (c.span-span.ensures.value spans reads),
+                  ends_begun spans c.loop-i.i c.bounds-bounds.result.end (c.bounds-bounds.ensures.end (spans c.loop-i.i) (reads c.loop-i.i (omega arith))),
                 ),
           )
-      | else-span-last w ↦
-          let items : c.if-span-last.ends.items ≡ c.loop-i.ends.items = ap (λ v. v.items) w.ends-is in (
+      | else-bounds-last w ↦
+          let items : c.if-bounds-last.ends.items ≡ c.loop-i.ends.items = ap (λ v. v.items) w.ends-is in (
             from,
             omega arith,
             subst (λ (xs : List ℕ). RiseTo 0 xs from) (sym items) rise,
             λ spans reads.
                 let known = chains spans reads in
-                let is = c.span-span.ensures.value spans reads in
-                let after : c.loop-i.last ≤ c.span-span.result.first = omega arith in (
+                let after : c.loop-i.last ≤ c.bounds-bounds.result.first = omega arith in (
                   subst (λ (xs : List ℕ). AreChains spans 0 xs from) (sym items) known.0,
-                  chain_grown spans from c.loop-i.i c.loop-i.last c.span-span.result is after known.1 known.2,
-                  ends_grown spans from c.loop-i.i c.loop-i.last c.span-span.result is c.span-span.ensures.some after known.2,
+                  chain_grown spans from c.loop-i.i c.loop-i.last c.bounds-bounds.result.first (c.bounds-bounds.ensures.first (spans c.loop-i.i) (reads c.loop-i.i (omega arith))) after known.1 known.2,
+                  ends_grown spans from c.loop-i.i c.loop-i.last c.bounds-bounds.result.first c.bounds-bounds.result.end (c.bounds-bounds.ensures.end (spans c.loop-i.i) (reads c.loop-i.i (omega arith))) c.bounds-bounds.ensures.some after known.2,
                 ),
           )
     ]

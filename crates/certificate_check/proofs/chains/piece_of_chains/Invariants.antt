@@ -9,9 +9,8 @@ invariant-loop-i l = record {
   some : l.page < l.end;
   inside : l.end ≤ 2 ^ 44;
   long : length l.places ≡ 45;
-  from : l.from ≡ start_of l.ends l.i;
-  rise : RiseTo l.from (drop l.i l.ends) (count_in l.entries);
-  chains : (spans : ℕ → Span) → ReadsAs l.entries spans → AreChains spans l.from (drop l.i l.ends) (count_in l.entries);
-  clear : (spans : ℕ → Span) → ReadsAs l.entries spans → AreClear spans l.from l.page l.end;
+  rise : RiseTo (start_of l.ends l.i) (drop l.i l.ends) (count_in l.entries);
+  chains : (spans : ℕ → Span) → ReadsAs l.entries spans → AreChains spans (start_of l.ends l.i) (drop l.i l.ends) (count_in l.entries);
+  clear : (spans : ℕ → Span) → ReadsAs l.entries spans → AreClear spans (start_of l.ends l.i) l.page l.end;
   places : (spans : ℕ → Span) → ReadsAs l.entries spans → ArePlaces spans l.ends l.page l.places;
 }

@@ -1,38 +1,34 @@
--- What the bytes mean is one entry, so its span is the one that stands there.
-use Rattle.std.proofs.Common.{◌≡◌, ◌<◌, ◌+◌, ◌*◌, drop, arith, ap, sym, subst, refl, ◌∙◌, List, ℕ, Ok}
-use Rattle.byteorder.specs.Endian.{little_number}
-use Rattle.pmp_encoding.specs.Encoding.{MeansEntry}
-use Rattle.std.specs.Prelude.{slice_index}
+-- Each part is that of the span whose number it is.
+use Rattle.std.proofs.Common.{◌≡◌, ◌<◌, ◌-◌, arith, sym, subst, ◌∙◌, List, ℕ}
 use Rattle.certificate_check.specs.Spans.{IsSpanAt, count_in}
-use Rattle.certificate_check.proofs.Spanned.{rest_from, span_at}
+use Rattle.certificate_check.proofs.Spanned.{perm_by_bits, same_span, size_by_pages, span_inside}
 use Rattle.certificate_check.proofs.entries.Entries.span.Goals as goal
 
-pub overflow_mul-at : goal.overflow_mul-at
-overflow_mul-at c = let less : c.args.i < count_in c.self.inside.bytes.now = subst (λ (xs : List ℕ). c.args.i < count_in xs) (sym c.self.view_is) c.requires in let told = c.self.told.0 in omega (arith, less, told)
+pub overflow_mul-i : goal.overflow_mul-i
+overflow_mul-i c = let less : c.args.i < count_in c.self.inside.bytes.now = subst (λ (xs : List ℕ). c.args.i < count_in xs) (sym c.self.view_is) c.requires in let told = c.self.told.0 in omega (arith, less, told)
+
+pub unreachable-requires : goal.unreachable-requires
+unreachable-requires c =
+    let bytes : List ℕ = c.self.inside.bytes.now in
+    let at = c.self.invariant c.args.i (subst (λ (xs : List ℕ). c.args.i < count_in xs) (sym c.self.view_is) c.requires) in
+    absurd (let e = sym c.in_default.is ∙ c.from_bits.ensures.back at.0.perm (perm_by_bits bytes c.args.i at.0 at.1) in cc)
+
+pub returns-clause-small : goal.returns-clause-small
+returns-clause-small c =
+    let bytes : List ℕ = c.self.inside.bytes.now in
+    let at = c.self.invariant c.args.i (subst (λ (xs : List ℕ). c.args.i < count_in xs) (sym c.self.view_is) c.requires) in
+    let there : IsSpanAt c.args.self.now c.args.i at.0 = subst (λ (xs : List ℕ). IsSpanAt xs c.args.i at.0) c.self.view_is at.1 in
+    let size = size_by_pages bytes c.args.i (c.bounds-first.result.end - c.bounds-first.result.first) at.0 at.1 (omega (arith, c.bounds-first.ensures.first at.0 there, c.bounds-first.ensures.end at.0 there)) in
+    omega (arith, size, (span_inside bytes c.args.i at.0 at.1).2)
 
 pub returns-clause-value : goal.returns-clause-value
 returns-clause-value c =
     λ spans reads.
     let bytes : List ℕ = c.self.inside.bytes.now in
-    let address : c.read_u64-address.result ≡ little_number 8 (drop (9 * c.args.i + 1) bytes) =
-    c.read_u64-address.ensures ∙ ap (λ xs. little_number 8 xs) (rest_from (9 * c.args.i + 1) bytes) in
-    span_at bytes c.args.i _ _ c.in-Some.entry (spans c.args.i) c.span_of.result refl address (rw c.in-Some.is at c.in-Ok.ensures.meaning) c.span_of.ensures.value
-    (subst (λ (xs : List ℕ). IsSpanAt xs c.args.i (spans c.args.i)) (sym c.self.view_is) (reads c.args.i c.requires))
-
-pub unreachable-requires : goal.unreachable-requires
-unreachable-requires c =
-    let bytes : List ℕ = c.self.inside.bytes.now in
-    let at = (c.self.invariant c.args.i (subst (λ (xs : List ℕ). c.args.i < count_in xs) (sym c.self.view_is) c.requires)).1 in
-    let address : c.read_u64-address.result ≡ little_number 8 (drop (9 * c.args.i + 1) bytes) =
-    c.read_u64-address.ensures ∙ ap (λ xs. little_number 8 xs) (rest_from (9 * c.args.i + 1) bytes) in
-    let means : MeansEntry (slice_index bytes (9 * c.args.i)) c.read_u64-address.result at.entry = rw (address) at.means in
-    absurd (let e = sym c.in_default.is ∙ c.decode.ensures.entry at.entry means in cc)
-
-pub unreachable-requires-in_default-decoded : goal.unreachable-requires-in_default-decoded
-unreachable-requires-in_default-decoded c =
-    let bytes : List ℕ = c.self.inside.bytes.now in
-    let at = (c.self.invariant c.args.i (subst (λ (xs : List ℕ). c.args.i < count_in xs) (sym c.self.view_is) c.requires)).1 in
-    let address : c.read_u64-address.result ≡ little_number 8 (drop (9 * c.args.i + 1) bytes) =
-    c.read_u64-address.ensures ∙ ap (λ xs. little_number 8 xs) (rest_from (9 * c.args.i + 1) bytes) in
-    let means : MeansEntry (slice_index bytes (9 * c.args.i)) c.read_u64-address.result at.entry = rw (address) at.means in
-    absurd (let e = sym (c.in-Ok.is ∙ ap (λ o. Ok o) c.in_default-decoded.is) ∙ c.decode.ensures.entry at.entry means in cc)
+    let s = spans c.args.i in
+    let there = reads c.args.i c.requires in
+    let at = subst (λ (xs : List ℕ). IsSpanAt xs c.args.i s) (sym c.self.view_is) there in
+    let first = c.bounds-first.ensures.first s there in
+    let end = c.bounds-first.ensures.end s there in
+    let perm : c.in-Some.perm ≡ s.perm = (let e = sym c.in-Some.is ∙ c.from_bits.ensures.back s.perm (perm_by_bits bytes c.args.i s at) in cc) in
+    same_span _ s first end (size_by_pages bytes c.args.i (c.bounds-first.result.end - c.bounds-first.result.first) s at (omega (arith, first, end))) perm
