@@ -177,11 +177,12 @@ same_start : (k j root place : ℕ) → k ≡ j → root + place * 2 ^ k ≡ roo
 same_start k j root place size = ap (λ n. root + place * 2 ^ n) size
 
 pub stepped_upper :
-    (top root : ℕ) (t : Perm) (chain : Chain) (tree : PermTree) (depth : ℕ) (p q : Perm) (old a b c : List Entry) → depth < chain.levels
-    → place_at chain (depth + 1) % 2 ≡ 1 → WalkedTo top root t chain tree depth p old a → (step : IsStep top root chain depth p q chain.before a b c)
+    (top root : ℕ) (t : Perm) (chain : Chain) (tree : PermTree) (depth : ℕ) (p q side : Perm) (old a b c : List Entry) → depth < chain.levels
+    → place_at chain (depth + 1) % 2 ≡ 1 → WalkedTo top root t chain tree depth p old a → (step : IsStep top root chain depth p q side a b c) → side ≡ chain.before
     → step.place + 1 ≡ place_at chain (depth + 1) → q ≡ handed_on (Uniform chain.before) (left_at chain (depth + 1) tree) p
     → WalkedTo top root t chain tree (depth + 1) q old c
-stepped_upper top root t chain tree depth p q old a b c some odd so step other handed =
+stepped_upper top root t chain tree depth p q side old a b c some odd so step is other handed =
+    let leaf = subst (λ s. AddsOwn step.half step.beside q s b c) is step.leaf in
     let split = split_at_upper chain tree depth some odd in
     let place : place_at chain (depth + 1) ≡ 2 * place_at chain depth + 1 = omega (arith, place_halved chain depth some, odd) in
     let k = so.k in
@@ -204,15 +205,16 @@ stepped_upper top root t chain tree depth p q old a b c some odd so step other h
       starts = refl;
       fits = (halves_fit_in _ _ _ _ _ split up so.fits).1;
       placed = went_up top root t (chained chain tree) _ _ chain.before k j j so.first step.beside _ p q old a b c split up up low high handed so.placed
-          (same_own step.k k step.first so.first p q a b size at step.own) step.leaf;
+          (same_own step.k k step.first so.first p q a b size at step.own) leaf;
     }
 
 pub stepped_lower :
-    (top root : ℕ) (t : Perm) (chain : Chain) (tree : PermTree) (depth : ℕ) (p q : Perm) (old a b c : List Entry) → depth < chain.levels
-    → place_at chain (depth + 1) % 2 ≡ 0 → WalkedTo top root t chain tree depth p old a → (step : IsStep top root chain depth p q chain.behind a b c)
+    (top root : ℕ) (t : Perm) (chain : Chain) (tree : PermTree) (depth : ℕ) (p q side : Perm) (old a b c : List Entry) → depth < chain.levels
+    → place_at chain (depth + 1) % 2 ≡ 0 → WalkedTo top root t chain tree depth p old a → (step : IsStep top root chain depth p q side a b c) → side ≡ chain.behind
     → step.place ≡ place_at chain (depth + 1) + 1 → q ≡ handed_on (left_at chain (depth + 1) tree) (Uniform chain.behind) p
     → WalkedTo top root t chain tree (depth + 1) q old c
-stepped_lower top root t chain tree depth p q old a b c some even so step other handed =
+stepped_lower top root t chain tree depth p q side old a b c some even so step is other handed =
+    let leaf = subst (λ s. AddsOwn step.half step.beside q s b c) is step.leaf in
     let split = split_at_lower chain tree depth some even in
     let place : place_at chain (depth + 1) ≡ 2 * place_at chain depth = omega (arith, place_halved chain depth some, even) in
     let k = so.k in
@@ -235,7 +237,7 @@ stepped_lower top root t chain tree depth p q old a b c some even so step other 
       starts = refl;
       fits = (halves_fit_in _ _ _ _ _ split up so.fits).0;
       placed = went_down top root t (chained chain tree) _ _ chain.behind k j j so.first _ step.beside p q old a b c split up up low high handed so.placed
-          (same_own step.k k step.first so.first p q a b size at step.own) step.leaf;
+          (same_own step.k k step.first so.first p q a b size at step.own) leaf;
     }
 
 -- the smallest block is reached

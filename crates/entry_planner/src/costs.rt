@@ -1,5 +1,6 @@
 //! What a block costs: its least number of entries, and under which permissions.
 
+use crate::beside::beside;
 use crate::packed_cost::PackedCost;
 use crate::perm_set::PermSet;
 use pmp_encoding::Perm;
@@ -193,14 +194,6 @@ fn add_split(
     Ok(cost.as_block())
 }
 
-/// The cost of the half that a chain's next smaller block is not in, by the place of that block.
-fn cost_beside(place: u64, before: BlockCost, behind: BlockCost) -> BlockCost
-    ensures upper { place % 2 ≡ 1 → result ≡ before }
-    ensures lower { place % 2 ≡ 0 → result ≡ behind }
-{
-    if place % 2 == 1 { before } else { behind }
-}
-
 /// Appends the split blocks of a chain after those of its smallest block, the smaller before the larger.
 fn add_chain_costs(
     chain: Chain,
@@ -221,10 +214,8 @@ fn add_chain_costs(
     let mut cost = smallest;
     let mut rest = chain.place;
     for level in 0..chain.levels {
-        // Which of the halves is the lower makes no difference to what they cost, and a branch on it would often be
-        // guessed wrong.
-        let beside = cost_beside(rest, before, behind);
-        cost = add_split(beside, cost, costs)?;
+        // Which of the halves is the lower makes no difference to what they cost.
+        cost = add_split(beside(rest, before, behind), cost, costs)?;
         rest /= 2;
     }
     Ok(cost)

@@ -1,5 +1,6 @@
 //! The pass down the tree: which blocks take an entry.
 
+use crate::beside::beside;
 use crate::costs::SplitCost;
 use crate::packed_cost::PackedCost;
 use crate::shelves::Shelves;
@@ -164,19 +165,6 @@ fn place_beside(place: u64) -> u64
     if place % 2 == 1 { place - 1 } else { place + 1 }
 }
 
-/// The permission of the half beside a block of a chain, by the block's place.
-#[inline(always)]
-fn perm_beside(chain: Chain, place: u64) -> Perm
-    ensures upper { place % 2 ≡ 1 → result ≡ chain.before }
-    ensures lower { place % 2 ≡ 0 → result ≡ chain.behind }
-{
-    if place % 2 == 1 {
-        chain.before
-    } else {
-        chain.behind
-    }
-}
-
 /// Adds the entries of the largest block of a chain, as [`place`] does.
 #[cycle(placing)]
 fn place_chain<'a, H: Halving>(
@@ -212,10 +200,10 @@ fn place_chain<'a, H: Halving>(
             perm,
             entries,
         )?;
-        // Which half is the next makes a difference of values alone: a branch on it would often be guessed wrong.
         let place = place_at(chain, depth + 1);
-        let beside = pages.part(depth + 1, place_beside(place));
-        turn_beside(beside, perm, perm_beside(chain, place), entries)?;
+        let half = pages.part(depth + 1, place_beside(place));
+        let own = beside(place, chain.before, chain.behind);
+        turn_beside(half, perm, own, entries)?;
         from = perm;
         left = others;
     }

@@ -4,10 +4,9 @@ use Rattle.std.proofs.lemmas.List.{append-nil}
 use Rattle.prefix_tree.specs.Counts.{splits}
 use Rattle.prefix_tree.specs.Trees.{PermTree, Uniform, Fits}
 use Rattle.prefix_tree.proofs.Nested.{splits-chained}
-use Rattle.entry_planner.specs.Choice.{AddsOwn}
 use Rattle.entry_planner.specs.Placement.{place_at}
 use Rattle.entry_planner.specs.Plans.{costs_in}
-use Rattle.entry_planner.proofs.ChainWalked.{all_costs, begun_at, beside_small, cost_left, ended, left_at, place_small, split_at_lower, split_at_upper, stepped_lower, stepped_upper}
+use Rattle.entry_planner.proofs.ChainWalked.{all_costs, IsStep, begun_at, beside_small, cost_left, ended, left_at, place_small, split_at_lower, split_at_upper, stepped_lower, stepped_upper}
 use Rattle.entry_planner.proofs.ChainKept.{kept_chosen, smallest_costs, smallest_fits}
 use Rattle.entry_planner.proofs.SamePerm.{same_perm}
 use Rattle.entry_planner.proofs.Walked.{halves_fit_in, last_is, lower_ends, upper_ends, rest_is, split_chosen, uniform_chosen}
@@ -143,13 +142,13 @@ place_chain-place_beside-requires g t c =
     let most : 2 ^ (c.loop-depth.depth + 1) ≤ 2 ^ 44 = (let top : c.loop-depth.depth + 1 ≤ 44 = omega (arith, less, c.requires.most) in pow_mono top) in
     omega (arith, small, most, c.place_at-place.ensures)
 
-pub place_chain-part-beside-requires-clause-levels : goal.place_chain-part-beside-requires-clause-levels
-place_chain-part-beside-requires-clause-levels g t c =
+pub place_chain-part-half-requires-clause-levels : goal.place_chain-part-half-requires-clause-levels
+place_chain-part-half-requires-clause-levels g t c =
     let inside = smallest_fits _ (g.H.Halving.shape c.args.smallest.now) c.args.chain c.args.pages.log2 refl c.requires.fits in
     omega (arith, c.loop-depth-test.true, inside.0)
 
-pub place_chain-part-beside-requires-clause-place : goal.place_chain-part-beside-requires-clause-place
-place_chain-part-beside-requires-clause-place g t c =
+pub place_chain-part-half-requires-clause-place : goal.place_chain-part-half-requires-clause-place
+place_chain-part-half-requires-clause-place g t c =
     let at = c.place_at-place.ensures in
     let other = c.place_beside.ensures in
     beside_small c.args.chain c.loop-depth.depth _ c.loop-depth-test.true c.requires.chain
@@ -163,6 +162,21 @@ place_chain-loop-depth-preserved g t c =
     let some = c.loop-depth-test.true in
     let at = c.place_at-place.ensures in
     let few : length (take (length l.left.now - 1) l.left.now) ≤ length c.args.costs.now = omega (arith, i.few, length-take (length l.left.now - 1) l.left.now) in
+    let step : IsStep c.args.pages.log2 c.args.pages.first c.args.chain l.depth l.from c.chosen-perm.result c.beside-own.result l.entries c.turn.new.entries c.turn_beside.new.entries =
+    record {
+      k = c.part.result.log2;
+      first = c.part.result.first;
+      height = c.part.ensures.log2;
+      starts = c.part.ensures.first ∙ ap (λ n. c.args.pages.first + n * 2 ^ c.part.result.log2) c.place_at.ensures;
+      own = c.in_ok-turn.ensures;
+      half = c.part-half.result.log2;
+      beside = c.part-half.result.first;
+      place = c.place_beside.result;
+      below = c.part-half.ensures.log2;
+      stands = c.part-half.ensures.first;
+      leaf = c.in_ok-turn_beside.ensures;
+    }
+    in
     elim (eq-zero-or-pos (place_at c.args.chain (l.depth + 1) % 2)) [
       | inl even ↦
           let s = split_at_lower c.args.chain tree l.depth some even in
@@ -171,20 +185,7 @@ place_chain-loop-depth-preserved g t c =
             few = few;
             ends = lower_ends _ _ _ _ s i.ends;
             back = λ rest same. i.back rest (rest_is _ _ _ _ _ _ s i.ends same (sym (append-nil _)));
-            walked = stepped_lower _ _ _ _ tree l.depth _ _ _ _ _ _ some even i.walked
-                (record {
-                  k = c.part.result.log2;
-                  first = c.part.result.first;
-                  height = c.part.ensures.log2;
-                  starts = c.part.ensures.first ∙ ap (λ n. c.args.pages.first + n * 2 ^ c.part.result.log2) c.place_at.ensures;
-                  own = c.in_ok-turn.ensures;
-                  half = c.part-beside.result.log2;
-                  beside = c.part-beside.result.first;
-                  place = c.place_beside.result;
-                  below = c.part-beside.ensures.log2;
-                  stands = c.part-beside.ensures.first;
-                  leaf = subst (λ p. AddsOwn c.part-beside.result.log2 c.part-beside.result.first c.chosen-perm.result p c.turn.new.entries c.turn_beside.new.entries) (c.perm_beside.ensures.lower parity) c.in_ok-turn_beside.ensures;
-                })
+            walked = stepped_lower _ _ _ _ tree l.depth _ _ _ _ _ _ _ some even i.walked step (c.beside-own.ensures.lower parity)
                 (c.place_beside.ensures.lower parity ∙ ap (λ n. n + 1) at) handed;
           })
       | inr more ↦
@@ -195,20 +196,7 @@ place_chain-loop-depth-preserved g t c =
             few = few;
             ends = upper_ends _ _ _ _ _ s i.ends (sym (append-nil _));
             back = λ rest same. i.back rest (rest_is _ _ _ _ _ _ s i.ends (sym (append-nil _)) same);
-            walked = stepped_upper _ _ _ _ tree l.depth _ _ _ _ _ _ some odd i.walked
-                (record {
-                  k = c.part.result.log2;
-                  first = c.part.result.first;
-                  height = c.part.ensures.log2;
-                  starts = c.part.ensures.first ∙ ap (λ n. c.args.pages.first + n * 2 ^ c.part.result.log2) c.place_at.ensures;
-                  own = c.in_ok-turn.ensures;
-                  half = c.part-beside.result.log2;
-                  beside = c.part-beside.result.first;
-                  place = c.place_beside.result;
-                  below = c.part-beside.ensures.log2;
-                  stands = c.part-beside.ensures.first;
-                  leaf = subst (λ p. AddsOwn c.part-beside.result.log2 c.part-beside.result.first c.chosen-perm.result p c.turn.new.entries c.turn_beside.new.entries) (c.perm_beside.ensures.upper parity) c.in_ok-turn_beside.ensures;
-                })
+            walked = stepped_upper _ _ _ _ tree l.depth _ _ _ _ _ _ _ some odd i.walked step (c.beside-own.ensures.upper parity)
                 (c.place_beside.ensures.upper parity ∙ at) handed;
           })
     ]
