@@ -1,14 +1,28 @@
 //! A file that is read whole before anything is made of it.
 
-ghost use Rattle.std.specs.Prelude.{◌≡◌, ◌≢◌, ℕ, ◌+◌, ◌-◌, ◌^◌, ◌<◌, ◌≤◌, List, IfOk, Ok, Err, true, false, length};
+ghost use Rattle.std.specs.Prelude.{◌≡◌, ◌≢◌, ℕ, ◌+◌, ◌-◌, ◌^◌, ◌<◌, ◌≤◌, ◌++◌, List, IfOk, OnOk, Ok, Err, true, false, length};
 ghost use Rattle.std.specs.Io.KnownBytes.{Consumes, IsAtEnd};
 ghost use Rattle.byte_streams.specs.Streams.{one_failure_more, CountsFailure};
 
 use byte_streams::{DeviceFault, Source, SourceFault};
-use std::alloc::Global;
+use std::alloc::{AllocError, Global};
 
 /// How many bytes are asked of a source at a time.
 const PIECE: usize = 16384;
+
+/// For so many bytes room is taken with the first: 128 KiB and more, which the C library gives back to the system when they are
+/// dropped. A smaller block would stay with the program, beside what is made of them.
+const ROOM: usize = 128 * 1024 + 1;
+
+/// Appends a piece.
+fn append(bytes: &mut Vec<u8>, piece: &[u8]) -> Result<(), AllocError>
+    ensures { OnOk result (bytes.new.items ≡ bytes.old.items ++ piece.now) }
+{
+    if bytes.is_empty() {
+        bytes.reserve(ROOM)?;
+    }
+    bytes.extend_from_slice(piece)
+}
 
 /// All the bytes of a source that has at most `most`. `Read` is answered only where the device failed in this call, and nothing
 /// else where it did; `Memory` only where some bytes came.
@@ -42,7 +56,7 @@ pub fn read_whole<R: Source>(
         if n == 0 {
             return Ok(bytes);
         }
-        let Ok(()) = bytes.extend_from_slice(&piece[..n]) else {
+        let Ok(()) = append(&mut bytes, &piece[..n]) else {
             return Err(SourceFault::Memory);
         };
     }

@@ -3,8 +3,8 @@ use Rattle.std.proofs.KnownBytes.{Consumes-trans}
 use Rattle.program_files.proofs.whole.read_whole.Goals as goal
 
 -- the bytes that came before, and the piece for which there was no room
-pub returns-in_default-extend_from_slice-clause-memory : goal.returns-in_default-extend_from_slice-clause-memory
-returns-in_default-extend_from_slice-clause-memory g c = λ e.
+pub returns-in_default-append-clause-memory : goal.returns-in_default-append-clause-memory
+returns-in_default-append-clause-memory g c = λ e.
     let old = c.loop-piece.bytes.items in
     let new = take c.in-Ok.n c.read.new.buf in
     let counted : length new ≡ c.in-Ok.n = omega (arith, length-take c.in-Ok.n c.read.new.buf, c.in-Ok.ensures.bound) in
