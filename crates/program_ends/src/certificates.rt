@@ -29,7 +29,7 @@ fn misplaced(rt: &HostRuntime, cert: &str) -> Option<&'static str>
 
 /// Refuses a task whose certificate would take the place of its map, under another name of the same file, or of the file at
 /// standard input or output.
-pub fn refused(rt: &HostRuntime, task: &Task<'_>) -> Option<ExitCode>
+pub(crate) fn refused(rt: &HostRuntime, task: &Task<'_>) -> Option<ExitCode>
     ensures status { IfSome result (λ code. exit_status code ≡ 2 ⊎ exit_status code ≡ 4) }
     ensures word { IsToStandardOutput (cert_of task.now) → result ≢ None }
     ensures others { cert_of task.now ≡ None → result ≡ None }

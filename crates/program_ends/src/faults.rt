@@ -1,9 +1,10 @@
 //! The end of a program whose command line asks for help or the version, or for nothing that can be done.
 
-ghost use Rattle.std.specs.Prelude.{◌≡◌, ◌≢◌, ◌⊎◌, IfOk};
+ghost use Rattle.std.specs.Prelude.{◌≡◌, ◌⊎◌, IfOk};
 ghost use Rattle.std.specs.Process.{exit_status};
 ghost use Rattle.clap.specs.Words.{kind_of};
 ghost use Rattle.clap.specs.declared.error.kind.ErrorKind.TheVariants as kind;
+ghost use Rattle.program_ends.specs.Ends.{Ends};
 
 use crate::troubles::stopped;
 use clap::Error;
@@ -16,13 +17,7 @@ use task_files::{shown_words, texts_of};
 
 /// Help or the version on standard output, or a fault of the command line on standard error.
 fn explained(rt: &HostRuntime, error: &Error) -> ExitCode
-    ensures memory { kind_of error.now ≡ kind.OutOfMemory → exit_status result ≡ 4 }
-    ensures mistake { kind_of error.now ≢ kind.OutOfMemory
-        → kind_of error.now ≢ kind.DisplayHelp
-        → kind_of error.now ≢ kind.DisplayVersion → exit_status result ≡ 2 }
-    ensures shown { kind_of error.now ≡ kind.DisplayHelp
-        ⊎ kind_of error.now ≡ kind.DisplayVersion
-        → exit_status result ≡ 0 ⊎ exit_status result ≡ 3 }
+    ensures { Ends (kind_of error.now) (exit_status result) }
 {
     if error.kind() == ErrorKind::OutOfMemory {
         return stopped(rt, Trouble::Memory);
@@ -38,7 +33,7 @@ fn explained(rt: &HostRuntime, error: &Error) -> ExitCode
 }
 
 /// Reports a fault of the command line, or that there is no memory to say it.
-pub fn faulted(rt: &HostRuntime, error: Result<Error, AllocError>) -> ExitCode
+pub(crate) fn faulted(rt: &HostRuntime, error: Result<Error, AllocError>) -> ExitCode
     requires fault { IfOk error (λ error. kind_of error ≡ kind.ArgumentConflict) }
     ensures { exit_status result ≡ 2 ⊎ exit_status result ≡ 4 }
 {
@@ -49,14 +44,8 @@ pub fn faulted(rt: &HostRuntime, error: Result<Error, AllocError>) -> ExitCode
 }
 
 /// Says what is wrong with a command line, in words without control characters where there is memory for them.
-pub fn refuse(rt: &HostRuntime, words: &[&str], error: &Error) -> ExitCode
-    ensures memory { kind_of error.now ≡ kind.OutOfMemory → exit_status result ≡ 4 }
-    ensures mistake { kind_of error.now ≢ kind.OutOfMemory
-        → kind_of error.now ≢ kind.DisplayHelp
-        → kind_of error.now ≢ kind.DisplayVersion → exit_status result ≡ 2 }
-    ensures shown { kind_of error.now ≡ kind.DisplayHelp
-        ⊎ kind_of error.now ≡ kind.DisplayVersion
-        → exit_status result ≡ 0 ⊎ exit_status result ≡ 3 }
+pub(crate) fn refuse(rt: &HostRuntime, words: &[&str], error: &Error) -> ExitCode
+    ensures { Ends (kind_of error.now) (exit_status result) }
 {
     let Ok(shown) = shown_words(rt.alloc(), words) else {
         return explained(rt, error);

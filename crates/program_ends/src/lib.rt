@@ -1,24 +1,23 @@
-//! How the program ends where it does no task: what it says, and its status.
+//! The way from the words of a command line to a task that may be done, and how the program ends.
 //!
-//! For the layer above: [`words_in`] has the words of the command line, and [`say_which`] says which of them is no text.
-//! [`refuse`] ends with help, with the version, or with what is wrong with the words; [`refused`] where a certificate would take
-//! the place of what its task reads or prints; [`faulted`] with any fault of the command line; and [`stopped`] with a trouble.
-//! Each answers the status with which the program ends.
+//! For the layer above: [`words_in`] has the words of the command line, [`texts_in`] these as texts, [`request_in`] what they ask
+//! for, and [`names_of`] the names of the files of a task that may be done. Where the way ends, each has said why, and answers the
+//! status with which the program ends. [`ended`] is the end of a task that was done, and [`standard_error`] where its troubles go.
 //!
 //! ```text
-//! match command_of(rt.alloc(), words) {
-//!     Ok(request) => answered(&rt, &request),
-//!     Err(error) => refuse(&rt, words, &error),
-//! }
+//! let words = words_in(rt)?;
+//! let texts = texts_in(rt, words.as_slice())?;
+//! let request = request_in(rt, texts.as_slice())?;
+//! let names = names_of(rt, &request.task)?;
 //! ```
 #![tactic(auto)]
 
 mod certificates;
 mod faults;
+mod names;
 mod troubles;
 mod words;
 
-pub use certificates::refused;
-pub use faults::{faulted, refuse};
-pub use troubles::{standard_error, stopped};
-pub use words::{say_which, words_in};
+pub use names::names_of;
+pub use troubles::{ended, standard_error};
+pub use words::{request_in, texts_in, words_in};
