@@ -1,6 +1,6 @@
 //! The numbers that the halves of a block allow for it.
 
-ghost use Rattle.std.specs.Prelude.{◌≡◌, ◌+◌, ◌-◌, ◌<◌, ◌≤◌, ◌^◌, ◌⊎◌, false, min, IsTrue, IfSome, IfNone};
+ghost use Rattle.std.specs.Prelude.{◌≡◌, ◌+◌, ◌<◌, ◌≤◌, ◌^◌, ◌⊎◌, false, IsTrue, IfSome, IfNone, SomeIff};
 ghost use Rattle.pmp_encoding.specs.declared.perm.Perm.{Perm};
 ghost use Rattle.pmp_match.specs.Bounds.{Leaf, bound_of};
 ghost use Rattle.certificate_format.specs.Costs.{cost_of};
@@ -68,26 +68,18 @@ pub(crate) fn costs_of_leaf(perm: Perm) -> SixCosts
     LEAVES[perm.index()]
 }
 
-/// The sums of the costs of two halves; for one that has no four bytes the largest number that has them.
-#[inline(always)]
-fn added(lower: &SixCosts, upper: &SixCosts) -> SixCosts
-    ensures { (p : Perm) → cost_of result p
-        ≡ min (cost_of lower.now p + cost_of upper.now p) (2 ^ 32 - 1) }
+/// The sum of two numbers, where one more still has four bytes.
+fn sum(lower: u32, upper: u32) -> Option<u32>
+    ensures { SomeIff result (lower + upper + 1 < 2 ^ 32) (lower + upper) }
 {
-    SixCosts {
-        no_access: lower.no_access.saturating_add(upper.no_access),
-        read: lower.read.saturating_add(upper.read),
-        read_write: lower.read_write.saturating_add(upper.read_write),
-        execute: lower.execute.saturating_add(upper.execute),
-        read_execute: lower.read_execute.saturating_add(upper.read_execute),
-        read_write_execute: lower
-            .read_write_execute
-            .saturating_add(upper.read_write_execute),
+    let sum = u64::from(lower) + u64::from(upper);
+    if sum + 1 > u64::from(u32::MAX) {
+        return None;
     }
+    Some(sum as u32)
 }
 
 /// The sums of the costs of two halves, unless one more than some sum has no four bytes.
-#[inline(always)]
 pub(crate) fn sums_of(lower: &SixCosts, upper: &SixCosts) -> Option<SixCosts>
     ensures sums { IfSome result (λ sums.
         (p : Perm) → cost_of sums p ≡ cost_of lower.now p + cost_of upper.now p) }
@@ -95,11 +87,20 @@ pub(crate) fn sums_of(lower: &SixCosts, upper: &SixCosts) -> Option<SixCosts>
     ensures large { IfNone result ((p : Perm)
         × (2 ^ 32 ≤ cost_of lower.now p + cost_of upper.now p + 1)) }
 {
-    let sums = added(lower, upper);
-    if above(&sums, &the_same(u32::MAX - 1)).is_some() {
-        return None;
-    }
-    Some(sums)
+    let no_access = sum(lower.no_access, upper.no_access)?;
+    let read = sum(lower.read, upper.read)?;
+    let read_write = sum(lower.read_write, upper.read_write)?;
+    let execute = sum(lower.execute, upper.execute)?;
+    let read_execute = sum(lower.read_execute, upper.read_execute)?;
+    let read_write_execute = sum(lower.read_write_execute, upper.read_write_execute)?;
+    Some(SixCosts {
+        no_access,
+        read,
+        read_write,
+        execute,
+        read_execute,
+        read_write_execute,
+    })
 }
 
 /// The least of them.
@@ -107,11 +108,11 @@ fn least(costs: &SixCosts) -> u32
     ensures low { (p : Perm) → result ≤ cost_of costs.now p }
     ensures one { (p : Perm) × (result ≡ cost_of costs.now p) }
 {
-    let low = costs.no_access.min(costs.read);
-    let middle = costs.read_write.min(costs.execute);
-    let high = costs.read_execute.min(costs.read_write_execute);
-    let lower = low.min(middle);
-    lower.min(high)
+    let readable = costs.read.min(costs.read_write);
+    let executable = costs.execute.min(costs.read_execute);
+    let extremes = costs.no_access.min(costs.read_write_execute);
+    let some = readable.min(executable);
+    some.min(extremes)
 }
 
 /// A permission whose number is above the other's.

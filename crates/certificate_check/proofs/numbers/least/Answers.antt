@@ -6,7 +6,7 @@ use Rattle.certificate_check.proofs.numbers.least.Goals as goal
 pub returns-clause-one : goal.returns-clause-one
 returns-clause-one c =
     let numbers = c.args.costs.now in
-    let low = lesser numbers _ _ _ c.min-low.ensures (NoAccess, refl) (Read, refl) in
-    let middle = lesser numbers _ _ _ c.min-middle.ensures (ReadWrite, refl) (Execute, refl) in
-    let high = lesser numbers _ _ _ c.min-high.ensures (ReadExecute, refl) (ReadWriteExecute, refl) in
-    lesser numbers _ _ _ c.min.ensures (lesser numbers _ _ _ c.min-lower.ensures low middle) high
+    let readable = lesser numbers _ _ _ c.min-readable.ensures (Read, refl) (ReadWrite, refl) in
+    let executable = lesser numbers _ _ _ c.min-executable.ensures (Execute, refl) (ReadExecute, refl) in
+    let extremes = lesser numbers _ _ _ c.min-extremes.ensures (NoAccess, refl) (ReadWriteExecute, refl) in
+    lesser numbers _ _ _ c.min.ensures (lesser numbers _ _ _ c.min-some.ensures readable executable) extremes
