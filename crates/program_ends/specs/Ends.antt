@@ -8,7 +8,7 @@ use Rattle.command_line.specs.CommandLine.{Refuses}
 
 -- after an error of this kind the status is 4 where memory runs out, 0 where help or the version is printed or 3 where that
 -- fails, and 2 otherwise
-pub record Ends (kind : ErrorKind) (status : ℕ) : Type 0 where
+pub record IsStatusOf (kind : ErrorKind) (status : ℕ) : Type 0 where
   pub memory : kind ≡ OutOfMemory → status ≡ 4
   pub shown : kind ≡ DisplayHelp ⊎ kind ≡ DisplayVersion → status ≡ 0 ⊎ status ≡ 3
   pub mistake : kind ≢ OutOfMemory → kind ≢ DisplayHelp → kind ≢ DisplayVersion → status ≡ 2
@@ -17,4 +17,4 @@ pub record Ends (kind : ErrorKind) (status : ℕ) : Type 0 where
 pub record IsRefused (words : List (List ℕ)) (code : ExitCode) : Type 0 where
   pub kind : ErrorKind
   pub refuses : Refuses words kind
-  pub status : Ends kind (exit_status code)
+  pub status : IsStatusOf kind (exit_status code)

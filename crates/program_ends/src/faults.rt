@@ -4,7 +4,7 @@ ghost use Rattle.std.specs.Prelude.{◌≡◌, ◌⊎◌, IfOk};
 ghost use Rattle.std.specs.Process.{exit_status};
 ghost use Rattle.clap.specs.Words.{kind_of};
 ghost use Rattle.clap.specs.declared.error.kind.ErrorKind.TheVariants as kind;
-ghost use Rattle.program_ends.specs.Ends.{Ends};
+ghost use Rattle.program_ends.specs.Ends.{IsStatusOf};
 
 use crate::troubles::stopped;
 use clap::Error;
@@ -17,7 +17,7 @@ use task_files::{shown_words, texts_of};
 
 /// Help or the version on standard output, or a fault of the command line on standard error.
 fn explained(rt: &HostRuntime, error: &Error) -> ExitCode
-    ensures { Ends (kind_of error.now) (exit_status result) }
+    ensures { IsStatusOf (kind_of error.now) (exit_status result) }
 {
     if error.kind() == ErrorKind::OutOfMemory {
         return stopped(rt, Trouble::Memory);
@@ -45,7 +45,7 @@ pub(crate) fn faulted(rt: &HostRuntime, error: Result<Error, AllocError>) -> Exi
 
 /// Says what is wrong with a command line, in words without control characters where there is memory for them.
 pub(crate) fn refuse(rt: &HostRuntime, words: &[&str], error: &Error) -> ExitCode
-    ensures { Ends (kind_of error.now) (exit_status result) }
+    ensures { IsStatusOf (kind_of error.now) (exit_status result) }
 {
     let Ok(shown) = shown_words(rt.alloc(), words) else {
         return explained(rt, error);
