@@ -2,26 +2,29 @@
 use Rattle.std.specs.Prelude.{ℕ, bit_and, bit_or}
 use Rattle.control_words.specs.declared.words.ControlWords.{ControlWords}
 
--- of mstatus: UXL says 64 bits. Interrupts are off, bytes in little-endian order, floating point, vectors and extensions off
+-- of mstatus: UXL, bits 33:32, is 2, which says 64 bits. Interrupts are off, bytes in little-endian order, floating point, vectors
+-- and extensions off
 abbrev pub width_64 : ℕ
-width_64 = 8589934592
+width_64 = 0x200000000
 
 -- machine mode's software and timer interrupts, which are the monitor's (bits 3 and 7)
 abbrev pub monitors_interrupts : ℕ
-monitors_interrupts = 136
+monitors_interrupts = 0x88
 
 -- supervisor mode's software, timer and external interrupts, which are the host's (bits 1, 5 and 9)
 abbrev pub hosts_interrupts : ℕ
-hosts_interrupts = 546
+hosts_interrupts = 0x222
 
--- the exceptions that the host's own handler has: each of the architecture's (bits 0 to 15 and 20 to 23) but the host's own calls
--- (bit 9), those of machine mode (bit 11), and bit 14, which is reserved
+-- the exceptions that the host's own handler has: misaligned, faulty and illegal instructions, loads and stores (bits 0 to 2 and
+-- 4 to 7), breakpoints (3), calls of user mode (8), page faults (12, 13 and 15), and those of a guest (10, and 20 to 23). Machine mode
+-- keeps calls of supervisor mode (9) and its own (11), double traps (16), software checks (18) and hardware errors (19). Bits 14 and 17
+-- are reserved
 abbrev pub hosts_exceptions : ℕ
-hosts_exceptions = 15775231
+hosts_exceptions = 0xf0b5ff
 
--- MPP says supervisor mode
+-- MPP, bits 12:11, is 1, which says supervisor mode
 abbrev pub supervisor_mode : ℕ
-supervisor_mode = 2048
+supervisor_mode = 0x800
 
 -- a host begins in supervisor mode of 64 bits with no table of pages, its interrupts disabled; they, and the exceptions that
 -- are its own, go to its handler

@@ -11,34 +11,34 @@ abbrev pub bytes_of : List ℕ → List ℕ
 bytes_of [] = []
 bytes_of (word ∷ words) = little_bytes 8 word ++ bytes_of words
 
--- the tag of a platform: a word in ASCII, the first letter in the lowest byte, as each tag
+-- the tag of a platform: the word `platform` in ASCII, the first letter in the lowest byte, as each tag
 abbrev pub platform_tag : ℕ
-platform_tag = 7886488383309048944
+platform_tag = 0x6d726f6674616c70
 
--- the tag of a trap that is a call
+-- the tag of a trap that is a call: `call`
 abbrev pub call_tag : ℕ
-call_tag = 1819042147
+call_tag = 0x6c6c6163
 
--- the tag of every other trap, which stops an enclave
+-- the tag of every other trap, which stops an enclave: `stop`
 abbrev pub stop_tag : ℕ
-stop_tag = 1886352499
+stop_tag = 0x706f7473
 
--- the tag before the control words of a trap
+-- the tag before the control words of a trap: `control`
 abbrev pub control_tag : ℕ
-control_tag = 30521834855100259
+control_tag = 0x6c6f72746e6f63
 
--- the tag of a page that is measured
+-- the tag of a page that is measured: `page`
 abbrev pub page_tag : ℕ
-page_tag = 1701273968
+page_tag = 0x65676170
 
--- the tag of an answer
+-- the tag of an answer: `answer`
 abbrev pub answer_tag : ℕ
-answer_tag = 125780121316961
+answer_tag = 0x726577736e61
 
--- the tag of what asks for a page
+-- the tag of what asks for a page: `measure`
 abbrev pub measure_tag : ℕ
-measure_tag = 28554821420279149
+measure_tag = 0x6572757361656d
 
--- the tag of the last frame
+-- the tag of the last frame: `end`
 abbrev pub end_tag : ℕ
-end_tag = 6581861
+end_tag = 0x646e65
