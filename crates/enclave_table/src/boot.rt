@@ -58,9 +58,7 @@ impl Table {
         if plan.needed() > platform.limit().number() {
             return Err(BootFault::NeedsMoreEntries(u64::from(plan.needed())));
         }
-        let Ok(list) = EntryList::of(alloc, &plan) else {
-            return Err(BootFault::Memory);
-        };
+        let list = EntryList::of(plan);
         let Ok(enclaves) = no_enclaves(alloc) else {
             return Err(BootFault::Memory);
         };

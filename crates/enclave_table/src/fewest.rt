@@ -21,19 +21,16 @@ use prefix_tree::Tree;
 use std::alloc::Global;
 
 /// The entries of a plan, if there are as many.
-fn listed(alloc: Global, limit: Limit, plan: &Plan) -> Result<EntryList, Refusal>
-    ensures list { (view : ℕ → Perm) → IsFewest view plan.now.entries
+fn listed(limit: Limit, plan: Plan) -> Result<EntryList, Refusal>
+    ensures list { (view : ℕ → Perm) → IsFewest view plan.entries
         → IfOk result (λ list. IsListOf limit view list) }
-    ensures want { (view : ℕ → Perm) → IsFewest view plan.now.entries
+    ensures want { (view : ℕ → Perm) → IsFewest view plan.entries
         → IfErr result (λ refusal. IsWant limit view refusal) }
 {
     if plan.needed() > limit.number() {
         return Err(Refusal::NoEntries);
     }
-    let Ok(list) = EntryList::of(alloc, plan) else {
-        return Err(Refusal::NoMemory);
-    };
-    Ok(list)
+    Ok(EntryList::of(plan))
 }
 
 /// The fewest entries of an enclave's view, if there are as many.
@@ -50,7 +47,7 @@ pub(crate) fn enclave_list(
     let Ok(plan) = enclave_plan(alloc, parts) else {
         return Err(Refusal::NoMemory);
     };
-    listed(alloc, limit, &plan)
+    listed(limit, plan)
 }
 
 /// The tree and the entries of a host's view.
@@ -78,7 +75,7 @@ impl Table {
         let Ok(PlannedView { tree, plan }) = self.host_plan(pages, perm) else {
             return Err(Refusal::NoMemory);
         };
-        let list = listed(self.alloc(), self.limit(), &plan)?;
+        let list = listed(self.limit(), plan)?;
         Ok(HostView { tree, list })
     }
 }

@@ -24,7 +24,8 @@ pub(crate) fn enclave_plan(alloc: Global, parts: &Create) -> Result<Plan, Memory
     ensures { IfOk result (λ plan. IsFewest (enclave_view parts.now) plan.entries) }
 {
     let map = enclave_map(alloc, parts)?;
-    let plan = plan_map(alloc, &map)?;
+    let packed = plan_map(alloc, &map)?;
+    let plan = packed.unpacked(alloc)?;
     Ok(plan)
 }
 

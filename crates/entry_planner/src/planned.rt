@@ -1,67 +1,53 @@
 //! A plan: the fewest entries of a view, with the costs of its blocks.
 
-use crate::packed_cost::PackedCost;
-use pmp_encoding::{Entry, PackedEntry, Perm};
-use std::alloc::{AllocError, Global};
+use crate::split_costs::SplitCosts;
+use pmp_encoding::{Entry, Perm};
 use std::marker::Model;
 
 /// The fewest entries of a tree's view, and what each split block of the tree costs: the numbers that show that no list
 /// of fewer entries means the view.
 #[derive(Drop)]
 pub struct Plan {
-    entries: Vec<PackedEntry>,
-    /// The last in preorder comes first.
-    costs: Vec<PackedCost>,
+    entries: Vec<Entry>,
+    costs: SplitCosts,
 }
 
 impl Model for Plan {
-    ghost use Rattle.std.specs.Prelude.{reverse};
-    ghost use Rattle.entry_planner.specs.Plans.{Planned, AreSmall};
+    ghost use Rattle.std.specs.Prelude.{◌^◌, ◌<◌, length};
+    ghost use Rattle.entry_planner.specs.Plans.{Planned};
 
     ghost Value = { Planned };
 
-    ghost view = { λ p. record { entries = p.entries.items; costs = reverse p.costs.items } };
+    ghost view = { λ p. record { entries = p.entries.items; costs = p.costs } };
 
-    ghost invariant = { λ p. AreSmall (record { entries = p.entries.items; costs = reverse p.costs.items }) };
+    ghost invariant = { λ p. length p.entries.items < 2 ^ 32 };
 }
 
-ghost use Rattle.std.specs.Prelude.{◌≡◌, ◌<◌, length, reverse, IfOk};
-ghost use Rattle.entry_planner.specs.Plans.{AreSmall, cost_in};
-
-/// Packed entries, each with its region and its permission.
-fn unpacked(alloc: Global, packed: &[PackedEntry]) -> Result<Vec<Entry>, AllocError>
-    ensures { IfOk result (λ entries. entries.items ≡ packed.now) }
-{
-    let mut entries = Vec::with_capacity(alloc, packed.len())?;
-    for entry in packed {
-        entries.push(entry.entry())?;
-    }
-    Ok(entries)
-}
+ghost use Rattle.std.specs.Prelude.{◌≡◌, ◌^◌, ◌<◌, length};
+ghost use Rattle.entry_planner.specs.Plans.{cost_in};
 
 impl Plan {
-    /// A plan of these entries and costs, the last in preorder first.
-    pub(crate) fn new(entries: Vec<PackedEntry>, costs: Vec<PackedCost>) -> Plan
-        requires { AreSmall (record { entries = entries.items; costs = reverse costs.items }) }
-        ensures { result ≡ record { entries = entries.items; costs = reverse costs.items } }
+    /// A plan of these entries and costs.
+    pub(crate) fn new(entries: Vec<Entry>, costs: SplitCosts) -> Plan
+        requires { length entries.items < 2 ^ 32 }
+        ensures { result ≡ record { entries = entries.items; costs = costs } }
     {
         Plan { entries, costs }
     }
 
     /// The entries, in the order in which they go into a bank: the smaller before the larger, and those of one size by
-    /// rising address. Each is kept in eight bytes.
-    pub fn entries(&self) -> &[PackedEntry]
+    /// rising address.
+    pub fn entries(&self) -> &[Entry]
         ensures { result.now ≡ self.now.entries }
     {
         self.entries.as_slice()
     }
 
-    /// The entries as a list of their own, each with its region and its permission.
-    pub fn listed(&self, alloc: Global) -> Result<Vec<Entry>, AllocError>
-        ensures { IfOk result (λ entries. entries.items ≡ self.now.entries) }
+    /// The entries, without the costs.
+    pub fn into_entries(self) -> Vec<Entry>
+        ensures { result.items ≡ self.entries }
     {
-        let entries = unpacked(alloc, self.entries.as_slice())?;
-        Ok(entries)
+        self.entries
     }
 
     /// How many entries there are.
@@ -75,7 +61,7 @@ impl Plan {
     pub fn branches(&self) -> usize
         ensures { result ≡ length self.now.costs }
     {
-        self.costs.len()
+        self.costs.branches()
     }
 
     /// What the i-th split block costs where it inherits a permission, that of the smallest entry round it: the least
@@ -86,7 +72,13 @@ impl Plan {
         requires { i < length self.now.costs }
         ensures { result ≡ cost_in self.now.costs i perm }
     {
-        let last = self.branches() - 1;
-        self.costs[last - i].cost().as_block().under(perm)
+        self.costs.cost(i, perm)
+    }
+
+    /// What all split blocks cost.
+    pub fn costs(&self) -> &SplitCosts
+        ensures { result.now ≡ self.now.costs }
+    {
+        &self.costs
     }
 }

@@ -16,6 +16,7 @@ ghost use Rattle.prefix_tree.specs.TreeOf.{tree_of};
 use crate::costs::add_costs;
 use crate::order::in_order;
 use crate::packed_cost::PackedCost;
+use crate::packed_plan::PackedPlan;
 use crate::placement::{Pages, place};
 use crate::planned::Plan;
 use crate::shelves::Shelves;
@@ -64,13 +65,14 @@ pub fn plan(alloc: Global, tree: &Tree) -> Result<Plan, Memory>
     ensures root { IfOk result (λ plan. bound_of (costed plan.costs 0 tree.now) NoAccess
         ≡ length plan.entries) }
 {
-    let plan = plan_of(alloc, &tree.root(), tree.branches())?;
+    let packed = plan_of(alloc, &tree.root(), tree.branches())?;
+    let plan = packed.unpacked(alloc)?;
     Ok(plan)
 }
 
 /// The plan of a map, as [`plan`] has it for the canonical tree of its view. That tree has at most 44 split blocks for
-/// each of the two ends of a run, and is not made.
-pub fn plan_map(alloc: Global, map: &PermissionMap) -> Result<Plan, Memory>
+/// each of the two ends of a run, and is not made. The entries are kept packed.
+pub fn plan_map(alloc: Global, map: &PermissionMap) -> Result<PackedPlan, Memory>
     ensures fewest { IfOk result (λ plan. IsFewest (view_of_runs map.now) plan.entries) }
     ensures pages { IfOk result (λ plan. All (λ e. 12 ≤ e.region.log2) plan.entries) }
     ensures order { IfOk result (λ plan. AreInOrder plan.entries) }
@@ -93,7 +95,7 @@ pub fn plan_map(alloc: Global, map: &PermissionMap) -> Result<Plan, Memory>
 }
 
 /// The plan of the space, of which so many blocks are split at most.
-fn plan_of<H: Halving>(alloc: Global, root: &H, most: usize) -> Result<Plan, Memory>
+fn plan_of<H: Halving>(alloc: Global, root: &H, most: usize) -> Result<PackedPlan, Memory>
     requires fits { Fits 44 (H.shape root.now) }
     requires splits { splits (H.shape root.now) ≤ most }
     requires most { most ≤ 88 * 4096 }
@@ -102,5 +104,5 @@ fn plan_of<H: Halving>(alloc: Global, root: &H, most: usize) -> Result<Plan, Mem
     let mut costs = Vec::with_capacity(alloc, most)?;
     let cost = add_costs(root, &mut costs)?;
     let entries = entries_of(alloc, root, cost.least + 1, costs.as_slice())?;
-    Ok(Plan::new(entries, costs))
+    Ok(PackedPlan::new(entries, costs))
 }

@@ -21,7 +21,7 @@ fn bank_of_host(alloc: Global) -> Result<Option<Bank>, MapFault> {
     if plan.needed() > 16 {
         return Ok(None);
     }
-    Ok(Some(Bank::of_packed(plan.entries(), Limit::Sixteen)))
+    Ok(Some(Bank::of(plan.entries(), Limit::Sixteen)))
 }
 
 /// Prints what the bank says of a load of eight bytes by the host.

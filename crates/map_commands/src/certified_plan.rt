@@ -17,7 +17,7 @@ ghost use Rattle.map_commands.specs.CertifiedPlan.{placing, AreNeeded, IsBeyond,
 
 use byte_streams::DeviceFault;
 use command_inputs::map_by;
-use entry_planner::{Plan, plan_map};
+use entry_planner::{PackedPlan, plan_map};
 use permission_map::{Memory, PermissionMap};
 use plan_certificate::send_map;
 use pmp_encoding::{Bank, Limit, PackedEntry};
@@ -27,7 +27,7 @@ use register_width::Xlen;
 use std::alloc::Global;
 
 /// The plan of a map: the fewest entries that mean it, of the lists of so many the one that the planner chooses.
-pub fn planned(alloc: Global, map: &PermissionMap) -> Result<Plan, Memory>
+pub fn planned(alloc: Global, map: &PermissionMap) -> Result<PackedPlan, Memory>
     ensures fewest { IfOk result (λ plan. IsFewest (view_of_runs map.now) plan.entries) }
     ensures choice { IfOk result (λ plan.
         AreChosen (tree_of (view_of_runs map.now)) plan.entries) }
@@ -82,7 +82,7 @@ pub fn planned_within<'a>(
     alloc: Global,
     map: &PermissionMap,
     most: Option<u64>,
-) -> Result<Plan, Trouble<'a>>
+) -> Result<PackedPlan, Trouble<'a>>
     ensures planned { IfOk result (λ plan. IsPlanned (view_of_runs map.now) most plan.entries) }
     ensures small { IfOk result (λ plan. length plan.entries < 2 ^ 32) }
     ensures refused { IfErr result (λ trouble.
@@ -94,7 +94,7 @@ pub fn planned_within<'a>(
 }
 
 /// Refuses a plan that is beyond the bound.
-fn within<'a>(plan: &Plan, most: Option<u64>) -> Result<(), Trouble<'a>>
+fn within<'a>(plan: &PackedPlan, most: Option<u64>) -> Result<(), Trouble<'a>>
     ensures within { IfOk result (λ _. IsWithin most (length plan.now.entries)) }
     ensures small { length plan.now.entries < 2 ^ 32 }
     ensures beyond { IfErr result (λ trouble.
@@ -109,7 +109,7 @@ fn within<'a>(plan: &Plan, most: Option<u64>) -> Result<(), Trouble<'a>>
 }
 
 /// Refuses a plan that has an entry which the hart's address registers do not reach.
-fn reached<'a>(plan: &Plan, xlen: Xlen, file: &'a str) -> Result<(), Trouble<'a>>
+fn reached<'a>(plan: &PackedPlan, xlen: Xlen, file: &'a str) -> Result<(), Trouble<'a>>
     ensures reached { IfOk result (λ _. AreReached xlen plan.now.entries) }
     ensures beyond { IfErr result (λ trouble. (AreReached xlen plan.now.entries → ⊥)
         × (trouble ≡ Trouble.TooFar file.entry)) }
@@ -127,7 +127,7 @@ pub fn planned_near<'a>(
     map: &PermissionMap,
     xlen: Xlen,
     most: Option<u64>,
-) -> Result<Plan, Trouble<'a>>
+) -> Result<PackedPlan, Trouble<'a>>
     ensures planned { IfOk result (λ plan. IsPlanned (view_of_runs map.now) most plan.entries) }
     ensures reached { IfOk result (λ plan. AreReached xlen plan.entries) }
     ensures small { IfOk result (λ plan. length plan.entries < 2 ^ 32) }
@@ -145,7 +145,7 @@ pub fn planned_near<'a>(
 #[inline(never)]
 fn put<'a, C: WholeSink>(
     map: &PermissionMap,
-    plan: &Plan,
+    plan: &PackedPlan,
     limit: Limit,
     file: &'a str,
     sink: &mut C,
@@ -180,7 +180,7 @@ pub fn plan_and_certify<'a, C: WholeSink>(
     most: Option<u64>,
     cert: Option<&'a str>,
     sink: &mut C,
-) -> Result<Plan, Trouble<'a>>
+) -> Result<PackedPlan, Trouble<'a>>
     ensures planned { IfOk result (λ plan. IsPlanned (view_of_runs map.now) most plan.entries) }
     ensures reached { IfOk result (λ plan. AreReached xlen plan.entries) }
     ensures small { IfOk result (λ plan. length plan.entries < 2 ^ 32) }

@@ -1,9 +1,9 @@
 -- A search by halves in runs by rising page.
 use Rattle.std.proofs.Common.{◌≡◌, ℕ, zero, suc, ◌+◌, ◌-◌, ◌<◌, ◌≤◌, List, [], ◌∷◌, ◌++◌, length, take, drop, get_or, All, refl, sym, ap, ◌∙◌, arith, length-take, length-drop}
-use Rattle.std.specs.List.{AllByRecursion}
+use Rattle.std.specs.List.{AllByRecursion, Contains}
 use Rattle.std.specs.List.Sorted.{IsPartitionPoint, IsNonDecreasingBy}
 use Rattle.std.proofs.lemmas.List.{take-append-drop, drop_all, drop_more, get_or-take, get_or-drop}
-use Rattle.std.proofs.lemmas.List.Elements.{recursion_from_All, All-head}
+use Rattle.std.proofs.lemmas.List.Elements.{recursion_from_All, All-head, Contains-get_or}
 use Rattle.pmp_encoding.specs.declared.perm.Perm.{Perm}
 use Rattle.pmp_encoding.specs.declared.perm.Perm.TheVariants.{NoAccess}
 use Rattle.permission_map.specs.declared.runs.Run.{Run}
@@ -80,14 +80,15 @@ nothing_next runs page i over all q more =
 
 next_at :
     (runs before rest : List Run) (page : ℕ) (run : Run) → AreRuns runs → runs ≡ before ++ run ∷ rest → AllByRecursion (λ r. end_of r ≤ page) before → page < end_of run
-    → IsNext runs page run
-next_at runs before rest page run are parts over behind =
+    → Contains runs run → IsNext runs page run
+next_at runs before rest page run are parts over behind has =
     let both : AreRuns (before ++ run ∷ rest) = rw parts at are in
     let from : AreRunsAfter (last_end 0 before) (last_perm NoAccess before) (run ∷ rest) = runs_second 0 NoAccess before (run ∷ rest) both in
     let tail : AreRunsAfter (end_of run) run.perm rest = from.1 in
     let begin : last_end 0 before ≤ run.first = from.0.rising in
     let some : 0 < run.count = from.0.some in
     record {
+      one_of = has;
       is_run = record { rising = omega arith; maximal = λ _. from.0.allows; some = from.0.some; allows = from.0.allows; inside = from.0.inside };
       behind = behind;
       none_between =
@@ -118,6 +119,7 @@ next_is runs page i d are over behind inside =
     next_at runs (take i runs) (drop (i + 1) runs) page (get_or runs i d) are parts
     (recursion_from_All (λ run. end_of run ≤ page) (take i runs) over)
     (All-head (λ run. page < end_of run) (get_or runs i d) (drop (i + 1) runs) head)
+    (Contains-get_or runs i d inside)
 
 -- ---- blocks that are not of one permission
 

@@ -11,31 +11,32 @@ ghost use Rattle.certificate_format.specs.Spelling.{Spells};
 ghost use Rattle.plan_certificate.specs.Written.{version_for, certificate_bytes, certificate_for};
 
 use crate::pieces::send;
+use crate::written_plan::WrittenPlan;
 use byte_streams::{Counted, DeviceFault, Sink};
-use entry_planner::Plan;
+use entry_planner::{PackedPlan, Plan};
 use permission_map::{Memory, PermissionMap};
 use pmp_encoding::Limit;
 use prefix_tree::{Halving, MapBlock, Tree};
 use std::alloc::{AllocError, Global};
 
 /// The certificate of the space, of which the plan has so many split blocks.
-fn write_of<H: Halving>(
+fn write_of<H: Halving, P: WrittenPlan>(
     alloc: Global,
     root: &H,
-    plan: &Plan,
+    plan: &P,
     limit: Limit,
 ) -> Result<Vec<u8>, Memory>
     requires fits { Fits 44 (H.shape root.now) }
-    requires splits { splits (H.shape root.now) ≡ length plan.now.costs }
+    requires splits { splits (H.shape root.now) ≡ length (P.planned plan.now).costs }
     requires most { splits (H.shape root.now) ≤ 88 * 4096 }
     ensures bytes { IfOk result (λ v.
-        v.items ≡ certificate_bytes (version_for limit) plan.now.entries
-        (costed plan.now.costs 0 (H.shape root.now))) }
+        v.items ≡ certificate_bytes (version_for limit) (P.planned plan.now).entries
+        (costed (P.planned plan.now).costs 0 (H.shape root.now))) }
     ensures spells { IfOk result (λ v.
-        Spells v.items (version_for limit) plan.now.entries
-        (costed plan.now.costs 0 (H.shape root.now))) }
+        Spells v.items (version_for limit) (P.planned plan.now).entries
+        (costed (P.planned plan.now).costs 0 (H.shape root.now))) }
 {
-    let room = 12 + 9 * plan.needed() as usize + 27 * plan.branches();
+    let room = 12 + 9 * plan.count() as usize + 27 * plan.split_costs().branches();
     let mut sink = Counted::new(Vec::with_capacity(alloc, room)?);
     let Ok(()) = send(root, plan, limit, &mut sink) else {
         return Err(AllocError);
@@ -64,7 +65,7 @@ pub fn write(alloc: Global, tree: &Tree, plan: &Plan, limit: Limit) -> Result<Ve
 pub fn write_map(
     alloc: Global,
     map: &PermissionMap,
-    plan: &Plan,
+    plan: &PackedPlan,
     limit: Limit,
 ) -> Result<Vec<u8>, Memory>
     requires { splits (tree_of (view_of_runs map.now)) ≡ length plan.now.costs }
@@ -82,7 +83,7 @@ pub fn write_map(
 /// Sends the certificate that [`write_map`] makes to a sink, piece by piece, so that it is never held whole.
 pub fn send_map<W: Sink>(
     map: &PermissionMap,
-    plan: &Plan,
+    plan: &PackedPlan,
     limit: Limit,
     sink: &mut W,
 ) -> Result<(), DeviceFault>

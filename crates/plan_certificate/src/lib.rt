@@ -14,6 +14,7 @@
 mod certificate;
 mod laws;
 mod pieces;
+mod written_plan;
 
 pub use certificate::{send_map, write, write_map};
 pub use certificate_format::{Header, ReadFault, Reader, Tag, Version};

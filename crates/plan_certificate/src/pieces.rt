@@ -14,12 +14,13 @@ ghost use Rattle.plan_certificate.specs.ChainBytes.{head_bytes, leaves_bytes, ta
 ghost use Rattle.plan_certificate.specs.Pieces.{taken, IsPut, IsCut};
 ghost use Rattle.plan_certificate.specs.Written.{version_for, entry_bytes, certificate_for};
 
+use crate::written_plan::WrittenPlan;
 use arrayvec::ArrayVec;
 use byte_streams::{DeviceFault, Sink, write_whole};
 use byteorder::{ByteOrder, LittleEndian};
 use certificate_format::{Header, SixCosts, Version};
-use entry_planner::Plan;
-use pmp_encoding::{Limit, PackedEntry, Perm};
+use entry_planner::SplitCosts;
+use pmp_encoding::{Limit, Perm};
 use prefix_tree::{Chain, Halving};
 
 /// How many bytes go to a sink at a time.
@@ -67,30 +68,19 @@ fn header_piece(header: Header) -> ArrayVec<u8, PIECE>
     piece
 }
 
-/// An entry's configuration byte and address register.
-#[tactic(auto, unfolding(crate::specs::Spelling::u64_bytes))]
-fn pair_of(entry: &PackedEntry) -> [u8; 9]
-    ensures { result ≡ entry_bytes entry.now }
-{
-    let (cfg, address) = entry.encode();
-    let mut bytes = [cfg; 9];
-    LittleEndian::write_u64(&mut bytes[1..], address);
-    bytes
-}
-
 /// The costs of the i-th split block.
-fn costs_of(plan: &Plan, i: usize) -> SixCosts
-    requires { i < length plan.now.costs }
-    ensures costs { result ≡ six_of (cost_in plan.now.costs i) }
-    ensures fits { (perm : Perm) → cost_in plan.now.costs i perm < 2 ^ 32 }
+fn costs_of(costs: &SplitCosts, i: usize) -> SixCosts
+    requires { i < length costs.now }
+    ensures costs { result ≡ six_of (cost_in costs.now i) }
+    ensures fits { (perm : Perm) → cost_in costs.now i perm < 2 ^ 32 }
 {
     SixCosts {
-        no_access: plan.cost(i, Perm::NoAccess),
-        read: plan.cost(i, Perm::Read),
-        read_write: plan.cost(i, Perm::ReadWrite),
-        execute: plan.cost(i, Perm::Execute),
-        read_execute: plan.cost(i, Perm::ReadExecute),
-        read_write_execute: plan.cost(i, Perm::ReadWriteExecute),
+        no_access: costs.cost(i, Perm::NoAccess),
+        read: costs.cost(i, Perm::Read),
+        read_write: costs.cost(i, Perm::ReadWrite),
+        execute: costs.cost(i, Perm::Execute),
+        read_execute: costs.cost(i, Perm::ReadExecute),
+        read_write_execute: costs.cost(i, Perm::ReadWriteExecute),
     }
 }
 
@@ -157,21 +147,23 @@ fn put<W: Sink>(
     Ok(())
 }
 
-/// Puts the entries.
-fn put_entries<W: Sink>(
+/// Puts the entries of a plan.
+fn put_entries<P: WrittenPlan, W: Sink>(
     piece: &mut ArrayVec<u8, PIECE>,
-    entries: &[PackedEntry],
+    plan: &P,
     sink: &mut W,
 ) -> Result<(), DeviceFault>
     ensures put { IfOk result (λ _.
         IsPut piece.old.items piece.new.items (taken W.contents W.failures W.stalls sink.old)
-        (taken W.contents W.failures W.stalls sink.new) (flat_map entry_bytes entries.now)) }
+        (taken W.contents W.failures W.stalls sink.new)
+        (flat_map entry_bytes (P.planned plan.now).entries)) }
     ensures cut { IfErr result (λ _.
         IsCut piece.old.items (taken W.contents W.failures W.stalls sink.old)
-        (taken W.contents W.failures W.stalls sink.new) (flat_map entry_bytes entries.now)) }
+        (taken W.contents W.failures W.stalls sink.new)
+        (flat_map entry_bytes (P.planned plan.now).entries)) }
 {
-    for entry in entries {
-        let Ok(()) = put(piece, pair_of(entry).as_slice(), sink) else {
+    for i in 0..plan.count() as usize {
+        let Ok(()) = put(piece, plan.pair(i).as_slice(), sink) else {
             return Err(DeviceFault);
         };
     }
@@ -180,16 +172,16 @@ fn put_entries<W: Sink>(
 
 /// Puts what stands before the node of a chain's smallest block: the branches, and the leaves of the pages before it. Says
 /// how many leaves stand after it.
-fn hold_heads(piece: &mut ArrayVec<u8, PIECE>, chain: Chain, plan: &Plan, i: usize) -> usize
+fn hold_heads(piece: &mut ArrayVec<u8, PIECE>, chain: Chain, costs: &SplitCosts, i: usize) -> usize
     requires chain { chain.place < 2 ^ chain.levels }
     requires most { chain.levels ≤ 44 }
     requires room { length piece.old.items + 27 * chain.levels ≤ 16384 }
-    requires counted { i + chain.levels ≤ length plan.now.costs }
-    requires small { length plan.now.costs < 2 ^ 64 }
+    requires counted { i + chain.levels ≤ length costs.now }
+    requires small { length costs.now < 2 ^ 64 }
     ensures held { piece.new.items
-        ≡ piece.old.items ++ head_bytes plan.now.costs i chain.levels chain.place chain.before }
+        ≡ piece.old.items ++ head_bytes costs.now i chain.levels chain.place chain.before }
     ensures fits { (m : ℕ) → i ≤ m → m < i + chain.levels → (perm : Perm)
-        → cost_in plan.now.costs m perm < 2 ^ 32 }
+        → cost_in costs.now m perm < 2 ^ 32 }
     ensures tails { (behind : Perm)
         → leaves_bytes result behind ≡ tail_bytes chain.levels chain.place behind }
     ensures few { result ≤ chain.levels }
@@ -200,7 +192,7 @@ fn hold_heads(piece: &mut ArrayVec<u8, PIECE>, chain: Chain, plan: &Plan, i: usi
     let mut next = i;
     let mut behind = 0;
     while rest.levels > 0 {
-        let front = front_of(costs_of(plan, next));
+        let front = front_of(costs_of(costs, next));
         let smaller = rest.smaller();
         hold(piece, front.as_slice());
         if rest.goes_up() {
@@ -232,23 +224,23 @@ fn hold_leaves(piece: &mut ArrayVec<u8, PIECE>, count: usize, perm: Perm)
 fn put_heads<W: Sink>(
     piece: &mut ArrayVec<u8, PIECE>,
     chain: Chain,
-    plan: &Plan,
+    costs: &SplitCosts,
     i: usize,
     sink: &mut W,
 ) -> Result<usize, DeviceFault>
     requires chain { IsChain chain }
-    requires counted { i + chain.levels ≤ length plan.now.costs }
-    requires small { length plan.now.costs < 2 ^ 64 }
+    requires counted { i + chain.levels ≤ length costs.now }
+    requires small { length costs.now < 2 ^ 64 }
     ensures put { IfOk result (λ _.
         IsPut piece.old.items piece.new.items (taken W.contents W.failures W.stalls sink.old)
         (taken W.contents W.failures W.stalls sink.new)
-        (head_bytes plan.now.costs i chain.levels chain.place chain.before)) }
+        (head_bytes costs.now i chain.levels chain.place chain.before)) }
     ensures cut { IfErr result (λ _.
         (bytes : List ℕ)
         → IsCut piece.old.items (taken W.contents W.failures W.stalls sink.old)
         (taken W.contents W.failures W.stalls sink.new) bytes) }
     ensures fits { OnOk result ((m : ℕ) → i ≤ m → m < i + chain.levels → (perm : Perm)
-        → cost_in plan.now.costs m perm < 2 ^ 32) }
+        → cost_in costs.now m perm < 2 ^ 32) }
     ensures tails { IfOk result (λ count. (behind : Perm)
         → leaves_bytes count behind ≡ tail_bytes chain.levels chain.place behind) }
     ensures few { IfOk result (λ count. count ≤ chain.levels) }
@@ -256,7 +248,7 @@ fn put_heads<W: Sink>(
     let Ok(()) = make_room(piece, 27 * chain.levels as usize, sink) else {
         return Err(DeviceFault);
     };
-    let behind = hold_heads(piece, chain, plan, i);
+    let behind = hold_heads(piece, chain, costs, i);
     Ok(behind)
 }
 
@@ -287,23 +279,23 @@ fn put_tails<W: Sink>(
 fn put_node<H: Halving, W: Sink>(
     piece: &mut ArrayVec<u8, PIECE>,
     block: &H,
-    plan: &Plan,
+    costs: &SplitCosts,
     i: usize,
     sink: &mut W,
 ) -> Result<usize, DeviceFault>
-    requires counted { i + splits (H.shape block.now) ≤ length plan.now.costs }
-    requires small { length plan.now.costs < 2 ^ 64 }
+    requires counted { i + splits (H.shape block.now) ≤ length costs.now }
+    requires small { length costs.now < 2 ^ 64 }
     ensures next { IfOk result (λ next. next ≡ i + splits (H.shape block.now)) }
     ensures put { IfOk result (λ _.
         IsPut piece.old.items piece.new.items (taken W.contents W.failures W.stalls sink.old)
         (taken W.contents W.failures W.stalls sink.new)
-        (node_bytes (costed plan.now.costs i (H.shape block.now)))) }
+        (node_bytes (costed costs.now i (H.shape block.now)))) }
     ensures cut { IfErr result (λ _.
         IsCut piece.old.items (taken W.contents W.failures W.stalls sink.old)
         (taken W.contents W.failures W.stalls sink.new)
-        (node_bytes (costed plan.now.costs i (H.shape block.now)))) }
+        (node_bytes (costed costs.now i (H.shape block.now)))) }
     ensures fits { OnOk result ((k : ℕ) → Fits k (H.shape block.now)
-        → FitsNode k (costed plan.now.costs i (H.shape block.now))) }
+        → FitsNode k (costed costs.now i (H.shape block.now))) }
 {
     if let Some(perm) = block.one_perm() {
         let Ok(()) = put(piece, [0, perm.bits()].as_slice(), sink) else {
@@ -312,11 +304,11 @@ fn put_node<H: Halving, W: Sink>(
         return Ok(i);
     }
     if let Some((chain, smallest)) = block.chain() {
-        let Ok(behind) = put_heads(piece, chain, plan, i, sink) else {
+        let Ok(behind) = put_heads(piece, chain, costs, i, sink) else {
             return Err(DeviceFault);
         };
         let inside = i + chain.levels as usize;
-        let Ok(next) = put_node(piece, &smallest, plan, inside, sink) else {
+        let Ok(next) = put_node(piece, &smallest, costs, inside, sink) else {
             return Err(DeviceFault);
         };
         let Ok(()) = put_tails(piece, behind, chain.behind, sink) else {
@@ -325,42 +317,42 @@ fn put_node<H: Halving, W: Sink>(
         return Ok(next);
     }
     let (lower, upper) = block.halves();
-    let front = front_of(costs_of(plan, i));
+    let front = front_of(costs_of(costs, i));
     let Ok(()) = put(piece, front.as_slice(), sink) else {
         return Err(DeviceFault);
     };
-    let Ok(middle) = put_node(piece, &lower, plan, i + 1, sink) else {
+    let Ok(middle) = put_node(piece, &lower, costs, i + 1, sink) else {
         return Err(DeviceFault);
     };
-    let Ok(next) = put_node(piece, &upper, plan, middle, sink) else {
+    let Ok(next) = put_node(piece, &upper, costs, middle, sink) else {
         return Err(DeviceFault);
     };
     Ok(next)
 }
 
 /// Sends the certificate of the space, of which the plan has so many split blocks, to a sink.
-pub(crate) fn send<H: Halving, W: Sink>(
+pub(crate) fn send<H: Halving, P: WrittenPlan, W: Sink>(
     root: &H,
-    plan: &Plan,
+    plan: &P,
     limit: Limit,
     sink: &mut W,
 ) -> Result<(), DeviceFault>
-    requires splits { splits (H.shape root.now) ≡ length plan.now.costs }
-    requires small { length plan.now.costs < 2 ^ 64 }
-    ensures prints { Prints (certificate_for limit plan.now (H.shape root.now))
+    requires splits { splits (H.shape root.now) ≡ length (P.planned plan.now).costs }
+    requires small { length (P.planned plan.now).costs < 2 ^ 64 }
+    ensures prints { Prints (certificate_for limit (P.planned plan.now) (H.shape root.now))
         (writing W.contents W.failures W.stalls sink.old sink.new) result }
     ensures fits { OnOk result ((k : ℕ) → Fits k (H.shape root.now)
-        → FitsNode k (costed plan.now.costs 0 (H.shape root.now))) }
+        → FitsNode k (costed (P.planned plan.now).costs 0 (H.shape root.now))) }
 {
     let header = Header {
         version: version_for(limit),
-        count: plan.needed(),
+        count: plan.count(),
     };
     let mut piece = header_piece(header);
-    let Ok(()) = put_entries(&mut piece, plan.entries(), sink) else {
+    let Ok(()) = put_entries(&mut piece, plan, sink) else {
         return Err(DeviceFault);
     };
-    let Ok(_) = put_node(&mut piece, root, plan, 0, sink) else {
+    let Ok(_) = put_node(&mut piece, root, plan.split_costs(), 0, sink) else {
         return Err(DeviceFault);
     };
     let Ok(()) = write_whole(sink, piece.as_slice()) else {

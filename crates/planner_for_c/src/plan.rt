@@ -11,11 +11,11 @@ ghost use Rattle.planner_for_c.specs.Plans.{IsNumberOf, IsPlanOf, IsPlanned};
 
 use crate::registers::Registers;
 use crate::settings::{Refusal, Setting, map_of};
-use entry_planner::{Plan, plan_map};
+use entry_planner::{PackedPlan, plan_map};
 use std::alloc::Global;
 
 /// The plan of the map that the settings make.
-fn plan_of(alloc: Global, settings: &[Setting]) -> Result<Plan, Refusal>
+fn plan_of(alloc: Global, settings: &[Setting]) -> Result<PackedPlan, Refusal>
     ensures plan { IfOk result (λ plan. IsPlanOf settings.now plan.entries) }
     ensures fault { (i : ℕ) (fault : SettingFault) → result ≡ Err (Refusal.Setting i fault)
         → FaultIn [] settings.now i fault }

@@ -5,6 +5,7 @@
 //! entry and in a word of a hart on which a list begins at some entry. Sizes and permissions are put in words here.
 //!
 //! ```rust
+//! let plan = plan_map(alloc, &map)?;
 //! print_plan(Xlen::Rv64, plan.entries(), 0, Limit::Sixteen, &mut out)?;
 //! ```
 #![tactic(auto)]

@@ -6,6 +6,7 @@
 //! the registers, and assembly is a routine where it has a name. Nothing here takes memory.
 //!
 //! ```rust
+//! let plan = plan_map(alloc, &map)?;
 //! print_c(Some("uart"), Xlen::Rv64, plan.entries(), 0, Limit::Sixteen, &mut out)?;
 //! ```
 #![tactic(auto)]

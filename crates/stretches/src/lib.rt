@@ -7,7 +7,7 @@
 //! without a look at each.
 //!
 //! ```rust
-//! for stretch in &stretches_by_entries(alloc, &map, &plan.listed(alloc)?)? {
+//! for stretch in &stretches_by_entries(alloc, &map, plan.entries())? {
 //!     // stretch.wanted is the map's permission, stretch.given that of the entry stretch.entry
 //! }
 //! ```

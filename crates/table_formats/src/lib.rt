@@ -5,7 +5,7 @@
 //! for each stretch that an entry decides, coloured by its permission, and a gap of one height for each other stretch.
 //!
 //! ```rust
-//! let text = picture(rt.alloc(), &map, &plan.listed(rt.alloc())?, Limit::Sixteen)?;
+//! let text = picture(rt.alloc(), &map, plan.entries(), Limit::Sixteen)?;
 //! ```
 #![tactic(auto)]
 

@@ -5,7 +5,7 @@
 //! [`judge_trace`] does so by the list that a bank's registers mean. Nothing here takes memory.
 //!
 //! ```text
-//! let bank = Bank::of_packed(plan.entries(), Limit::Sixteen);
+//! let bank = Bank::of(plan.entries(), Limit::Sixteen);
 //! judge_trace(&bank, &mut source, &mut sink)?;
 //! ```
 #![tactic(auto)]

@@ -99,15 +99,15 @@ fn do_show<'a, R: Source, W: Sink>(
     } = asked;
     let bytes = bytes_in(alloc, file, first, MAP_BYTES)?;
     let map = map_by(alloc, file, bytes.as_slice())?;
-    let plan = planned_near(alloc, file, &map, xlen, at_most)?;
-    let entries = plan.listed(alloc)?;
+    let packed = planned_near(alloc, file, &map, xlen, at_most)?;
+    let plan = packed.unpacked(alloc)?;
     let text = shown_as(
         alloc,
         format,
         costs,
         bytes.as_slice(),
         &map,
-        entries.as_slice(),
+        plan.entries(),
         limit,
     )?;
     match write_whole(out, text.as_slice()) {

@@ -5,7 +5,7 @@ use Rattle.enclave_table.proofs.fewest.listed.Goals as goal
 
 pub returns-clause-list : goal.returns-clause-list
 returns-clause-list c = λ view fewest.
-    let is : c.in-Ok.list ≡ c.args.plan.now.entries = c.in-Ok.ensures in
+    let is : c.of.result ≡ c.args.plan.entries = c.of.ensures in
     record {
       fewest = rw is fewest;
       room = rw is (omega (arith, c.if-needed-number.false, c.needed.ensures, c.number.ensures.value));
@@ -13,5 +13,5 @@ returns-clause-list c = λ view fewest.
 
 pub returns-then-needed-number-clause-want : goal.returns-then-needed-number-clause-want
 returns-then-needed-number-clause-want c = λ view fewest.
-    let more : limit_number c.args.limit < length c.args.plan.now.entries = omega (arith, c.if-needed-number.true, c.needed.ensures, c.number.ensures.value) in
-    (length c.args.plan.now.entries, needs_of view c.args.plan.now.entries fewest, more)
+    let more : limit_number c.args.limit < length c.args.plan.entries = omega (arith, c.if-needed-number.true, c.needed.ensures, c.number.ensures.value) in
+    (length c.args.plan.entries, needs_of view c.args.plan.entries fewest, more)

@@ -11,14 +11,14 @@ pub returns-clause-bytes : goal.returns-clause-bytes
 returns-clause-bytes g c =
     let items : Vec ℕ Global → List ℕ = λ v. v.items in
     let none : items (inner_of c.new-sink.result) ≡ [] = ap items c.new-sink.ensures.inner ∙ c.in_ok-with_capacity.ensures.items in
-    let tree = costed c.args.plan.now.costs 0 (g.H.Halving.shape c.args.root.now) in
-    ap items c.into_inner.ensures ∙ c.in-Ok.ensures.prints.whole ∙ ap (λ (xs : List ℕ). xs ++ certificate_bytes (version_for c.args.limit) c.args.plan.now.entries tree) none
+    let tree = costed (g.P.WrittenPlan.planned c.args.plan.now).costs 0 (g.H.Halving.shape c.args.root.now) in
+    ap items c.into_inner.ensures ∙ c.in-Ok.ensures.prints.whole ∙ ap (λ (xs : List ℕ). xs ++ certificate_bytes (version_for c.args.limit) (g.P.WrittenPlan.planned c.args.plan.now).entries tree) none
 
 pub returns-clause-spells : goal.returns-clause-spells
 returns-clause-spells g c =
-    let entries = c.args.plan.now.entries in
+    let entries = (g.P.WrittenPlan.planned c.args.plan.now).entries in
     let version = version_for c.args.limit in
-    let tree = costed c.args.plan.now.costs 0 (g.H.Halving.shape c.args.root.now) in
+    let tree = costed (g.P.WrittenPlan.planned c.args.plan.now).costs 0 (g.H.Halving.shape c.args.root.now) in
     let fits : FitsNode 44 tree = c.in-Ok.ensures.fits 44 c.requires.fits in
     let counted : length entries < 2 ^ 32 = omega arith in
     subst (λ (b : List ℕ). Spells b version entries tree) (sym (returns-clause-bytes g c)) (certificate_spelled version entries tree counted fits)

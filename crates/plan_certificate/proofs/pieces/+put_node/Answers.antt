@@ -12,7 +12,7 @@ use Rattle.plan_certificate.proofs.pieces.+put_node.Goals as goal
 
 pub returns-in_default-put-2-clause-cut : goal.returns-in_default-put-2-clause-cut
 returns-in_default-put-2-clause-cut g t c =
-    let costs = c.args.plan.now.costs in
+    let costs = c.args.costs.now in
     let i = c.args.i in
     let lower = g.H.Halving.shape c.halves-lower.result.0 in
     let upper = g.H.Halving.shape c.halves-lower.result.1 in
@@ -24,7 +24,7 @@ returns-in_default-put-2-clause-cut g t c =
 
 pub returns-in_default-put_node-2-clause-cut : goal.returns-in_default-put_node-2-clause-cut
 returns-in_default-put_node-2-clause-cut g t c =
-    let costs = c.args.plan.now.costs in
+    let costs = c.args.costs.now in
     let i = c.args.i in
     let lower = g.H.Halving.shape c.halves-lower.result.0 in
     let upper = g.H.Halving.shape c.halves-lower.result.1 in
@@ -36,7 +36,7 @@ returns-in_default-put_node-2-clause-cut g t c =
 
 pub returns-in_default-put_node-3-clause-cut : goal.returns-in_default-put_node-3-clause-cut
 returns-in_default-put_node-3-clause-cut g t c =
-    let costs = c.args.plan.now.costs in
+    let costs = c.args.costs.now in
     let i = c.args.i in
     let lower = g.H.Halving.shape c.halves-lower.result.0 in
     let upper = g.H.Halving.shape c.halves-lower.result.1 in
@@ -47,7 +47,7 @@ returns-in_default-put_node-3-clause-cut g t c =
 
 pub returns-clause-put : goal.returns-clause-put
 returns-clause-put g t c =
-    let costs = c.args.plan.now.costs in
+    let costs = c.args.costs.now in
     let i = c.args.i in
     let lower = g.H.Halving.shape c.halves-lower.result.0 in
     let upper = g.H.Halving.shape c.halves-lower.result.1 in
@@ -81,7 +81,7 @@ returns-in_default-put_node-clause-cut g t c =
     let tree = g.H.Halving.shape c.in-Some-chain.smallest in
     let now = taken g.W.Sink.contents g.W.Sink.failures g.W.Sink.stalls in
     subst (λ (b : List ℕ). IsCut c.args.piece.now.items (now c.args.sink.now) (now c.put_node.new.sink) b)
-    (chain_put c.args.plan.now.costs c.args.i chain _ tree c.in-Some-chain.ensures.1)
+    (chain_put c.args.costs.now c.args.i chain _ tree c.in-Some-chain.ensures.1)
     (cut_more _ _ _ _ (tail_bytes chain.levels chain.place chain.behind) (cut_then _ _ _ _ _ _ _ c.in-Ok-put_heads.ensures.put c.in_default-put_node.ensures.cut))
 
 pub returns-in_default-put_tails-clause-cut : goal.returns-in_default-put_tails-clause-cut
@@ -90,7 +90,7 @@ returns-in_default-put_tails-clause-cut g t c =
     let tree = g.H.Halving.shape c.in-Some-chain.smallest in
     let now = taken g.W.Sink.contents g.W.Sink.failures g.W.Sink.stalls in
     subst (λ (b : List ℕ). IsCut c.args.piece.now.items (now c.args.sink.now) (now c.put_tails.new.sink) b)
-    (chain_put c.args.plan.now.costs c.args.i chain _ tree c.in-Some-chain.ensures.1)
+    (chain_put c.args.costs.now c.args.i chain _ tree c.in-Some-chain.ensures.1)
     (cut_then _ _ _ _ _ _ _ (put_then _ _ _ _ _ _ _ _ c.in-Ok-put_heads.ensures.put c.in-Ok-put_node.ensures.put) (c.in_default-put_tails.ensures.cut (tail_bytes chain.levels chain.place chain.behind)))
 
 pub returns-in-Some-chain-clause-put : goal.returns-in-Some-chain-clause-put
@@ -99,7 +99,7 @@ returns-in-Some-chain-clause-put g t c =
     let tree = g.H.Halving.shape c.in-Some-chain.smallest in
     let now = taken g.W.Sink.contents g.W.Sink.failures g.W.Sink.stalls in
     subst (λ (b : List ℕ). IsPut c.args.piece.now.items c.put_tails.new.piece.items (now c.args.sink.now) (now c.put_tails.new.sink) b)
-    (chain_put c.args.plan.now.costs c.args.i chain _ tree c.in-Some-chain.ensures.1)
+    (chain_put c.args.costs.now c.args.i chain _ tree c.in-Some-chain.ensures.1)
     (put_then _ _ _ _ _ _ _ _ (put_then _ _ _ _ _ _ _ _ c.in-Ok-put_heads.ensures.put c.in-Ok-put_node.ensures.put)
     (subst (λ (b : List ℕ). IsPut c.put_node.new.piece.items c.put_tails.new.piece.items (now c.put_node.new.sink) (now c.put_tails.new.sink) b) (c.in-Ok-put_heads.ensures.tails chain.behind) c.in-Ok-put_tails.ensures.put))
 
@@ -108,9 +108,9 @@ returns-in-Some-chain-clause-fits g t c = λ k fits.
     let chain = c.in-Some-chain.chain in
     let tree = g.H.Halving.shape c.in-Some-chain.smallest in
     let F : PermTree → Type 0 = Fits k in
-    let G : PermTree → Type 0 = λ t. FitsNode k (costed c.args.plan.now.costs c.args.i t) in
+    let G : PermTree → Type 0 = λ t. FitsNode k (costed c.args.costs.now c.args.i t) in
     subst G (sym c.in-Some-chain.ensures.1)
-    (chain_fits c.args.plan.now.costs k c.args.i chain.levels chain.place chain.before chain.behind tree c.in-Ok-put_heads.ensures.fits c.in-Ok-put_node.ensures.fits (subst F c.in-Some-chain.ensures.1 fits))
+    (chain_fits c.args.costs.now k c.args.i chain.levels chain.place chain.before chain.behind tree c.in-Ok-put_heads.ensures.fits c.in-Ok-put_node.ensures.fits (subst F c.in-Some-chain.ensures.1 fits))
 
 pub returns-in-Some-chain-clause-next : goal.returns-in-Some-chain-clause-next
 returns-in-Some-chain-clause-next g t c =

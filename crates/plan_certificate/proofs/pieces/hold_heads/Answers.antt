@@ -8,7 +8,7 @@ loop-rest-preserved c =
     let l = c.loop-rest in
     let i = l.invariant in
     let some = c.loop-rest-test.true in
-    let front = front_is c.args.plan.now.costs l.next _ _ _ c.as_slice.ensures c.front_of-front.ensures.bytes c.costs_of.ensures.costs in
+    let front = front_is c.args.costs.now l.next _ _ _ c.as_slice.ensures c.front_of-front.ensures.bytes c.costs_of.ensures.costs in
     let leaf = c.as_slice-bytes.ensures ∙ ap (λ b. 0 ∷ b ∷ []) c.bits.ensures.value in
     elim c.if-goes_up.branch [
       | then-goes_up w ↦ rw (w.piece-is, w.behind-is, c.smaller-smaller.ensures) (record {

@@ -1,17 +1,10 @@
--- The block is the i-th of the list, which is kept with the last first.
-use Rattle.std.proofs.Common.{◌∙◌, ◌+◌, ◌^◌, ◌<◌, ap, subst, sym}
-use Rattle.entry_planner.specs.declared.costs.BlockCost.{BlockCost}
-use Rattle.entry_planner.specs.Plans.{as_block, cost_of}
-use Rattle.entry_planner.proofs.CostLists.{cost_in-is, least_small}
+-- The costs that are kept are those of the plan.
+use Rattle.std.proofs.Common.{◌∙◌, ◌<◌, ap, length, subst, sym}
+use Rattle.entry_planner.specs.Plans.{Planned, cost_in}
 use Rattle.entry_planner.proofs.planned.Plan.cost.Goals as goal
 
-pub under-requires : goal.under-requires
-under-requires c =
-    let P : BlockCost → Type 0 = λ b. b.least + 1 < 2 ^ 32 in
-    subst P (sym (c.as_block.ensures ∙ ap as_block c.cost.ensures))
-    (least_small _ _ c.args.i _ c.index.result.now (ap (λ v. v.costs) c.self.view_is) c.self.invariant.costs c.branches-last.ensures c.requires c.index.ensures)
+pub cost-requires : goal.cost-requires
+cost-requires c = let P : Planned → Type 0 = λ v. c.args.i < length v.costs in subst P (sym c.self.view_is) c.requires
 
 pub returns : goal.returns
-returns c =
-    cost_in-is _ _ c.args.i _ c.under.result c.index.result.now c.args.perm (ap (λ v. v.costs) c.self.view_is) c.branches-last.ensures c.requires c.index.ensures
-    (c.under.ensures ∙ ap (λ b. cost_of b c.args.perm) (c.as_block.ensures ∙ ap as_block c.cost.ensures))
+returns c = c.cost.ensures ∙ ap (λ v. cost_in v.costs c.args.i c.args.perm) c.self.view_is

@@ -1,5 +1,6 @@
-use Rattle.std.proofs.Common.{◌∙◌, inl, inr, refl}
+use Rattle.std.proofs.Common.{◌∙◌, ap, inl, inr, refl}
 use Rattle.std.proofs.lemmas.Result.{err_from_is_err_and}
+use Rattle.entry_planner.specs.Plans.{Planned}
 use Rattle.map_commands.specs.Show.{shown}
 use Rattle.command_inputs.specs.Inputs as inputs
 use Rattle.map_commands.specs.Show as shows
@@ -16,12 +17,12 @@ returns-in_err-map g c =
     let p = err_from_is_err_and c.from_residual-in_err-map.result c.from_residual-in_err-map.ensures.1 in
     rw (p.1, p.2) (shows.Shows.no_map _ (no_map_of c.args.file _ c.in_ok-bytes.bytes.items _ c.in_ok-bytes.ensures.whole (rw c.as_slice.ensures.value at c.in_err-map.ensures.refused)) refl)
 
-pub returns-in_err-plan : goal.returns-in_err-plan
-returns-in_err-plan g c =
-    let p = err_from_is_err_and c.from_residual-in_err-plan.result c.from_residual-in_err-plan.ensures.1 in
+pub returns-in_err-packed : goal.returns-in_err-packed
+returns-in_err-packed g c =
+    let p = err_from_is_err_and c.from_residual-in_err-packed.result c.from_residual-in_err-packed.ensures.1 in
     let made = rw c.as_slice.ensures.value at c.in_ok-map.ensures.made in
     let has = map_read _ c.in_ok-bytes.bytes.items _ c.in_ok-bytes.ensures.whole made in
-    rw (p.1, p.2) (elim c.in_err-plan.ensures.refused [
+    rw (p.1, p.2) (elim c.in_err-packed.ensures.refused [
       | inl e ↦ rw e (shows.Shows.no_memory _ has refl)
       | inr w ↦ elim w [
         | inl more ↦ shows.Shows.too_many _ _ has more refl
@@ -29,9 +30,9 @@ returns-in_err-plan g c =
       ]
     ])
 
-pub returns-in_err-entries : goal.returns-in_err-entries
-returns-in_err-entries g c =
-    let p = err_from_is_err_and c.from_residual-in_err-entries.result c.from_residual-in_err-entries.ensures.1 in
+pub returns-in_err-plan : goal.returns-in_err-plan
+returns-in_err-plan g c =
+    let p = err_from_is_err_and c.from_residual-in_err-plan.result c.from_residual-in_err-plan.ensures.1 in
     let made = rw c.as_slice.ensures.value at c.in_ok-map.ensures.made in
     let has = map_read _ c.in_ok-bytes.bytes.items _ c.in_ok-bytes.ensures.whole made in
     rw (p.1, p.2) (shows.Shows.no_memory _ has refl)
@@ -46,11 +47,11 @@ returns-in_err-text g c =
 pub returns-in-Ok : goal.returns-in-Ok
 returns-in-Ok g c =
     let made = rw c.as_slice.ensures.value at c.in_ok-map.ensures.made in
-    let text = rw (c.as_slice-3.ensures.value ∙ c.in_ok-entries.ensures, c.as_slice-2.ensures.value) at c.in_ok-text.ensures in
-    shown _ _ _ _ c.in_ok-bytes.ensures.whole made c.in_ok-plan.ensures.planned c.in_ok-plan.ensures.reached text (rw c.as_slice-4.ensures.value at c.in-Ok.ensures)
+    let text = rw (c.entries.ensures ∙ ap (λ (p : Planned). p.entries) c.in_ok-plan.ensures, c.as_slice-2.ensures.value) at c.in_ok-text.ensures in
+    shown _ _ _ _ c.in_ok-bytes.ensures.whole made c.in_ok-packed.ensures.planned c.in_ok-packed.ensures.reached text (rw c.as_slice-3.ensures.value at c.in-Ok.ensures)
 
 pub returns : goal.returns
 returns g c =
     let made = rw c.as_slice.ensures.value at c.in_ok-map.ensures.made in
-    let text = rw (c.as_slice-3.ensures.value ∙ c.in_ok-entries.ensures, c.as_slice-2.ensures.value) at c.in_ok-text.ensures in
-    shows.Shows.no_output _ _ _ _ c.in_ok-bytes.ensures.whole made c.in_ok-plan.ensures.planned c.in_ok-plan.ensures.reached text (rw c.as_slice-4.ensures.value at c.in-Err.ensures)
+    let text = rw (c.entries.ensures ∙ ap (λ (p : Planned). p.entries) c.in_ok-plan.ensures, c.as_slice-2.ensures.value) at c.in_ok-text.ensures in
+    shows.Shows.no_output _ _ _ _ c.in_ok-bytes.ensures.whole made c.in_ok-packed.ensures.planned c.in_ok-packed.ensures.reached text (rw c.as_slice-3.ensures.value at c.in-Err.ensures)

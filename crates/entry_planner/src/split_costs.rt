@@ -1,0 +1,53 @@
+//! What the split blocks of a tree cost, as a plan keeps it.
+
+ghost use Rattle.std.specs.Prelude.{◌≡◌, ◌+◌, ◌^◌, ◌<◌, All, length, reverse};
+ghost use Rattle.entry_planner.specs.Plans.{cost_in};
+
+use crate::packed_cost::PackedCost;
+use pmp_encoding::Perm;
+use std::marker::Model;
+
+/// What each split block of a tree costs. The blocks count from 0 in preorder: a block, then those of its lower half, then
+/// those of its upper half.
+#[derive(Drop)]
+pub struct SplitCosts {
+    /// The last in preorder comes first.
+    costs: Vec<PackedCost>,
+}
+
+impl Model for SplitCosts {
+    ghost use Rattle.std.specs.Prelude.{◌+◌, ◌^◌, ◌<◌, All, List, reverse};
+    ghost use Rattle.entry_planner.specs.declared.costs.SplitCost.{SplitCost};
+
+    ghost Value = { List SplitCost };
+
+    ghost view = { λ c. reverse c.costs.items };
+
+    ghost invariant = { λ c. All (λ d. d.least + 1 < 2 ^ 32) (reverse c.costs.items) };
+}
+
+impl SplitCosts {
+    /// These costs, the last in preorder first.
+    pub(crate) fn new(costs: Vec<PackedCost>) -> SplitCosts
+        requires { All (λ d. d.least + 1 < 2 ^ 32) (reverse costs.items) }
+        ensures { result ≡ reverse costs.items }
+    {
+        SplitCosts { costs }
+    }
+
+    /// How many split blocks there are.
+    pub fn branches(&self) -> usize
+        ensures { result ≡ length self.now }
+    {
+        self.costs.len()
+    }
+
+    /// What the i-th split block costs where it inherits a permission, as [`Plan::cost`](crate::Plan::cost) has it.
+    pub fn cost(&self, i: usize, perm: Perm) -> u32
+        requires { i < length self.now }
+        ensures { result ≡ cost_in self.now i perm }
+    {
+        let last = self.branches() - 1;
+        self.costs[last - i].cost().as_block().under(perm)
+    }
+}

@@ -1,0 +1,73 @@
+//! What is written of a plan, however it keeps its entries.
+
+ghost use Rattle.std.specs.Prelude.{◌≡◌, ◌<◌, length, slice_index_or};
+ghost use Rattle.pmp_encoding.specs.declared.region.Entry.{Entry};
+ghost use Rattle.entry_planner.specs.Plans.{Planned};
+ghost use Rattle.certificate_format.specs.Spelling.{pair_bytes};
+ghost use Rattle.plan_certificate.specs.Written.{entry_bytes};
+
+use byteorder::{ByteOrder, LittleEndian};
+use entry_planner::{PackedPlan, Plan, SplitCosts};
+
+/// A plan of which a certificate is written.
+pub(crate) trait WrittenPlan {
+    ghost planned: { Self → Planned };
+
+    /// How many entries there are.
+    fn count(&self) -> u32
+        ensures { result ≡ length (planned self.now).entries };
+
+    /// The bytes of the i-th entry.
+    fn pair(&self, i: usize) -> [u8; 9]
+        requires { i < length (planned self.now).entries }
+        ensures { (d : Entry) → result
+            ≡ entry_bytes (slice_index_or (planned self.now).entries i d) };
+
+    /// What its split blocks cost.
+    fn split_costs(&self) -> &SplitCosts
+        ensures { result.now ≡ (planned self.now).costs };
+}
+
+/// A configuration byte and an address register.
+#[tactic(auto, unfolding(crate::specs::Spelling::u64_bytes))]
+fn pair_piece(cfg: u8, address: u64) -> [u8; 9]
+    ensures { result ≡ pair_bytes (cfg, address) }
+{
+    let mut bytes = [cfg; 9];
+    LittleEndian::write_u64(&mut bytes[1..], address);
+    bytes
+}
+
+impl WrittenPlan for Plan {
+    ghost planned = { λ p. p };
+
+    fn count(&self) -> u32 {
+        self.needed()
+    }
+
+    fn pair(&self, i: usize) -> [u8; 9] {
+        let (cfg, address) = self.entries()[i].encode();
+        pair_piece(cfg, address)
+    }
+
+    fn split_costs(&self) -> &SplitCosts {
+        self.costs()
+    }
+}
+
+impl WrittenPlan for PackedPlan {
+    ghost planned = { λ p. p };
+
+    fn count(&self) -> u32 {
+        self.needed()
+    }
+
+    fn pair(&self, i: usize) -> [u8; 9] {
+        let (cfg, address) = self.entries()[i].encode();
+        pair_piece(cfg, address)
+    }
+
+    fn split_costs(&self) -> &SplitCosts {
+        self.costs()
+    }
+}
