@@ -201,7 +201,7 @@ IsRequest found request =
 
 -- no request for a sound task is the subcommand that was entered
 abbrev pub AreNone : Option (Text × List Row) → Type 0
-AreNone found = (request : Request) → IsRequest found request → ¬ IsSound request.task
+AreNone found = (request : Request) → IsRequest found request → ¬ IsSound request.task request.options
 
 -- the fault of what was entered: the first demand of the subcommand that its rows lack, or that there is no subcommand
 abbrev pub IsFaultIn : Option (Text × List Row) → Fault → Type 0

@@ -15,7 +15,7 @@ use std::alloc::Global;
 /// The request of the subcommand that was entered.
 fn request_in<'a>(matches: &ArgMatches<'a>) -> Result<Request<'a>, Fault<'a>>
     ensures request { IfOk result (IsRequest (subcommand_rows_of matches.now)) }
-    ensures sound { IfOk result (λ request. IsSound request.task) }
+    ensures sound { IfOk result (λ request. IsSound request.task request.options) }
     ensures refused { IfErr result (λ _. AreNone (subcommand_rows_of matches.now)) }
     ensures fault { IfErr result (IsFaultIn (subcommand_rows_of matches.now)) }
 {
@@ -25,14 +25,14 @@ fn request_in<'a>(matches: &ArgMatches<'a>) -> Result<Request<'a>, Fault<'a>>
     request_of(name, &Found::new(found))
 }
 
-/// The task that the words of a command line name, and when hints are told; the first word is the program's own.
+/// The task that the words of a command line name, and how it is done; the first word is the program's own.
 ///
 /// An error is a fault of the command line, out of memory, or a wish for help or the version: its `kind`
 /// says which, and its `Display` is the text for the user.
-pub fn command_of<'a>(alloc: Global, words: &'a [&'a str]) -> Result<Request<'a>, Error>
+pub fn request_of_words<'a>(alloc: Global, words: &'a [&'a str]) -> Result<Request<'a>, Error>
     ensures request { IfOk result (IsRequest (subcommand_of program_app
         (map (λ s. s.now) words.entry.now))) }
-    ensures sound { IfOk result (λ request. IsSound request.task) }
+    ensures sound { IfOk result (λ request. IsSound request.task request.options) }
     ensures taken { IfOk result (λ _. fault_of program_app (map (λ s. s.now) words.entry.now)
         ≡ []) }
     ensures refused { IfErr result (λ error.

@@ -4,7 +4,7 @@ use Rattle.byte_streams.specs.Writings.{Prints, Writing}
 use Rattle.enclave_table.specs.Boot.{IsBootFault}
 use Rattle.platforms.specs.Platform.{Layout}
 use Rattle.platforms.specs.declared.boot_fault.BootFault.TheVariants.{NeedsMoreEntries}
-use Rattle.program_tasks.specs.declared.task.Task.{Task}
+use Rattle.program_tasks.specs.declared.request.Request.{Request}
 use Rattle.program_troubles.specs.declared.trouble.Trouble.{Trouble}
 use Rattle.command_inputs.specs.Inputs.{IsUnread, Reading}
 use Rattle.lint_commands.specs.Lint.{Tells}
@@ -51,10 +51,10 @@ of_need file bytes name hint second platform is needs unread =
 
 -- hints that were written, whole or in part
 pub told_by :
-    {R E X Y : Type 0} (task : Task) (first second : Reading R) (err : Writing E) (hints : List ℕ) (printed : Result X Y) → HasTaskHints task first second (Some hints)
-    → Prints hints err printed → TellsHints task first second err
-told_by task first second err hints (Ok x) has whole = told hints has whole
-told_by task first second err hints (Err y) has broken = cut hints has broken
+    {R E X Y : Type 0} (request : Request) (first second : Reading R) (err : Writing E) (hints : List ℕ) (printed : Result X Y)
+    → HasTaskHints request.task request.options first second (Some hints) → Prints hints err printed → TellsHints request first second err
+told_by request first second err hints (Ok x) has whole = told hints has whole
+told_by request first second err hints (Err y) has broken = cut hints has broken
 
 -- hints of one input, where the other is not read
 pub and_unread :

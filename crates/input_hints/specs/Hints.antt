@@ -1,5 +1,6 @@
 -- What is said of the inputs of a task that ended for bad input: the lint of the first that is not what it should be.
 use Rattle.std.specs.Prelude.{◌≡◌, ℕ, if◌then◌else◌, Bool, true, false, List, [], ◌∷◌, ◌++◌, codes, Option, Some, None}
+use Rattle.std.specs.Borrow.{Bor}
 use Rattle.byte_streams.specs.Writings.{Breaks, IsUnwritten, TakesAll, Writing}
 use Rattle.text_lines.specs.Lines.{raw_lines}
 use Rattle.pmp_encoding.specs.Limits.{limit_number}
@@ -9,8 +10,10 @@ use Rattle.platforms.specs.declared.boot_fault.BootFault.TheVariants.{NeedsMoreE
 use Rattle.hart_sim.specs.declared.machine.Machine.{Machine}
 use Rattle.hart_sim.specs.After.{IsBooted}
 use Rattle.register_width.specs.declared.xlen.Xlen.{Xlen}
-use Rattle.program_tasks.specs.declared.task.LintKind.{LintKind}
-use Rattle.program_tasks.specs.declared.task.LintKind.TheVariants as kinds
+use Rattle.program_tasks.specs.declared.options.LintKind.{LintKind}
+use Rattle.program_tasks.specs.declared.options.LintKind.TheVariants as kinds
+use Rattle.program_tasks.specs.declared.options.Options.{Options}
+use Rattle.program_tasks.specs.declared.request.Request.{Request}
 use Rattle.program_tasks.specs.declared.task.Task.{Task}
 use Rattle.program_tasks.specs.declared.task.Task.TheVariants as tasks
 use Rattle.trace_lint.specs.declared.taker.Taker.TheVariants as takers
@@ -111,29 +114,32 @@ named_kind name = if names_platform name then files.Platform else files.Map
 
 -- the hints of `lint`, which itself speaks of what is wrong with its file: of a platform that is named with it, and that the file
 -- has more bytes than it may
-abbrev pub HasLintHints : {R : Type 0} → LintKind → List ℕ → Reading R → Reading R → Option (List ℕ) → Type 0
-HasLintHints kinds.ByName name first second hints = HasSizeHints (named_kind name) name first hints × IsUnread second
-HasLintHints kinds.Registers name first second hints = HasSizeHints files.Listing name first hints × IsUnread second
-HasLintHints (kinds.Trace None) name first second hints = HasSizeHints files.Trace name first hints × IsUnread second
-HasLintHints (kinds.Trace (Some platform)) name first second hints = InOrder (HasHints Platform platform.now second) (HasSizeHints files.Trace name first) first hints
+abbrev pub HasLintHints : {R : Type 0} → LintKind → Option (Bor (List ℕ)) → List ℕ → Reading R → Reading R → Option (List ℕ) → Type 0
+HasLintHints kinds.ByName platform name first second hints = HasSizeHints (named_kind name) name first hints × IsUnread second
+HasLintHints kinds.Registers platform name first second hints = HasSizeHints files.Listing name first hints × IsUnread second
+HasLintHints kinds.Trace None name first second hints = HasSizeHints files.Trace name first hints × IsUnread second
+HasLintHints kinds.Trace (Some platform) name first second hints = InOrder (HasHints Platform platform.now second) (HasSizeHints files.Trace name first) first hints
 
 -- the hints of a task: those of its first input that is not what it should be, or that is a map or a platform which needs more
 -- entries than it may. A certificate has none but of its size; a trace is for the harts of its platform in `run`, and otherwise for
 -- `judge`
-abbrev pub HasTaskHints : {R : Type 0} → Task → Reading R → Reading R → Option (List ℕ) → Type 0
-HasTaskHints (tasks.Run platform trace measure answers) first second hints = HasRunHints platform.now trace.now first second hints
-HasTaskHints (tasks.Plan map file limit at_most format name begin xlen) first second hints = HasMapHints map.now (plan_bounds limit begin at_most format) first hints × IsUnread second
-HasTaskHints (tasks.Judge map trace limit registers answers xlen) first second hints = InOrder (HasFileHints registers xlen map.now (bank_bounds limit) first) (HasHints (Trace takers.Judge) trace.now second) second hints
-HasTaskHints (tasks.Check map file) first second hints = InOrder (HasHints Map map.now first) (HasSizeHints files.Certificate file.now second) second hints
-HasTaskHints (tasks.Audit map registers all xlen) first second hints = InOrder (HasHints Map map.now first) (HasHints (Listing xlen) registers.now second) second hints
-HasTaskHints (tasks.Map registers xlen) first second hints = HasHints (Listing xlen) registers.now first hints × IsUnread second
-HasTaskHints (tasks.Lint file kind xlen) first second hints = HasLintHints kind file.now first second hints
-HasTaskHints (tasks.Show map limit at_most registers xlen format costs) first second hints = HasFileHints registers xlen map.now (table_bounds at_most) first hints × IsUnread second
+abbrev pub HasTaskHints : {R : Type 0} → Task → Options → Reading R → Reading R → Option (List ℕ) → Type 0
+HasTaskHints (tasks.Run platform trace measure) options first second hints = HasRunHints platform.now trace.now first second hints
+HasTaskHints (tasks.Plan map file limit) options first second hints =
+    HasMapHints map.now (plan_bounds limit options.first options.at_most options.format) first hints × IsUnread second
+HasTaskHints (tasks.Judge map trace limit) options first second hints =
+    InOrder (HasFileHints options.registers options.xlen map.now (bank_bounds limit) first) (HasHints (Trace takers.Judge) trace.now second) second hints
+HasTaskHints (tasks.Check map file) options first second hints = InOrder (HasHints Map map.now first) (HasSizeHints files.Certificate file.now second) second hints
+HasTaskHints (tasks.Audit map registers) options first second hints = InOrder (HasHints Map map.now first) (HasHints (Listing options.xlen) registers.now second) second hints
+HasTaskHints (tasks.Map registers) options first second hints = HasHints (Listing options.xlen) registers.now first hints × IsUnread second
+HasTaskHints (tasks.Lint file platform) options first second hints = HasLintHints options.kind platform file.now first second hints
+HasTaskHints (tasks.Show map limit) options first second hints =
+    HasFileHints options.registers options.xlen map.now (table_bounds options.at_most) first hints × IsUnread second
 
 -- standard error is told the hints of a task, whole or up to where the device fails; and nothing where it has none, or where an
 -- input could not be had or memory was refused
-pub data TellsHints {R E : Type 0} (task : Task) (first second : Reading R) (err : Writing E) : Type 0 where
-  told : (hints : List ℕ) → HasTaskHints task first second (Some hints) → TakesAll hints err → TellsHints task first second err
-  cut : (hints : List ℕ) → HasTaskHints task first second (Some hints) → Breaks hints err → TellsHints task first second err
-  none : HasTaskHints task first second None → IsUnwritten err → TellsHints task first second err
-  unknown : IsUnwritten err → TellsHints task first second err
+pub data TellsHints {R E : Type 0} (request : Request) (first second : Reading R) (err : Writing E) : Type 0 where
+  told : (hints : List ℕ) → HasTaskHints request.task request.options first second (Some hints) → TakesAll hints err → TellsHints request first second err
+  cut : (hints : List ℕ) → HasTaskHints request.task request.options first second (Some hints) → Breaks hints err → TellsHints request first second err
+  none : HasTaskHints request.task request.options first second None → IsUnwritten err → TellsHints request first second err
+  unknown : IsUnwritten err → TellsHints request first second err

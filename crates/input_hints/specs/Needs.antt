@@ -2,7 +2,7 @@
 use Rattle.std.specs.Prelude.{ℕ, ◌-◌, ◌==◌, nat_lt, if◌then◌else◌, List, ◌++◌, codes, decimal, Option, Some, None}
 use Rattle.pmp_encoding.specs.declared.limit.Limit.{Limit}
 use Rattle.pmp_encoding.specs.Limits.{limit_number}
-use Rattle.program_tasks.specs.declared.task.Format.{Format}
+use Rattle.program_tasks.specs.declared.options.Format.{Format}
 use Rattle.map_commands.specs.Plan.{most_entries}
 use Rattle.input_hints.specs.declared.needs.Bounds.{Bounds}
 

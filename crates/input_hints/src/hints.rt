@@ -17,7 +17,7 @@ use hart_sim::Machine;
 use lint_commands::names_platform;
 use map_commands::needed_by;
 use platforms::{BootFault, Platform};
-use program_tasks::{LintKind, Task};
+use program_tasks::{LintKind, Options, Request, Task};
 use program_troubles::Trouble;
 use register_width::Xlen;
 use std::alloc::{AllocError, Global};
@@ -223,83 +223,70 @@ fn hints_of_traced<'a, R: Source>(
 /// The hints of `lint`, which itself speaks of what is wrong with its file.
 fn hints_of_lint<'a, R: Source>(
     alloc: Global,
-    kind: LintKind<'a>,
+    kind: LintKind,
+    platform: Option<&'a str>,
     file: &'a str,
     first: &mut R,
     second: &mut R,
 ) -> Result<Option<Vec<u8>>, Trouble<'a>>
     ensures { let source = reading R.remaining R.failures in
-        IfOk result (λ hints. HasLintHints kind.entry file.entry.now (source first.old first.new)
-        (source second.old second.new) (option_map (λ text. text.items) hints)) }
+        IfOk result (λ hints. HasLintHints kind platform.entry file.entry.now
+        (source first.old first.new) (source second.old second.new)
+        (option_map (λ text. text.items) hints)) }
 {
-    match kind {
-        LintKind::ByName => size_hints(alloc, named_kind(file), file, first),
-        LintKind::Registers => size_hints(alloc, FileKind::Listing, file, first),
-        LintKind::Trace { platform: None } => size_hints(alloc, FileKind::Trace, file, first),
-        LintKind::Trace {
-            platform: Some(platform),
-        } => hints_of_traced(alloc, platform, file, first, second),
+    match (kind, platform) {
+        (LintKind::ByName, _) => size_hints(alloc, named_kind(file), file, first),
+        (LintKind::Registers, _) => size_hints(alloc, FileKind::Listing, file, first),
+        (LintKind::Trace, None) => size_hints(alloc, FileKind::Trace, file, first),
+        (LintKind::Trace, Some(platform)) => hints_of_traced(alloc, platform, file, first, second),
     }
 }
 
 /// The hints of a task.
 fn task_hints<'a, R: Source>(
     alloc: Global,
-    task: &Task<'a>,
+    request: &Request<'a>,
     first: &mut R,
     second: &mut R,
 ) -> Result<Option<Vec<u8>>, Trouble<'a>>
     ensures { let source = reading R.remaining R.failures in
-        IfOk result (λ hints. HasTaskHints task.now (source first.old first.new)
-        (source second.old second.new) (option_map (λ text. text.items) hints)) }
+        IfOk result (λ hints. HasTaskHints request.now.task request.now.options
+        (source first.old first.new) (source second.old second.new)
+        (option_map (λ text. text.items) hints)) }
 {
-    match *task {
+    let Options {
+        xlen,
+        registers: listed,
+        at_most,
+        ..
+    } = request.options;
+    match request.task {
         Task::Run {
             platform,
             trace,
             ..
         } => hints_of_run(alloc, platform, trace, first, second),
-        Task::Plan {
-            map,
-            limit,
-            at_most,
-            format,
-            first: begin,
-            ..
-        } => {
-            let bounds = plan_bounds(limit, begin, at_most, format);
+        Task::Plan { map, limit, .. } => {
+            let options = &request.options;
+            let bounds = plan_bounds(limit, options.first, at_most, options.format);
             hints_of_map(alloc, map, bounds, first)
         }
         Task::Check { map, cert } => hints_of_check(alloc, map, cert, first, second),
-        Task::Judge {
-            map,
-            trace,
-            limit,
-            registers,
-            xlen,
-            ..
-        } => {
+        Task::Judge { map, trace, limit } => {
             let bounds = bank_bounds(limit);
-            hints_of_judge(alloc, registers, xlen, map, bounds, trace, first, second)
+            hints_of_judge(alloc, listed, xlen, map, bounds, trace, first, second)
         }
-        Task::Audit {
-            map,
-            registers,
-            xlen,
-            ..
-        } => {
+        Task::Audit { map, registers } => {
             let listing = (Form::Listing { xlen }, registers);
             hints_in_order(alloc, (Form::Map, map), listing, first, second)
         }
-        Task::Map { registers, xlen } => hints_of(alloc, Form::Listing { xlen }, registers, first),
-        Task::Show {
-            map,
-            at_most,
-            registers,
-            xlen,
-            ..
-        } => hints_of_file(alloc, registers, xlen, map, table_bounds(at_most), first),
-        Task::Lint { file, kind, .. } => hints_of_lint(alloc, kind, file, first, second),
+        Task::Map { registers } => hints_of(alloc, Form::Listing { xlen }, registers, first),
+        Task::Show { map, .. } => {
+            hints_of_file(alloc, listed, xlen, map, table_bounds(at_most), first)
+        }
+        Task::Lint { file, platform } => {
+            hints_of_lint(alloc, request.options.kind, platform, file, first, second)
+        }
     }
 }
 
@@ -309,16 +296,16 @@ fn task_hints<'a, R: Source>(
 /// where one could not be had, or where memory is refused.
 pub fn tell_hints<R: Source, E: Sink>(
     alloc: Global,
-    task: &Task<'_>,
+    request: &Request<'_>,
     first: &mut R,
     second: &mut R,
     err: &mut E,
 )
     ensures { let source = reading R.remaining R.failures in
-        TellsHints task.now (source first.old first.new) (source second.old second.new)
+        TellsHints request.now (source first.old first.new) (source second.old second.new)
         (writing E.contents E.failures E.stalls err.old err.new) }
 {
-    let Ok(Some(hints)) = task_hints(alloc, task, first, second) else {
+    let Ok(Some(hints)) = task_hints(alloc, request, first, second) else {
         return;
     };
     let _ = write_whole(err, hints.as_slice());

@@ -9,7 +9,7 @@ use Rattle.pmp_encoding.specs.declared.limit.Limit.{Limit}
 use Rattle.pmp_encoding.specs.Limits.{limit_number}
 use Rattle.pmp_match.specs.Meaning.{View}
 use Rattle.register_width.specs.declared.xlen.Xlen.{Xlen}
-use Rattle.program_tasks.specs.declared.task.Format.TheVariants as formats
+use Rattle.program_tasks.specs.declared.options.Format.TheVariants as formats
 use Rattle.program_troubles.specs.declared.trouble.Trouble.TheVariants.{Memory}
 use Rattle.map_commands.specs.CertifiedPlan.{Placing, IsTooFar, IsUnplanned, IsUntouched, IsWithin, NeedsMore, beyond, starved, unreached}
 use Rattle.map_commands.specs.Plan.{most_entries}

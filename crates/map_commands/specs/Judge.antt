@@ -19,8 +19,8 @@ use Rattle.register_judge.specs.Answers.{by_registers}
 use Rattle.register_judge.specs.Deciders.{by_entry}
 use Rattle.register_judge.specs.Listings.{HasRules, IsRefused}
 use Rattle.register_text.specs.Listings.{IsFirstUnknown}
-use Rattle.program_tasks.specs.declared.task.Answers.{Answers}
-use Rattle.program_tasks.specs.declared.task.Answers.TheVariants as answers
+use Rattle.program_tasks.specs.declared.options.Answers.{Answers}
+use Rattle.program_tasks.specs.declared.options.Answers.TheVariants as answers
 use Rattle.program_troubles.specs.declared.trouble.Trouble.{Trouble}
 use Rattle.program_troubles.specs.declared.trouble.Trouble.TheVariants.{NotUnderstood, NeedsEntries, Output, Memory}
 use Rattle.expected_answers.specs.Comparisons.{ComparesAll}

@@ -13,8 +13,8 @@ use Rattle.register_width.specs.Widths.{AreReached}
 use Rattle.register_formats.specs.AsmTexts.{IsAsmText}
 use Rattle.register_formats.specs.CTexts.{IsCText}
 use Rattle.register_formats.specs.JsonTexts.{IsJsonText}
-use Rattle.program_tasks.specs.declared.task.Format.{Format}
-use Rattle.program_tasks.specs.declared.task.Format.TheVariants as formats
+use Rattle.program_tasks.specs.declared.options.Format.{Format}
+use Rattle.program_tasks.specs.declared.options.Format.TheVariants as formats
 use Rattle.program_troubles.specs.declared.trouble.Trouble.{Trouble}
 use Rattle.program_troubles.specs.declared.trouble.Trouble.TheVariants.{Output, Memory}
 use Rattle.command_inputs.specs.Inputs.{Reading, HasMap, HasNoMap}

@@ -15,8 +15,8 @@ use Rattle.table_formats.specs.Tables.{IsJsonTable, IsPicture}
 use Rattle.line_costs.specs.Costs.{IsCostText}
 use Rattle.register_table.specs.Tables.{IsRegisterTable}
 use Rattle.register_text.specs.Listings.{IsFirstUnknown}
-use Rattle.program_tasks.specs.declared.task.TableFormat.{TableFormat}
-use Rattle.program_tasks.specs.declared.task.TableFormat.TheVariants as tables
+use Rattle.program_tasks.specs.declared.options.TableFormat.{TableFormat}
+use Rattle.program_tasks.specs.declared.options.TableFormat.TheVariants as tables
 use Rattle.program_troubles.specs.declared.trouble.Trouble.{Trouble}
 use Rattle.program_troubles.specs.declared.trouble.Trouble.TheVariants.{NotUnderstood, Output, Memory}
 use Rattle.command_inputs.specs.Inputs.{Reading, HasBytes, HasNoBytes, HasMap, HasNoMap}

@@ -15,13 +15,12 @@ ghost use Rattle.byte_streams.specs.Writings.{writing, TakesAll};
 ghost use Rattle.register_width.specs.Widths.{AreReached};
 ghost use Rattle.map_commands.specs.CertifiedPlan.{placing, AreNeeded, IsBeyond, IsCertified, IsLoaded, IsNotPlaced, IsPlanned, IsTooFar, IsUnloaded, IsUnplanned, IsWithin, NeedsMore};
 
+use crate::certificate_sink::CertificateSink;
 use byte_streams::DeviceFault;
 use command_inputs::map_by;
 use entry_planner::{PackedPlan, plan_map};
 use permission_map::{Memory, PermissionMap};
-use plan_certificate::send_map;
 use pmp_encoding::{Bank, Limit, PackedEntry};
-use program_files::WholeSink;
 use program_troubles::Trouble;
 use register_width::Xlen;
 use std::alloc::Global;
@@ -140,10 +139,10 @@ pub fn planned_near<'a>(
     Ok(plan)
 }
 
-/// Writes the certificate of a map's plan and puts it in its place. (Out of line, so that a plan without one has no room for its pieces
-/// on the stack.)
+/// Puts the certificate of a map's plan in its place. (Out of line, so that a plan without one has no room for its pieces on the
+/// stack.)
 #[inline(never)]
-fn put<'a, C: WholeSink>(
+fn put<'a, M, C: CertificateSink<M>>(
     map: &PermissionMap,
     plan: &PackedPlan,
     limit: Limit,
@@ -160,10 +159,7 @@ fn put<'a, C: WholeSink>(
         × IsNotPlaced (certificate_for limit plan.now (tree_of (view_of_runs map.now)))
         (placing C.contents C.failures C.stalls C.stands C.is_apart sink.old sink.new)) }
 {
-    let Ok(()) = send_map(map, plan, limit, sink.inner()) else {
-        return Err(Trouble::CannotWrite { file });
-    };
-    match sink.put_in_place() {
+    match sink.take(map, plan, limit) {
         Ok(()) => Ok(()),
         Err(DeviceFault) => Err(Trouble::CannotWrite { file }),
     }
@@ -171,7 +167,7 @@ fn put<'a, C: WholeSink>(
 
 /// The fewest entries of a map, where they are within the bound and the hart's address registers reach them, whose
 /// certificate is put where a file for it is named.
-pub fn plan_and_certify<'a, C: WholeSink>(
+pub fn plan_and_certify<'a, M, C: CertificateSink<M>>(
     alloc: Global,
     name: &'a str,
     map: &PermissionMap,
@@ -197,7 +193,7 @@ pub fn plan_and_certify<'a, C: WholeSink>(
     let plan = plan_map(alloc, map)?;
     within(&plan, most)?;
     reached(&plan, xlen, name)?;
-    put(map, &plan, limit, file, sink)?;
+    put::<M, C>(map, &plan, limit, file, sink)?;
     Ok(plan)
 }
 

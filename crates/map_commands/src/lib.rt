@@ -4,7 +4,8 @@
 //! For the layer above: `do_plan`, `do_check`, `do_judge_as`, `do_show_as`, `do_audit` and `do_map` each do one command on the
 //! devices that are lent for it; the clause of each has a rule for each way in which it ends, with what was read and written in
 //! which order. [`planned`] answers the fewest entries of a map, [`plan_and_certify`] puts a certificate of them in its place, which
-//! the checker accepts, and [`bank_of`] answers the bank of a list that fits it.
+//! the checker accepts, and [`bank_of`] answers the bank of a list that fits it. A certificate goes to a [`CertificateSink`]: whole
+//! into a place, or straight into any sink.
 //!
 //! No command is inlined: the program that calls all of them would have the buffers of all on its stack, whatever it does.
 //!
@@ -13,10 +14,12 @@
 //! ```
 #![tactic(auto)]
 
+mod certificate_sink;
 mod certified_plan;
 mod commands;
 mod expected;
 
+pub use certificate_sink::{CertificateSink, Straight, Whole};
 pub use certified_plan::{bank_of, needed_by, plan_and_certify, planned};
 pub use commands::{
     Asked, Table, do_audit, do_check, do_judge_as, do_map, do_plan, do_show_as, most_entries,

@@ -11,6 +11,7 @@ use Rattle.program_files.specs.declared.devices.RetryInterrupted.{RetryInterrupt
 use Rattle.program_files.specs.declared.reason.Explained.{Explained}
 use Rattle.program_files.specs.declared.reason.Reason.{Reason}
 use Rattle.program_files.specs.Inputs.{remaining_of}
+use Rattle.program_tasks.specs.declared.request.Request.{Request}
 use Rattle.program_tasks.specs.declared.task.Task.{Task}
 use Rattle.program_troubles.specs.declared.trouble.Trouble.TheVariants as troubles
 use Rattle.program_troubles.specs.ReasonHints.{hint_text}
@@ -60,7 +61,7 @@ IsFirstFailure names of_first of_second of_cert of_out why =
     × (why ≡ option_or (option_or (option_or (failure_of first of_first) (failure_of second of_second)) (failure_of cert of_cert)) (failure_of out of_out))
 
 -- the hints of a task, on what its places read a second time
-pub record HintsOnFiles (R D : Type 0) {S F E : Type 0} (stdin : S) (source : Input R S F D → Input R S F D → Reading (Input R S F D)) (task shown : Task) (err : Writing E) : Type 0 where
+pub record HintsOnFiles (R D : Type 0) {S F E : Type 0} (stdin : S) (source : Input R S F D → Input R S F D → Reading (Input R S F D)) (task : Task) (shown : Request) (err : Writing E) : Type 0 where
   pub first : Input R S F D
   pub first_end : Input R S F D
   pub second : Input R S F D
@@ -77,9 +78,9 @@ pub data Follows (hints : Bool) (task : Task) (status : ℕ) (quiet hinted why :
 
 -- a task ended on its files with that status. It was done, under the names that messages show, on what its places read and on
 -- an output that held nothing yet; then what was held of that was handed on, and then hints were told
-pub record EndsOnFiles (R D P : Type 0) {S F O E : Type 0} (stdin : S) (source : Input R S F D → Input R S F D → Reading (Input R S F D)) (stdout : O) (contents : Explained (RetryInterrupted O) → Option (List ℕ)) (telling : E → E → Writing E) (task : Task) (names : ShownNames) (hints : Bool) (old new : E) (status : ℕ) : Type 0 where
+pub record EndsOnFiles (R D P : Type 0) {S F O E : Type 0} (stdin : S) (source : Input R S F D → Input R S F D → Reading (Input R S F D)) (stdout : O) (contents : Explained (RetryInterrupted O) → Option (List ℕ)) (telling : E → E → Writing E) (request : Request) (names : ShownNames) (hints : Bool) (old new : E) (status : ℕ) : Type 0 where
   -- what it had at its beginning, and what became of it
-  pub shown : Task
+  pub shown : Request
   pub first : Input R S F D
   pub first_end : Input R S F D
   pub second : Input R S F D
@@ -94,11 +95,11 @@ pub record EndsOnFiles (R D P : Type 0) {S F O E : Type 0} (stdin : S) (source :
   pub closing : E
   pub ended : ℕ
   pub why : Option (Bor (List ℕ) × Reason)
-  pub named : IsUnderNames names task shown
-  pub inputs : AreInputs stdin task first second
+  pub named : IsUnderNames names request shown
+  pub inputs : AreInputs stdin request.task first second
   pub fresh : (cert.part.failures ≡ 0) × (cert.part.reason ≡ None)
   pub opened : IsOpened stdout out
   pub ends : Ends shown (source first first_end) (source second second_end) (certificate_over cert cert_end) (writing (contents_of contents) failed_writes stalled_writes out held) (telling old told) ended
-  pub closed : IsClosed (contents_of contents held) (contents stream) (closing ≡ told) (Tells (telling told closing) (Err troubles.Output)) ended status
+  pub closed : IsClosed (held_in held) (contents (writer_of held)) (contents stream) (closing ≡ told) (Tells (telling told closing) (Err troubles.Output)) ended status
   pub why_is : IsFirstFailure names (reason_in first_end) (reason_in second_end) cert_end.part.reason stream.reason why
-  pub follows : Follows hints task status (new ≡ closing) (HintsOnFiles R D stdin source task shown (telling closing new)) (SaysWhy (telling closing new) why)
+  pub follows : Follows hints request.task status (new ≡ closing) (HintsOnFiles R D stdin source request.task shown (telling closing new)) (SaysWhy (telling closing new) why)

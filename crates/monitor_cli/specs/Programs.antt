@@ -1,11 +1,13 @@
 -- What a task comes to, and what is said of it.
-use Rattle.std.specs.Prelude.{◌≡◌, ℕ, List, Result, Ok, Err, option_map}
+use Rattle.std.specs.Prelude.{◌≡◌, ℕ, List, Option, Result, Ok, Err, option_map}
 use Rattle.std.specs.Borrow.{Bor}
 use Rattle.std.specs.Io.KnownBytes.{Appends}
 use Rattle.byte_streams.specs.Writings.{Breaks, IsUnwritten, Writing}
 use Rattle.register_width.specs.declared.xlen.Xlen.{Xlen}
-use Rattle.program_tasks.specs.declared.task.LintKind.{LintKind}
-use Rattle.program_tasks.specs.declared.task.LintKind.TheVariants as kinds
+use Rattle.program_tasks.specs.declared.options.LintKind.{LintKind}
+use Rattle.program_tasks.specs.declared.options.LintKind.TheVariants as kinds
+use Rattle.program_tasks.specs.declared.options.Options.{Options}
+use Rattle.program_tasks.specs.declared.request.Request.{Request}
 use Rattle.program_tasks.specs.declared.task.Task.{Task}
 use Rattle.program_tasks.specs.declared.task.Task.TheVariants as tasks
 use Rattle.program_troubles.specs.declared.trouble.Trouble.{Trouble}
@@ -22,22 +24,25 @@ use Rattle.map_commands.specs.Show.{ShowsAs}
 use Rattle.run_command.specs.Runs.{Runs}
 use Rattle.lint_commands.specs.Traces.{LintsTrace}
 
--- `lint`, by what the file should be; the width is that of the registers of a listing
-abbrev pub LintsAs : {R W : Type 0} → LintKind → Xlen → Bor (List ℕ) → Reading R → Reading R → Writing W → Result ℕ Trouble → Type 0
-LintsAs kinds.ByName xlen file first second out done = Lints file first out done × IsUnread second
-LintsAs kinds.Registers xlen file first second out done = LintsListing file xlen first out done × IsUnread second
-LintsAs (kinds.Trace platform) xlen file first second out done = LintsTrace file platform first second out done
+-- `lint`, by what the file should be; the width is that of the registers of a listing, and the platform is that of a trace
+abbrev pub LintsAs : {R W : Type 0} → LintKind → Xlen → Bor (List ℕ) → Option (Bor (List ℕ)) → Reading R → Reading R → Writing W → Result ℕ Trouble → Type 0
+LintsAs kinds.ByName xlen file platform first second out done = Lints file first out done × IsUnread second
+LintsAs kinds.Registers xlen file platform first second out done = LintsListing file xlen first out done × IsUnread second
+LintsAs kinds.Trace xlen file platform first second out done = LintsTrace file platform first second out done
 
--- what a task comes to: what its command does not use stays as it was
-abbrev pub Performs : {R C W : Type 0} → Task → Reading R → Reading R → Placing C → Writing W → Result ℕ Trouble → Type 0
-Performs (tasks.Run platform trace measure answers) first second cert out done = Runs answers platform trace measure first second out done × IsUntouched cert
-Performs (tasks.Plan map file limit at_most format name begin xlen) first second cert out done = Plans map file xlen limit at_most format (option_map (λ s. s.now) name) begin first cert out done × IsUnread second
-Performs (tasks.Judge file trace limit registers answers xlen) first second cert out done = JudgesAs registers answers file trace xlen limit first second out done × IsUntouched cert
-Performs (tasks.Check map file) first second cert out done = Checks map file first second out done × IsUntouched cert
-Performs (tasks.Audit map registers all xlen) first second cert out done = Audits map registers xlen all first second out done × IsUntouched cert
-Performs (tasks.Map registers xlen) first second cert out done = Maps registers xlen first out done × IsUnread second × IsUntouched cert
-Performs (tasks.Lint file kind xlen) first second cert out done = LintsAs kind xlen file first second out done × IsUntouched cert
-Performs (tasks.Show map limit at_most registers xlen format costs) first second cert out done = ShowsAs registers map xlen limit at_most format costs first out done × IsUnread second × IsUntouched cert
+-- what a task comes to with its options: what its command does not use stays as it was
+abbrev pub Performs : {R C W : Type 0} → Task → Options → Reading R → Reading R → Placing C → Writing W → Result ℕ Trouble → Type 0
+Performs (tasks.Run platform trace measure) options first second cert out done = Runs options.answers platform trace measure first second out done × IsUntouched cert
+Performs (tasks.Plan map file limit) options first second cert out done =
+    Plans map file options.xlen limit options.at_most options.format (option_map (λ s. s.now) options.name) options.first first cert out done × IsUnread second
+Performs (tasks.Judge file trace limit) options first second cert out done =
+    JudgesAs options.registers options.answers file trace options.xlen limit first second out done × IsUntouched cert
+Performs (tasks.Check map file) options first second cert out done = Checks map file first second out done × IsUntouched cert
+Performs (tasks.Audit map registers) options first second cert out done = Audits map registers options.xlen options.all first second out done × IsUntouched cert
+Performs (tasks.Map registers) options first second cert out done = Maps registers options.xlen first out done × IsUnread second × IsUntouched cert
+Performs (tasks.Lint file platform) options first second cert out done = LintsAs options.kind options.xlen file platform first second out done × IsUntouched cert
+Performs (tasks.Show map limit) options first second cert out done =
+    ShowsAs options.registers map options.xlen limit options.at_most options.table options.costs first out done × IsUnread second × IsUntouched cert
 
 -- what standard error is told: nothing where there is no trouble, otherwise its line, which breaks off only where the device does
 pub data Tells {E : Type 0} (err : Writing E) : Result ℕ Trouble → Type 0 where
@@ -47,8 +52,8 @@ pub data Tells {E : Type 0} (err : Writing E) : Result ℕ Trouble → Type 0 wh
 
 -- a task was done or came to trouble, which standard error is told of. The status is 0 where it was done, 1 where the checker,
 -- `audit` or `lint` refused, or registers have no table, mean no map or judge nothing, 2 for bad input, 3 for a device, 4 for memory, and it does not depend on standard error
-pub record Ends {R C W E : Type 0} (task : Task) (first second : Reading R) (cert : Placing C) (out : Writing W) (err : Writing E) (status : ℕ) : Type 0 where
+pub record Ends {R C W E : Type 0} (request : Request) (first second : Reading R) (cert : Placing C) (out : Writing W) (err : Writing E) (status : ℕ) : Type 0 where
   pub done : Result ℕ Trouble
-  pub performed : Performs task first second cert out done
+  pub performed : Performs request.task request.options first second cert out done
   pub told : Tells err done
   pub status_is : status ≡ status_of done

@@ -1,12 +1,15 @@
 //! The program's tasks, done on the files and streams that are lent for them.
 //!
-//! For the layer above: [`perform`] does a [`Task`] and answers the program's status: its clause has a rule for each way in
-//! which a command ends, with what was read and written in which order. [`perform_and_close`] does the same on an output that
-//! is held in part until its end, and [`perform_on_files`] on the task's own files: it opens what reads at its places, and says
-//! behind the end what helps. The commands, hints, tasks, the program's files, troubles, the texts of maps and platforms and the
+//! For the layer above: [`command_of`] answers the [`Task`] that the words of a command line name, and [`perform`] does it and
+//! answers the program's status: its clause has a rule for each way in which a command ends, with what was read and written in which
+//! order. A task alone is done with the options of a command line that names none; [`perform_request`] does a [`Request`], which
+//! has both, and lets a certificate stand in its place whole. [`perform_and_close`] does the same on an output that is held in
+//! part until its end, and [`perform_on_files`] on the task's own files: it opens what reads at its places, and says behind the end
+//! what helps. The commands, hints, tasks, the program's files, troubles, the texts of maps and platforms and the
 //! printed lines are crates of their own.
 //!
 //! ```rust
+//! let task = command_of(rt.alloc(), &["pmpmon", "plan", "map.txt"])?;
 //! let status = perform(rt.alloc(), &task, &mut first, &mut second, &mut cert, &mut out, &mut err);
 //! ```
 #![tactic(auto)]
@@ -14,11 +17,13 @@
 mod held_output;
 mod on_files;
 mod program;
+mod words;
 
 pub use held_output::{closed, perform_and_close};
 pub use on_files::{Lent, perform_on_files};
 pub use platform_file::{TextFault, platform_of};
 pub use printed_lines::digest_text;
-pub use program::perform;
-pub use program_tasks::Task;
+pub use program::{perform, perform_request};
+pub use program_tasks::{Options, Request, Task};
 pub use trace_judge::judge_trace;
+pub use words::command_of;

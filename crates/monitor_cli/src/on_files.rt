@@ -37,7 +37,7 @@ pub struct Lent<'a, R, S> {
 fn hint<'a, R: Files, S: Read + Copy, E: Sink>(
     lent: &Lent<'a, R, S>,
     task: &Task<'a>,
-    shown: &Task<'_>,
+    shown: &Request<'_>,
     err: &mut E,
 )
     ensures { HintsOnFiles R R.Dir lent.now.stdin (input_over R.File.remaining S.remaining) task.now
@@ -70,7 +70,7 @@ fn say_why<E: Sink>(failure: Failure<'_>, err: &mut E)
 fn follow<'a, R: Files, S: Read + Copy, E: Sink>(
     lent: &Lent<'a, R, S>,
     task: &Task<'a>,
-    shown: &Task<'_>,
+    shown: &Request<'_>,
     status: u8,
     hints: bool,
     why: Failure<'_>,
@@ -105,8 +105,8 @@ pub fn perform_on_files<'a, R: Files, S: Read + Copy, O: Write + Drop, E: Sink>(
 ) -> Result<u8, AllocError>
     ensures ends { IfOk result (EndsOnFiles R R.Dir (Bor R) lent.now.stdin
         (input_over R.File.remaining S.remaining) stdout (λ stream. O.contents stream.inner.inner)
-        (writing E.contents E.failures E.stalls) request.now.task names.now
-        (are_told request.now.hints is_terminal) err.old err.new) }
+        (writing E.contents E.failures E.stalls) request.now names.now
+        (are_told request.now.options.hints is_terminal) err.old err.new) }
     ensures untold { OnErr result (err.new ≡ err.old) }
 {
     let task = &request.task;
@@ -115,7 +115,7 @@ pub fn perform_on_files<'a, R: Files, S: Read + Copy, O: Write + Drop, E: Sink>(
     let mut cert = CertificateFile::new(lent.files, lent.alloc, cert)?;
     let out = Explained::new(RetryInterrupted::new(stdout));
     let out = HeldSink::new(lent.alloc, out)?;
-    let shown = with_names(task, names);
+    let shown = with_names(request, names);
     let (status, out) = perform_and_close(
         lent.alloc,
         &shown,
@@ -129,7 +129,7 @@ pub fn perform_on_files<'a, R: Files, S: Read + Copy, O: Write + Drop, E: Sink>(
         .or(failure(names.second(), second.into_inner().reason()))
         .or(failure(names.cert(), cert.reason()))
         .or(failure("standard output", out.reason()));
-    let hints = request.hints.are_told(is_terminal);
+    let hints = request.options.hints.are_told(is_terminal);
     follow(lent, task, &shown, status, hints, why, err);
     Ok(status)
 }

@@ -1,19 +1,22 @@
 //! A task, done on the files and streams that are lent for it.
 
-ghost use Rattle.std.specs.Prelude.{◌≡◌};
+ghost use Rattle.std.specs.Prelude.{◌≡◌, false};
 ghost use Rattle.byte_streams.specs.Writings.{writing};
 ghost use Rattle.map_commands.specs.CertifiedPlan.{placing};
 ghost use Rattle.command_inputs.specs.Inputs.{reading};
 ghost use Rattle.monitor_cli.specs.Programs.{Ends, LintsAs, Performs, Tells};
+ghost use Rattle.program_tasks.specs.Requests.{alone};
 ghost use Rattle.program_troubles.specs.Troubles.{status_of};
 
 use byte_streams::{Sink, Source};
 use lint_commands::{do_lint, do_lint_listing, do_lint_trace};
-use map_commands::{Asked, Table, do_audit, do_check, do_judge_as, do_map, do_plan, do_show_as};
+use map_commands::{
+    Asked, CertificateSink, Straight, Table, Whole, do_audit, do_check, do_judge_as, do_map,
+    do_plan, do_show_as,
+};
 use program_files::WholeSink;
-use program_tasks::{LintKind, Task};
+use program_tasks::{LintKind, Options, Request, Task};
 use program_troubles::Trouble;
-use register_width::Xlen;
 use run_command::do_run_as;
 use std::alloc::Global;
 
@@ -34,116 +37,131 @@ fn report<E: Sink>(done: Result<u8, Trouble<'_>>, err: &mut E) -> u8
 /// Lints a file, by what it should be.
 fn lint_as<'a, R: Source, W: Sink>(
     alloc: Global,
-    kind: LintKind<'a>,
-    xlen: Xlen,
+    options: &Options<'a>,
     file: &'a str,
+    platform: Option<&'a str>,
     first: &mut R,
     second: &mut R,
     out: &mut W,
 ) -> Result<u8, Trouble<'a>>
     ensures { let source = reading R.remaining R.failures in
-        LintsAs kind.entry xlen file.entry (source first.old first.new)
-        (source second.old second.new) (writing W.contents W.failures W.stalls out.old out.new)
-        result }
+        LintsAs options.now.kind options.now.xlen file.entry platform.entry
+        (source first.old first.new) (source second.old second.new)
+        (writing W.contents W.failures W.stalls out.old out.new) result }
 {
-    match kind {
+    match options.kind {
         LintKind::ByName => do_lint(alloc, file, first, out),
-        LintKind::Registers => do_lint_listing(alloc, file, xlen, first, out),
-        LintKind::Trace { platform } => do_lint_trace(alloc, file, platform, first, second, out),
+        LintKind::Registers => do_lint_listing(alloc, file, options.xlen, first, out),
+        LintKind::Trace => do_lint_trace(alloc, file, platform, first, second, out),
     }
 }
 
 /// Does a task's command.
-fn run_task<'a, R: Source, C: WholeSink, W: Sink>(
+fn run_task<'a, R: Source, M, C: CertificateSink<M>, W: Sink>(
     alloc: Global,
-    task: &Task<'a>,
+    request: &Request<'a>,
     first: &mut R,
     second: &mut R,
     cert: &mut C,
     out: &mut W,
 ) -> Result<u8, Trouble<'a>>
     ensures { let source = reading R.remaining R.failures in
-        Performs task.now (source first.old first.new) (source second.old second.new)
+        Performs request.now.task request.now.options (source first.old first.new)
+        (source second.old second.new)
         (placing C.contents C.failures C.stalls C.stands C.is_apart cert.old cert.new)
         (writing W.contents W.failures W.stalls out.old out.new) result }
 {
-    match task {
+    let options = &request.options;
+    let xlen = options.xlen;
+    match request.task {
         Task::Run {
             platform,
             trace,
             measure,
-            answers,
         } => do_run_as(
-            alloc, *answers, *platform, *trace, *measure, first, second, out,
+            alloc,
+            options.answers,
+            platform,
+            trace,
+            measure,
+            first,
+            second,
+            out,
         ),
         Task::Plan {
             map,
             cert: file,
             limit,
-            at_most,
-            format,
-            name,
-            first: begin,
-            xlen,
         } => {
             let asked = Asked {
-                cert: *file,
-                limit: *limit,
-                at_most: *at_most,
-                format: *format,
-                name: *name,
-                first: *begin,
-                xlen: *xlen,
+                cert: file,
+                limit,
+                at_most: options.at_most,
+                format: options.format,
+                name: options.name,
+                first: options.first,
+                xlen,
             };
-            do_plan(alloc, *map, asked, first, cert, out)
+            do_plan::<R, M, C, W>(alloc, map, asked, first, cert, out)
         }
-        Task::Judge {
+        Task::Judge { map, trace, limit } => do_judge_as(
+            alloc,
+            options.registers,
+            options.answers,
             map,
             trace,
-            limit,
-            registers,
-            answers,
             xlen,
-        } => do_judge_as(
-            alloc, *registers, *answers, *map, *trace, *xlen, *limit, first, second, out,
+            limit,
+            first,
+            second,
+            out,
         ),
-        Task::Check { map, cert } => do_check(alloc, *map, *cert, first, second, out),
-        Task::Audit {
-            map,
-            registers,
-            all,
-            xlen,
-        } => do_audit(alloc, *map, *registers, *xlen, *all, first, second, out),
-        Task::Map { registers, xlen } => do_map(alloc, *registers, *xlen, first, out),
-        Task::Lint { file, kind, xlen } => {
-            lint_as(alloc, *kind, *xlen, *file, first, second, out)
+        Task::Check { map, cert } => do_check(alloc, map, cert, first, second, out),
+        Task::Audit { map, registers } => {
+            do_audit(alloc, map, registers, xlen, options.all, first, second, out)
         }
-        Task::Show {
-            map,
-            limit,
-            at_most,
-            registers,
-            xlen,
-            format,
-            costs,
-        } => {
+        Task::Map { registers } => do_map(alloc, registers, xlen, first, out),
+        Task::Lint { file, platform } => {
+            lint_as(alloc, options, file, platform, first, second, out)
+        }
+        Task::Show { map, limit } => {
             let asked = Table {
-                xlen: *xlen,
-                limit: *limit,
-                at_most: *at_most,
-                format: *format,
-                costs: *costs,
+                xlen,
+                limit,
+                at_most: options.at_most,
+                format: options.table,
+                costs: options.costs,
             };
-            do_show_as(alloc, *registers, *map, asked, first, out)
+            do_show_as(alloc, options.registers, map, asked, first, out)
         }
     }
 }
 
-/// Does a task: reads its inputs, in their order, from `first` and `second`, writes a certificate to
-/// `cert`, what it prints to `out` and its one line of trouble to `err`, and answers the program's
-/// status: 0 done, 1 refused by the checker, by `audit` or by `lint`, 2 bad input, 3 a device failed, 4 memory. The status
-/// does not depend on `err`.
-pub fn perform<R: Source, C: WholeSink, W: Sink, E: Sink>(
+/// Does what is asked for, with a certificate as `M` says.
+fn perform_as<R: Source, M, C: CertificateSink<M>, W: Sink, E: Sink>(
+    alloc: Global,
+    request: &Request<'_>,
+    first: &mut R,
+    second: &mut R,
+    cert: &mut C,
+    out: &mut W,
+    err: &mut E,
+) -> u8
+    ensures { let source = reading R.remaining R.failures in
+        Ends request.now (source first.old first.new) (source second.old second.new)
+        (placing C.contents C.failures C.stalls C.stands C.is_apart cert.old cert.new)
+        (writing W.contents W.failures W.stalls out.old out.new)
+        (writing E.contents E.failures E.stalls err.old err.new) result }
+{
+    let done = run_task::<R, M, C, W>(alloc, request, first, second, cert, out);
+    report(done, err)
+}
+
+/// Does a task with the options of a command line that names none: reads its inputs, in their order, from `first` and `second`,
+/// writes a certificate straight to `cert`, what it prints to `out` and its one line of trouble to `err`, and answers the
+/// program's status: 0 done, 1 refused by the checker, by `audit` or by `lint`, 2 bad input, 3 a device failed, 4 memory. The
+/// status does not depend on `err`.
+pub fn perform<R: Source, C: Sink, W: Sink, E: Sink>(
     alloc: Global,
     task: &Task<'_>,
     first: &mut R,
@@ -153,11 +171,31 @@ pub fn perform<R: Source, C: WholeSink, W: Sink, E: Sink>(
     err: &mut E,
 ) -> u8
     ensures { let source = reading R.remaining R.failures in
-        Ends task.now (source first.old first.new) (source second.old second.new)
+        Ends (alone task.now) (source first.old first.new) (source second.old second.new)
+        (placing C.contents C.failures C.stalls C.contents false cert.old cert.new)
+        (writing W.contents W.failures W.stalls out.old out.new)
+        (writing E.contents E.failures E.stalls err.old err.new) result }
+{
+    let request = Request::alone(*task);
+    perform_as::<R, Straight, C, W, E>(alloc, &request, first, second, cert, out, err)
+}
+
+/// Does a task as [`perform`] does, with the options of a request. A certificate comes to stand in the place of `cert` whole, or not
+/// at all.
+pub fn perform_request<R: Source, C: WholeSink, W: Sink, E: Sink>(
+    alloc: Global,
+    request: &Request<'_>,
+    first: &mut R,
+    second: &mut R,
+    cert: &mut C,
+    out: &mut W,
+    err: &mut E,
+) -> u8
+    ensures { let source = reading R.remaining R.failures in
+        Ends request.now (source first.old first.new) (source second.old second.new)
         (placing C.contents C.failures C.stalls C.stands C.is_apart cert.old cert.new)
         (writing W.contents W.failures W.stalls out.old out.new)
         (writing E.contents E.failures E.stalls err.old err.new) result }
 {
-    let done = run_task(alloc, task, first, second, cert, out);
-    report(done, err)
+    perform_as::<R, Whole, C, W, E>(alloc, request, first, second, cert, out, err)
 }

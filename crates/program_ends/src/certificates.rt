@@ -10,6 +10,7 @@ use command_line::{no_certificate, takes_place};
 use program_files::{is_same_file, is_same_plain_file};
 use program_tasks::Task;
 use std::process::ExitCode;
+use task_files::{cert_of, files_of};
 
 /// Why a certificate is not written under that name; the list, or what is read, would be lost.
 fn misplaced(rt: &HostRuntime, cert: &str) -> Option<&'static str>
@@ -34,19 +35,15 @@ pub(crate) fn refused(rt: &HostRuntime, task: &Task<'_>) -> Option<ExitCode>
     ensures word { IsToStandardOutput (cert_of task.now) → result ≢ None }
     ensures others { cert_of task.now ≡ None → result ≡ None }
 {
-    let Task::Plan {
-        map,
-        cert: Some(cert),
-        ..
-    } = task
-    else {
+    let Some(cert) = cert_of(task) else {
         return None;
     };
-    if let Some(text) = misplaced(rt, *cert) {
+    if let Some(text) = misplaced(rt, cert) {
         return Some(faulted(rt, no_certificate(rt.alloc(), text)));
     }
-    if is_same_file(rt, *map, *cert) {
-        return Some(faulted(rt, takes_place(rt.alloc(), *map)));
+    let map = files_of(task).first;
+    if is_same_file(rt, map, cert) {
+        return Some(faulted(rt, takes_place(rt.alloc(), map)));
     }
     None
 }

@@ -9,7 +9,7 @@ ghost use Rattle.program_ends.specs.Ends.{IsStatusOf};
 use crate::troubles::stopped;
 use clap::Error;
 use clap::error::ErrorKind;
-use command_line::command_of;
+use command_line::request_of_words;
 use program_troubles::Trouble;
 use std::alloc::AllocError;
 use std::process::ExitCode;
@@ -53,7 +53,7 @@ pub(crate) fn refuse(rt: &HostRuntime, words: &[&str], error: &Error) -> ExitCod
     let Ok(texts) = texts_of(rt.alloc(), shown.as_slice()) else {
         return explained(rt, error);
     };
-    match command_of(rt.alloc(), texts.as_slice()) {
+    match request_of_words(rt.alloc(), texts.as_slice()) {
         Err(other) if other.kind() == error.kind() => explained(rt, &other),
         _ => explained(rt, error),
     }

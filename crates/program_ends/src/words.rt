@@ -8,7 +8,7 @@ ghost use Rattle.program_ends.specs.Ends.{IsRefused};
 
 use crate::faults::refuse;
 use crate::troubles::stopped;
-use command_line::command_of;
+use command_line::request_of_words;
 use program_tasks::Request;
 use program_troubles::Trouble;
 use std::alloc::AllocError;
@@ -67,7 +67,7 @@ pub fn request_in<'a>(rt: &HostRuntime, words: &'a [&'a str]) -> Result<Request<
         (map (λ s. s.now) words.entry.now))) }
     ensures refused { IfErr result (IsRefused (map (λ s. s.now) words.entry.now)) }
 {
-    match command_of(rt.alloc(), words) {
+    match request_of_words(rt.alloc(), words) {
         Ok(request) => Ok(request),
         Err(error) => Err(refuse(rt, words, &error)),
     }

@@ -5,7 +5,7 @@ use Rattle.pmp_encoding.specs.declared.limit.Limit.{Limit}
 use Rattle.register_width.specs.declared.xlen.Xlen.{Xlen}
 use Rattle.program_tasks.specs.declared.fault.Fault.{Fault}
 use Rattle.program_tasks.specs.declared.subcommand.Subcommand.TheVariants as subcommands
-use Rattle.program_tasks.specs.declared.task.Format.{Format}
+use Rattle.program_tasks.specs.declared.options.Format.{Format}
 use Rattle.program_tasks.specs.Faults.{Breaks, IsFirst, begins_inside, demands_of}
 use Rattle.program_tasks.specs.Subcommands.{Text}
 use Rattle.program_tasks.specs.Tasks.{Counts, format_word, is_identifier, limit_word, width_word}

@@ -5,10 +5,11 @@ use Rattle.std.specs.Str.{bytes_eq}
 use Rattle.program_tasks.specs.declared.fault.Fault.{Fault}
 use Rattle.program_tasks.specs.declared.subcommand.Subcommand.{Subcommand}
 use Rattle.program_tasks.specs.declared.subcommand.Subcommand.TheVariants as subcommands
-use Rattle.program_tasks.specs.declared.task.Answers.{Answers}
-use Rattle.program_tasks.specs.declared.task.Answers.TheVariants as answered
-use Rattle.program_tasks.specs.declared.task.LintKind.{LintKind}
-use Rattle.program_tasks.specs.declared.task.LintKind.TheVariants as kinds
+use Rattle.program_tasks.specs.declared.options.Answers.{Answers}
+use Rattle.program_tasks.specs.declared.options.Answers.TheVariants as answered
+use Rattle.program_tasks.specs.declared.options.LintKind.{LintKind}
+use Rattle.program_tasks.specs.declared.options.LintKind.TheVariants as kinds
+use Rattle.program_tasks.specs.declared.options.Options.{Options}
 use Rattle.program_tasks.specs.declared.task.Task.{Task}
 use Rattle.program_tasks.specs.declared.task.Task.TheVariants.{Run, Plan, Judge, Check, Show, Audit, Map, Lint}
 use Rattle.program_tasks.specs.Faults.{Demand, IsFirst, Lacks, demands_of}
@@ -63,12 +64,12 @@ one_answer_met flag answered.Compared has both = has.1 both.1
 one_kind_met : (value flag : Text → Option Text) (kind : LintKind) → HasKind value flag kind → IsGiven (flag (codes "registers")) × IsGiven (flag (codes "trace")) → ⊥
 one_kind_met value flag kinds.ByName has both = has.0 both.0
 one_kind_met value flag kinds.Registers has both = has.1 both.1
-one_kind_met value flag (kinds.Trace platform) has both = has.0 both.0
+one_kind_met value flag kinds.Trace has both = has.0 both.0
 
 of_trace_met : (value flag : Text → Option Text) (kind : LintKind) → HasKind value flag kind → (value (codes "platform") ≢ None) × (¬ IsGiven (flag (codes "trace"))) → ⊥
 of_trace_met value flag kinds.ByName has lacks = lacks.0 has.2
 of_trace_met value flag kinds.Registers has lacks = lacks.0 has.2
-of_trace_met value flag (kinds.Trace platform) has lacks = lacks.1 has.1
+of_trace_met value flag kinds.Trace has lacks = lacks.1 has.1
 
 pub named_well : (value : Option Text) (name : Option (Bor Text)) (word : Text) → value ≡ option_map (λ s. s.now) name → IfSome name (λ s. is_identifier s.now ≡ true) → value ≡ Some word → is_identifier word ≢ true → ⊥
 named_well value None word e well is bad = cc
@@ -78,9 +79,9 @@ not_both : (b : Bool) → b ≡ true → b ≡ false → ⊥
 not_both b e f = true≢false (sym e ∙ f)
 
 -- a sound task's values meet what its subcommand asks
-met : (value flag : Text → Option Text) (task : Task) → HasValues value flag task → IsSound task → AreMet value flag (demands_of (subcommand_of task))
-met value flag (Run platform trace measure answers) v sound = (given value _ _ v.0, (given value _ _ v.1, (one_answer_met flag answers v.3, tt)))
-met value flag (Plan map cert limit at_most format name first xlen) v sound = (
+met : (value flag : Text → Option Text) (task : Task) (options : Options) → HasValues value flag task options → IsSound task options → AreMet value flag (demands_of (subcommand_of task))
+met value flag (Run platform trace measure) options v sound = (given value _ _ v.0, (given value _ _ v.1, (one_answer_met flag options.answers v.3, tt)))
+met value flag (Plan map cert limit) options v sound = (
   given value _ _ v.0,
   (
     λ taken. sound.0 (sym v.1 ∙ taken ∙ v.0),
@@ -89,16 +90,16 @@ met value flag (Plan map cert limit at_most format name first xlen) v sound = (
       (
         λ lacks. lacks limit v.2,
         (
-          λ lacks. lacks at_most v.3,
+          λ lacks. lacks options.at_most v.3,
           (
             given value _ _ v.4,
             (
-              λ lacks. lacks format v.4,
+              λ lacks. lacks options.format v.4,
               (
                 given value _ _ v.7,
                 (
-                  λ lacks. lacks xlen v.7,
-                  (λ lacks. named_well _ name lacks.0 v.5 sound.1 lacks.1 lacks.2, (λ lacks. lacks first limit v.6 v.2 sound.2, tt)),
+                  λ lacks. lacks options.xlen v.7,
+                  (λ lacks. named_well _ options.name lacks.0 v.5 sound.1 lacks.1 lacks.2, (λ lacks. lacks options.first limit v.6 v.2 sound.2, tt)),
                 ),
               ),
             ),
@@ -108,7 +109,7 @@ met value flag (Plan map cert limit at_most format name first xlen) v sound = (
     ),
   ),
 )
-met value flag (Judge map trace limit registers answers xlen) v sound = (
+met value flag (Judge map trace limit) options v sound = (
   given value _ _ v.0,
   (
     given value _ _ v.1,
@@ -118,36 +119,36 @@ met value flag (Judge map trace limit registers answers xlen) v sound = (
         λ lacks. lacks limit v.2,
         (
           λ twice. sound (same _ _ (sym v.0 ∙ twice.0), same _ _ (sym v.1 ∙ twice.1)),
-          (given value _ _ v.5, (λ lacks. lacks xlen v.5, (one_answer_met flag answers v.4, tt))),
+          (given value _ _ v.5, (λ lacks. lacks options.xlen v.5, (one_answer_met flag options.answers v.4, tt))),
         ),
       ),
     ),
   ),
 )
-met value flag (Check map cert) v sound = (given value _ _ v.0, (given value _ _ v.1, tt))
-met value flag (Show map limit at_most registers xlen format costs) v sound = (
+met value flag (Check map cert) options v sound = (given value _ _ v.0, (given value _ _ v.1, tt))
+met value flag (Show map limit) options v sound = (
   given value _ _ v.0,
   (
     given value _ _ v.1,
     (
       λ lacks. lacks limit v.1,
       (
-        λ lacks. lacks at_most v.2,
+        λ lacks. lacks options.at_most v.2,
         (
           given value _ _ v.4,
           (
-            λ lacks. lacks xlen v.4,
+            λ lacks. lacks options.xlen v.4,
             (
               given value _ _ v.5,
               (
-                λ lacks. lacks format v.5,
+                λ lacks. lacks options.table v.5,
                 (
                   λ lacks. lacks.1 (v.5 ∙ ap (λ f. Some (table_format_word f)) (sound.0 (v.3.1 lacks.0))),
                   (
                     λ lacks.
                         let plain = sound.1 (v.6.1 lacks.0) in
                         elim lacks.1 [
-                          | inl listed ↦ not_both registers (v.3.1 listed) plain.0
+                          | inl listed ↦ not_both options.registers (v.3.1 listed) plain.0
                           | inr other ↦ other (v.5 ∙ ap (λ f. Some (table_format_word f)) plain.1)
                         ],
                     tt,
@@ -161,21 +162,21 @@ met value flag (Show map limit at_most registers xlen format costs) v sound = (
     ),
   ),
 )
-met value flag (Audit map registers all xlen) v sound = (
+met value flag (Audit map registers) options v sound = (
   given value _ _ v.0,
   (
     given value _ _ v.1,
-    (λ twice. sound (same _ _ (sym v.0 ∙ twice.0), same _ _ (sym v.1 ∙ twice.1)), (given value _ _ v.3, (λ lacks. lacks xlen v.3, tt))),
+    (λ twice. sound (same _ _ (sym v.0 ∙ twice.0), same _ _ (sym v.1 ∙ twice.1)), (given value _ _ v.3, (λ lacks. lacks options.xlen v.3, tt))),
   ),
 )
-met value flag (Map registers xlen) v sound = (given value _ _ v.0, (given value _ _ v.1, (λ lacks. lacks xlen v.1, tt)))
-met value flag (Lint file kind xlen) v sound = (
+met value flag (Map registers) options v sound = (given value _ _ v.0, (given value _ _ v.1, (λ lacks. lacks options.xlen v.1, tt)))
+met value flag (Lint file platform) options v sound = (
   given value _ _ v.0,
-  (one_kind_met value flag kind v.1, (of_trace_met value flag kind v.1, (given value _ _ v.2, (λ lacks. lacks xlen v.2, tt)))),
+  (one_kind_met value flag options.kind v.1, (of_trace_met value flag options.kind v.1, (given value _ _ v.2, (λ lacks. lacks options.xlen v.2, tt)))),
 )
 
 -- no sound task is a subcommand with values that lack one of its demands
 pub none_of : (subcommand : Subcommand) (value flag : Text → Option Text) (fault : Fault) → IsFirst value flag (demands_of subcommand) fault → NamesNone (subcommand_word subcommand) value flag
-none_of subcommand value flag fault first task e v sound =
+none_of subcommand value flag fault first task options e v sound =
     let asked = ap demands_of (same_subcommand (subcommand_of task) subcommand e) in
-    met_all value flag (demands_of subcommand) fault (subst (AreMet value flag) asked (met value flag task v sound)) first
+    met_all value flag (demands_of subcommand) fault (subst (AreMet value flag) asked (met value flag task options v sound)) first

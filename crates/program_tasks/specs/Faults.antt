@@ -5,8 +5,8 @@ use Rattle.pmp_encoding.specs.Limits.{limit_number}
 use Rattle.register_width.specs.declared.xlen.Xlen.{Xlen}
 use Rattle.program_tasks.specs.declared.fault.Fault.{Fault}
 use Rattle.program_tasks.specs.declared.fault.Fault.TheVariants as faults
-use Rattle.program_tasks.specs.declared.task.Format.{Format}
-use Rattle.program_tasks.specs.declared.task.TableFormat.{TableFormat}
+use Rattle.program_tasks.specs.declared.options.Format.{Format}
+use Rattle.program_tasks.specs.declared.options.TableFormat.{TableFormat}
 use Rattle.program_tasks.specs.declared.hints.Hints.{Hints}
 use Rattle.program_tasks.specs.declared.subcommand.Subcommand.{Subcommand}
 use Rattle.program_tasks.specs.declared.subcommand.Subcommand.TheVariants as subcommands

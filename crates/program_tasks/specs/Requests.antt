@@ -1,20 +1,26 @@
--- What a command line asks for: a task, and when hints are told.
+-- What a command line asks for: a task, and how it is done.
 use Rattle.std.specs.Prelude.{[], ◌∷◌, Option, Some, codes, ◌≡◌}
 use Rattle.program_tasks.specs.declared.fault.Fault.{Fault}
 use Rattle.program_tasks.specs.declared.hints.Hints.{Hints}
 use Rattle.program_tasks.specs.declared.request.Request.{Request}
+use Rattle.program_tasks.specs.declared.task.Task.{Task}
 use Rattle.program_tasks.specs.Faults.{IsFaultOf, IsFirst, has, names_hints}
 use Rattle.program_tasks.specs.Hints.{hints_word}
+use Rattle.program_tasks.specs.Options.{default_options}
 use Rattle.program_tasks.specs.Subcommands.{Text, word_of}
 use Rattle.program_tasks.specs.Tasks.{HasValues, IsSound}
 
--- the request has these values: those of its task, and the word of `--hints`
+-- a task with the options of a command line that names none
+abbrev pub alone : Task → Request
+alone task = record { task = task; options = default_options }
+
+-- the request has these values: those of its task and its options, the word of `--hints` among them
 abbrev pub HasRequest : (Text → Option Text) → (Text → Option Text) → Request → Type 0
-HasRequest value flag request = HasValues value flag request.task × (value (codes "hints") ≡ Some (hints_word request.hints))
+HasRequest value flag request = HasValues value flag request.task request.options × (value (codes "hints") ≡ Some (hints_word request.options.hints))
 
 -- no request for a sound task is that subcommand with these values
 abbrev pub NamesNoRequest : Text → (Text → Option Text) → (Text → Option Text) → Type 0
-NamesNoRequest name value flag = (request : Request) → word_of request.task ≡ name → HasRequest value flag request → ¬ IsSound request.task
+NamesNoRequest name value flag = (request : Request) → word_of request.task ≡ name → HasRequest value flag request → ¬ IsSound request.task request.options
 
 -- the fault of a subcommand's values: `--hints` is looked at first, and then what its task asks
 pub data IsFaultOfRequest (name : Text) (value flag : Text → Option Text) (fault : Fault) : Type 0 where

@@ -26,14 +26,14 @@ usage_words subcommand = codes "pmpmon " ++ subcommand_word subcommand
 
 -- the subcommand that a task is
 abbrev pub subcommand_of : Task → Subcommand
-subcommand_of (Run platform trace measure answers) = subcommands.Run
-subcommand_of (Plan map cert limit at_most format name first xlen) = subcommands.Plan
-subcommand_of (Judge map trace limit registers answers xlen) = subcommands.Judge
+subcommand_of (Run platform trace measure) = subcommands.Run
+subcommand_of (Plan map cert limit) = subcommands.Plan
+subcommand_of (Judge map trace limit) = subcommands.Judge
 subcommand_of (Check map cert) = subcommands.Check
-subcommand_of (Show map limit at_most registers xlen format costs) = subcommands.Show
-subcommand_of (Audit map registers all xlen) = subcommands.Audit
-subcommand_of (Map registers xlen) = subcommands.Map
-subcommand_of (Lint file kind xlen) = subcommands.Lint
+subcommand_of (Show map limit) = subcommands.Show
+subcommand_of (Audit map registers) = subcommands.Audit
+subcommand_of (Map registers) = subcommands.Map
+subcommand_of (Lint file platform) = subcommands.Lint
 
 -- its word
 abbrev pub word_of : Task → Text

@@ -7,14 +7,17 @@ use Rattle.pmp_encoding.specs.Limits.{limit_number}
 use Rattle.register_width.specs.declared.xlen.Xlen.{Xlen}
 use Rattle.register_width.specs.declared.xlen.Xlen.TheVariants.{Rv32, Rv64}
 use Rattle.text_lines.specs.Numbers.{number_of}
-use Rattle.program_tasks.specs.declared.task.Format.{Format}
-use Rattle.program_tasks.specs.declared.task.Format.TheVariants as formats
-use Rattle.program_tasks.specs.declared.task.TableFormat.{TableFormat}
-use Rattle.program_tasks.specs.declared.task.TableFormat.TheVariants as tables
-use Rattle.program_tasks.specs.declared.task.Answers.{Answers}
-use Rattle.program_tasks.specs.declared.task.Answers.TheVariants as answers
-use Rattle.program_tasks.specs.declared.task.LintKind.{LintKind}
-use Rattle.program_tasks.specs.declared.task.LintKind.TheVariants as kinds
+use Rattle.program_tasks.specs.declared.options.Format.{Format}
+use Rattle.program_tasks.specs.declared.options.Format.TheVariants as formats
+use Rattle.program_tasks.specs.declared.options.TableFormat.{TableFormat}
+use Rattle.program_tasks.specs.declared.options.TableFormat.TheVariants as tables
+use Rattle.program_tasks.specs.declared.options.Answers.{Answers}
+use Rattle.program_tasks.specs.declared.options.Answers.TheVariants as answers
+use Rattle.program_tasks.specs.declared.options.LintKind.{LintKind}
+use Rattle.program_tasks.specs.declared.options.LintKind.TheVariants as kinds
+use Rattle.program_tasks.specs.declared.options.Options.{Options}
+use Rattle.program_tasks.specs.declared.hints.Hints.{Hints}
+use Rattle.program_tasks.specs.declared.request.Request.{Request}
 use Rattle.program_tasks.specs.declared.subcommand.Subcommand.{Subcommand}
 use Rattle.program_tasks.specs.declared.task.Task.{Task}
 use Rattle.program_tasks.specs.declared.task.Task.TheVariants.{Run, Plan, Judge, Check, Show, Audit, Map, Lint}
@@ -61,12 +64,12 @@ IsGiven text = text ≡ Some (codes "true")
 abbrev pub IsFlag : Option Text → Bool → Type 0
 IsFlag text given = (given ≡ true) ↔ IsGiven text
 
--- what a file that is linted should be, by the flags: what its name says where none of them is given. A platform is named for a trace alone
+-- what a file that is linted should be, by the flags: what its name says where none of them is given. A platform is named for a trace
+-- alone
 abbrev pub HasKind : (Text → Option Text) → (Text → Option Text) → LintKind → Type 0
 HasKind value flag kinds.ByName = (¬ IsGiven (flag (codes "registers"))) × (¬ IsGiven (flag (codes "trace"))) × (value (codes "platform") ≡ None)
 HasKind value flag kinds.Registers = IsGiven (flag (codes "registers")) × (¬ IsGiven (flag (codes "trace"))) × (value (codes "platform") ≡ None)
-HasKind value flag (kinds.Trace platform) =
-    (¬ IsGiven (flag (codes "registers"))) × IsGiven (flag (codes "trace")) × (value (codes "platform") ≡ option_map (λ s. s.now) platform)
+HasKind value flag kinds.Trace = (¬ IsGiven (flag (codes "registers"))) × IsGiven (flag (codes "trace"))
 
 -- what is written of the answers to a trace, by the flags: they are explained, or compared with those that are expected, or neither
 abbrev pub HasAnswers : (Text → Option Text) → Answers → Type 0
@@ -87,52 +90,53 @@ abbrev pub is_identifier : Text → Bool
 is_identifier [] = false
 is_identifier (first ∷ rest) = is_letter first && list_all is_letter_or_digit rest && nat_lt (length rest) 32
 
--- the task has these values: of its arguments and of its flags, by their names
-abbrev pub HasValues : (Text → Option Text) → (Text → Option Text) → Task → Type 0
-HasValues value flag (Run platform trace measure answers) =
+-- the task and its options have these values: of the subcommand's arguments and of its flags, by their names
+abbrev pub HasValues : (Text → Option Text) → (Text → Option Text) → Task → Options → Type 0
+HasValues value flag (Run platform trace measure) options =
     (value (codes "PLATFORM") ≡ Some platform.now)
     × (value (codes "TRACE") ≡ Some trace.now)
     × IsFlag (flag (codes "measure")) measure
-    × HasAnswers flag answers
-HasValues value flag (Plan map cert limit at_most format name first xlen) =
+    × HasAnswers flag options.answers
+HasValues value flag (Plan map cert limit) options =
     (value (codes "MAP") ≡ Some map.now)
     × (value (codes "CERT") ≡ option_map (λ s. s.now) cert)
     × (value (codes "entries") ≡ Some (limit_word limit))
-    × Counts (value (codes "at-most")) at_most
-    × (value (codes "format") ≡ Some (format_word format))
-    × (value (codes "name") ≡ option_map (λ s. s.now) name)
-    × BeginsAt (value (codes "first")) first
-    × (value (codes "xlen") ≡ Some (width_word xlen))
-HasValues value flag (Judge map trace limit registers answers xlen) =
+    × Counts (value (codes "at-most")) options.at_most
+    × (value (codes "format") ≡ Some (format_word options.format))
+    × (value (codes "name") ≡ option_map (λ s. s.now) options.name)
+    × BeginsAt (value (codes "first")) options.first
+    × (value (codes "xlen") ≡ Some (width_word options.xlen))
+HasValues value flag (Judge map trace limit) options =
     (value (codes "MAP") ≡ Some map.now)
     × (value (codes "TRACE") ≡ Some trace.now)
     × (value (codes "entries") ≡ Some (limit_word limit))
-    × IsFlag (flag (codes "registers")) registers
-    × HasAnswers flag answers
-    × (value (codes "xlen") ≡ Some (width_word xlen))
-HasValues value flag (Check map cert) =
+    × IsFlag (flag (codes "registers")) options.registers
+    × HasAnswers flag options.answers
+    × (value (codes "xlen") ≡ Some (width_word options.xlen))
+HasValues value flag (Check map cert) options =
     (value (codes "MAP") ≡ Some map.now)
     × (value (codes "CERT") ≡ Some cert.now)
-HasValues value flag (Show map limit at_most registers xlen format costs) =
+HasValues value flag (Show map limit) options =
     (value (codes "MAP") ≡ Some map.now)
     × (value (codes "entries") ≡ Some (limit_word limit))
-    × Counts (value (codes "at-most")) at_most
-    × IsFlag (flag (codes "registers")) registers
-    × (value (codes "xlen") ≡ Some (width_word xlen))
-    × (value (codes "format") ≡ Some (table_format_word format))
-    × IsFlag (flag (codes "costs")) costs
-HasValues value flag (Audit map registers all xlen) =
+    × Counts (value (codes "at-most")) options.at_most
+    × IsFlag (flag (codes "registers")) options.registers
+    × (value (codes "xlen") ≡ Some (width_word options.xlen))
+    × (value (codes "format") ≡ Some (table_format_word options.table))
+    × IsFlag (flag (codes "costs")) options.costs
+HasValues value flag (Audit map registers) options =
     (value (codes "MAP") ≡ Some map.now)
     × (value (codes "REGISTERS") ≡ Some registers.now)
-    × IsFlag (flag (codes "all")) all
-    × (value (codes "xlen") ≡ Some (width_word xlen))
-HasValues value flag (Map registers xlen) =
+    × IsFlag (flag (codes "all")) options.all
+    × (value (codes "xlen") ≡ Some (width_word options.xlen))
+HasValues value flag (Map registers) options =
     (value (codes "REGISTERS") ≡ Some registers.now)
-    × (value (codes "xlen") ≡ Some (width_word xlen))
-HasValues value flag (Lint file kind xlen) =
+    × (value (codes "xlen") ≡ Some (width_word options.xlen))
+HasValues value flag (Lint file platform) options =
     (value (codes "FILE") ≡ Some file.now)
-    × HasKind value flag kind
-    × (value (codes "xlen") ≡ Some (width_word xlen))
+    × HasKind value flag options.kind
+    × (value (codes "xlen") ≡ Some (width_word options.xlen))
+    × (value (codes "platform") ≡ option_map (λ s. s.now) platform)
 
 -- a word that standard input stands for
 abbrev pub input_word : Text
@@ -149,22 +153,23 @@ IsOfText registers format costs = costs ≡ true → (registers ≡ false) × (f
 -- standard input is not both a map and the trace or the registers beside it. A certificate does not take the place of its map. The
 -- name of a plan is an identifier, and its first entry is one that such a hart has. Registers have a table as text alone, and costs
 -- stand in the text of a map's table alone
-abbrev pub IsSound : Task → Type 0
-IsSound (Plan map cert limit at_most format name first xlen) =
+abbrev pub IsSound : Task → Options → Type 0
+IsSound (Plan map cert limit) options =
     (option_map (λ s. s.now) cert ≢ Some map.now)
-    × IfSome name (λ s. is_identifier s.now ≡ true)
-    × (first < limit_number limit)
-IsSound (Judge map trace limit registers answers xlen) = ¬ ((map.now ≡ input_word) × (trace.now ≡ input_word))
-IsSound (Audit map registers all xlen) = ¬ ((map.now ≡ input_word) × (registers.now ≡ input_word))
-IsSound (Show map limit at_most registers xlen format costs) = IsOfMap registers format × IsOfText registers format costs
-IsSound task = Unit {0}
+    × IfSome options.name (λ s. is_identifier s.now ≡ true)
+    × (options.first < limit_number limit)
+IsSound (Judge map trace limit) options = ¬ ((map.now ≡ input_word) × (trace.now ≡ input_word))
+IsSound (Audit map registers) options = ¬ ((map.now ≡ input_word) × (registers.now ≡ input_word))
+IsSound (Show map limit) options = IsOfMap options.registers options.table × IsOfText options.registers options.table options.costs
+IsSound task options = Unit {0}
 
 -- no sound task is that subcommand with these values
 abbrev pub NamesNone : Text → (Text → Option Text) → (Text → Option Text) → Type 0
-NamesNone name value flag = (task : Task) → word_of task ≡ name → HasValues value flag task → ¬ IsSound task
+NamesNone name value flag = (task : Task) (options : Options) → word_of task ≡ name → HasValues value flag task options → ¬ IsSound task options
 
--- a sound task is that subcommand with these values
-pub record IsTaskOf (subcommand : Subcommand) (value flag : Text → Option Text) (task : Task) : Type 0 where
-  pub named : subcommand_of task ≡ subcommand
-  pub values : HasValues value flag task
-  pub sound : IsSound task
+-- a request for a sound task is that subcommand with these values, and hints are told so
+pub record IsRequestOf (subcommand : Subcommand) (hints : Hints) (value flag : Text → Option Text) (request : Request) : Type 0 where
+  pub named : subcommand_of request.task ≡ subcommand
+  pub values : HasValues value flag request.task request.options
+  pub sound : IsSound request.task request.options
+  pub told : request.options.hints ≡ hints

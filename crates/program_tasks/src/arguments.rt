@@ -6,15 +6,15 @@ ghost use Rattle.pmp_encoding.specs.declared.limit.Limit.{Limit};
 ghost use Rattle.pmp_encoding.specs.Limits.{limit_number};
 ghost use Rattle.register_width.specs.declared.xlen.Xlen.{Xlen};
 ghost use Rattle.text_lines.specs.Numbers.{number_of};
-ghost use Rattle.program_tasks.specs.declared.task.Format.{Format};
-ghost use Rattle.program_tasks.specs.declared.task.TableFormat.{TableFormat};
+ghost use Rattle.program_tasks.specs.declared.options.Format.{Format};
+ghost use Rattle.program_tasks.specs.declared.options.TableFormat.{TableFormat};
 ghost use Rattle.program_tasks.specs.Faults.{Breaks, IsFirst};
 ghost use Rattle.program_tasks.specs.Faults.Demand.{begins_inside, counts, has, identifies, names_limit, names_format, names_table_format, names_width};
 ghost use Rattle.program_tasks.specs.Tasks.{limit_word, format_word, table_format_word, width_word, is_identifier, is_letter, is_letter_or_digit, BeginsAt, Counts};
 
 use crate::fault::Fault;
 use crate::given::Values;
-use crate::task::{Format, TableFormat};
+use crate::options::{Format, TableFormat};
 use pmp_encoding::Limit;
 use register_width::Xlen;
 use text_lines::number;

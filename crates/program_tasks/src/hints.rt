@@ -11,7 +11,7 @@ use crate::fault::Fault;
 use crate::given::Values;
 
 /// When hints are told.
-#[derive(Clone, Copy)]
+#[derive(Clone, Copy, PartialEq, Eq)]
 pub enum Hints {
     /// Where standard error is a terminal.
     Auto,

@@ -5,56 +5,6 @@ ghost use Rattle.program_tasks.specs.Subcommands.{subcommand_of};
 
 use crate::subcommand::Subcommand;
 use pmp_encoding::Limit;
-use register_width::Xlen;
-
-/// How a plan is printed.
-#[derive(Clone, Copy, PartialEq, Eq)]
-pub enum Format {
-    /// A line for each entry, and the configuration words after them.
-    Text,
-    /// Arrays of C.
-    C,
-    /// RISC-V assembly that loads the registers.
-    Asm,
-    /// One JSON object.
-    Json,
-}
-
-/// How a table is printed.
-#[derive(Clone, Copy, PartialEq, Eq)]
-pub enum TableFormat {
-    /// A row for each stretch.
-    Text,
-    /// A picture.
-    Svg,
-    /// One JSON object.
-    Json,
-}
-
-/// What is written of the answers to a trace.
-#[derive(Clone, Copy, PartialEq, Eq)]
-pub enum Answers {
-    /// The answers alone.
-    Plain,
-    /// The answers, and behind each what decided it or what happened.
-    Explained,
-    /// The answers, compared with those that the comments of the trace say.
-    Compared,
-}
-
-/// What a file that is linted should be.
-#[derive(Clone, Copy, PartialEq, Eq)]
-pub enum LintKind<'a> {
-    /// What its name says: a platform where it ends in `.toml`, otherwise a map.
-    ByName,
-    /// A listing of registers.
-    Registers,
-    /// A trace.
-    Trace {
-        /// The platform file that tells how many harts it is for.
-        platform: Option<&'a str>,
-    },
-}
 
 /// One command of the program. The names of files are the words that were given.
 #[derive(Clone, Copy, PartialEq, Eq)]
@@ -67,8 +17,6 @@ pub enum Task<'a> {
         trace: &'a str,
         /// Whether the measurement of each live enclave is printed after the report.
         measure: bool,
-        /// What is written of the answers.
-        answers: Answers,
     },
     /// Plan a map, and write the certificate where a file for it is named.
     Plan {
@@ -78,16 +26,6 @@ pub enum Task<'a> {
         cert: Option<&'a str>,
         /// How many entries the register file has.
         limit: Limit,
-        /// How many entries the plan may have, where that is asked for.
-        at_most: Option<u64>,
-        /// How the plan is printed.
-        format: Format,
-        /// The C identifier that names in C and assembly begin with, where one is given.
-        name: Option<&'a str>,
-        /// The number of the register file's entry that the plan begins at.
-        first: u8,
-        /// How many bits the hart's registers have.
-        xlen: Xlen,
     },
     /// Load a map's entries, or take registers as they stand, and judge the accesses of a trace by them.
     Judge {
@@ -97,12 +35,6 @@ pub enum Task<'a> {
         trace: &'a str,
         /// How many entries the register file has.
         limit: Limit,
-        /// Whether the file is a listing of registers.
-        registers: bool,
-        /// What is written of the answers.
-        answers: Answers,
-        /// How many bits the hart's registers have.
-        xlen: Xlen,
     },
     /// Check a certificate against a map.
     Check {
@@ -117,26 +49,18 @@ pub enum Task<'a> {
         map: &'a str,
         /// The listing of the registers.
         registers: &'a str,
-        /// Whether each stretch that differs is asked for, or the first alone.
-        all: bool,
-        /// How many bits the hart's registers have.
-        xlen: Xlen,
     },
     /// Print the map that registers mean.
     Map {
         /// The listing of the registers.
         registers: &'a str,
-        /// How many bits the hart's registers have.
-        xlen: Xlen,
     },
     /// Say what is wrong with a file, line by line.
     Lint {
         /// The file.
         file: &'a str,
-        /// What it should be.
-        kind: LintKind<'a>,
-        /// How many bits the registers of a listing have.
-        xlen: Xlen,
+        /// The platform file that tells how many harts a trace is for.
+        platform: Option<&'a str>,
     },
     /// Print a map, or what registers mean, as a table of its stretches, each with the entry that decides it.
     Show {
@@ -144,16 +68,6 @@ pub enum Task<'a> {
         map: &'a str,
         /// How many entries the register file has.
         limit: Limit,
-        /// How many entries the plan may have, where that is asked for.
-        at_most: Option<u64>,
-        /// Whether the file is a listing of registers.
-        registers: bool,
-        /// How many bits the hart's registers have.
-        xlen: Xlen,
-        /// How the table of a map is printed.
-        format: TableFormat,
-        /// Whether the text of a map's table is followed by how many entries the map needs without each of its lines.
-        costs: bool,
     },
 }
 

@@ -1,18 +1,20 @@
-//! The task that a subcommand with its values is.
+//! The task that a subcommand with its values is, and how it is done.
 
 ghost use Rattle.std.specs.Prelude.{◌≡◌, ◌≢◌, ◌<◌, ◌↔◌, ◌⊎◌, [], ◌∷◌, IfErr, IfOk, Option, None, Some, codes, true, option_map};
 ghost use Rattle.program_tasks.specs.Faults.{demands_of, Breaks, IsFaultOf, IsFirst};
 ghost use Rattle.program_tasks.specs.Faults.Demand.{of_trace, one_answer, one_kind};
 ghost use Rattle.program_tasks.specs.Subcommands.{word_of};
-ghost use Rattle.program_tasks.specs.Tasks.{input_word, HasAnswers, HasKind, HasValues, IsOfMap, IsOfText, IsSound, IsTaskOf, NamesNone};
+ghost use Rattle.program_tasks.specs.Tasks.{input_word, HasAnswers, HasKind, HasValues, IsOfMap, IsOfText, IsRequestOf, IsSound, NamesNone};
 
 use crate::arguments::{
     at_most_in, first_in, format_in, limit_in, name_in, table_format_in, value_in, width_in,
 };
 use crate::fault::Fault;
 use crate::given::Values;
+use crate::options::{Answers, LintKind, Options, TableFormat};
+use crate::request::Request;
 use crate::subcommand::Subcommand;
-use crate::task::{Answers, LintKind, TableFormat, Task};
+use crate::task::Task;
 
 /// The word that standard input stands for.
 const INPUT: &str = "-";
@@ -24,9 +26,9 @@ fn is_input(word: &str) -> bool
     word == INPUT
 }
 
-fn run_in<'a, V: Values<'a>>(given: &V) -> Result<Task<'a>, Fault<'a>>
-    ensures task { IfOk result (IsTaskOf Subcommand.Run (V.value given.now)
-        (V.flag given.now)) }
+fn run_in<'a, V: Values<'a>>(given: &V, base: Options<'a>) -> Result<Request<'a>, Fault<'a>>
+    ensures task { IfOk result (IsRequestOf Subcommand.Run base.entry.hints
+        (V.value given.now) (V.flag given.now)) }
     ensures fault { IfErr result (IsFirst (V.value given.now) (V.flag given.now)
         (demands_of Subcommand.Run)) }
 {
@@ -34,12 +36,13 @@ fn run_in<'a, V: Values<'a>>(given: &V) -> Result<Task<'a>, Fault<'a>>
     let trace = value_in(given, "TRACE")?;
     let measure = given.is_given("measure");
     let answers = answers_in(given)?;
-    Ok(Task::Run {
+    let task = Task::Run {
         platform,
         trace,
         measure,
-        answers,
-    })
+    };
+    let options = Options { answers, ..base };
+    Ok(Request { task, options })
 }
 
 /// The file for the certificate of a map, where one is named, which may not be the map's.
@@ -61,9 +64,9 @@ fn cert_in<'a, V: Values<'a>>(given: &V, map: &'a str) -> Result<Option<&'a str>
     }
 }
 
-fn plan_in<'a, V: Values<'a>>(given: &V) -> Result<Task<'a>, Fault<'a>>
-    ensures task { IfOk result (IsTaskOf Subcommand.Plan (V.value given.now)
-        (V.flag given.now)) }
+fn plan_in<'a, V: Values<'a>>(given: &V, base: Options<'a>) -> Result<Request<'a>, Fault<'a>>
+    ensures task { IfOk result (IsRequestOf Subcommand.Plan base.entry.hints
+        (V.value given.now) (V.flag given.now)) }
     ensures fault { IfErr result (IsFirst (V.value given.now) (V.flag given.now)
         (demands_of Subcommand.Plan)) }
 {
@@ -75,16 +78,16 @@ fn plan_in<'a, V: Values<'a>>(given: &V) -> Result<Task<'a>, Fault<'a>>
     let xlen = width_in(given)?;
     let name = name_in(given)?;
     let first = first_in(given, limit)?;
-    Ok(Task::Plan {
-        map,
-        cert,
-        limit,
+    let task = Task::Plan { map, cert, limit };
+    let options = Options {
         at_most,
         format,
         name,
         first,
         xlen,
-    })
+        ..base
+    };
+    Ok(Request { task, options })
 }
 
 /// Refuses two files that are both standard input.
@@ -119,9 +122,9 @@ fn answers_in<'a, V: Values<'a>>(given: &V) -> Result<Answers, Fault<'a>>
     Ok(Answers::Plain)
 }
 
-fn judge_in<'a, V: Values<'a>>(given: &V) -> Result<Task<'a>, Fault<'a>>
-    ensures task { IfOk result (IsTaskOf Subcommand.Judge (V.value given.now)
-        (V.flag given.now)) }
+fn judge_in<'a, V: Values<'a>>(given: &V, base: Options<'a>) -> Result<Request<'a>, Fault<'a>>
+    ensures task { IfOk result (IsRequestOf Subcommand.Judge base.entry.hints
+        (V.value given.now) (V.flag given.now)) }
     ensures fault { IfErr result (IsFirst (V.value given.now) (V.flag given.now)
         (demands_of Subcommand.Judge)) }
 {
@@ -132,25 +135,29 @@ fn judge_in<'a, V: Values<'a>>(given: &V) -> Result<Task<'a>, Fault<'a>>
     let xlen = width_in(given)?;
     let answers = answers_in(given)?;
     let registers = given.is_given("registers");
-    Ok(Task::Judge {
-        map,
-        trace,
-        limit,
+    let task = Task::Judge { map, trace, limit };
+    let options = Options {
         registers,
         answers,
         xlen,
-    })
+        ..base
+    };
+    Ok(Request { task, options })
 }
 
-fn check_in<'a, V: Values<'a>>(given: &V) -> Result<Task<'a>, Fault<'a>>
-    ensures task { IfOk result (IsTaskOf Subcommand.Check (V.value given.now)
-        (V.flag given.now)) }
+fn check_in<'a, V: Values<'a>>(given: &V, base: Options<'a>) -> Result<Request<'a>, Fault<'a>>
+    ensures task { IfOk result (IsRequestOf Subcommand.Check base.entry.hints
+        (V.value given.now) (V.flag given.now)) }
     ensures fault { IfErr result (IsFirst (V.value given.now) (V.flag given.now)
         (demands_of Subcommand.Check)) }
 {
     let map = value_in(given, "MAP")?;
     let cert = value_in(given, "CERT")?;
-    Ok(Task::Check { map, cert })
+    let task = Task::Check { map, cert };
+    Ok(Request {
+        task,
+        options: base,
+    })
 }
 
 /// Refuses another table of registers than the text.
@@ -178,9 +185,9 @@ fn of_text<'a>(format: TableFormat, registers: bool, costs: bool) -> Result<(), 
     Ok(())
 }
 
-fn show_in<'a, V: Values<'a>>(given: &V) -> Result<Task<'a>, Fault<'a>>
-    ensures task { IfOk result (IsTaskOf Subcommand.Show (V.value given.now)
-        (V.flag given.now)) }
+fn show_in<'a, V: Values<'a>>(given: &V, base: Options<'a>) -> Result<Request<'a>, Fault<'a>>
+    ensures task { IfOk result (IsRequestOf Subcommand.Show base.entry.hints
+        (V.value given.now) (V.flag given.now)) }
     ensures fault { IfErr result (IsFirst (V.value given.now) (V.flag given.now)
         (demands_of Subcommand.Show)) }
 {
@@ -188,25 +195,26 @@ fn show_in<'a, V: Values<'a>>(given: &V) -> Result<Task<'a>, Fault<'a>>
     let limit = limit_in(given)?;
     let at_most = at_most_in(given)?;
     let xlen = width_in(given)?;
-    let format = table_format_in(given)?;
+    let table = table_format_in(given)?;
     let registers = given.is_given("registers");
     let costs = given.is_given("costs");
-    of_map(format, registers)?;
-    of_text(format, registers, costs)?;
-    Ok(Task::Show {
-        map,
-        limit,
+    of_map(table, registers)?;
+    of_text(table, registers, costs)?;
+    let task = Task::Show { map, limit };
+    let options = Options {
         at_most,
         registers,
         xlen,
-        format,
+        table,
         costs,
-    })
+        ..base
+    };
+    Ok(Request { task, options })
 }
 
-fn audit_in<'a, V: Values<'a>>(given: &V) -> Result<Task<'a>, Fault<'a>>
-    ensures task { IfOk result (IsTaskOf Subcommand.Audit (V.value given.now)
-        (V.flag given.now)) }
+fn audit_in<'a, V: Values<'a>>(given: &V, base: Options<'a>) -> Result<Request<'a>, Fault<'a>>
+    ensures task { IfOk result (IsRequestOf Subcommand.Audit base.entry.hints
+        (V.value given.now) (V.flag given.now)) }
     ensures fault { IfErr result (IsFirst (V.value given.now) (V.flag given.now)
         (demands_of Subcommand.Audit)) }
 {
@@ -215,27 +223,26 @@ fn audit_in<'a, V: Values<'a>>(given: &V) -> Result<Task<'a>, Fault<'a>>
     once(map, registers)?;
     let xlen = width_in(given)?;
     let all = given.is_given("all");
-    Ok(Task::Audit {
-        map,
-        registers,
-        all,
-        xlen,
-    })
+    let task = Task::Audit { map, registers };
+    let options = Options { all, xlen, ..base };
+    Ok(Request { task, options })
 }
 
-fn map_in<'a, V: Values<'a>>(given: &V) -> Result<Task<'a>, Fault<'a>>
-    ensures task { IfOk result (IsTaskOf Subcommand.Map (V.value given.now)
-        (V.flag given.now)) }
+fn map_in<'a, V: Values<'a>>(given: &V, base: Options<'a>) -> Result<Request<'a>, Fault<'a>>
+    ensures task { IfOk result (IsRequestOf Subcommand.Map base.entry.hints
+        (V.value given.now) (V.flag given.now)) }
     ensures fault { IfErr result (IsFirst (V.value given.now) (V.flag given.now)
         (demands_of Subcommand.Map)) }
 {
     let registers = value_in(given, "REGISTERS")?;
     let xlen = width_in(given)?;
-    Ok(Task::Map { registers, xlen })
+    let task = Task::Map { registers };
+    let options = Options { xlen, ..base };
+    Ok(Request { task, options })
 }
 
 /// What a file that is linted should be.
-fn kind_in<'a, V: Values<'a>>(given: &V) -> Result<LintKind<'a>, Fault<'a>>
+fn kind_in<'a, V: Values<'a>>(given: &V) -> Result<LintKind, Fault<'a>>
     ensures kind { IfOk result (HasKind (V.value given.now) (V.flag given.now)) }
     ensures fault { IfErr result (IsFirst (V.value given.now) (V.flag given.now)
         (one_kind ∷ of_trace ∷ [])) }
@@ -247,7 +254,7 @@ fn kind_in<'a, V: Values<'a>>(given: &V) -> Result<LintKind<'a>, Fault<'a>>
         if is_listing {
             return Err(Fault::TwoKinds);
         }
-        return Ok(LintKind::Trace { platform });
+        return Ok(LintKind::Trace);
     }
     if platform.is_some() {
         return Err(Fault::PlatformAlone);
@@ -258,41 +265,56 @@ fn kind_in<'a, V: Values<'a>>(given: &V) -> Result<LintKind<'a>, Fault<'a>>
     Ok(LintKind::ByName)
 }
 
-fn lint_in<'a, V: Values<'a>>(given: &V) -> Result<Task<'a>, Fault<'a>>
-    ensures task { IfOk result (IsTaskOf Subcommand.Lint (V.value given.now)
-        (V.flag given.now)) }
+fn lint_in<'a, V: Values<'a>>(given: &V, base: Options<'a>) -> Result<Request<'a>, Fault<'a>>
+    ensures task { IfOk result (IsRequestOf Subcommand.Lint base.entry.hints
+        (V.value given.now) (V.flag given.now)) }
     ensures fault { IfErr result (IsFirst (V.value given.now) (V.flag given.now)
         (demands_of Subcommand.Lint)) }
 {
     let file = value_in(given, "FILE")?;
     let kind = kind_in(given)?;
     let xlen = width_in(given)?;
-    Ok(Task::Lint { file, kind, xlen })
+    let platform = given.value("platform");
+    let task = Task::Lint { file, platform };
+    let options = Options { kind, xlen, ..base };
+    Ok(Request { task, options })
 }
 
 /// The task of a subcommand with its values.
-fn task_in<'a, V: Values<'a>>(subcommand: Subcommand, given: &V) -> Result<Task<'a>, Fault<'a>>
-    ensures task { IfOk result (IsTaskOf subcommand (V.value given.now) (V.flag given.now)) }
+fn task_in<'a, V: Values<'a>>(
+    subcommand: Subcommand,
+    given: &V,
+    base: Options<'a>,
+) -> Result<Request<'a>, Fault<'a>>
+    ensures task { IfOk result (IsRequestOf subcommand base.entry.hints
+        (V.value given.now) (V.flag given.now)) }
     ensures fault { IfErr result (IsFirst (V.value given.now) (V.flag given.now)
         (demands_of subcommand)) }
 {
     match subcommand {
-        Subcommand::Run => run_in(given),
-        Subcommand::Plan => plan_in(given),
-        Subcommand::Judge => judge_in(given),
-        Subcommand::Check => check_in(given),
-        Subcommand::Show => show_in(given),
-        Subcommand::Audit => audit_in(given),
-        Subcommand::Map => map_in(given),
-        Subcommand::Lint => lint_in(given),
+        Subcommand::Run => run_in(given, base),
+        Subcommand::Plan => plan_in(given, base),
+        Subcommand::Judge => judge_in(given, base),
+        Subcommand::Check => check_in(given, base),
+        Subcommand::Show => show_in(given, base),
+        Subcommand::Audit => audit_in(given, base),
+        Subcommand::Map => map_in(given, base),
+        Subcommand::Lint => lint_in(given, base),
     }
 }
 
-/// The task of a subcommand with its values, and a fault only where no sound task is that subcommand with these values.
-pub fn task_of<'a, V: Values<'a>>(name: &str, given: &V) -> Result<Task<'a>, Fault<'a>>
-    ensures word { IfOk result (λ task. word_of task ≡ name.now) }
-    ensures values { IfOk result (HasValues (V.value given.now) (V.flag given.now)) }
-    ensures sound { IfOk result IsSound }
+/// The task of a subcommand with its values, and how it is done: as its values say, and otherwise as `base` does. A fault comes
+/// only where no sound task is that subcommand with these values.
+pub(crate) fn task_of<'a, V: Values<'a>>(
+    name: &str,
+    given: &V,
+    base: Options<'a>,
+) -> Result<Request<'a>, Fault<'a>>
+    ensures word { IfOk result (λ request. word_of request.task ≡ name.now) }
+    ensures values { IfOk result (λ request.
+        HasValues (V.value given.now) (V.flag given.now) request.task request.options) }
+    ensures hints { IfOk result (λ request. request.options.hints ≡ base.entry.hints) }
+    ensures sound { IfOk result (λ request. IsSound request.task request.options) }
     ensures refused { IfErr result (λ _. NamesNone name.now (V.value given.now)
         (V.flag given.now)) }
     ensures fault { IfErr result (IsFaultOf name.now (V.value given.now) (V.flag given.now)) }
@@ -300,5 +322,5 @@ pub fn task_of<'a, V: Values<'a>>(name: &str, given: &V) -> Result<Task<'a>, Fau
     let Some(subcommand) = Subcommand::of(name) else {
         return Err(Fault::Missing);
     };
-    task_in(subcommand, given)
+    task_in(subcommand, given, base)
 }

@@ -16,8 +16,8 @@ use Rattle.hart_sim.specs.Reports.{DoesLine, RefusesLine, StarvesLine}
 use Rattle.expected_answers.specs.Comparisons.{ComparesAll}
 use Rattle.explained_runs.specs.Accounts.{Account, ExplainsLine, RefusesAccount, StarvesAccount, opened}
 use Rattle.explained_runs.specs.Summaries.{summary_text}
-use Rattle.program_tasks.specs.declared.task.Answers.{Answers}
-use Rattle.program_tasks.specs.declared.task.Answers.TheVariants as answers
+use Rattle.program_tasks.specs.declared.options.Answers.{Answers}
+use Rattle.program_tasks.specs.declared.options.Answers.TheVariants as answers
 use Rattle.program_troubles.specs.declared.trouble.Trouble.{Trouble}
 use Rattle.program_troubles.specs.declared.trouble.Trouble.TheVariants.{Output}
 use Rattle.program_troubles.specs.Troubles.{boot_trouble, run_trouble}

@@ -1,3 +1,4 @@
+pub mod Files
 pub mod Hinted
 pub mod Inputs
 pub mod Names

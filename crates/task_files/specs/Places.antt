@@ -1,10 +1,9 @@
 -- What a task reads and writes, by name.
-use Rattle.std.specs.Prelude.{◌≡◌, ◌⊎◌, List, [], ℕ, Option, Some, None, bytes_eq, if◌then◌else◌}
+use Rattle.std.specs.Prelude.{◌≡◌, ◌⊎◌, List, [], ℕ, Option, Some, None, bytes_eq, if◌then◌else◌, option_map}
 use Rattle.std.specs.Borrow.{Bor}
 use Rattle.program_tasks.specs.Tasks.{input_word}
-use Rattle.program_tasks.specs.declared.task.LintKind.TheVariants as kinds
 use Rattle.program_tasks.specs.declared.task.Task.{Task}
-use Rattle.program_tasks.specs.declared.task.Task.TheVariants as tasks
+use Rattle.task_files.specs.Files.{files_of}
 use Rattle.task_files.specs.declared.places.Place.{Place}
 use Rattle.task_files.specs.declared.places.Place.TheVariants.{File, StandardInput}
 use Rattle.program_files.specs.declared.devices.InputToRead.{InputToRead}
@@ -16,8 +15,7 @@ place_of name = if bytes_eq name.now input_word then StandardInput else File nam
 
 -- the file of the certificate that a task writes
 abbrev pub cert_of : Task → Option (Bor (List ℕ))
-cert_of (tasks.Plan map cert limit at_most format name begin xlen) = cert
-cert_of task = None
+cert_of task = (files_of task).cert
 
 -- an input reads at a place, with that standard input; where there is none, the file of no name, which is not there
 abbrev pub IsAt : {R S F D : Type 0} → S → Option Place → InputToRead R S F D → Type 0
@@ -27,23 +25,11 @@ IsAt stdin None input = (name : Bor (List ℕ)) × (name.now ≡ []) × IsOfFile
 
 -- what a task reads first
 abbrev pub first_of : Task → Place
-first_of (tasks.Run platform trace measure answers) = place_of platform
-first_of (tasks.Plan map cert limit at_most format name begin xlen) = place_of map
-first_of (tasks.Judge map trace limit registers answers xlen) = place_of map
-first_of (tasks.Check map cert) = place_of map
-first_of (tasks.Audit map registers all xlen) = place_of map
-first_of (tasks.Map registers xlen) = place_of registers
-first_of (tasks.Lint file kind xlen) = place_of file
-first_of (tasks.Show map limit at_most registers xlen format costs) = place_of map
+first_of task = place_of (files_of task).first
 
 -- what it reads after that
 abbrev pub second_of : Task → Option Place
-second_of (tasks.Run platform trace measure answers) = Some (place_of trace)
-second_of (tasks.Judge map trace limit registers answers xlen) = Some (place_of trace)
-second_of (tasks.Check map cert) = Some (place_of cert)
-second_of (tasks.Audit map registers all xlen) = Some (place_of registers)
-second_of (tasks.Lint file (kinds.Trace (Some platform)) xlen) = Some (place_of platform)
-second_of task = None
+second_of task = option_map place_of (files_of task).second
 
 -- it would read standard input twice
 abbrev pub ReadsTwice : Task → Type 0

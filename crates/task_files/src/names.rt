@@ -1,10 +1,11 @@
 //! The names of a task's files, as messages show them.
 
-ghost use Rattle.std.specs.Prelude.{◌≡◌, map};
-ghost use Rattle.task_files.specs.Names.{IsUnderNames, names_in, with_cert, with_first, with_platform, with_second};
+ghost use Rattle.std.specs.Prelude.{◌≡◌, map, option_map};
+ghost use Rattle.task_files.specs.Names.{IsUnderNames, map_name, named, names_in};
 
+use crate::files::files_of;
 use crate::words::text_of;
-use program_tasks::{Format, LintKind, Task};
+use program_tasks::{Format, Request, Task};
 use program_troubles::shown;
 use std::alloc::{AllocError, Global};
 
@@ -16,27 +17,12 @@ pub const NO_FILE: &str = "";
 fn names_of<'a>(task: &Task<'a>) -> [&'a str; 3]
     ensures { map (λ name. name.now) result ≡ names_in task.now }
 {
-    match *task {
-        Task::Run {
-            platform,
-            trace,
-            ..
-        } => [platform, trace, NO_FILE],
-        Task::Judge { map, trace, .. } => [map, trace, NO_FILE],
-        Task::Plan { map, cert, .. } => [map, NO_FILE, cert.unwrap_or(NO_FILE)],
-        Task::Check { map, cert, .. } => [map, cert, NO_FILE],
-        Task::Audit { map, registers, .. } => [map, registers, NO_FILE],
-        Task::Show { map, .. } => [map, NO_FILE, NO_FILE],
-        Task::Map { registers, .. } => [registers, NO_FILE, NO_FILE],
-        Task::Lint {
-            file,
-            kind: LintKind::Trace {
-                platform: Some(platform),
-            },
-            ..
-        } => [file, platform, NO_FILE],
-        Task::Lint { file, .. } => [file, NO_FILE, NO_FILE],
-    }
+    let files = files_of(task);
+    [
+        files.first,
+        files.second.unwrap_or(NO_FILE),
+        files.cert.unwrap_or(NO_FILE),
+    ]
 }
 
 /// Names without control characters.
@@ -89,69 +75,85 @@ impl ShownNames {
     }
 }
 
-/// Gives what a task reads first another name. A map whose name is printed as JSON, which escapes it, keeps its own.
-fn name_first<'a>(task: &mut Task<'a>, name: &'a str)
-    ensures { task.new ≡ with_first name.entry task.old }
+/// The name of a map in messages. One that is printed as JSON, which escapes it, keeps its own.
+fn map_name<'a>(format: Format, own: &'a str, name: &'a str) -> &'a str
+    ensures { result ≡ map_name format own.entry name.entry }
 {
-    match task {
-        Task::Run { platform, .. } => *platform = name,
-        Task::Judge { map, .. } => *map = name,
+    match format {
+        Format::Json => own,
+        Format::Text | Format::C | Format::Asm => name,
+    }
+}
+
+/// A name in place of another, where there is one.
+fn instead<'a>(own: Option<&'a str>, name: &'a str) -> Option<&'a str>
+    ensures { result ≡ option_map (λ s. name.entry) own.entry }
+{
+    match own {
+        Some(_) => Some(name),
+        None => None,
+    }
+}
+
+/// A task whose plan is printed so, with these names in place of its own.
+fn named<'a>(
+    task: &Task<'a>,
+    format: Format,
+    first: &'a str,
+    second: &'a str,
+    cert: &'a str,
+) -> Task<'a>
+    ensures { result ≡ named first.entry second.entry cert.entry format task.now }
+{
+    match *task {
+        Task::Run { measure, .. } => Task::Run {
+            platform: first,
+            trace: second,
+            measure,
+        },
         Task::Plan {
-            format: Format::Json,
-            ..
-        } => {}
-        Task::Plan { map, .. } => *map = name,
-        Task::Check { map, .. } => *map = name,
-        Task::Audit { map, .. } => *map = name,
-        Task::Show { map, .. } => *map = name,
-        Task::Map { registers, .. } => *registers = name,
-        Task::Lint { file, .. } => *file = name,
+            map,
+            cert: file,
+            limit,
+        } => Task::Plan {
+            map: map_name(format, map, first),
+            cert: instead(file, cert),
+            limit,
+        },
+        Task::Judge { limit, .. } => Task::Judge {
+            map: first,
+            trace: second,
+            limit,
+        },
+        Task::Check { .. } => Task::Check {
+            map: first,
+            cert: second,
+        },
+        Task::Audit { .. } => Task::Audit {
+            map: first,
+            registers: second,
+        },
+        Task::Map { .. } => Task::Map { registers: first },
+        Task::Lint { platform, .. } => Task::Lint {
+            file: first,
+            platform: instead(platform, second),
+        },
+        Task::Show { limit, .. } => Task::Show { map: first, limit },
     }
 }
 
-/// The same of what it reads after that, where it does.
-fn name_second<'a>(task: &mut Task<'a>, name: &'a str)
-    ensures { task.new ≡ with_second name.entry task.old }
+/// The request with these names in place of those of its task. In JSON a map has its own name.
+pub fn with_names<'a>(request: &Request<'a>, names: &'a ShownNames) -> Request<'a>
+    ensures { IsUnderNames names.now request.now result }
 {
-    match task {
-        Task::Run { trace, .. } => *trace = name,
-        Task::Judge { trace, .. } => *trace = name,
-        Task::Check { cert, .. } => *cert = name,
-        Task::Audit { registers, .. } => *registers = name,
-        Task::Lint { kind, .. } => name_platform(kind, name),
-        Task::Plan { .. } | Task::Show { .. } | Task::Map { .. } => {}
+    Request {
+        task: named(
+            &request.task,
+            request.options.format,
+            names.first(),
+            names.second(),
+            names.cert(),
+        ),
+        options: request.options,
     }
-}
-
-/// The same of the platform of a trace that is linted, where it has one.
-fn name_platform<'a>(kind: &mut LintKind<'a>, name: &'a str)
-    ensures { kind.new ≡ with_platform name.entry kind.old }
-{
-    if let LintKind::Trace { platform: Some(_) } = kind {
-        *kind = LintKind::Trace {
-            platform: Some(name),
-        };
-    }
-}
-
-/// The same of the certificate that it writes, where it writes one.
-fn name_cert<'a>(task: &mut Task<'a>, name: &'a str)
-    ensures { task.new ≡ with_cert name.entry task.old }
-{
-    if let Task::Plan { cert, .. } = task {
-        if cert.is_some() {
-            *cert = Some(name);
-        }
-    }
-}
-
-/// The task with these names in place of its own. In JSON a map has its own name.
-pub fn with_names<'a>(task: &Task<'a>, names: &'a ShownNames) -> Task<'a>
-    ensures { IsUnderNames names.now task.now result }
-{
-    let mut named = *task;
-    name_first(&mut named, names.first());
-    name_second(&mut named, names.second());
-    name_cert(&mut named, names.cert());
-    named
 }

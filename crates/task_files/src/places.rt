@@ -3,7 +3,8 @@
 ghost use Rattle.std.specs.Prelude.{◌≡◌, ◌↔◌, true};
 ghost use Rattle.task_files.specs.Places.{again, cert_of, first_of, place_of, second_of, ReadsTwice};
 
-use program_tasks::{LintKind, Task};
+use crate::files::files_of;
+use program_tasks::Task;
 
 /// The word that standard input stands for.
 const STANDARD_INPUT: &str = "-";
@@ -31,33 +32,16 @@ fn place_of(name: &str) -> Place<'_>
 pub fn first_of<'a>(task: &Task<'a>) -> Place<'a>
     ensures { result ≡ first_of task.now }
 {
-    match *task {
-        Task::Run { platform, .. } => place_of(platform),
-        Task::Plan { map, .. }
-        | Task::Judge { map, .. }
-        | Task::Check { map, .. }
-        | Task::Audit { map, .. }
-        | Task::Show { map, .. } => place_of(map),
-        Task::Lint { file, .. } => place_of(file),
-        Task::Map { registers, .. } => place_of(registers),
-    }
+    place_of(files_of(task).first)
 }
 
 /// What a task reads after that, where it does.
 pub fn second_of<'a>(task: &Task<'a>) -> Option<Place<'a>>
     ensures { result ≡ second_of task.now }
 {
-    match *task {
-        Task::Run { trace, .. } | Task::Judge { trace, .. } => Some(place_of(trace)),
-        Task::Check { cert, .. } => Some(place_of(cert)),
-        Task::Audit { registers, .. } => Some(place_of(registers)),
-        Task::Lint {
-            kind: LintKind::Trace {
-                platform: Some(platform),
-            },
-            ..
-        } => Some(place_of(platform)),
-        Task::Plan { .. } | Task::Map { .. } | Task::Lint { .. } | Task::Show { .. } => None,
+    match files_of(task).second {
+        Some(name) => Some(place_of(name)),
+        None => None,
     }
 }
 
@@ -85,8 +69,5 @@ pub fn again(place: Option<Place<'_>>) -> Option<Place<'_>>
 pub fn cert_of<'a>(task: &Task<'a>) -> Option<&'a str>
     ensures { result ≡ cert_of task.now }
 {
-    match *task {
-        Task::Plan { cert, .. } => cert,
-        _ => None,
-    }
+    files_of(task).cert
 }

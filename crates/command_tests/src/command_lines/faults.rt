@@ -1,13 +1,13 @@
 //! Words that are no task, and what is said of them.
 
 use clap::error::ErrorKind;
-use command_line::{command_of, takes_place};
+use command_line::{request_of_words, takes_place};
 use std::alloc::Global;
 use std::process::Abort;
 
 /// The words name no task, and that is said of them.
 fn is_told(rt: &impl Abort, alloc: Global, words: &[&str], said: &str) {
-    match command_of(alloc, &*words) {
+    match request_of_words(alloc, &*words) {
         Ok(_) => panic!(rt; "a task: {words:?}"),
         Err(error) => {
             let text = format!(in alloc; "{error}").expect(rt, "memory");

@@ -1,13 +1,13 @@
 //! Words that ask for help.
 
 use clap::error::ErrorKind;
-use command_line::command_of;
+use command_line::request_of_words;
 use std::alloc::Global;
 use std::process::Abort;
 
 /// The words ask for help, which is no task.
 fn is_help(rt: &impl Abort, alloc: Global, words: &[&str]) {
-    match command_of(alloc, words) {
+    match request_of_words(alloc, words) {
         Ok(_) => panic!(rt; "a task"),
         Err(error) => assert!(rt; error.kind() == ErrorKind::DisplayHelp),
     }

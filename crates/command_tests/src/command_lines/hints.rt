@@ -1,6 +1,6 @@
 //! When hints are told.
 
-use command_line::{Hints, command_of};
+use command_line::{Hints, request_of_words};
 use std::test::Fail;
 
 #[test]
@@ -27,7 +27,7 @@ fn hints_are_told_as_asked(rt: HostRuntime) -> Result<(), Fail> {
         ),
     ];
     for (words, wanted) in rows {
-        assert!(rt; command_of(rt.alloc(), words)?.hints == wanted);
+        assert!(rt; request_of_words(rt.alloc(), words)?.options.hints == wanted);
     }
     assert!(rt; Hints::Auto.are_told(true) && !Hints::Auto.are_told(false));
     assert!(rt; Hints::Always.are_told(false) && !Hints::Never.are_told(true));

@@ -1,7 +1,7 @@
 //! Words that ask for a plan.
 
-use crate::command_lines::tasks::{Row, are_tasks};
-use command_line::{Format, Task};
+use crate::command_lines::tasks::{PLAIN, Row, are_tasks};
+use command_line::{Format, Options, Task};
 use pmp_encoding::Limit;
 use register_width::Xlen;
 
@@ -12,12 +12,8 @@ const PLANS: &[Row<'static>] = &[
             map: "map.txt",
             cert: None,
             limit: Limit::Sixteen,
-            at_most: None,
-            format: Format::Text,
-            name: None,
-            first: 0,
-            xlen: Xlen::Rv64,
         },
+        PLAIN,
     ),
     (
         &[
@@ -42,11 +38,14 @@ const PLANS: &[Row<'static>] = &[
             map: "-",
             cert: Some("out.pmpc"),
             limit: Limit::SixtyFour,
+        },
+        Options {
             at_most: Some(8),
             format: Format::Asm,
             name: Some("board"),
             first: 3,
             xlen: Xlen::Rv32,
+            ..PLAIN
         },
     ),
     (
@@ -55,11 +54,10 @@ const PLANS: &[Row<'static>] = &[
             map: "map.txt",
             cert: None,
             limit: Limit::Sixteen,
-            at_most: None,
+        },
+        Options {
             format: Format::C,
-            name: None,
-            first: 0,
-            xlen: Xlen::Rv64,
+            ..PLAIN
         },
     ),
 ];

@@ -1,27 +1,53 @@
 //! Words, and the tasks that they are.
 
-use command_line::{Answers, LintKind, TableFormat, Task, command_of};
+use command_line::{
+    Answers, Format, Hints, LintKind, Options, TableFormat, Task, request_of_words,
+};
 use pmp_encoding::Limit;
 use register_width::Xlen;
 use std::alloc::Global;
 use std::process::Abort;
 
-/// Words, and the task that they are.
-pub type Row<'a> = (&'a [&'a str], Task<'a>);
+/// Words, the task that they are, and how it is done.
+pub type Row<'a> = (&'a [&'a str], Task<'a>, Options<'a>);
 
-/// The words are this task.
-fn is_task(rt: &impl Abort, alloc: Global, words: &[&str], wanted: &Task<'_>) {
-    match command_of(alloc, &*words) {
-        Ok(request) => assert!(rt; request.task == *wanted, "another task: {words:?}"),
+/// The options of words that name none.
+pub const PLAIN: Options<'static> = Options {
+    format: Format::Text,
+    name: None,
+    first: 0,
+    at_most: None,
+    xlen: Xlen::Rv64,
+    registers: false,
+    answers: Answers::Plain,
+    all: false,
+    kind: LintKind::ByName,
+    table: TableFormat::Text,
+    costs: false,
+    hints: Hints::Auto,
+};
+
+/// The words are this task with these options.
+fn is_task(rt: &impl Abort, alloc: Global, words: &[&str], task: &Task<'_>, options: &Options<'_>) {
+    match request_of_words(alloc, &*words) {
+        Ok(request) => {
+            assert!(rt; request.task == *task, "another task: {words:?}");
+            assert!(rt; request.options == *options, "other options: {words:?}");
+        }
         Err(_) => panic!(rt; "no task: {words:?}"),
     }
 }
 
 /// Each row's words are its task.
 pub fn are_tasks(rt: &impl Abort, alloc: Global, rows: &[Row<'_>]) {
-    for (words, wanted) in rows {
-        is_task(rt, alloc, words, wanted);
+    for (words, task, options) in rows {
+        is_task(rt, alloc, words, task, options);
     }
+}
+
+#[test]
+fn options_that_are_not_named_are_the_plain_ones(rt: HostRuntime) {
+    assert!(rt; Options::default() == PLAIN);
 }
 
 const RUNS: &[Row<'static>] = &[
@@ -31,8 +57,8 @@ const RUNS: &[Row<'static>] = &[
             platform: "p.toml",
             trace: "t.txt",
             measure: false,
-            answers: Answers::Plain,
         },
+        PLAIN,
     ),
     (
         &["pmpmon", "run", "--expect", "p.toml", "t.txt", "--measure"],
@@ -40,7 +66,10 @@ const RUNS: &[Row<'static>] = &[
             platform: "p.toml",
             trace: "t.txt",
             measure: true,
+        },
+        Options {
             answers: Answers::Compared,
+            ..PLAIN
         },
     ),
 ];
@@ -57,10 +86,8 @@ const JUDGED: &[Row<'static>] = &[
             map: "map.txt",
             trace: "trace.txt",
             limit: Limit::Sixteen,
-            registers: false,
-            answers: Answers::Plain,
-            xlen: Xlen::Rv64,
         },
+        PLAIN,
     ),
     (
         &[
@@ -79,9 +106,12 @@ const JUDGED: &[Row<'static>] = &[
             map: "b",
             trace: "t",
             limit: Limit::SixtyFour,
+        },
+        Options {
             registers: true,
             answers: Answers::Explained,
             xlen: Xlen::Rv32,
+            ..PLAIN
         },
     ),
 ];
@@ -98,37 +128,41 @@ const OF_TWO_FILES: &[Row<'static>] = &[
             map: "map.txt",
             cert: "map.pmpc",
         },
+        PLAIN,
     ),
     (
         &["pmpmon", "audit", "map.txt", "-"],
         Task::Audit {
             map: "map.txt",
             registers: "-",
-            all: false,
-            xlen: Xlen::Rv64,
         },
+        PLAIN,
     ),
     (
         &["pmpmon", "audit", "m", "b", "--all", "--xlen", "32"],
         Task::Audit {
             map: "m",
             registers: "b",
+        },
+        Options {
             all: true,
             xlen: Xlen::Rv32,
+            ..PLAIN
         },
     ),
     (
         &["pmpmon", "map", "board.txt"],
         Task::Map {
             registers: "board.txt",
-            xlen: Xlen::Rv64,
         },
+        PLAIN,
     ),
     (
         &["pmpmon", "map", "b", "--xlen", "32"],
-        Task::Map {
-            registers: "b",
+        Task::Map { registers: "b" },
+        Options {
             xlen: Xlen::Rv32,
+            ..PLAIN
         },
     ),
 ];
@@ -143,26 +177,31 @@ const LINTED: &[Row<'static>] = &[
         &["pmpmon", "lint", "-"],
         Task::Lint {
             file: "-",
-            kind: LintKind::ByName,
-            xlen: Xlen::Rv64,
+            platform: None,
         },
+        PLAIN,
     ),
     (
         &["pmpmon", "lint", "--registers", "b", "--xlen", "32"],
         Task::Lint {
             file: "b",
+            platform: None,
+        },
+        Options {
             kind: LintKind::Registers,
             xlen: Xlen::Rv32,
+            ..PLAIN
         },
     ),
     (
         &["pmpmon", "lint", "--trace", "f", "--platform", "p.toml"],
         Task::Lint {
             file: "f",
-            kind: LintKind::Trace {
-                platform: Some("p.toml"),
-            },
-            xlen: Xlen::Rv64,
+            platform: Some("p.toml"),
+        },
+        Options {
+            kind: LintKind::Trace,
+            ..PLAIN
         },
     ),
 ];
@@ -178,12 +217,8 @@ const SHOWN: &[Row<'static>] = &[
         Task::Show {
             map: "m",
             limit: Limit::Sixteen,
-            at_most: None,
-            registers: false,
-            xlen: Xlen::Rv64,
-            format: TableFormat::Text,
-            costs: false,
         },
+        PLAIN,
     ),
     (
         &[
@@ -200,11 +235,12 @@ const SHOWN: &[Row<'static>] = &[
         Task::Show {
             map: "m",
             limit: Limit::SixtyFour,
+        },
+        Options {
             at_most: Some(16),
-            registers: false,
             xlen: Xlen::Rv32,
-            format: TableFormat::Text,
             costs: true,
+            ..PLAIN
         },
     ),
     (
@@ -212,11 +248,10 @@ const SHOWN: &[Row<'static>] = &[
         Task::Show {
             map: "-",
             limit: Limit::Sixteen,
-            at_most: None,
+        },
+        Options {
             registers: true,
-            xlen: Xlen::Rv64,
-            format: TableFormat::Text,
-            costs: false,
+            ..PLAIN
         },
     ),
     (
@@ -224,11 +259,10 @@ const SHOWN: &[Row<'static>] = &[
         Task::Show {
             map: "m",
             limit: Limit::Sixteen,
-            at_most: None,
-            registers: false,
-            xlen: Xlen::Rv64,
-            format: TableFormat::Svg,
-            costs: false,
+        },
+        Options {
+            table: TableFormat::Svg,
+            ..PLAIN
         },
     ),
 ];

@@ -5,8 +5,8 @@ ghost use Rattle.byte_streams.specs.Fakes.{written_of};
 
 use byte_streams::fakes::{PieceSink, PieceSource};
 use byte_streams::{DeviceFault, Sink};
-use command_line::command_of;
-use monitor_cli::perform;
+use command_line::request_of_words;
+use monitor_cli::perform_request;
 use program_files::WholeSink;
 use std::alloc::Global;
 use std::process::Abort;
@@ -118,7 +118,7 @@ pub fn try_on(
     second: &[u8],
     failing: Failing,
 ) -> Tried {
-    let task = command_of(alloc, words).expect(rt, "a command line").task;
+    let request = request_of_words(alloc, words).expect(rt, "a command line");
     let mut first = PieceSource::new(first, failing.piece, failing.first);
     let mut second = PieceSource::new(second, failing.piece, failing.second);
     let mut cert = PlacedSink {
@@ -128,9 +128,9 @@ pub fn try_on(
     };
     let mut out = PieceSink::new(3, failing.out);
     let mut err = PieceSink::new(3, failing.err);
-    let status = perform(
+    let status = perform_request(
         alloc,
-        &task,
+        &request,
         &mut first,
         &mut second,
         &mut cert,

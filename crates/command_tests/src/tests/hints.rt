@@ -2,7 +2,7 @@
 
 use byte_streams::Counted;
 use byte_streams::fakes::PieceSource;
-use command_line::command_of;
+use command_line::request_of_words;
 use input_hints::tell_hints;
 use std::alloc::Global;
 use std::process::Abort;
@@ -12,11 +12,11 @@ const PLATFORM: &[u8] =
 
 /// The hints of a command line's task on these inputs.
 fn hints(rt: &impl Abort, alloc: Global, words: &[&str], first: &[u8], second: &[u8]) -> Vec<u8> {
-    let task = command_of(alloc, words).expect(rt, "a command line").task;
+    let request = request_of_words(alloc, words).expect(rt, "a command line");
     let mut first = Counted::new(first);
     let mut second = Counted::new(second);
     let mut err = Counted::new(Vec::new(alloc));
-    tell_hints(alloc, &task, &mut first, &mut second, &mut err);
+    tell_hints(alloc, &request, &mut first, &mut second, &mut err);
     err.into_inner()
 }
 
@@ -100,13 +100,12 @@ fn the_first_input_at_fault_has_its_hints(rt: HostRuntime) {
 
 #[test]
 fn nothing_is_said_of_an_input_that_is_not_there(rt: HostRuntime) {
-    let task = command_of(rt.alloc(), &["pmpmon", "judge", "m", "t"])
-        .expect(&rt, "memory")
-        .task;
+    let words = ["pmpmon", "judge", "m", "t"];
+    let request = request_of_words(rt.alloc(), &words).expect(&rt, "memory");
     let mut first = PieceSource::new(b"0 0x800 rwx\n", 4, Some(2));
     let mut second = PieceSource::new(b"leap\n", 4, None);
     let mut err = Counted::new(Vec::new(rt.alloc()));
-    tell_hints(rt.alloc(), &task, &mut first, &mut second, &mut err);
+    tell_hints(rt.alloc(), &request, &mut first, &mut second, &mut err);
     assert!(rt; second.reads() == 0);
     let said = err.into_inner();
     assert!(rt; said.is_empty());

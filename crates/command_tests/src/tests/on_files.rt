@@ -1,7 +1,7 @@
 //! Requests on their files and streams, with what is said behind their ends.
 
 use byte_streams::Counted;
-use command_line::command_of;
+use command_line::request_of_words;
 use monitor_cli::{Lent, perform_on_files};
 use program_tasks::Request;
 use std::alloc::Global;
@@ -46,7 +46,7 @@ fn ends_on_files(
     stdin: &[u8],
     wanted: Wanted<'_>,
 ) {
-    let request = command_of(alloc, words).expect(rt, "a command line");
+    let request = request_of_words(alloc, words).expect(rt, "a command line");
     let names = ShownNames::of(alloc, &request.task).expect(rt, "memory");
     let (status, out, err) = done(rt, alloc, &request, &names, stdin);
     is_wanted(rt, (status, out.as_slice(), err.as_slice()), wanted)

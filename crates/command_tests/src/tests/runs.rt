@@ -1,9 +1,7 @@
 //! A command line, run on files in memory.
 
 use byte_streams::Counted;
-use command_line::command_of;
-use monitor_cli::perform;
-use program_files::StreamPlace;
+use monitor_cli::{command_of, perform};
 use std::alloc::Global;
 use std::process::Abort;
 
@@ -18,10 +16,10 @@ pub struct Ran {
 
 /// Runs a command line on two inputs.
 pub fn run(rt: &impl Abort, alloc: Global, words: &[&str], first: &[u8], second: &[u8]) -> Ran {
-    let task = command_of(alloc, words).expect(rt, "a command line").task;
+    let task = command_of(alloc, words).expect(rt, "a command line");
     let mut first = Counted::new(first);
     let mut second = Counted::new(second);
-    let mut cert = StreamPlace::new(Counted::new(Vec::new(alloc)));
+    let mut cert = Counted::new(Vec::new(alloc));
     let mut out = Counted::new(Vec::new(alloc));
     let mut err = Counted::new(Vec::new(alloc));
     let status = perform(
@@ -37,7 +35,7 @@ pub fn run(rt: &impl Abort, alloc: Global, words: &[&str], first: &[u8], second:
         status,
         out: out.into_inner(),
         err: err.into_inner(),
-        cert: cert.into_inner().into_inner(),
+        cert: cert.into_inner(),
     }
 }
 

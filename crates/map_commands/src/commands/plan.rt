@@ -7,12 +7,12 @@ ghost use Rattle.map_commands.specs.Plan.{most_entries, IsPrinted, Plans};
 ghost use Rattle.byte_streams.specs.Writings.{writing, PrintsOne};
 ghost use Rattle.register_width.specs.Widths.{AreReached};
 
+use crate::certificate_sink::CertificateSink;
 use crate::certified_plan::plan_and_certify;
 use byte_streams::{DeviceFault, Sink, Source};
 use command_inputs::map_in;
 use pmp_encoding::{Limit, PackedEntry};
 use printed_lines::{print_plan, room_from};
-use program_files::WholeSink;
 use program_tasks::Format;
 use program_troubles::Trouble;
 use register_formats::{print_asm, print_c, print_json};
@@ -83,7 +83,7 @@ fn print_as<W: Sink>(
 
 /// Plans a map, writes the certificate where one is asked for, and prints the plan.
 #[inline(never)]
-pub fn do_plan<'a, R: Source, C: WholeSink, W: Sink>(
+pub fn do_plan<'a, R: Source, M, C: CertificateSink<M>, W: Sink>(
     alloc: Global,
     map: &'a str,
     asked: Asked<'a>,
@@ -110,7 +110,7 @@ pub fn do_plan<'a, R: Source, C: WholeSink, W: Sink>(
     let file = map;
     let map = map_in(alloc, file, source)?;
     let most = most_entries(limit, first, at_most, format);
-    let plan = plan_and_certify(alloc, file, &map, xlen, limit, most, cert, certificate)?;
+    let plan = plan_and_certify::<M, C>(alloc, file, &map, xlen, limit, most, cert, certificate)?;
     match print_as(format, file, name, xlen, plan.entries(), first, limit, out) {
         Ok(()) => Ok(0),
         Err(DeviceFault) => Err(Trouble::Output),

@@ -1,6 +1,6 @@
 use Rattle.std.proofs.lemmas.Result.{err_from_is_err_and}
 use Rattle.command_line.proofs.Program.{no_kind, no_request, some_kind, some_request}
-use Rattle.command_line.proofs.words.command_of.Goals as goal
+use Rattle.command_line.proofs.words.request_of_words.Goals as goal
 
 pub returns-in_err-matches-clause-refused : goal.returns-in_err-matches-clause-refused
 returns-in_err-matches-clause-refused c =

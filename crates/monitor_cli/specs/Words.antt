@@ -1,0 +1,13 @@
+-- The task that the words of a command line name.
+use Rattle.std.specs.Prelude.{List, Option}
+use Rattle.clap.specs.Words.{Row, Text}
+use Rattle.command_line.specs.CommandLine.{IsRequest}
+use Rattle.program_tasks.specs.declared.options.Options.{Options}
+use Rattle.program_tasks.specs.declared.task.Task.{Task}
+use Rattle.program_tasks.specs.Tasks.{IsSound}
+
+-- the task is the subcommand that was entered, with the values of its rows, and with some options it is sound
+pub record IsTask (found : Option (Text × List Row)) (task : Task) : Type 0 where
+  pub options : Options
+  pub request : IsRequest found (record { task = task; options = options })
+  pub sound : IsSound task options

@@ -1,0 +1,28 @@
+-- How a task is done where nothing is said of it.
+use Rattle.std.specs.Prelude.{false, None}
+use Rattle.register_width.specs.declared.xlen.Xlen.TheVariants.{Rv64}
+use Rattle.program_tasks.specs.declared.hints.Hints.TheVariants.{Auto}
+use Rattle.program_tasks.specs.declared.options.Answers.TheVariants.{Plain}
+use Rattle.program_tasks.specs.declared.options.Format.TheVariants as formats
+use Rattle.program_tasks.specs.declared.options.LintKind.TheVariants.{ByName}
+use Rattle.program_tasks.specs.declared.options.Options.{Options}
+use Rattle.program_tasks.specs.declared.options.TableFormat.TheVariants as tables
+
+-- the options of a command line that names none: a plan or a table as text, from entry 0 on, of any size and without a name;
+-- registers of 64 bits, and no listing of them in a map's place; answers alone; the first stretch that differs; a file by its name; no
+-- costs; and hints at a terminal
+abbrev pub default_options : Options
+default_options = record {
+  format = formats.Text;
+  name = None;
+  first = 0;
+  at_most = None;
+  xlen = Rv64;
+  registers = false;
+  answers = Plain;
+  all = false;
+  kind = ByName;
+  table = tables.Text;
+  costs = false;
+  hints = Auto;
+}
