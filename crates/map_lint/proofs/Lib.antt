@@ -1,3 +1,4 @@
 mod Followed
 mod Named
 pub mod Denied
+pub mod Mended

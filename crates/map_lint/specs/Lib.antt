@@ -1,5 +1,6 @@
 pub mod Findings
 pub mod Lints
+pub mod Mends
 pub mod Numbers
 pub mod Reasons
 pub mod Settings

@@ -1,5 +1,5 @@
 -- What is said of words of a map file that should be numbers of bytes, of whole pages.
-use Rattle.std.specs.Prelude.{ℕ, ◌+◌, ◌-◌, ◌%◌, ◌^◌, ◌==◌, ◌&&◌, nat_lt, if◌then◌else◌, Bool, false, List, [], ◌∷◌, ◌++◌, Option, Some, None, bytes_eq, codes}
+use Rattle.std.specs.Prelude.{ℕ, ◌+◌, ◌-◌, ◌%◌, ◌^◌, ◌==◌, ◌&&◌, nat_le, nat_lt, if◌then◌else◌, Bool, false, List, [], ◌∷◌, ◌++◌, Option, Some, None, bytes_eq, codes}
 use Rattle.std.specs.List.{list_any}
 use Rattle.text_lines.specs.Numbers.{numeral_of}
 use Rattle.lint_texts.specs.Marks.{begins_comment}
@@ -32,10 +32,10 @@ base_fault word =
 abbrev pub base_text : ℕ → List ℕ → List ℕ
 base_text before word = named_text (codes "BASE") before ++ (quoted word ++ base_fault word)
 
--- the digits of a number that is no whole number of pages are one as hexadecimal digits, inside the space
-abbrev pub is_whole_hex : Option ℕ → Bool
-is_whole_hex None = false
-is_whole_hex (Some n) = n % 4096 == 0 && nat_lt n (2 ^ 56)
+-- the digits of a number that is no whole number of pages are one as hexadecimal digits, and at most so many bytes
+abbrev pub is_whole_hex : ℕ → Option ℕ → Bool
+is_whole_hex most None = false
+is_whole_hex most (Some n) = n % 4096 == 0 && nat_le n most
 
 -- what is said of it then: `0x` is wanting
 abbrev pub hex_text : List ℕ → ℕ → List ℕ → List ℕ
@@ -53,15 +53,16 @@ whole_bytes bytes = bytes + 4095 - (bytes + 4095) % 4096
 abbrev pub whole_pages : ℕ → ℕ → List ℕ
 whole_pages first bytes = codes "the whole pages are " ++ (address_text (first - first % 4096) ++ (codes " " ++ address_text (whole_bytes (first % 4096 + bytes))))
 
--- what fixes a base that is no whole number of pages: the base and the size of the range's whole pages, where it has bytes and is
--- not too long
+-- what fixes a base that is no whole number of pages: the base and the size of the range's whole pages, where it has bytes and ends
+-- inside the space
 abbrev pub base_mend : ℕ → ℕ → List ℕ
 base_mend first bytes =
-    if nat_lt 0 bytes && nat_lt bytes (2 ^ 56) then whole_pages first bytes else codes "its page begins at " ++ address_text (first - first % 4096)
+    if nat_lt 0 bytes && nat_le (first + bytes) (2 ^ 56) then whole_pages first bytes else codes "its page begins at " ++ address_text (first - first % 4096)
 
--- a base that is no whole number of pages
+-- a base that is no whole number of pages: as hexadecimal digits it may be one below the end of the space
 abbrev pub base_part : ℕ → List ℕ → ℕ → ℕ → List ℕ
-base_part before word first bytes = if is_whole_hex (numeral_of 16 word) then hex_text (codes "BASE") before word else part_text (codes "BASE") before word ++ base_mend first bytes
+base_part before word first bytes =
+    if is_whole_hex (2 ^ 56 - 4096) (numeral_of 16 word) then hex_text (codes "BASE") before word else part_text (codes "BASE") before word ++ base_mend first bytes
 
 -- what stands before the whole pages of a size that is no whole number of them
 abbrev pub pages_mend : ℕ → List ℕ
@@ -71,6 +72,7 @@ pages_mend bytes = if nat_lt bytes 4096 then codes "the whole page is " else cod
 abbrev pub size_mend : ℕ → List ℕ
 size_mend bytes = pages_mend bytes ++ address_text (whole_bytes bytes)
 
--- a size that is no whole number of pages
-abbrev pub size_part : ℕ → List ℕ → ℕ → List ℕ
-size_part before word bytes = if is_whole_hex (numeral_of 16 word) then hex_text (codes "SIZE") before word else part_text (codes "SIZE") before word ++ size_mend bytes
+-- a size that is no whole number of pages, from that base on: as hexadecimal digits it may be one that ends inside the space
+abbrev pub size_part : ℕ → List ℕ → ℕ → ℕ → List ℕ
+size_part before word first bytes =
+    if is_whole_hex (2 ^ 56 - first) (numeral_of 16 word) then hex_text (codes "SIZE") before word else part_text (codes "SIZE") before word ++ size_mend bytes

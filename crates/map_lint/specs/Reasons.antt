@@ -1,9 +1,7 @@
 -- Why a line of a map file is not understood, with its column and what would fix it.
 use Rattle.std.specs.Prelude.{ℕ, ◌+◌, ◌-◌, ◌%◌, ◌^◌, ◌==◌, ◌||◌, ◌&&◌, not, nat_lt, if◌then◌else◌, Bool, true, false, List, [], ◌∷◌, ◌++◌, length, drop, Option, Some, None, codes}
 use Rattle.std.specs.List.{list_all, list_any, prefix_len}
-use Rattle.pmp_encoding.specs.declared.perm.Perm.{Perm}
 use Rattle.text_lines.specs.Lines.{without_return}
-use Rattle.pmp_encoding.specs.Perms.{permission_of}
 use Rattle.text_lines.specs.Numbers.{number_of}
 use Rattle.text_lines.specs.Words.{content_of, is_allowed}
 use Rattle.lint_texts.specs.Columns.{begin_from, end_from, word_from}
@@ -50,28 +48,23 @@ perm_fault word =
 abbrev pub perm_text : ℕ → List ℕ → List ℕ
 perm_text before word = column_text before ++ (codes "PERM " ++ (quoted word ++ perm_fault word))
 
+-- what is said of a base behind the space
+abbrev pub past_text : ℕ → List ℕ
+past_text base_at = column_text base_at ++ codes "BASE is past 2^56; the space ends at 0x100000000000000"
+
 -- how large a size may be at most
 abbrev pub most_text : ℕ → List ℕ
 most_text first = codes "BASE and SIZE end past 2^56; SIZE is at most " ++ address_text (2 ^ 56 - first)
 
--- a range that does not lie in the space
-abbrev pub past_text : ℕ → ℕ → ℕ → List ℕ
-past_text base_at size_at first =
-    if nat_lt (2 ^ 56) first
-    then column_text base_at ++ codes "BASE is past 2^56; the space ends at 0x100000000000000"
-    else column_text size_at ++ most_text first
-
--- a permission on whole pages: the word is none, or the pages do not lie in the space
-abbrev pub pages_text : ℕ → ℕ → ℕ → List ℕ → ℕ → Option Perm → List ℕ
-pages_text base_at size_at perm_at perm first None = perm_text perm_at perm
-pages_text base_at size_at perm_at perm first (Some named) = past_text base_at size_at first
-
--- two numbers and a word: the first of the faults that they can have
+-- two numbers and a word: what is wrong with the first of the three that is at fault. A base lies in the space and is whole pages, a
+-- size ends in the space and is whole pages
 unfoldable pub range_text : ℕ → List ℕ → ℕ → List ℕ → ℕ → List ℕ → ℕ → ℕ → List ℕ
 range_text base_at base size_at size perm_at perm first bytes =
-    if not (first % 4096 == 0) then base_part base_at base first bytes
-    else if not (bytes % 4096 == 0) && nat_lt bytes (2 ^ 56) then size_part size_at size bytes
-    else pages_text base_at size_at perm_at perm first (permission_of perm)
+    if nat_lt (2 ^ 56) first then past_text base_at
+    else if not (first % 4096 == 0) then base_part base_at base first bytes
+    else if nat_lt (2 ^ 56) (first + bytes) then column_text size_at ++ most_text first
+    else if not (bytes % 4096 == 0) then size_part size_at size first bytes
+    else perm_text perm_at perm
 
 -- three words of which the first is a number, by the number that the second is
 abbrev pub three_by : ℕ → List ℕ → ℕ → List ℕ → ℕ → List ℕ → ℕ → Option ℕ → List ℕ

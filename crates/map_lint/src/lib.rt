@@ -2,7 +2,8 @@
 //!
 //! For the layer above: [`lint`] writes a line for each line at fault, and a warning for each that changes nothing of what
 //! stands after the whole file; its answer is whether the file is a map. [`map_of_both`] answers the map of the settings of
-//! lines, each a [`Numbered`].
+//! lines, each a [`Numbered`]. A line with a mend of its words put in is one of a map, or has another reason at a later word
+//! ([`mends_law`]).
 //!
 //! ```text
 //! icicle.map:9:12: SIZE 0x400 is not a multiple of 4096; the whole page is 0x1000
@@ -11,11 +12,13 @@
 
 mod findings;
 mod idle;
+mod laws;
 mod numbers;
 mod perms;
 mod reasons;
 mod report;
 
 pub use idle::{Numbered, map_of_both};
+pub use laws::mends_law;
 pub use lint_texts::LintFault;
 pub use report::lint;

@@ -1,6 +1,6 @@
 //! Words that should be numbers of bytes, of whole pages.
 
-ghost use Rattle.std.specs.Prelude.{◌≡◌, ◌++◌, ◌-◌, ◌%◌, ◌^◌, ◌<◌, ◌==◌, OnOk, bytes_eq, codes};
+ghost use Rattle.std.specs.Prelude.{◌≡◌, ◌++◌, ◌-◌, ◌%◌, ◌^◌, ◌<◌, ◌≤◌, ◌==◌, OnOk, bytes_eq, codes};
 ghost use Rattle.std.specs.List.{list_any};
 ghost use Rattle.text_lines.specs.Numbers.{numeral_of};
 ghost use Rattle.lint_texts.specs.Pieces.{address_text};
@@ -87,12 +87,12 @@ pub(crate) fn push_no_base(text: &mut Vec<u8>, placed: Placed<'_>) -> Result<(),
     push(text, base_fault(placed.word))
 }
 
-/// Whether digits are a whole number of pages as hexadecimal ones, inside the space.
-fn is_whole_hex(digits: &[u8]) -> bool
-    ensures { result ≡ is_whole_hex (numeral_of 16 digits.now) }
+/// Whether digits are a whole number of pages as hexadecimal ones, and at most so many bytes.
+fn is_whole_hex(digits: &[u8], most: u64) -> bool
+    ensures { result ≡ is_whole_hex most (numeral_of 16 digits.now) }
 {
     match numeral(digits, 16) {
-        Some(n) => n % 4096 == 0 && n < SPACE_SIZE,
+        Some(n) => n % 4096 == 0 && n <= most,
         None => false,
     }
 }
@@ -133,7 +133,7 @@ fn whole_bytes(bytes: u64) -> u64
 
 /// Appends the whole pages of a range, from its first byte on.
 fn push_whole_pages(text: &mut Vec<u8>, first: u64, bytes: u64) -> Result<(), Memory>
-    requires { bytes < 2 ^ 56 }
+    requires { bytes ≤ 2 ^ 56 }
     ensures { OnOk result (text.new.items ≡ text.old.items ++ whole_pages first bytes) }
 {
     let part = first % 4096;
@@ -155,9 +155,10 @@ fn push_page(text: &mut Vec<u8>, first: u64) -> Result<(), Memory>
 
 /// Appends what fixes a base that is no whole number of pages.
 fn push_base_mend(text: &mut Vec<u8>, first: u64, bytes: u64) -> Result<(), Memory>
+    requires { first ≤ 2 ^ 56 }
     ensures { OnOk result (text.new.items ≡ text.old.items ++ base_mend first bytes) }
 {
-    if bytes > 0 && bytes < SPACE_SIZE {
+    if bytes > 0 && bytes <= SPACE_SIZE - first {
         return push_whole_pages(text, first, bytes);
     }
     push_page(text, first)
@@ -170,11 +171,12 @@ pub(crate) fn push_base_part(
     first: u64,
     bytes: u64,
 ) -> Result<(), Memory>
-    requires { base.before < 2 ^ 64 - 1 }
+    requires before { base.before < 2 ^ 64 - 1 }
+    requires first { first ≤ 2 ^ 56 }
     ensures { OnOk result (text.new.items
         ≡ text.old.items ++ base_part base.entry.before base.entry.word.now first bytes) }
 {
-    if is_whole_hex(base.word) {
+    if is_whole_hex(base.word, SPACE_SIZE - 4096) {
         return push_hex(text, "BASE", base);
     }
     push_part(text, "BASE", base)?;
@@ -194,21 +196,27 @@ fn pages_mend(bytes: u64) -> &'static str
 
 /// Appends what fixes a size that is no whole number of pages.
 fn push_size_mend(text: &mut Vec<u8>, bytes: u64) -> Result<(), Memory>
-    requires { bytes < 2 ^ 56 }
+    requires { bytes ≤ 2 ^ 56 }
     ensures { OnOk result (text.new.items ≡ text.old.items ++ size_mend bytes) }
 {
     push(text, pages_mend(bytes))?;
     push_address(text, whole_bytes(bytes))
 }
 
-/// Appends what is wrong with a size that is no whole number of pages.
-pub(crate) fn push_size_part(text: &mut Vec<u8>, size: Placed<'_>, bytes: u64) -> Result<(), Memory>
+/// Appends what is wrong with a size that is no whole number of pages, from that base on.
+pub(crate) fn push_size_part(
+    text: &mut Vec<u8>,
+    size: Placed<'_>,
+    first: u64,
+    bytes: u64,
+) -> Result<(), Memory>
     requires before { size.before < 2 ^ 64 - 1 }
-    requires bytes { bytes < 2 ^ 56 }
+    requires first { first ≤ 2 ^ 56 }
+    requires bytes { bytes ≤ 2 ^ 56 }
     ensures { OnOk result (text.new.items
-        ≡ text.old.items ++ size_part size.entry.before size.entry.word.now bytes) }
+        ≡ text.old.items ++ size_part size.entry.before size.entry.word.now first bytes) }
 {
-    if is_whole_hex(size.word) {
+    if is_whole_hex(size.word, SPACE_SIZE - first) {
         return push_hex(text, "SIZE", size);
     }
     push_part(text, "SIZE", size)?;

@@ -11,7 +11,7 @@ use lint_texts::{
     push_column, word_from,
 };
 use permission_map::Memory;
-use pmp_encoding::{Perm, SPACE_SIZE};
+use pmp_encoding::SPACE_SIZE;
 use text_lines::{LONGEST, number, without_return};
 
 /// Appends how large a size may be at most.
@@ -36,23 +36,19 @@ fn push_past_end(text: &mut Vec<u8>, size_at: usize, first: u64) -> Result<(), M
     Ok(())
 }
 
-/// Appends that a range does not lie in the space.
-fn push_past(text: &mut Vec<u8>, base_at: usize, size_at: usize, first: u64) -> Result<(), Memory>
-    requires base { base_at < 2 ^ 64 - 1 }
-    requires size { size_at < 2 ^ 64 - 1 }
-    ensures { OnOk result (text.new.items ≡ text.old.items ++ past_text base_at size_at first) }
+/// Appends that a base does not lie in the space.
+fn push_past(text: &mut Vec<u8>, base_at: usize) -> Result<(), Memory>
+    requires { base_at < 2 ^ 64 - 1 }
+    ensures { OnOk result (text.new.items ≡ text.old.items ++ past_text base_at) }
 {
-    if first > SPACE_SIZE {
-        push_column(text, base_at)?;
-        return push(
-            text,
-            "BASE is past 2^56; the space ends at 0x100000000000000",
-        );
-    }
-    push_past_end(text, size_at, first)
+    push_column(text, base_at)?;
+    push(
+        text,
+        "BASE is past 2^56; the space ends at 0x100000000000000",
+    )
 }
 
-/// Appends what is wrong with two numbers and a word.
+/// Appends what is wrong with the first of two numbers and a word that is at fault.
 #[tactic(auto, unfolding(crate::specs::Reasons::range_text))]
 fn push_range(
     text: &mut Vec<u8>,
@@ -70,16 +66,19 @@ fn push_range(
         size.entry.before size.entry.word.now perm.entry.before perm.entry.word.now
         first bytes) }
 {
+    if first > SPACE_SIZE {
+        return push_past(text, base.before);
+    }
     if first % 4096 != 0 {
         return push_base_part(text, base, first, bytes);
     }
-    if bytes % 4096 != 0 && bytes < SPACE_SIZE {
-        return push_size_part(text, size, bytes);
+    if bytes > SPACE_SIZE - first {
+        return push_past_end(text, size.before, first);
     }
-    match Perm::from_word(perm.word) {
-        None => push_perm(text, perm.before, perm.word),
-        Some(_) => push_past(text, base.before, size.before, first),
+    if bytes % 4096 != 0 {
+        return push_size_part(text, size, first, bytes);
     }
+    push_perm(text, perm.before, perm.word)
 }
 
 /// Appends what is wrong with three words, of which the first is this number.
