@@ -9,7 +9,7 @@ ghost use Rattle.plan_certificate.specs.Written.{certificate_for};
 ghost use Rattle.map_commands.specs.CertifiedPlan.{placing, IsNotPlaced};
 
 use byte_streams::{DeviceFault, Sink};
-use entry_planner::Plan;
+use entry_planner::PackedPlan;
 use permission_map::PermissionMap;
 use plan_certificate::send_map;
 use pmp_encoding::Limit;
@@ -30,7 +30,12 @@ pub trait CertificateSink<M>: Sink {
     ghost is_apart: { Bool };
 
     /// Takes the certificate of a map's plan, and lets it stand in its place.
-    fn take(&mut self, map: &PermissionMap, plan: &Plan, limit: Limit) -> Result<(), DeviceFault>
+    fn take(
+        &mut self,
+        map: &PermissionMap,
+        plan: &PackedPlan,
+        limit: Limit,
+    ) -> Result<(), DeviceFault>
         requires splits { splits (tree_of (view_of_runs map.now)) ≡ length plan.now.costs }
         ensures put { IfOk result (λ _.
             TakesAll (certificate_for limit plan.now (tree_of (view_of_runs map.now)))
@@ -46,7 +51,12 @@ impl<C: WholeSink> CertificateSink<Whole> for C {
 
     ghost is_apart = { C.is_apart };
 
-    fn take(&mut self, map: &PermissionMap, plan: &Plan, limit: Limit) -> Result<(), DeviceFault> {
+    fn take(
+        &mut self,
+        map: &PermissionMap,
+        plan: &PackedPlan,
+        limit: Limit,
+    ) -> Result<(), DeviceFault> {
         send_map(map, plan, limit, self.inner())?;
         self.put_in_place()
     }
@@ -57,7 +67,12 @@ impl<C: Sink> CertificateSink<Straight> for C {
 
     ghost is_apart = { false };
 
-    fn take(&mut self, map: &PermissionMap, plan: &Plan, limit: Limit) -> Result<(), DeviceFault> {
+    fn take(
+        &mut self,
+        map: &PermissionMap,
+        plan: &PackedPlan,
+        limit: Limit,
+    ) -> Result<(), DeviceFault> {
         send_map(map, plan, limit, self)
     }
 }
