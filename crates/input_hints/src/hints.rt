@@ -17,7 +17,7 @@ use hart_sim::Machine;
 use lint_commands::names_platform;
 use map_commands::needed_by;
 use platforms::{BootFault, Platform};
-use program_tasks::{LintKind, Options, Request, Task};
+use program_tasks::{LintKind, Request, Task};
 use program_troubles::Trouble;
 use register_width::Xlen;
 use std::alloc::{AllocError, Global};
@@ -234,11 +234,13 @@ fn hints_of_lint<'a, R: Source>(
         (source first.old first.new) (source second.old second.new)
         (option_map (λ text. text.items) hints)) }
 {
-    match (kind, platform) {
-        (LintKind::ByName, _) => size_hints(alloc, named_kind(file), file, first),
-        (LintKind::Registers, _) => size_hints(alloc, FileKind::Listing, file, first),
-        (LintKind::Trace, None) => size_hints(alloc, FileKind::Trace, file, first),
-        (LintKind::Trace, Some(platform)) => hints_of_traced(alloc, platform, file, first, second),
+    match kind {
+        LintKind::ByName => size_hints(alloc, named_kind(file), file, first),
+        LintKind::Registers => size_hints(alloc, FileKind::Listing, file, first),
+        LintKind::Trace => match platform {
+            None => size_hints(alloc, FileKind::Trace, file, first),
+            Some(platform) => hints_of_traced(alloc, platform, file, first, second),
+        },
     }
 }
 
@@ -254,12 +256,8 @@ fn task_hints<'a, R: Source>(
         (source first.old first.new) (source second.old second.new)
         (option_map (λ text. text.items) hints)) }
 {
-    let Options {
-        xlen,
-        registers: listed,
-        at_most,
-        ..
-    } = request.options;
+    let options = &request.options;
+    let xlen = options.xlen;
     match request.task {
         Task::Run {
             platform,
@@ -267,13 +265,13 @@ fn task_hints<'a, R: Source>(
             ..
         } => hints_of_run(alloc, platform, trace, first, second),
         Task::Plan { map, limit, .. } => {
-            let options = &request.options;
-            let bounds = plan_bounds(limit, options.first, at_most, options.format);
+            let bounds = plan_bounds(limit, options.first, options.at_most, options.format);
             hints_of_map(alloc, map, bounds, first)
         }
         Task::Check { map, cert } => hints_of_check(alloc, map, cert, first, second),
         Task::Judge { map, trace, limit } => {
             let bounds = bank_bounds(limit);
+            let listed = options.registers;
             hints_of_judge(alloc, listed, xlen, map, bounds, trace, first, second)
         }
         Task::Audit { map, registers } => {
@@ -282,10 +280,11 @@ fn task_hints<'a, R: Source>(
         }
         Task::Map { registers } => hints_of(alloc, Form::Listing { xlen }, registers, first),
         Task::Show { map, .. } => {
-            hints_of_file(alloc, listed, xlen, map, table_bounds(at_most), first)
+            let bounds = table_bounds(options.at_most);
+            hints_of_file(alloc, options.registers, xlen, map, bounds, first)
         }
         Task::Lint { file, platform } => {
-            hints_of_lint(alloc, request.options.kind, platform, file, first, second)
+            hints_of_lint(alloc, options.kind, platform, file, first, second)
         }
     }
 }
