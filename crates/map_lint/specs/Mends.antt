@@ -4,6 +4,7 @@ use Rattle.pmp_encoding.specs.declared.perm.Perm.{Perm}
 use Rattle.pmp_encoding.specs.Perms.{permission_of}
 use Rattle.text_lines.specs.Numbers.{number_of, numeral_of}
 use Rattle.map_text.specs.MapFile.{setting_of}
+use Rattle.lint_texts.specs.Pieces.{address_text}
 use Rattle.map_lint.specs.Numbers.{is_whole_hex, whole_bytes}
 use Rattle.map_lint.specs.Reasons.{perm_mend}
 
@@ -41,6 +42,10 @@ pub record MendsHold : Type 0 where
 -- digits behind `0x` are the number that they are as hexadecimal ones
 abbrev pub ReadsHexadecimal : Type 0
 ReadsHexadecimal = (digits : List ℕ) → number_of (codes "0x" ++ digits) ≡ numeral_of 16 digits
+
+-- an address as it is printed is its number
+abbrev pub ReadsAddresses : Type 0
+ReadsAddresses = (n : ℕ) → n < 2 ^ 64 → number_of (address_text n) ≡ Some n
 
 -- what is to be written for letters with or without r, w and x is a permission
 abbrev pub NamesPermissions : Type 0

@@ -13,6 +13,10 @@ pub carried : {X : Type 0} {P Q : X → Type 0} (found : Option X) → ((x : X) 
 carried None f given = given
 carried (Some x) f given = f x given
 
+pub paired : {X : Type 0} (P Q : X → Type 0) (found : Option X) → IfSome found P → IfSome found Q → IfSome found (λ x. P x × Q x)
+paired P Q None p q = p
+paired P Q (Some x) p q = (p, q)
+
 -- a range and a permission are a device
 pub device_found :
     (t : Members) (range : ℕ × ℕ) (perm : Perm) → has_only (codes "base" ∷ codes "size" ∷ codes "perm" ∷ []) t ≡ true → range_in t ≡ Some range → perm_at t ≡ Some perm
@@ -23,7 +27,7 @@ device_found t range perm keys is_range is_perm =
     ∙ ap (λ r. option_map (λ p. (range.0, range.1, p)) r) is_perm
 
 -- an item of an array, and what stands at its place in a document
-at_array : (value : Data) (items : Items) (i : ℕ) → as_array value ≡ Some items → at i value ≡ get_item i items
+pub at_array : (value : Data) (items : Items) (i : ℕ) → as_array value ≡ Some items → at i value ≡ get_item i items
 at_array (array found) items i is = ap (get_item i) (same_Some _ _ is)
 at_array (string s) items i is = absurd (let h : None ≡ Some items = is in cc)
 at_array (integer z) items i is = absurd (let h : None ≡ Some items = is in cc)

@@ -1,4 +1,5 @@
 pub mod Breaches
 pub mod Lints
+pub mod Order
 pub mod Overlaps
 pub mod Texts

@@ -5,7 +5,7 @@ use Rattle.toml.specs.Data.{Members}
 use Rattle.toml.specs.Parse.{parse_document}
 use Rattle.platforms.specs.Platform.{Layout}
 use Rattle.platform_file.specs.Document.{IsPlatformFile}
-use Rattle.platform_lint.specs.Breaches.{IsBreach}
+use Rattle.platform_lint.specs.Order.{IsFirstBreach}
 use Rattle.platform_lint.specs.Texts.{breach_text}
 use Rattle.platform_lint.specs.declared.breach.Breach.{Breach}
 
@@ -22,10 +22,10 @@ position_text position = codes ":" ++ (decimal position.0 ++ (codes ":" ++ (deci
 abbrev pub IsSyntaxText : List ℕ → List ℕ → Type 0
 IsSyntaxText text said = (start : ℕ) × (message : List ℕ) × (start ≤ length text) × (said ≡ position_text (position_after (take start text) 1 1) ++ message)
 
--- what is said of a text that is no platform: it is no document, or its document breaks this
+-- what is said of a text that is no platform: it is no document, or its document breaks this first
 abbrev pub Says : List ℕ → Option Members → List ℕ → Type 0
 Says text None said = IsSyntaxText text said
-Says text (Some document) said = (breach : Breach) × IsBreach document breach × (said ≡ codes ": " ++ breach_text breach)
+Says text (Some document) said = (breach : Breach) × IsFirstBreach document breach × (said ≡ codes ": " ++ breach_text breach)
 
 -- the line for a text that is no platform
 abbrev pub IsFinding : List ℕ → List ℕ → List ℕ → Type 0

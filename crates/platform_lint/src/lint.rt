@@ -6,8 +6,8 @@ ghost use Rattle.toml.specs.Errors.{IsMemory, IsWithin, span_start};
 ghost use Rattle.toml.specs.View.{table_view};
 ghost use Rattle.platforms.specs.Platform.{Layout};
 ghost use Rattle.platform_file.specs.Document.{IsPlatformFile, IsPlatformText, Tells};
-ghost use Rattle.platform_lint.specs.Breaches.{IsBreach};
 ghost use Rattle.platform_lint.specs.Lints.{IsFinding, IsLintLine, IsSyntaxText, no_text_line, position_after};
+ghost use Rattle.platform_lint.specs.Order.{IsFirstBreach};
 ghost use Rattle.platform_lint.specs.Texts.{breach_text};
 ghost use Rattle.platform_lint.specs.declared.breach.Breach.{Breach};
 ghost use Rattle.lint_texts.specs.declared.lint_fault.LintFault as LintFault;
@@ -24,10 +24,10 @@ use std::str;
 use toml::Table;
 use toml::de::Error;
 
-/// What a document breaks that tells no platform.
+/// What a document breaks first that tells no platform.
 fn breach_of<'a>(alloc: Global, document: &'a Table) -> Result<Breach<'a>, AllocError>
     requires { (platform : Layout) → Tells (table_view document.now) platform → ⊥ }
-    ensures { IfOk result (IsBreach (table_view document.now)) }
+    ensures { IfOk result (IsFirstBreach (table_view document.now)) }
 {
     if let Some(breach) = form_breach(document) {
         return Ok(breach);
@@ -83,10 +83,10 @@ fn push_syntax(line: &mut Vec<u8>, text: &str, error: &Error) -> Result<(), Allo
     push(line, error.message())
 }
 
-/// Appends what a document breaks that tells no platform.
+/// Appends what a document breaks first that tells no platform.
 fn push_document(alloc: Global, line: &mut Vec<u8>, document: &Table) -> Result<(), AllocError>
     requires { (platform : Layout) → Tells (table_view document.now) platform → ⊥ }
-    ensures { OnOk result ((breach : Breach) × IsBreach (table_view document.now) breach
+    ensures { OnOk result ((breach : Breach) × IsFirstBreach (table_view document.now) breach
         × (line.new.items ≡ line.old.items ++ (codes ": " ++ breach_text breach))) }
 {
     let breach = breach_of(alloc, document)?;

@@ -1,9 +1,10 @@
 //! Two ranges of a platform file that have a page in common.
 
-ghost use Rattle.std.specs.Prelude.{◌≡◌, ◌+◌, ◌↔◌, ℕ, IfOk, IfSome, IsTrue, None, Some, drop, map, slice_get};
+ghost use Rattle.std.specs.Prelude.{◌≡◌, ◌+◌, ◌<◌, ◌↔◌, ℕ, IfOk, IfSome, IsTrue, None, Some, drop, get_or, map, slice_get};
 ghost use Rattle.std.specs.List.{All};
 ghost use Rattle.platforms.specs.Ranges.{AreRangesApart, EachApart};
 ghost use Rattle.platform_lint.specs.Overlaps.{IsOverlap, placed_ranges};
+ghost use Rattle.platform_lint.specs.declared.breach.PlacedRange.{PlacedRange};
 
 use crate::breach::{Place, PlacedRange};
 use page_views::PageRange;
@@ -21,7 +22,9 @@ fn are_apart(bounds: (u64, u64), other: (u64, u64)) -> bool
 /// The first of some ranges that has a page in common with this one.
 fn first_meeting(bounds: (u64, u64), others: &[PlacedRange]) -> Option<PlacedRange>
     ensures some { IfSome result (λ other. (i : ℕ) × (slice_get others.now i ≡ Some other)
-        × (AreRangesApart bounds other.bounds → ⊥)) }
+        × (AreRangesApart bounds other.bounds → ⊥)
+        × ((j : ℕ) (d : PlacedRange) → j < i
+        → AreRangesApart bounds (get_or others.now j d).bounds)) }
     ensures none { result ≡ None
         → All (λ other. AreRangesApart bounds other.bounds) others.now }
 {

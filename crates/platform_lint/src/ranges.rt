@@ -4,8 +4,9 @@ ghost use Rattle.std.specs.Prelude.{◌≡◌, ◌≢◌, ◌↔◌, ℕ, IfSome
 ghost use Rattle.toml.specs.View.{table_view};
 ghost use Rattle.platforms.specs.Ranges.{IsRange};
 ghost use Rattle.pmp_encoding.specs.declared.perm.Perm.{Perm};
-ghost use Rattle.platform_file.specs.Document.{device_of, is_known, number_at, perm_at, range_in, range_of};
+ghost use Rattle.platform_file.specs.Document.{device_of, has_only, is_known, number_at, perm_at, range_in, range_of};
 ghost use Rattle.platform_lint.specs.Breaches.{key_name, keys_of, needed_of, numbers_of, Breaks};
+ghost use Rattle.platform_lint.specs.Order.{key_step, step_of, BreaksNoneBelow};
 
 use crate::breach::{Breach, Key, Place};
 use page_views::PAGE_SIZE;
@@ -18,6 +19,7 @@ fn number_breach<'a>(table: &'a Table, place: Place, key: Key) -> Option<Breach<
     ensures some { is_known (key_name key) (needed_of place) ≡ true
         → is_known (key_name key) (numbers_of place) ≡ true
         → IfSome result (Breaks (table_view table.now) place) }
+    ensures step { IfSome result (λ breach. step_of breach ≡ key_step key) }
     ensures none { result ≡ None
         → (n : ℕ) × (number_at (key_name key) (table_view table.now) ≡ Some n) }
 {
@@ -34,6 +36,7 @@ fn number_breach<'a>(table: &'a Table, place: Place, key: Key) -> Option<Breach<
 fn perm_breach<'a>(table: &'a Table, place: Place) -> Option<Breach<'a>>
     ensures some { is_known (codes "perm") (needed_of place) ≡ true
         → IfSome result (Breaks (table_view table.now) place) }
+    ensures step { IfSome result (λ breach. step_of breach ≡ 4) }
     ensures none { result ≡ None
         → (perm : Perm) × (perm_at (table_view table.now) ≡ Some perm) }
 {
@@ -57,6 +60,12 @@ fn is_range(base: u64, size: u64) -> bool
 /// What is wrong with the base and the size of a table.
 fn numbers_breach<'a>(table: &'a Table, place: Place) -> Option<Breach<'a>>
     ensures some { place ≢ Place.File → IfSome result (Breaks (table_view table.now) place) }
+    ensures first { BreaksNoneBelow (table_view table.now) place 1
+        → IfSome result (λ breach.
+        BreaksNoneBelow (table_view table.now) place (step_of breach)) }
+    ensures clear { BreaksNoneBelow (table_view table.now) place 1
+        → result ≡ None
+        → BreaksNoneBelow (table_view table.now) place 4 }
     ensures none { result ≡ None
         → (range : ℕ × ℕ) × (range_in (table_view table.now) ≡ Some range) }
 {
@@ -79,6 +88,9 @@ fn numbers_breach<'a>(table: &'a Table, place: Place) -> Option<Breach<'a>>
 pub(crate) fn range_breach<'a>(table: &'a Table, place: Place) -> Option<Breach<'a>>
     requires { keys_of place ≡ keys_of Place.Monitor }
     ensures some { IfSome result (Breaks (table_view table.now) place) }
+    ensures first { IfSome result (λ breach.
+        BreaksNoneBelow (table_view table.now) place (step_of breach)) }
+    ensures clear { result ≡ None → BreaksNoneBelow (table_view table.now) place 5 }
     ensures none { result ≡ None
         → (range : ℕ × ℕ) × (range_of (table_view table.now) ≡ Some range) }
 {
@@ -92,6 +104,9 @@ pub(crate) fn range_breach<'a>(table: &'a Table, place: Place) -> Option<Breach<
 pub(crate) fn device_breach<'a>(table: &'a Table, place: Place) -> Option<Breach<'a>>
     requires { keys_of place ≡ keys_of (Place.Device 1) }
     ensures some { IfSome result (Breaks (table_view table.now) place) }
+    ensures first { IfSome result (λ breach.
+        BreaksNoneBelow (table_view table.now) place (step_of breach)) }
+    ensures clear { result ≡ None → BreaksNoneBelow (table_view table.now) place 5 }
     ensures none { result ≡ None
         → (device : ℕ × ℕ × Perm) × (device_of (table_view table.now) ≡ Some device) }
 {

@@ -7,6 +7,7 @@ ghost use Rattle.platforms.specs.Ranges.{EachApart, device_range};
 ghost use Rattle.platforms.specs.declared.platform.PlatformFault.TheVariants.{Overlap};
 ghost use Rattle.platform_file.specs.Document.{Builds, Tells};
 ghost use Rattle.platform_lint.specs.Breaches.{BreaksRule, HasForm, IsBreach, IsBroken};
+ghost use Rattle.platform_lint.specs.Order.{IsOfRules};
 
 use crate::breach::Breach;
 use crate::overlap::{overlap_in, placed_ranges};
@@ -32,6 +33,7 @@ pub(crate) fn rule_breach<'a>(
     requires { HasForm (table_view document.now) }
     ensures some { IfOk result (λ found.
         IfSome found (IsBreach (table_view document.now))) }
+    ensures last { IfOk result (λ found. IfSome found IsOfRules) }
     ensures none { result ≡ Ok None
         → (platform : Layout) × Tells (table_view document.now) platform }
 {
@@ -67,7 +69,8 @@ fn breach_by(
     devices: &[(u64, u64, Perm)],
 ) -> Result<Breach<'static>, AllocError>
     requires { fault ≡ Overlap → EachApart (ram.now ++ map device_range devices.now) → ⊥ }
-    ensures { IfOk result (IsBroken fault ram.now devices.now) }
+    ensures broken { IfOk result (IsBroken fault ram.now devices.now) }
+    ensures last { IfOk result IsOfRules }
 {
     match fault {
         PlatformFault::Overlap => {

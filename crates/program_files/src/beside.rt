@@ -1,5 +1,6 @@
 //! The place of a certificate, and the files beside it.
 
+ghost use Rattle.std.specs.Fs.{new_options, with_truncate, with_write};
 ghost use Rattle.std.specs.Path.{path_buf_bytes};
 ghost use Rattle.std.specs.Prelude.{◌≡◌, ◌+◌, ◌-◌, ◌^◌, ◌<◌, ◌⊎◌, ◌↔◌, None, true, IfErr, IfOk, IfSome, string_bytes};
 ghost use Rattle.program_files.specs.Beside.{part_name, short_part_name, IsNumbered};
@@ -57,12 +58,18 @@ pub(crate) fn permit<F: OpenFile>(file: &F, old: Option<Metadata>) {
     }
 }
 
+/// To write to what stands in a place, which is emptied first. Nothing is made.
+fn emptied() -> OpenOptions
+    ensures { result ≡ with_truncate (with_write new_options true) true }
+{
+    let mut options = OpenOptions::new();
+    let _ = options.write(true).truncate(true);
+    options
+}
+
 /// What stands there, to be written from its beginning on.
 pub(crate) fn straight<R: Files>(files: &R, place: &str) -> io::Result<R::File> {
-    OpenOptions::new()
-        .write(true)
-        .truncate(true)
-        .open(files, place)
+    emptied().open(files, place)
 }
 
 /// The place of a file of that name: what it leads to, and otherwise the name itself.

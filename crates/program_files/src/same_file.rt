@@ -1,5 +1,7 @@
 //! Whether two names are of one file.
 
+ghost use Rattle.std.specs.Prelude.{◌≡◌, ◌↔◌, IsTrue};
+
 use std::fs;
 use std::fs::Metadata;
 use std::os::unix::fs::MetadataExt;
@@ -21,6 +23,14 @@ pub fn is_same_plain_file<R: Files>(files: &R, one: &str, other: &str) -> bool {
     }
 }
 
+/// Whether two files are one: both are of one device, and have one number there.
 fn are_same(one: &Metadata, other: &Metadata) -> bool {
-    one.dev() == other.dev() && one.ino() == other.ino()
+    is_one((one.dev(), one.ino()), (other.dev(), other.ino()))
+}
+
+/// Whether two devices and numbers on them are of one file.
+fn is_one(one: (u64, u64), other: (u64, u64)) -> bool
+    ensures { IsTrue result ↔ (one ≡ other) }
+{
+    one.0 == other.0 && one.1 == other.1
 }

@@ -1,3 +1,4 @@
+use Rattle.map_lint.proofs.Addresses.{reads_address}
 use Rattle.map_lint.proofs.Mended.{faults, hexadecimal, mends, names}
 use Rattle.map_lint.proofs.laws.mends_law.Goals as goal
 
@@ -12,3 +13,6 @@ returns-clause-digits c = hexadecimal
 
 pub returns-clause-letters : goal.returns-clause-letters
 returns-clause-letters c = names
+
+pub returns-clause-addresses : goal.returns-clause-addresses
+returns-clause-addresses c = reads_address

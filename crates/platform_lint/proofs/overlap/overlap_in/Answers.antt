@@ -16,6 +16,8 @@ returns-in-Some-clause-some c =
       other_is = slice_get-get_or ranges c.loop-i.i _ c.loop-i-test.true;
       one_is = met.1;
       not_apart = met.2;
+      none_before = c.loop-i.invariant;
+      none_between = met.3;
     }
 
 pub loop-i-preserved : goal.loop-i-preserved

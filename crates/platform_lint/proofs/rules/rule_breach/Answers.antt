@@ -25,4 +25,4 @@ returns-in-Some-broken_rule-clause-some c =
       entries_are = sym c.in-Some-number_or-2.ensures;
     } in
     rule form c.in-Some-broken_rule.fault _ c.in-Some-broken_rule.ensures.some
-    (rw (c.as_slice-in-Some-broken_rule.ensures.value ∙ sym c.as_slice.ensures.value, c.as_slice-in-Some-broken_rule-2.ensures.value ∙ sym c.as_slice-2.ensures.value) at c.in_ok-breach-in-Some-broken_rule.ensures)
+    (rw (c.as_slice-in-Some-broken_rule.ensures.value ∙ sym c.as_slice.ensures.value, c.as_slice-in-Some-broken_rule-2.ensures.value ∙ sym c.as_slice-2.ensures.value) at c.in_ok-breach-in-Some-broken_rule.ensures.broken)
