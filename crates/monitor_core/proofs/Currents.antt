@@ -14,6 +14,7 @@ use Rattle.monitor_core.specs.Changes.{is_host}
 use Rattle.monitor_core.specs.declared.parts.Parts.{Parts}
 use Rattle.monitor_core.specs.Parts.{is_run, is_running, is_current, world_in, state_in, HoldsTogether}
 use Rattle.monitor_core.specs.Worlds.{ArePlaced}
+use Rattle.monitor_core.proofs.Held.{held_from}
 
 abbrev absent : Option Enclave
 absent = None
@@ -61,5 +62,6 @@ pub placed_from : (parts : Parts) → HoldsTogether parts.table parts.worlds par
 placed_from parts w = record {
   current = λ i low. current_from parts.table.table (world_in parts.worlds i) (w.current i);
   alone = λ i j id low also at there. w.alone i j id at there;
+  held = held_from parts.table.table (world_in parts.worlds) w.held;
   marked = λ i low on. host_is (world_in parts.worlds i) (w.hosted i on);
 }

@@ -1,5 +1,6 @@
 pub mod Cases
 pub mod Equal
+pub mod Held
 pub mod Currents
 pub mod Stayed
 pub mod Layouts
@@ -16,4 +17,5 @@ pub mod Framed
 pub mod Marks
 pub mod Blank
 pub mod Put
+pub mod Switched
 pub mod Loaded

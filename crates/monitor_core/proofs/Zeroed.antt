@@ -48,7 +48,7 @@ cleared (Some (calls.Measure id k)) pages s hart answer zero new (inl x) = inl x
 cleared (Some (calls.Measure id k)) pages s hart answer zero new (inr x) = inl x.2.zeroes
 
 -- an enclave that is live stays so where another is put at some id
-still_there : (table : EnclaveTable) (k id : ℕ) (slot e : Enclave) → 1 ≤ k → Live table id e → enclave_at (with_enclave table k (Some slot)).enclaves id ≡ None → ⊥
+pub still_there : (table : EnclaveTable) (k id : ℕ) (slot e : Enclave) → 1 ≤ k → Live table id e → enclave_at (with_enclave table k (Some slot)).enclaves id ≡ None → ⊥
 still_there table k id slot e above live gone = both (id == k)
     (λ yes.
     let is : id ≡ k = eqb-true id k yes in

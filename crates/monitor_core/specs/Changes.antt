@@ -3,13 +3,18 @@ use Rattle.std.specs.Prelude.{ℕ, ◌+◌, ◌%◌, ◌^◌, Bool, true, false,
 use Rattle.worlds.specs.declared.world.World.{World}
 use Rattle.worlds.specs.declared.world.World.TheVariants.{Host, Enclave as InEnclave}
 pub use Rattle.sbi_decode.specs.Registers.{with_x}
-use Rattle.sbi_decode.specs.Registers.{RegisterFile}
+use Rattle.sbi_decode.specs.Registers.{RegisterFile, zeros}
+use Rattle.enclave_requests.specs.declared.request.Create.{Create}
 use Rattle.worlds.specs.Runners.{Runner, HostOf, EnclaveOf, runner_of}
 use Rattle.monitor_core.specs.States.{State, running_registers}
 
 -- after the instruction that made the call
 abbrev pub past_call : RegisterFile → RegisterFile
 past_call file = record file { pc = (file.pc + 4) % 2 ^ 64 }
+
+-- the registers of a first entry: zero, but for the pc, which is the entry point, and a0, which is the id
+abbrev pub first_registers : ℕ → Create → RegisterFile
+first_registers id parts = with_x (record zeros { pc = parts.base + parts.entry_offset }) 10 id
 
 -- the same runner
 abbrev pub is_same : Runner → Runner → Bool

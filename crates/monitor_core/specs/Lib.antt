@@ -2,6 +2,7 @@ pub mod States
 pub mod Changes
 pub mod Answers
 pub mod Steps
+pub mod Switches
 pub mod RegisterSets
 pub mod Parts
 pub mod Frames

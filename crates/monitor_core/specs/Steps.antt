@@ -1,5 +1,5 @@
 -- What a call or an interrupt on a hart may be answered, and the state that it leaves.
-use Rattle.std.specs.Prelude.{◌≡◌, ◌⊎◌, ℕ, ◌+◌, ◌-◌, ◌^◌, pos, List, Option, None, Some}
+use Rattle.std.specs.Prelude.{◌≡◌, ◌⊎◌, ℕ, ◌-◌, ◌^◌, pos, List, Option, None, Some}
 use Rattle.enclave_table.specs.Enclaves.{EnclaveTable, Live, with_enclave}
 use Rattle.platforms.specs.CheckLists.{FailsFirst}
 use Rattle.enclave_table.specs.Refusals.{refusal_number, RefusesBy}
@@ -21,13 +21,13 @@ use Rattle.sbi_decode.specs.declared.calls.Call.{Call}
 use Rattle.sbi_decode.specs.declared.calls.Call.TheVariants as calls
 use Rattle.worlds.specs.Runners.{EnclaveOf}
 use Rattle.monitor_core.specs.States.{State}
-use Rattle.monitor_core.specs.Changes.{in_world, with_registers, answering, marking_others, back_to_host}
+use Rattle.monitor_core.specs.Changes.{first_registers, in_world, with_registers, answering, marking_others, back_to_host}
 use Rattle.monitor_core.specs.Answers.{below_zero}
 use Rattle.monitor_core.specs.declared.answer.Answer.{Answer}
 use Rattle.enclave_requests.specs.Requests.{parts_of}
 use Rattle.enclave_table.specs.Fewest.{NeedsMore}
 use Rattle.enclave_table.specs.Views.{host_view}
-use Rattle.sbi_decode.specs.Registers.{with_x, zeros}
+use Rattle.sbi_decode.specs.Registers.{zeros}
 
 -- a call is done: this is the state after it, it is answered with 0 and a value, and these pages are to be made zero
 pub record Done (that : State) (value : ℕ) (pages : Option PageRange) (answer : Answer) (zero : Option PageRange) (new : State) : Type 0 where
@@ -46,10 +46,10 @@ abbrev pub Refused : (Refusal → Type 0) → State → ℕ → Answer → Optio
 Refused Why s hart answer zero new = (refusal : Refusal) × Why refusal × Refuses (refusal_number refusal) s hart answer zero new
 
 -- the call that the registers name is done or refused, and an unknown one is refused; create measures these pages. Create: one more
--- enclave, and the other harts are to load the host's new entries. Destroy: one fewer, its private pages are to be made zero, and the
--- other harts as for create. Run: the enclave goes on at its entry and with its id, and the host's registers wait. Resume: it goes on
--- as it was stopped. Stop: the enclave will go on with 0 in a0 and a1, and the host goes on with 1 and 0 there. Exit: the host goes on
--- with 0 and the value. Measure: a word of the digest
+-- enclave, and the other harts are to load the host's new entries. Destroy: one fewer, its private pages are to be made zero, its
+-- registers are zero, and the other harts as for create. Run: the enclave goes on at its entry and with its id, and the host's
+-- registers wait. Resume: it goes on as it was stopped. Stop: the enclave will go on with 0 in a0 and a1, and the host goes on with 1
+-- and 0 there. Exit: the enclave's registers are zero, and the host goes on with 0 and the value. Measure: a word of the digest
 abbrev pub DoesCall : Option Call → (ℕ → List ℕ) → State → ℕ → Answer → Option PageRange → State → Type 0
 DoesCall None pages s hart answer zero new = Refuses 2 s hart answer zero new
 DoesCall (Some (calls.Create base text_pages data_pages shared_base shared_count entry_offset)) pages s hart answer zero new =
@@ -59,11 +59,11 @@ DoesCall (Some (calls.Create base text_pages data_pages shared_base shared_count
     ⊎ Refused (RefusesBy (create_checks s.table (s.worlds hart) (parts_of asked)) (OutgrowsByCreate pages s.table asked)) s hart answer zero new
 DoesCall (Some (calls.Destroy id)) pages s hart answer zero new =
     ((range : PageRange) × (table : EnclaveTable) × Destroys s.table (s.worlds hart) id range table
-    × Done (marking_others (answering (record s { table = table }) hart 0 0) hart) 0 (Some range) answer zero new)
+    × Done (marking_others (answering (with_registers (record s { table = table }) (EnclaveOf id) zeros) hart 0 0) hart) 0 (Some range) answer zero new)
     ⊎ Refused (RefusesBy (host_checks MayDestroy s.table (s.worlds hart) id) (NeedsMore s.table.layout.limit (host_view (with_enclave s.table id None)))) s hart answer zero new
 DoesCall (Some (calls.Run id)) pages s hart answer zero new =
     ((e : Enclave) × (table : EnclaveTable) × Live s.table id e × Enters s.table (s.worlds hart) id Fresh table
-    × Done (in_world (with_registers (record s { table = table }) (EnclaveOf id) (with_x (record zeros { pc = e.parts.base + e.parts.entry_offset }) 10 id)) hart (InEnclave id)) 0 None answer zero new)
+    × Done (in_world (with_registers (record s { table = table }) (EnclaveOf id) (first_registers id e.parts)) hart (InEnclave id)) 0 None answer zero new)
     ⊎ Refused (FailsFirst (host_checks (λ state. state ≡ Fresh) s.table (s.worlds hart) id)) s hart answer zero new
 DoesCall (Some calls.Stop) pages s hart answer zero new =
     ((id : ℕ) × (table : EnclaveTable) × Leaves s.table (s.worlds hart) Stopped id table
@@ -75,7 +75,7 @@ DoesCall (Some (calls.Resume id)) pages s hart answer zero new =
     ⊎ Refused (FailsFirst (host_checks (λ state. state ≡ Stopped) s.table (s.worlds hart) id)) s hart answer zero new
 DoesCall (Some (calls.Exit value)) pages s hart answer zero new =
     ((id : ℕ) × (table : EnclaveTable) × Leaves s.table (s.worlds hart) Exited id table
-    × Done (back_to_host (record s { table = table }) hart 0 value) value None answer zero new)
+    × Done (back_to_host (with_registers (record s { table = table }) (EnclaveOf id) zeros) hart 0 value) value None answer zero new)
     ⊎ Refused (FailsFirst (leave_checks (s.worlds hart))) s hart answer zero new
 DoesCall (Some (calls.Measure id k)) pages s hart answer zero new =
     ((word : ℕ) × AnswersWord s.table id k word × Done (answering s hart 0 word) word None answer zero new)
@@ -88,7 +88,7 @@ Interrupts (InEnclave id) s hart new = (table : EnclaveTable) × Leaves s.table 
 
 -- run and resume by one: what an enclave goes on with, and what is done
 abbrev pub entering_with : Entering → State → ℕ → Enclave → State
-entering_with ways.Run s id e = with_registers s (EnclaveOf id) (with_x (record zeros { pc = e.parts.base + e.parts.entry_offset }) 10 id)
+entering_with ways.Run s id e = with_registers s (EnclaveOf id) (first_registers id e.parts)
 entering_with ways.Resume s id e = s
 
 abbrev pub DoesEnter : Entering → ℕ → State → ℕ → Answer → Option PageRange → State → Type 0

@@ -92,13 +92,20 @@ impl Parts {
             result.answer result.zero (state_in self.new) }
         ensures load { LoadsAnew result.load (state_in self.old) (state_in self.new) hart }
     {
-        match self.leave(hart, Leaving::Exit, 0, value) {
-            Ok(()) => Outcome {
-                answer: Answer::done(value),
-                zero: None,
-                load: true,
-            },
-            Err(refusal) => self.refuse_for(hart, refusal),
+        match self.world(hart) {
+            World::Host => self.refuse_for(hart, Refusal::NotEnclave),
+            World::Enclave(id) => {
+                self.table.cite_invariant();
+                self.drop_registers(id);
+                let Ok(()) = self.leave(hart, Leaving::Exit, 0, value) else {
+                    unreachable!();
+                };
+                Outcome {
+                    answer: Answer::done(value),
+                    zero: None,
+                    load: true,
+                }
+            }
         }
     }
 

@@ -41,6 +41,7 @@ impl Monitor {
     ghost use Rattle.monitor_core.specs.Wants.{IsRefusedByNeed};
     ghost use Rattle.monitor_core.specs.Answers.{below_zero};
     ghost use Rattle.enclave_table.specs.Refusals.{refusal_number};
+    ghost use Rattle.worlds.specs.Runners.{IsWorld, runner_of};
 
     /// The monitor of a platform: no enclave, each hart in the host's world, all registers zero, no hart marked. It is
     /// refused where the host's view needs more entries than the platform has, and where memory is.
@@ -61,7 +62,7 @@ impl Monitor {
     }
 
     /// What is true of every monitor: its table is sound; each hart is in the host's world or in that of an enclave that is
-    /// Running, and no enclave runs on two; and a marked hart is in the host's world.
+    /// Running; no enclave runs on two, and each that is Running runs on one; and a marked hart is in the host's world.
     pub fn cite_invariant(&self)
         ensures table { IsTable (state_of self.now).table }
         ensures worlds { ArePlaced (state_of self.now) }
@@ -104,6 +105,16 @@ impl Monitor {
         ensures { result.now ≡ running_registers (state_of self.now) hart }
     {
         self.parts.running(hart)
+    }
+
+    /// The registers of the host on a hart, or of an enclave by its id, whether it runs or not, as they are kept.
+    #[tactic(auto, unfolding(crate::specs::Monitors::state_of, crate::specs::Monitors::kept_of))]
+    pub fn registers_of(&self, hart: u8, world: World) -> &Registers
+        requires hart { hart < 4 }
+        requires world { IsWorld world }
+        ensures { result.now ≡ (state_of self.now).registers (runner_of hart world) }
+    {
+        self.parts.registers.get(hart, world)
     }
 
     /// Whether a hart is marked: it is to load its entries, and to be woken, before it goes on.

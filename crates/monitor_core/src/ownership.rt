@@ -57,9 +57,11 @@ impl Parts {
             result.answer result.zero (state_in self.new) }
         ensures load { LoadsAnew result.load (state_in self.old) (state_in self.new) hart }
     {
+        self.table.cite_invariant();
         let world = self.world(hart);
         match self.table.destroy(world, id) {
             Ok(range) => {
+                self.drop_registers(id);
                 self.answer_and_mark(hart, 0, 0);
                 Outcome {
                     answer: Answer::done(0),

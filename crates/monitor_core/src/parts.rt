@@ -20,6 +20,7 @@ impl Parts {
     ghost use Rattle.monitor_core.specs.Frames.{IsOn};
     ghost use Rattle.monitor_core.specs.Parts.{HoldsTogether, mark_in, state_in, world_in};
     ghost use Rattle.monitor_core.specs.States.{running_registers};
+    ghost use Rattle.sbi_decode.specs.Registers.{zeros};
 
     /// The world that runs on a hart.
     pub(crate) fn world(&self, hart: u8) -> World
@@ -132,6 +133,19 @@ impl Parts {
         ensures marks { self.new.marked ≡ self.old.marked }
     {
         self.registers.set(0, World::Enclave(id), registers);
+    }
+
+    /// The registers of an enclave that has ended are dropped: each is zero.
+    pub(crate) fn drop_registers(&mut self, id: u64)
+        requires low { 1 ≤ id }
+        requires high { id ≤ 64 }
+        ensures state { state_in self.new
+            ≡ with_registers (state_in self.old) (EnclaveOf id) zeros }
+        ensures table { self.new.table ≡ self.old.table }
+        ensures worlds { self.new.worlds ≡ self.old.worlds }
+        ensures marks { self.new.marked ≡ self.old.marked }
+    {
+        self.put_saved(id, Registers::new());
     }
 
     /// Another world runs on a hart now, with the registers that it has.

@@ -43,5 +43,5 @@ returns-clause-others c =
     let old = c.args.self.now.parts in
     let s = with_running (state_in old) c.args.hart c.args.registers.now in
     let placed = placed_from old c.args.self.now.whole in
-    let stays = others_irq (s.worlds c.args.hart) s c.args.hart (state_in c.interrupt.new.self) refl c.requires.hart (record { current = placed.current; alone = placed.alone; marked = placed.marked }) c.interrupt.ensures.step in
+    let stays = others_irq (s.worlds c.args.hart) s c.args.hart (state_in c.interrupt.new.self) refl c.requires.hart (record { current = placed.current; alone = placed.alone; held = placed.held; marked = placed.marked }) c.interrupt.ensures.step in
     record { awake = stays.awake; views = stays.views }

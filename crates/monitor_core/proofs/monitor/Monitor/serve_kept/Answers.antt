@@ -56,7 +56,7 @@ returns-clause-others g c =
     let s = with_running (state_in old) c.args.hart file in
     let placed = placed_from old c.args.self.now.whole in
     let stays = others_call (call_of file) (g.P.Pages.bytes_of c.args.pages.now) s c.args.hart c.serve_kept.result.answer c.serve_kept.result.zero (state_in c.serve_kept.new.self) c.requires.hart
-    (record { current = placed.current; alone = placed.alone; marked = placed.marked }) c.serve_kept.ensures.step in
+    (record { current = placed.current; alone = placed.alone; held = placed.held; marked = placed.marked }) c.serve_kept.ensures.step in
     record { awake = stays.awake; views = stays.views }
 
 pub returns-clause-zeroed : goal.returns-clause-zeroed

@@ -61,7 +61,7 @@ returns-clause-others c = λ of.
     let s = with_running (state_in old) c.args.hart file in
     let placed = placed_from old c.args.self.now.whole in
     let stays = others_call (call_of file) of.0 s c.args.hart c.serve_measured.result.answer c.serve_measured.result.zero (state_in c.serve_measured.new.self) c.requires.hart
-    (record { current = placed.current; alone = placed.alone; marked = placed.marked }) (c.serve_measured.ensures.step of.0 of.1) in
+    (record { current = placed.current; alone = placed.alone; held = placed.held; marked = placed.marked }) (c.serve_measured.ensures.step of.0 of.1) in
     record { awake = stays.awake; views = stays.views }
 
 pub returns-clause-zeroed : goal.returns-clause-zeroed

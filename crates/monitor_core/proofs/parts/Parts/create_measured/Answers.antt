@@ -4,7 +4,7 @@ use Rattle.enclave_table.specs.Refusals.{refusal_number, RefusesBy}
 use Rattle.monitor_core.specs.Parts.{state_in}
 use Rattle.monitor_core.specs.Steps.{Refuses}
 use Rattle.monitor_core.proofs.Framed.{frame_placed}
-use Rattle.monitor_core.proofs.Moved.{free_runs_nowhere, whole_placed}
+use Rattle.monitor_core.proofs.Moved.{free_runs_nowhere, made_rests, whole_placed}
 use Rattle.monitor_core.proofs.Stayed.{not_added}
 use Rattle.monitor_core.proofs.parts.Parts.create_measured.Goals as goal
 use Rattle.enclave_table.specs.Checks.{create_checks}
@@ -17,7 +17,7 @@ answer_and_mark-requires c =
     record {
       on = record {
         known = subst (λ t. c.args.hart < t.layout.harts) (sym done.added) c.requires.on.known;
-        whole = whole_placed old.table c.create_measured.new.self old.worlds old.marked c.in-Ok.id _ c.requires.on.whole done.next.free.0 (free_runs_nowhere old.table old.worlds old.marked c.in-Ok.id c.requires.on.whole done.next.free.2) done.added;
+        whole = whole_placed old.table c.create_measured.new.self old.worlds old.marked c.in-Ok.id _ c.requires.on.whole done.next.free.0 (free_runs_nowhere old.table old.worlds old.marked c.in-Ok.id c.requires.on.whole done.next.free.2) (made_rests _ _) done.added;
       };
     }
 

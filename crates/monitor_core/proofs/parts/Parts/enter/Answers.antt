@@ -45,5 +45,5 @@ returns-clause-frame c =
     let new = c.go_to.new.self in
     let to = InEnclave c.args.id in
     let went = λ (i : ℕ). ap (λ s. s.worlds i) c.go_to.ensures.state ∙ ap (λ ws. if i == c.args.hart then to else world_in ws i) c.prepare.ensures.worlds in
-    let turns = entering_turns old.table now old.worlds new.worlds old.marked c.args.hart c.args.id c.world-world.result c.args.entering c.requires.on.whole c.in-Ok.ensures.done c.requires.on.known c.requires.awake went in
+    let turns = entering_turns old.table now old.worlds new.worlds old.marked c.args.hart c.args.id c.world-world.result c.args.entering c.requires.on.whole c.world-world.ensures c.in-Ok.ensures.done c.requires.on.known c.requires.awake went in
     frame_turned old new now c.args.hart c.args.id to c.requires.on.whole turns (c.go_to.ensures.table ∙ c.prepare.ensures.table) (c.go_to.ensures.marks ∙ c.prepare.ensures.marks) c.in-Ok.ensures.lists

@@ -1,0 +1,40 @@
+-- What becomes of registers over an event on a hart.
+use Rattle.std.specs.Prelude.{◌≡◌, ◌≢◌, ◌⊎◌, ℕ, None}
+use Rattle.enclave_table.specs.Enclaves.{Live, enclave_at}
+use Rattle.enclave_table.specs.declared.enclave.Enclave.{Enclave}
+use Rattle.enclave_table.specs.declared.enclave.State.TheVariants.{Fresh, Stopped, Exited}
+use Rattle.sbi_decode.specs.Registers.{RegisterFile, with_x, zeros}
+use Rattle.worlds.specs.declared.world.World.TheVariants.{Host, Enclave as InEnclave}
+use Rattle.worlds.specs.Runners.{Runner, HostOf, EnclaveOf, runner_of}
+use Rattle.monitor_core.specs.Changes.{first_registers}
+use Rattle.monitor_core.specs.States.{State}
+
+-- who runs on a hart
+abbrev pub runner_on : State → ℕ → Runner
+runner_on s hart = runner_of hart (s.worlds hart)
+
+-- an enclave was live, and is no more
+abbrev pub IsGone : State → State → ℕ → Type 0
+IsGone old new id = (e : Enclave) × Live old.table id e × (enclave_at new.table.enclaves id ≡ None)
+
+-- an enclave has exited, and had not before
+abbrev pub HasExited : State → State → ℕ → Type 0
+HasExited old new id = (e now : Enclave) × Live old.table id e × (e.state ≢ Exited) × Live new.table id now × (now.state ≡ Exited)
+
+-- the host goes on with the registers that it had when it was left, but for a0 and a1: 1 and 0 after a stop, 0 and a value after an
+-- exit
+abbrev pub ComesBack : RegisterFile → RegisterFile → Type 0
+ComesBack kept now = (now ≡ with_x (with_x kept 10 1) 11 0) ⊎ ((value : ℕ) × (now ≡ with_x (with_x kept 10 0) 11 value))
+
+-- an enclave goes on for the first time, or with the registers that it had when it was stopped
+abbrev pub GoesIn : ℕ → Enclave → RegisterFile → RegisterFile → Type 0
+GoesIn id e kept now = ((e.state ≡ Fresh) × (now ≡ first_registers id e.parts)) ⊎ ((e.state ≡ Stopped) × (now ≡ kept))
+
+-- the registers of an enclave that is no more, or has exited, are zero. Those of each other stay that runs on the hart neither before
+-- nor after. Where the hart goes to the host, the host comes back; where it goes to an enclave, the enclave goes in
+pub record KeepsRegisters (old : State) (hart : ℕ) (new : State) : Type 0 where
+  pub gone : (id : ℕ) → IsGone old new id → new.registers (EnclaveOf id) ≡ zeros
+  pub exited : (id : ℕ) → HasExited old new id → new.registers (EnclaveOf id) ≡ zeros
+  pub others : (who : Runner) → who ≢ runner_on old hart → who ≢ runner_on new hart → ((id : ℕ) → who ≡ EnclaveOf id → IsGone old new id → ⊥) → new.registers who ≡ old.registers who
+  pub host : old.worlds hart ≢ Host → new.worlds hart ≡ Host → ComesBack (old.registers (HostOf hart)) (new.registers (HostOf hart))
+  pub enclave : (id : ℕ) → old.worlds hart ≢ InEnclave id → new.worlds hart ≡ InEnclave id → (e : Enclave) × Live old.table id e × GoesIn id e (old.registers (EnclaveOf id)) (new.registers (EnclaveOf id))
