@@ -1,0 +1,323 @@
+//! From a platform to its table, its machine and a run.
+
+ghost use Rattle.std.specs.Prelude.{◌≡◌, ◌≤◌, ◌<◌, None, length, replicate};
+ghost use Rattle.pmp_encoding.specs.Limits.{limit_number};
+ghost use Rattle.hart_sim.specs.Machines.{state_of};
+ghost use Rattle.enclave_table.specs.Tables.{IsCurrent};
+
+use arrayvec::ArrayVec;
+use context_switch::{Contexts, Hart, World, switch};
+use enclave_table::{
+    BootFault, Create, Entering, Leaving, Owner, PageRange, Pages, Platform, PlatformFault,
+    Refusal, Table,
+};
+use hart_sim::{
+    Counted, DeviceFault, Event, Machine, NotUnderstood, Reply, RunFault, Sink, Source, parse_line,
+    privacy_law, run,
+};
+use measurement::{Layout, Measure, word};
+use permission_map::{Memory, PermissionMap};
+use pmp_encoding::{Bank, Entry, Limit, Perm};
+use pmp_match::{Access, Cause};
+use prefix_tree::Tree;
+use sbi_decode::{Call, NotSupported, Registers, decode};
+use std::alloc::Global;
+use std::io::{Read, Write};
+
+/// Pages that are all zero.
+#[derive(Drop)]
+pub struct Zeros;
+
+impl Pages for Zeros {
+    ghost bytes_of = { λ zeros page. replicate 4096 0 };
+
+    fn copy_page(&self, _page: u64, into: &mut [u8; 4096]) {
+        *into = [0; 4096];
+    }
+}
+
+/// A device that has nothing and takes nothing.
+#[derive(Drop)]
+pub struct Nothing;
+
+impl Source for Nothing {
+    ghost remaining = { λ nothing. None };
+
+    ghost failures = { λ nothing. 0 };
+
+    fn read(&mut self, _buf: &mut [u8]) -> Result<usize, DeviceFault> {
+        Ok(0)
+    }
+}
+
+/// The digest of a layout and a page, and one of its words.
+pub fn measured(page: &[u8; 4096]) -> ([u8; 32], u64) {
+    let layout = Layout {
+        text_pages: 1,
+        data_pages: 0,
+        shared_count: 0,
+        entry_offset: 0,
+    };
+    let mut measure: Measure = Measure::begin(&layout);
+    measure.page(page);
+    let digest: [u8; 32] = measure.finish();
+    (digest, word(&digest, 3))
+}
+
+/// The call that registers name.
+pub fn called(value: u64) -> Result<Call, NotSupported> {
+    let mut registers: Registers = Registers::new();
+    registers.set(17, value);
+    registers.set_pc(registers.get(31));
+    let _: u64 = registers.pc();
+    decode(&registers)
+}
+
+/// A number of each call, made of what it asks for.
+pub fn number_of_call(call: Call) -> u64 {
+    match call {
+        Call::Create {
+            base,
+            text_pages,
+            data_pages,
+            shared_base,
+            shared_count,
+            entry_offset,
+        } => base ^ text_pages ^ data_pages ^ shared_base ^ shared_count ^ entry_offset,
+        Call::Destroy { id } | Call::Run { id } | Call::Resume { id } => id,
+        Call::Stop => 3,
+        Call::Exit { value } => value,
+        Call::Measure { id, k } => id ^ k,
+    }
+}
+
+/// A hart that goes to the world of enclave 1.
+pub fn switched(entries: &[Entry], limit: Limit, bank: Bank) -> (Hart, Registers)
+    requires { length entries.now ≤ limit_number limit }
+{
+    let number: u8 = 0;
+    let mut hart: Hart = Hart::new(number, entries, limit);
+    let mut contexts: Contexts = Contexts::new();
+    hart.registers_mut().set(10, 1);
+    switch(&mut hart, &mut contexts, World::Enclave(1), entries);
+    contexts.set(number, World::Host, Registers::new());
+    let saved: Registers = contexts.get(number, World::Host);
+    hart.put_bank(bank);
+    (hart, saved)
+}
+
+/// A platform of one range of memory, of which the monitor has the first page, and of one device.
+pub fn platform() -> Result<Platform, PlatformFault> {
+    let ram: [(u64, u64); 1] = [(0x8000_0000, 0x80_0000)];
+    let devices: [(u64, u64, Perm); 1] = [(0x1000_0000, 0x1000, Perm::ReadWrite)];
+    let monitor: (u64, u64) = (0x8000_0000, 0x1000);
+    let harts: u8 = 4;
+    let entries: u8 = 64;
+    Platform::new(monitor, &ram, &devices)?
+        .with_harts(harts)?
+        .with_entries(entries)
+}
+
+/// The number of a platform's fault.
+pub fn number_of_platform(fault: PlatformFault) -> u8 {
+    match fault {
+        PlatformFault::BadRange => 1,
+        PlatformFault::Overlap => 2,
+        PlatformFault::MonitorNotRam => 3,
+        PlatformFault::BadNumber => 4,
+        PlatformFault::BadHarts => 5,
+        PlatformFault::BadEntries => 6,
+    }
+}
+
+/// The table of a platform.
+pub fn table(alloc: Global, platform: Platform) -> Result<Table, BootFault> {
+    Table::boot(alloc, platform)
+}
+
+/// An enclave is created and destroyed by the world that runs.
+pub fn lives<P: Pages>(table: &mut Table, world: World, pages: &P) -> Result<u64, Refusal>
+    requires { IsCurrent table.old.table world }
+{
+    let asked = Create {
+        base: 0x8020_0000,
+        text_pages: 1,
+        data_pages: 0,
+        shared_base: 0,
+        shared_count: 0,
+        entry_offset: 0,
+    };
+    table.create(world, pages, asked)
+}
+
+/// An enclave is destroyed by the world that runs.
+pub fn destroyed(table: &mut Table, world: World, id: u64) -> Result<(u64, u64), Refusal>
+    requires { IsCurrent table.old.table world }
+{
+    let zero: PageRange = table.destroy(world, id)?;
+    Ok((zero.first, zero.count))
+}
+
+/// An enclave is entered.
+pub fn entered(table: &mut Table, world: World, id: u64, again: bool) -> Result<(), Refusal>
+    requires { IsCurrent table.old.table world }
+{
+    let entering = if again {
+        Entering::Resume
+    } else {
+        Entering::Run
+    };
+    table.enter(world, id, entering)
+}
+
+/// An enclave is left.
+pub fn left(table: &mut Table, world: World, ends: bool) -> Result<u64, Refusal>
+    requires { IsCurrent table.old.table world }
+{
+    let leaving = if ends { Leaving::Exit } else { Leaving::Stop };
+    table.leave(world, leaving)
+}
+
+/// Who owns the first page.
+pub fn owner(table: &Table) -> Option<u64> {
+    match table.owner(0) {
+        Owner::Monitor | Owner::Host => None,
+        Owner::Private(id) | Owner::Shared(id) => Some(id),
+    }
+}
+
+/// What a table shows of an enclave and of the host.
+pub fn shown(table: &Table, id: u64) -> Result<Option<PermissionMap>, Memory> {
+    let _: Option<u64> = table.entry_point(id);
+    let _: Result<u64, Refusal> = table.word(id, 0);
+    let _: &[Entry] = table.host_entries();
+    let _: Option<&[Entry]> = table.enclave_entries(id);
+    let _: &Tree = table.host_tree();
+    let _: PermissionMap = table.host_view()?;
+    table.enclave_view(id)
+}
+
+/// The number of a refusal, without its sign.
+pub fn number_of_refusal(refusal: Refusal) -> u8 {
+    match refusal {
+        Refusal::NotHost | Refusal::NotEnclave => 101,
+        Refusal::BadCount => 102,
+        Refusal::BadAddress => 103,
+        Refusal::BadEntry => 104,
+        Refusal::NotRam => 105,
+        Refusal::Overlap => 106,
+        Refusal::TableFull => 107,
+        Refusal::NoEntries => 108,
+        Refusal::NoMemory => 109,
+        Refusal::BadId => 110,
+        Refusal::BadState => 111,
+        Refusal::BadWord => 112,
+    }
+}
+
+/// A machine with a line of a trace done on it.
+pub fn stepped(alloc: Global, platform: Platform) -> Result<Reply, BootFault> {
+    privacy_law();
+    let mut machine: Machine = Machine::boot(alloc, platform)?;
+    let hart: u8 = 0;
+    Ok(machine.step(hart, Event::Irq))
+}
+
+/// The other events.
+pub fn events(access: Access) -> [Event; 3] {
+    let mut words: ArrayVec<u64, 8> = ArrayVec::new();
+    let _ = words.try_push(0x0845_4e43);
+    [
+        Event::Access(access, 0),
+        Event::Reg(31, 0),
+        Event::Ecall(words),
+    ]
+}
+
+/// Another bank is put in place on a hart.
+pub fn replaced(machine: &mut Machine, hart: u8, bank: Bank)
+    requires hart { hart < 4 }
+    requires limit { limit_number bank.limit
+        ≡ limit_number (state_of machine.old).table.layout.limit }
+{
+    machine.set_bank(hart, bank);
+}
+
+/// What a machine shows of a hart.
+pub fn seen(machine: &Machine, hart: u8) -> (World, bool, u8)
+    requires { hart < 4 }
+{
+    let _: &Bank = machine.bank(hart);
+    let _: &Registers = machine.registers(hart);
+    let _: &Table = machine.table();
+    (
+        machine.world(hart),
+        machine.marked(hart),
+        machine.byte(0x8000_0000),
+    )
+}
+
+/// A number of each reply, made of what it tells.
+pub fn number_of_reply(reply: Reply) -> u64 {
+    match reply {
+        Reply::Done | Reply::NoMemory => 0,
+        Reply::Loaded(value) => value,
+        Reply::Fault(cause) => number_of_cause(cause),
+        Reply::Call {
+            status,
+            value,
+            world,
+            used,
+        } => u64::from(status < 0) ^ value ^ world ^ used,
+        Reply::Irq { world, used } => world ^ used,
+    }
+}
+
+/// The number of a cause.
+pub fn number_of_cause(cause: Cause) -> u64 {
+    match cause {
+        Cause::FetchMisaligned => 0,
+        Cause::FetchFault => 1,
+        Cause::LoadMisaligned => 4,
+        Cause::LoadFault => 5,
+        Cause::StoreMisaligned => 6,
+        Cause::StoreFault => 7,
+    }
+}
+
+/// A trace that is run.
+pub fn ran<R: Source, W: Sink>(
+    machine: &mut Machine,
+    source: &mut R,
+    sink: &mut W,
+) -> Result<(), RunFault> {
+    run(machine, source, sink)
+}
+
+/// The same over what std reads and writes.
+pub fn ran_on<R: Read, W: Write>(
+    machine: &mut Machine,
+    from: R,
+    to: W,
+) -> (Result<(), RunFault>, Counted<R>, Counted<W>) {
+    let mut source: Counted<R> = Counted::new(from);
+    let mut sink: Counted<W> = Counted::new(to);
+    let ended = run(machine, &mut source, &mut sink);
+    (ended, source, sink)
+}
+
+/// The number of a fault of a run.
+pub fn number_of_run(fault: RunFault) -> u64 {
+    match fault {
+        RunFault::Line(line) => line,
+        RunFault::TooLong => 2,
+        RunFault::Read => 3,
+        RunFault::Write => 4,
+        RunFault::Memory => 5,
+    }
+}
+
+/// The event of a line, and its hart.
+pub fn parsed(line: &[u8], harts: u8) -> Result<Option<(u8, Event)>, NotUnderstood> {
+    parse_line(line, harts)
+}

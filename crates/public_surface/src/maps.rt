@@ -1,0 +1,203 @@
+//! From a map to the entries that mean it, their bank, its judgement, and their certificate.
+
+ghost use Rattle.std.specs.Prelude.{◌≡◌, ◌≤◌, ◌<◌, length};
+ghost use Rattle.pmp_encoding.specs.Limits.{limit_number};
+
+use certificate_check::{CheckRefusal, check};
+use entry_planner::{Plan, plan};
+use permission_map::{MapFault, Memory, PermissionMap, Run, runs_law};
+use plan_certificate::{ReadFault, Reader, Tag, write};
+use pmp_encoding::{Bank, EncodingFault, Entry, Limit, Perm, Region, decode};
+use pmp_match::{Access, Cause, Kind, Mode, judge};
+use prefix_tree::{Tree, build};
+use std::alloc::Global;
+
+/// The six permissions, by their bits.
+pub fn permissions() -> [Option<Perm>; 6] {
+    [
+        Perm::from_bits(Perm::NoAccess.bits()),
+        Perm::from_bits(Perm::Read.bits()),
+        Perm::from_bits(Perm::ReadWrite.bits()),
+        Perm::from_bits(Perm::Execute.bits()),
+        Perm::from_bits(Perm::ReadExecute.bits()),
+        Perm::from_bits(Perm::ReadWriteExecute.bits()),
+    ]
+}
+
+/// An entry by its base, its size and its permission, and the pair that it is written as.
+pub fn encoded(base: u64, log2: u32, perm: Perm) -> Option<(u8, u64)> {
+    let region: Region = Region::new(base, log2)?;
+    let entry = Entry { region, perm };
+    Some(entry.encode())
+}
+
+/// The number of the fault of a pair, where it has one.
+pub fn decoded(cfg: u8, addr: u64) -> Result<Option<Entry>, u8> {
+    let read: Result<Option<Entry>, EncodingFault> = decode(cfg, addr);
+    read.map_err(|fault| match fault {
+        EncodingFault::ReservedPerm => 1,
+        EncodingFault::Tor => 2,
+        EncodingFault::Locked => 3,
+        EncodingFault::ReservedBits => 4,
+        EncodingFault::AddressBits => 5,
+        EncodingFault::NoSuchCsr => 6,
+    })
+}
+
+/// A bank of entries, what it shows, and a CSR that is written.
+pub fn banked(entries: &[Entry], limit: Limit) -> Result<Bank, EncodingFault>
+    requires { length entries.now ≤ limit_number limit }
+{
+    let mut bank: Bank = Bank::of(entries, limit);
+    let _: Option<Entry> = bank.entry(63);
+    let words: [u64; 4] = [bank.cfg(14), bank.cfg0(), bank.cfg2(), bank.addr(63)];
+    let number: u16 = 0x3a0;
+    bank.write_csr(number, words[1])?;
+    Ok(bank)
+}
+
+/// The limits.
+pub fn limits() -> [Limit; 2] {
+    [Limit::Sixteen, Limit::SixtyFour]
+}
+
+/// The modes and kinds, each with a size that it has.
+pub fn accesses(addr: u64) -> [Option<Access>; 3] {
+    let size: u8 = 4;
+    [
+        Access::new(Mode::Machine, Kind::Fetch, size, addr),
+        Access::new(Mode::Supervisor, Kind::Load, size, addr),
+        Access::new(Mode::User, Kind::Store, size, addr),
+    ]
+}
+
+/// What a bank says of an access.
+pub fn judged(bank: &Bank, access: &Access) -> Result<(), Cause> {
+    judge(bank, access)
+}
+
+/// A map of one range.
+pub fn mapped(
+    alloc: Global,
+    first: u64,
+    count: u64,
+    perm: Perm,
+) -> Result<PermissionMap, MapFault> {
+    runs_law();
+    let mut map: PermissionMap = PermissionMap::new(alloc);
+    map.set_range(first, count, perm)?;
+    Ok(map)
+}
+
+/// What a map shows of its first page.
+pub fn looked_at(map: &PermissionMap) -> (Perm, Option<Perm>) {
+    let log2: u32 = 0;
+    (map.get(0), map.uniform(0, log2))
+}
+
+/// The runs of a copy of a map.
+pub fn copied(map: &PermissionMap) -> Result<PermissionMap, Memory> {
+    let copy: PermissionMap = map.try_clone()?;
+    let runs: &[Run] = copy.ranges();
+    let _ = runs.first().map(|run| (run.first, run.count, run.perm));
+    Ok(copy)
+}
+
+/// The number of a map's fault.
+pub fn number_of_map(fault: MapFault) -> u8 {
+    match fault {
+        MapFault::PastEnd => 1,
+        MapFault::TooManyRanges => 2,
+        MapFault::Memory => 3,
+    }
+}
+
+/// The tree of a map.
+pub fn built(alloc: Global, map: &PermissionMap) -> Result<Tree, Memory> {
+    build(alloc, map)
+}
+
+/// Its next version.
+pub fn overwritten(tree: &Tree, first: u64, count: u64, perm: Perm) -> Result<Tree, MapFault> {
+    tree.with_range(first, count, perm)
+}
+
+/// The plan of a tree.
+pub fn planned(alloc: Global, tree: &Tree) -> Result<Plan, Memory> {
+    let plan: Plan = plan(alloc, tree)?;
+    let _: usize = tree.branches();
+    Ok(plan)
+}
+
+/// The bank of a plan's entries, where a hart of that limit has as many.
+pub fn loaded(plan: &Plan, limit: Limit) -> Option<Bank> {
+    let needed: u32 = plan.needed();
+    let entries: &[Entry] = plan.entries();
+    if needed > limit.number() {
+        return None;
+    }
+    Some(Bank::of(entries, limit))
+}
+
+/// What the first split block of a plan costs where no access is inherited.
+pub fn cost(plan: &Plan) -> Option<u32> {
+    let branches: usize = plan.branches();
+    if branches == 0 {
+        return None;
+    }
+    Some(plan.cost(0, Perm::NoAccess))
+}
+
+/// The certificate of a map's plan, as it is checked.
+pub fn certified(
+    alloc: Global,
+    map: &PermissionMap,
+    limit: Limit,
+) -> Result<Result<u32, CheckRefusal>, Memory> {
+    let tree: Tree = build(alloc, map)?;
+    let plan: Plan = plan(alloc, &tree)?;
+    let bytes: Vec<u8> = write(alloc, &tree, &plan, limit)?;
+    Ok(check(map, bytes.as_slice()))
+}
+
+/// The first parts of a certificate.
+pub fn read(bytes: &[u8]) -> Result<(u32, Limit), ReadFault> {
+    let mut reader: Reader<'_> = Reader::new(bytes);
+    let header = reader.header()?;
+    Ok((header.count, header.version.limit()))
+}
+
+/// The next parts of a certificate whose header was read.
+pub fn read_on(reader: &mut Reader<'_>) -> Result<(Perm, u32), ReadFault> {
+    let entry = reader.entry()?;
+    let _: (u8, u64) = (entry.cfg(), entry.address());
+    let perm: Perm = match reader.tag()? {
+        Tag::Leaf => reader.perm()?,
+        Tag::Branch => Perm::NoAccess,
+    };
+    let cost: u32 = reader.costs()?.cost(perm);
+    let _: &[u8] = reader.rest();
+    Ok((perm, cost))
+}
+
+/// The number of a refusal of the checker.
+pub fn number_of_check(refusal: CheckRefusal) -> u8 {
+    match refusal {
+        CheckRefusal::BadMagic => 1,
+        CheckRefusal::BadVersion => 2,
+        CheckRefusal::Truncated => 3,
+        CheckRefusal::BadTag => 4,
+        CheckRefusal::BadPerm => 5,
+        CheckRefusal::BadEntry => 6,
+        CheckRefusal::SubPageEntry => 7,
+        CheckRefusal::TooDeep => 8,
+        CheckRefusal::LeafNotUniform => 9,
+        CheckRefusal::WrongLeaf => 10,
+        CheckRefusal::CostTooHigh => 11,
+        CheckRefusal::CostOverflow => 12,
+        CheckRefusal::EntriesTooMany => 13,
+        CheckRefusal::WrongMeaning => 14,
+        CheckRefusal::Trailing => 15,
+        CheckRefusal::BadLimit => 16,
+    }
+}
