@@ -16,6 +16,7 @@
 mod certified_plan;
 mod commands;
 mod expected;
+mod laws;
 
 pub use certified_plan::{bank_of, needed_by, plan_and_certify, planned};
 pub use commands::{
@@ -23,3 +24,4 @@ pub use commands::{
     verdict,
 };
 pub use expected::tell_first;
+pub use laws::width_law;
