@@ -1,4 +1,5 @@
 pub mod Ends
 pub mod Names
 pub mod Judgements
+pub mod FarPages
 mod PlanCertificates

@@ -1,11 +1,12 @@
 -- The plan of a map, the bank that it is loaded into, and its certificate.
-use Rattle.std.specs.Prelude.{◌≡◌, ℕ, ◌<◌, ◌≤◌, Bool, true, List, Option, Some, None, length}
+use Rattle.std.specs.Prelude.{◌≡◌, ◌≢◌, ℕ, ◌*◌, ◌^◌, ◌<◌, ◌≤◌, Bool, true, List, Option, Some, None, length}
 use Rattle.std.specs.Borrow.{Bor}
 use Rattle.std.specs.Io.KnownBytes.{Appends}
 use Rattle.byte_streams.specs.Streams.{one_failure_more}
 use Rattle.byte_streams.specs.Writings.{Breaks, IsUnwritten, TakesAll, Writing, writing}
 use Rattle.pmp_encoding.specs.declared.bank.Bank.{Bank}
 use Rattle.pmp_encoding.specs.declared.limit.Limit.{Limit}
+use Rattle.pmp_encoding.specs.declared.perm.Perm.TheVariants.{NoAccess}
 use Rattle.pmp_encoding.specs.declared.region.Entry.{Entry}
 use Rattle.pmp_encoding.specs.Banks.{HasList, IsBankOf}
 use Rattle.pmp_encoding.specs.Limits.{limit_number}
@@ -21,7 +22,7 @@ use Rattle.certificate_check.specs.Certificates.{IsRight}
 use Rattle.certificate_format.specs.Spelling.{Spells}
 use Rattle.plan_certificate.specs.Written.{version_for}
 use Rattle.register_width.specs.declared.xlen.Xlen.{Xlen}
-use Rattle.register_width.specs.Widths.{AreReached}
+use Rattle.register_width.specs.Widths.{AreReached, space_end}
 use Rattle.program_troubles.specs.declared.trouble.Trouble.{Trouble}
 use Rattle.program_troubles.specs.declared.trouble.Trouble.TheVariants.{TooFar, NeedsEntries, CannotWrite, Memory}
 
@@ -118,11 +119,16 @@ pub record NeedsMore (view : View) (most : Option ℕ) (trouble : Trouble) : Typ
   pub beyond : IsBeyond most (length entries)
   pub told : trouble ≡ NeedsEntries (length entries)
 
--- the plan of the map of that name has an entry that the hart's address registers do not reach
+-- a page that the hart's address registers do not reach has a permission
+abbrev pub HasPageBeyond : Xlen → View → Type 0
+HasPageBeyond xlen view = (page : ℕ) × (space_end xlen ≤ page * 4096) × (page < 2 ^ 44) × (view page ≢ NoAccess)
+
+-- the plan of the map of that name has an entry that the hart's address registers do not reach, and the map such a page
 pub record IsTooFar (view : View) (xlen : Xlen) (most : Option ℕ) (map : Bor (List ℕ)) (trouble : Trouble) : Type 0 where
   pub entries : List Entry
   pub planned : IsPlanned view most entries
   pub far : ¬ AreReached xlen entries
+  pub page : HasPageBeyond xlen view
   pub told : trouble ≡ TooFar map
 
 -- why there is no bank: memory, more entries than the hart has, or one that is too far

@@ -18,6 +18,7 @@ mod certificate_sink;
 mod certified_plan;
 mod commands;
 mod expected;
+mod laws;
 
 pub use certificate_sink::{CertificateSink, Straight, Whole};
 pub use certified_plan::{bank_of, needed_by, plan_and_certify, planned};
@@ -26,3 +27,4 @@ pub use commands::{
     verdict,
 };
 pub use expected::tell_first;
+pub use laws::width_law;

@@ -5,6 +5,7 @@ use Rattle.pmp_encoding.specs.Limits.{limit_number}
 use Rattle.pmp_match.specs.Meaning.{IsFewest}
 use Rattle.map_commands.specs.CertifiedPlan.{IsPlanned, for_entries, for_memory, for_width}
 use Rattle.map_commands.proofs.PlanCertificates.{no_more}
+use Rattle.map_commands.proofs.FarPages.{too_far}
 use Rattle.map_commands.proofs.certified_plan.bank_in.Goals as goal
 
 pub returns-in_err-plan-clause-refused : goal.returns-in_err-plan-clause-refused
@@ -17,12 +18,9 @@ returns-in_err-reached-in-Some-clause-refused c =
     let p = err_from_is_err_and c.from_residual-in_err-reached-in-Some.result c.from_residual-in_err-reached-in-Some.ensures.1 in
     let b = c.in_err-reached-in-Some.ensures.beyond in
     let made = c.in_ok-plan.ensures in
-    rw (p.1, p.2) (for_width (record {
-      entries = c.in_ok-plan.plan.entries;
-      planned = record { fewest = made.fewest; chosen = made.choice; order = made.order; within = rw c.entries-entries.ensures at (no_more c.in-Some.bank _ _ c.in-Some.ensures.none.1) };
-      far = b.0;
-      told = b.1;
-    }))
+    rw (p.1, p.2) (for_width (too_far _ _ _ c.in_ok-plan.plan.entries _ _
+    (record { fewest = made.fewest; chosen = made.choice; order = made.order; within = rw c.entries-entries.ensures at (no_more c.in-Some.bank _ _ c.in-Some.ensures.none.1) })
+    b.0 b.1))
 
 pub returns-in-Some-clause-loaded : goal.returns-in-Some-clause-loaded
 returns-in-Some-clause-loaded c =

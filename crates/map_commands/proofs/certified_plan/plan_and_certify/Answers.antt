@@ -6,6 +6,7 @@ use Rattle.plan_certificate.specs.Written.{certificate_for}
 use Rattle.map_commands.specs.CertifiedPlan.{beyond, starved, uncertified, unreached}
 use Rattle.map_commands.proofs.PlanCertificates.{certificate_is}
 use Rattle.map_commands.proofs.Ends.{unplanned}
+use Rattle.map_commands.proofs.FarPages.{too_far}
 use Rattle.map_commands.proofs.certified_plan.plan_and_certify.Goals as goal
 
 pub returns-in_default-clause-refused : goal.returns-in_default-clause-refused
@@ -32,12 +33,9 @@ returns-in_err-reached-clause-refused g c =
     let p = err_from_is_err_and c.from_residual-in_err-reached.result c.from_residual-in_err-reached.ensures.1 in
     let b = c.in_err-reached.ensures.beyond in
     let made = c.in_ok-plan.ensures in
-    rw (p.1, p.2) (unreached (record {
-      entries = c.in_ok-plan.plan.entries;
-      planned = record { fewest = made.fewest; chosen = made.choice; order = made.order; within = c.in_ok-within.ensures.within };
-      far = b.0;
-      told = b.1;
-    }) (refl, refl))
+    rw (p.1, p.2) (unreached (too_far _ _ _ c.in_ok-plan.plan.entries _ _
+    (record { fewest = made.fewest; chosen = made.choice; order = made.order; within = c.in_ok-within.ensures.within })
+    b.0 b.1) (refl, refl))
 
 pub returns-in_err-put-clause-refused : goal.returns-in_err-put-clause-refused
 returns-in_err-put-clause-refused g c =

@@ -1,5 +1,6 @@
 use Rattle.std.proofs.Common.{inl, inr}
 use Rattle.std.proofs.lemmas.Result.{err_from_is_err_and}
+use Rattle.map_commands.proofs.FarPages.{too_far}
 use Rattle.map_commands.proofs.certified_plan.planned_near.Goals as goal
 
 pub returns-in_err-plan-clause-refused : goal.returns-in_err-plan-clause-refused
@@ -14,9 +15,6 @@ pub returns-in_err-reached-clause-refused : goal.returns-in_err-reached-clause-r
 returns-in_err-reached-clause-refused c =
     let p = err_from_is_err_and c.from_residual-in_err-reached.result c.from_residual-in_err-reached.ensures.1 in
     let b = c.in_err-reached.ensures.beyond in
-    rw (p.1, p.2) (inr (inr (record {
-      entries = c.in_ok-plan.plan.entries;
-      planned = c.in_ok-plan.ensures.planned;
-      far = b.0;
-      told = b.1;
-    })))
+    rw (p.1, p.2) (inr (inr (too_far _ _ _ c.in_ok-plan.plan.entries _ _
+    (c.in_ok-plan.ensures.planned)
+    b.0 b.1)))
