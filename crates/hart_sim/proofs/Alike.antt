@@ -10,7 +10,7 @@ use Rattle.pmp_match.specs.declared.cause.Cause.{Cause}
 use Rattle.enclave_table.specs.Enclaves.{Live}
 use Rattle.enclave_table.specs.Views.{enclave_view}
 use Rattle.enclave_table.specs.declared.enclave.Enclave.{Enclave}
-use Rattle.worlds.specs.Runners.{Runner, HostOf, EnclaveOf, runner_of}
+use Rattle.worlds.specs.Runners.{Runner, EnclaveOf, runner_of}
 use Rattle.hart_trace.specs.declared.event.Event.{Event}
 use Rattle.hart_trace.specs.declared.event.Event.TheVariants as events
 use Rattle.machine_replies.specs.declared.reply.Reply.{Reply}
@@ -19,6 +19,7 @@ use Rattle.machine_memory.specs.Memory.{bytes_at, number_of, in_range}
 use Rattle.hart_sim.specs.States.{State, core_of, with_core, view_of, view_on}
 use Rattle.enclave_table.proofs.ShortNames.{view_in}
 use Rattle.monitor_core.specs.Changes.{is_same, with_running}
+use Rattle.monitor_core.proofs.Put.{same_not}
 use Rattle.hart_sim.specs.Changes.{with_x, storing}
 use Rattle.hart_sim.specs.Steps.{Step, verdict, Accesses, TakesEffect}
 use Rattle.hart_sim.specs.Privacy.{RunsOn, LooksSame, ChangesOwn, IsOwn, IsPrivate}
@@ -40,12 +41,6 @@ unmarked s hart h none = pick (h == hart) refl
     pick : (b : Bool) → (h == hart) ≡ b → (if b then false else s.marked h) ≡ s.marked h
     pick true e = sym (ap s.marked (eqb-true h hart e) ∙ none)
     pick false e = refl
-
-same_not : (a b : Runner) → (a ≡ b → ⊥) → is_same a b ≡ false
-same_not (HostOf a) (HostOf b) n = ne_eqb a b (λ e. n (ap HostOf e))
-same_not (HostOf a) (EnclaveOf b) n = refl
-same_not (EnclaveOf a) (HostOf b) n = refl
-same_not (EnclaveOf a) (EnclaveOf b) n = ne_eqb a b (λ e. n (ap EnclaveOf e))
 
 -- nothing changed but a mark that was not there
 stays : (s new : State) (hart id : ℕ) (e : Enclave) → RunsOn s hart id e → new ≡ awoken s hart → ChangesOwn id e s new

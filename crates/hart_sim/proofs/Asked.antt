@@ -7,18 +7,15 @@ use Rattle.pmp_match.specs.declared.cause.Cause.{Cause}
 use Rattle.sbi_decode.specs.Calls.{call_of}
 use Rattle.sbi_decode.specs.declared.calls.Call.{Call}
 use Rattle.monitor_core.specs.States.{State as Core}
-use Rattle.monitor_core.specs.Changes.{with_running, without_mark}
+use Rattle.monitor_core.specs.Changes.{with_running}
 use Rattle.machine_replies.specs.declared.reply.Reply.{Reply}
-use Rattle.hart_sim.specs.States.{State, core_of, with_core}
+pub use Rattle.hart_sim.specs.States.{awoken}
+use Rattle.hart_sim.specs.States.{State, core_of}
 use Rattle.hart_sim.specs.Changes.{calling}
 use Rattle.hart_sim.specs.Steps.{Accesses, TakesEffect}
 use Rattle.machine_memory.specs.Memory.{bytes_at, in_range}
 use Rattle.page_views.specs.declared.pages.PageRange.{PageRange}
 use Rattle.std.specs.Prelude.{unwrap_or, option_map}
-
--- the state that an event on a hart meets: the hart is not marked
-abbrev pub awoken : State → ℕ → State
-awoken s hart = with_core s (without_mark (core_of s) hart)
 
 -- the call that words name there, and the monitor's state with them in its registers
 abbrev pub named : State → ℕ → List ℕ → Option Call

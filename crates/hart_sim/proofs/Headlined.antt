@@ -12,6 +12,7 @@ use Rattle.hart_sim.specs.After.{After, booted, happened, Happens}
 use Rattle.hart_sim.specs.Headline.{Moment, Headline}
 use Rattle.hart_sim.proofs.BankPlaces.{some_bank}
 use Rattle.hart_sim.proofs.Layouts.{layout_stays}
+use Rattle.hart_sim.proofs.LeftBanks.{left_of}
 use Rattle.hart_sim.proofs.Promises.{promised}
 use Rattle.monitor_core.proofs.SoundTables.{opening_sound}
 use Rattle.hart_sim.proofs.SoundTables.{run_sound}
@@ -108,6 +109,7 @@ headline platform events replies m a =
     record {
       run = run;
       banks = λ hart low awake. let b = some_bank m hart (subst IsLayout (sym layout) (rules_of platform events replies m a)) (subst (λ l. hart < l.harts) (sym layout) low) in (b.0, b.1, banks_of platform events replies m a hart b.0 (subst (λ l. hart < l.harts) (sym layout) low) awake b.1);
+      left = left_of platform events replies m a;
       each = moment_of platform events replies m a;
       worlds = worlds_kept platform events replies (state_of m) run;
       table = table_of platform events replies m a;

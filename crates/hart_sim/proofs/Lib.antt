@@ -1,5 +1,6 @@
 mod Verdicts
 mod KnownEvents
+mod LeftBanks
 mod Reported
 mod Asked
 mod Alike
@@ -16,6 +17,7 @@ mod WorldsKept
 mod BankPlaces
 mod SameLists
 mod SoundTables
+mod Switched
 mod Promises
 mod Headlined
 mod GoneOn

@@ -93,6 +93,20 @@ only_itself table (InEnclave k) id page e kind right live p h = by_slot (enclave
         let same : k ≡ id = right.alone k id g e page is live part (or_first (is_private e.parts page) (is_shared e.parts page) p) in
         ap InEnclave same
 
+-- nobody may do anything with a page of the monitor
+pub nobody : (table : EnclaveTable) (world : World) (page : ℕ) (kind : Kind) → IsTable table → has_page table.layout.monitor page ≡ true → holds (view_of table world page) kind ≡ true → ⊥
+nobody table Host page kind right own h =
+    let closed : host_view table page ≡ NoAccess = ap (λ b. cond b NoAccess (platform_perm table.layout page)) (or_first (has_page table.layout.monitor page) (any_private table.enclaves page) own) in
+    none_held kind (ap (λ q. holds q kind) (sym closed) ∙ h)
+nobody table (InEnclave k) page kind right own h = by_slot (enclave_at table.enclaves k) refl
+  where
+    by_slot : (slot : Option Enclave) → enclave_at table.enclaves k ≡ slot → ⊥
+    by_slot None is = none_held kind (ap (λ o. holds (view_in o page) kind) (sym is) ∙ h)
+    by_slot (Some g) is =
+        let held : holds (enclave_view g.parts page) kind ≡ true = ap (λ o. holds (view_in o page) kind) (sym is) ∙ h in
+        let part = part_held g.parts page kind (in_range (g.parts.base / 4096) g.parts.text_pages page) (in_range (g.parts.base / 4096 + g.parts.text_pages) g.parts.data_pages page) (is_shared g.parts page) refl refl refl held in
+        let z : false ≡ true = sym ((right.sound k g is).not_monitor page part) ∙ own in cc
+
 -- the goal for one byte
 abbrev Kept : State → State → ℕ → ℕ → Event → Reply → ℕ → Type 0
 Kept old new hart byte event reply id = (new.bytes byte ≡ old.bytes byte) ⊎ StoresTo old hart event reply id byte

@@ -9,6 +9,7 @@ use Rattle.pmp_match.specs.Accesses.{IsAligned}
 use Rattle.pmp_match.specs.Causes.{access_fault}
 use Rattle.pmp_match.specs.Kinds.{holds}
 use Rattle.enclave_table.specs.Enclaves.{Live, enclave_at}
+use Rattle.platforms.specs.Ranges.{has_page}
 use Rattle.enclave_requests.specs.Requests.{is_private}
 use Rattle.enclave_table.specs.Tables.{IsTable}
 use Rattle.enclave_table.specs.declared.enclave.Enclave.{Enclave}
@@ -21,9 +22,9 @@ use Rattle.hart_sim.specs.States.{State, core_of, view_on}
 use Rattle.hart_sim.specs.Steps.{Step, Accesses, TakesEffect, verdict}
 use Rattle.monitor_core.proofs.Zeroed.{not_lost, lost_call, lost_irq}
 use Rattle.hart_sim.proofs.Asked.{awoken, named, asked, lent, core_access, is_zeroed}
-use Rattle.hart_sim.specs.Privacy.{DeniesOthers, ZeroesDestroyed}
+use Rattle.hart_sim.specs.Privacy.{DeniesMonitor, DeniesOthers, ZeroesDestroyed}
 use Rattle.hart_sim.proofs.Verdicts.{allowed_by, page_of_byte}
-use Rattle.hart_sim.proofs.PrivateBytes.{only_itself}
+use Rattle.hart_sim.proofs.PrivateBytes.{nobody, only_itself}
 
 no_fault : (kind : Kind) (s : State) (a : Access) (value : ℕ) (reply : Reply) (new : State) (cause : Cause) → TakesEffect kind s a value reply new → reply ≡ replies.Fault cause → ⊥
 no_fault Fetch s a value reply new cause x is = let z = sym x.0 ∙ is in cc
@@ -59,6 +60,20 @@ pub denies_others : (old : State) (hart : ℕ) (event : Event) (reply : Reply) (
 denies_others old hart event reply new right x = λ a value id byte e is live own low high other.
     let y : Step old hart (events.Access a value) reply new = subst (λ v. Step old hart v reply new) is x in
     denied_by old hart a value reply new id byte e (verdict (view_on old hart) a) refl right y live own low high other
+
+-- no access that reaches a page of the monitor is allowed
+closed_by : (old : State) (hart : ℕ) (a : Access) (value : ℕ) (reply : Reply) (new : State) (byte : ℕ) (said : Result (Unit {0}) Cause) → verdict (view_on old hart) a ≡ said → IsTable old.table
+    → Accesses said (awoken old hart) a value reply new → has_page old.table.layout.monitor (byte / 4096) ≡ true → a.address ≤ byte → byte < a.address + a.size → (cause : Cause) × (reply ≡ replies.Fault cause)
+closed_by old hart a value reply new byte (Err cause) is right x own low high = (cause, x.0)
+closed_by old hart a value reply new byte (Ok done) is right x own low high =
+    let ok = allowed_by (view_on old hart) a is in
+    let held : holds (view_on old hart (byte / 4096)) a.kind ≡ true = ap (λ q. holds (view_on old hart q) a.kind) (page_of_byte a byte ok.aligned low high) ∙ ok.held in
+    absurd (nobody old.table (old.worlds hart) (byte / 4096) a.kind right own held)
+
+pub denies_monitor : (old : State) (hart : ℕ) (event : Event) (reply : Reply) (new : State) → IsTable old.table → Step old hart event reply new → DeniesMonitor old event reply
+denies_monitor old hart event reply new right x = λ a value byte is own low high.
+    let y : Step old hart (events.Access a value) reply new = subst (λ v. Step old hart v reply new) is x in
+    closed_by old hart a value reply new byte (verdict (view_on old hart) a) refl right y own low high
 
 -- the enclave that is no more was destroyed: its private bytes are zero, and all others as they were
 pub zeroes_destroyed : (old : State) (hart : ℕ) (event : Event) (reply : Reply) (new : State) → Step old hart event reply new → ZeroesDestroyed old new

@@ -13,10 +13,10 @@ use Rattle.hart_sim.specs.Machines.{state_of, bank_on}
 use Rattle.hart_sim.specs.Steps.{Run, still, step}
 use Rattle.machine_replies.specs.Texts.{reply_text, lines_from, report_text}
 use Rattle.platforms.specs.Platform.{Layout}
-use Rattle.hart_sim.specs.After.{After, happened, Happens}
-use Rattle.hart_sim.specs.Reports.{DoesLine, none, blank, one, AreAnswered, AreElsewhere, LastOwn, Report, IsReported}
+use Rattle.hart_sim.specs.After.{After, AreElsewhere, happened, Happens}
+use Rattle.hart_sim.specs.Reports.{DoesLine, none, blank, one, AreAnswered, LastOwn, Report, IsReported}
 use Rattle.hart_sim.proofs.Layouts.{layout_stays}
-use Rattle.hart_sim.proofs.Awake.{awake_then}
+use Rattle.hart_sim.proofs.LeftBanks.{elsewhere-snoc, meant_then}
 use Rattle.monitor_core.proofs.Cases.{both}
 use Rattle.std.proofs.lemmas.Bool.{eq-eqb, eqb-true, both_ways}
 
@@ -44,10 +44,6 @@ elsewhere_parts hart (first ∷ events) there event e = let p = elsewhere_parts 
 concat-snoc : (answers : List (List ℕ)) (text : List ℕ) → concat (answers ++ text ∷ []) ≡ concat answers ++ text
 concat-snoc [] text = append-nil text
 concat-snoc (first ∷ answers) text = ap (λ xs. first ++ xs) (concat-snoc answers text) ∙ sym (append_assoc first (concat answers) text)
-
-elsewhere-snoc : (hart : ℕ) (events : List (ℕ × Event)) (there : ℕ) (event : Event) → AreElsewhere hart events → hart ≢ there → AreElsewhere hart (events ++ (there, event) ∷ [])
-elsewhere-snoc hart [] there event e other = (other, tt)
-elsewhere-snoc hart (first ∷ events) there event e other = (e.0, elsewhere-snoc hart events there event e.1 other)
 
 -- one event more, on another hart
 last_further : (old mid new : Machine) (hart : ℕ) (events : List (ℕ × Event)) (replies : List Reply) (there : ℕ) (event : Event) (reply : Reply) → hart ≢ there → Happens mid there event reply new
@@ -85,7 +81,7 @@ last_here old mid new hart events replies event reply run x = record {
   until = step run hart event reply x.known x.possible x.happened;
   since = still;
   elsewhere = tt;
-  meant = λ bank has. x.kept hart bank (subst (λ l. hart < l.harts) (sym (layout_stays (state_of mid) hart event reply (state_of new) x.happened)) x.known) (awake_then (state_of mid) hart event reply (state_of new) x.happened) has;
+  meant = meant_then mid new hart event reply x;
   stays = refl;
 }
 

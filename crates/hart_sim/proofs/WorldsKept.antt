@@ -1,7 +1,7 @@
 -- On which hart each enclave runs, from step to step.
 use Rattle.std.proofs.Common.{◌≡◌, ◌<◌, ℕ, List, refl, ap, sym, subst}
 use Rattle.monitor_core.specs.States.{State as Core, opening as opening_core}
-use Rattle.monitor_core.proofs.WorldsKept.{AreWorlds as InCore, call_keeps_worlds, interrupt_keeps_worlds, waking_keeps_worlds, putting_keeps_worlds, opened}
+use Rattle.monitor_core.proofs.WorldsKept.{call_keeps_worlds, interrupt_keeps_worlds, waking_keeps_worlds, putting_keeps_worlds, opened}
 use Rattle.hart_trace.specs.declared.event.Event.{Event}
 use Rattle.hart_trace.specs.declared.event.Event.TheVariants as events
 use Rattle.machine_replies.specs.declared.reply.Reply.{Reply}
@@ -10,33 +10,16 @@ use Rattle.hart_sim.specs.Steps.{Step, Run, still, step, verdict}
 use Rattle.hart_sim.specs.Worlds.{AreWorlds, RunsKeepWorlds}
 use Rattle.hart_sim.proofs.Asked.{awoken, named, asked, lent, core_access}
 use Rattle.hart_sim.proofs.Awake.{off}
-use Rattle.enclave_table.specs.Enclaves.{EnclaveTable, Live}
-use Rattle.enclave_table.specs.Tables.{IsCurrent}
-use Rattle.enclave_table.specs.declared.enclave.Enclave.{Enclave}
-use Rattle.enclave_table.specs.declared.enclave.State.TheVariants.{Running}
-use Rattle.worlds.specs.declared.world.World.{World}
-use Rattle.worlds.specs.declared.world.World.TheVariants.{Host, Enclave as InEnclave}
+use Rattle.monitor_core.specs.Worlds.{ArePlaced}
 
--- the enclave of a world is one that is Running
-abbrev RunsIn : EnclaveTable → World → Type 0
-RunsIn table world = (id : ℕ) → world ≡ InEnclave id → (e : Enclave) × Live table id e × (e.state ≡ Running)
-
-current_of : (table : EnclaveTable) (world : World) → RunsIn table world → IsCurrent table world
-current_of table Host runs = tt
-current_of table (InEnclave id) runs = runs id refl
-
--- said of the state, or of the monitor's part
-below : (s : State) → AreWorlds s → InCore (core_of s)
-below s w = record { current = λ hart low. current_of s.table (s.worlds hart) (λ id is. w.current hart id low is); alone = w.alone; held = w.held; marked = w.marked }
-
-above : (s : State) (core : Core) → core_of s ≡ core → InCore core → AreWorlds s
-above s core is w = let v = subst InCore (sym is) w in record { current = λ hart id low at. subst (IsCurrent s.table) at (v.current hart low); alone = v.alone; held = v.held; marked = v.marked }
+above : (s : State) (core : Core) → core_of s ≡ core → ArePlaced core → AreWorlds s
+above s core is w = subst ArePlaced (sym is) w
 
 pub worlds_step : (s : State) (hart : ℕ) (event : Event) (reply : Reply) (n : State) → hart < s.table.layout.harts → Step s hart event reply n → AreWorlds s → AreWorlds n
 worlds_step s hart event reply n low x w = by_event event x
   where
-    first : InCore (core_of (awoken s hart))
-    first = waking_keeps_worlds (core_of s) hart (below s w)
+    first : ArePlaced (core_of (awoken s hart))
+    first = waking_keeps_worlds (core_of s) hart w
 
     by_event : (event : Event) → Step s hart event reply n → AreWorlds n
     by_event (events.Access a value) x = above n (core_of (awoken s hart)) (core_access (verdict (view_on s hart) a) (awoken s hart) a value reply n x) first

@@ -29,3 +29,8 @@ pub record Happens (old : Machine) (hart : ℕ) (event : Event) (reply : Reply) 
 pub data After (platform : Layout) : List (ℕ × Event) → List Reply → Machine → Type 0 where
   booted : {machine : Machine} → IsBooted platform machine → After platform [] [] machine
   happened : {events : List (ℕ × Event)} {replies : List Reply} {old new : Machine} → After platform events replies old → (hart : ℕ) (event : Event) (reply : Reply) → Happens old hart event reply new → After platform (events ++ (hart, event) ∷ []) (replies ++ reply ∷ []) new
+
+-- none of the events was on this hart
+abbrev pub AreElsewhere : ℕ → List (ℕ × Event) → Type 0
+AreElsewhere hart [] = Unit {0}
+AreElsewhere hart (event ∷ events) = (hart ≢ event.0) × AreElsewhere hart events

@@ -5,6 +5,7 @@ use Rattle.pmp_match.specs.declared.access.Kind.TheVariants.{Store}
 use Rattle.pmp_match.specs.declared.access.Access.{Access}
 use Rattle.pmp_match.specs.declared.access.Mode.TheVariants.{Machine}
 use Rattle.pmp_match.specs.declared.cause.Cause.{Cause}
+use Rattle.platforms.specs.Ranges.{has_page}
 use Rattle.enclave_table.specs.Enclaves.{Live, enclave_at}
 use Rattle.enclave_requests.specs.Requests.{is_private}
 use Rattle.enclave_table.specs.Views.{enclave_view, current_view}
@@ -87,6 +88,12 @@ abbrev pub DeniesOthers : State → ℕ → Event → Reply → Type 0
 DeniesOthers old hart event reply =
     (a : Access) (value id byte : ℕ) (e : Enclave) → event ≡ events.Access a value → Live old.table id e → is_private e.parts (byte / 4096) ≡ true
     → a.address ≤ byte → byte < a.address + a.size → old.worlds hart ≢ InEnclave id → (cause : Cause) × (reply ≡ replies.Fault cause)
+
+-- an access that reaches a page of the monitor's range is a fault, whichever world it is of
+abbrev pub DeniesMonitor : State → Event → Reply → Type 0
+DeniesMonitor old event reply =
+    (a : Access) (value byte : ℕ) → event ≡ events.Access a value → has_page old.table.layout.monitor (byte / 4096) ≡ true
+    → a.address ≤ byte → byte < a.address + a.size → (cause : Cause) × (reply ≡ replies.Fault cause)
 
 -- where an enclave is no more, each byte of its private pages is zero, and every other byte is as it was
 abbrev pub ZeroesDestroyed : State → State → Type 0

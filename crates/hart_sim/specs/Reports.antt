@@ -1,18 +1,20 @@
 -- What a run over a trace does and writes.
-use Rattle.std.specs.Prelude.{◌≡◌, ◌≢◌, ◌⊎◌, ℕ, ◌+◌, List, [], ◌∷◌, ◌++◌, Option, Some, None}
+use Rattle.std.specs.Prelude.{◌≡◌, ◌≢◌, ◌⊎◌, ℕ, ◌+◌, ◌^◌, ◌<◌, List, [], ◌∷◌, ◌++◌, length, Option, Some, None, Result, Ok, Err}
 use Rattle.std.specs.List.{concat}
 use Rattle.std.specs.Io.KnownBytes.{Consumes}
 use Rattle.pmp_encoding.specs.declared.bank.Bank.{Bank}
 use Rattle.platforms.specs.Platform.{Layout}
 use Rattle.hart_trace.specs.declared.event.Event.{Event}
 use Rattle.hart_trace.specs.Events.{meaning_of}
+use Rattle.text_lines.specs.declared.fault.RunFault.{RunFault}
+use Rattle.text_lines.specs.declared.fault.RunFault.TheVariants as faults
 use Rattle.text_lines.specs.Lines.{AreLines, IsShortLine, without_return}
 use Rattle.text_lines.specs.LineLoop.{Does, ended}
 use Rattle.hart_sim.specs.declared.machine.Machine.{Machine}
 use Rattle.machine_replies.specs.declared.reply.Reply.{Reply}
 use Rattle.machine_replies.specs.declared.reply.Reply.TheVariants.{NoMemory}
 use Rattle.hart_sim.specs.Machines.{state_of, bank_on}
-use Rattle.hart_sim.specs.After.{After, Happens}
+use Rattle.hart_sim.specs.After.{After, AreElsewhere, Happens}
 use Rattle.hart_sim.specs.Banks.{LoadsFewest}
 use Rattle.hart_sim.specs.Steps.{Run}
 use Rattle.machine_replies.specs.Texts.{reply_text, report_text}
@@ -43,11 +45,6 @@ pub data Spells (harts : ℕ) : List (List ℕ) → List (ℕ × Event) → Type
 abbrev pub AreAnswered : List Reply → Type 0
 AreAnswered [] = Unit {0}
 AreAnswered (reply ∷ replies) = (reply ≢ NoMemory) × AreAnswered replies
-
--- none of the events was on this hart
-abbrev pub AreElsewhere : ℕ → List (ℕ × Event) → Type 0
-AreElsewhere hart [] = Unit {0}
-AreElsewhere hart (event ∷ events) = (hart ≢ event.0) × AreElsewhere hart events
 
 -- a hart's own last event parts a run: right after it the bank of that hart meant the view of its world by the fewest entries, and
 -- none of the events that followed was its own, so that bank is there still, whether or not the hart was marked since
@@ -85,13 +82,26 @@ pub record Report (old : Machine) (lines : List (List ℕ)) (text : List ℕ) (n
 abbrev pub IsReported : Type 0
 IsReported = (old new : Machine) (lines answers : List (List ℕ)) → Does DoesLine old lines answers new → Report old lines (concat answers) new
 
--- of what was read the first lines, each before its LF, or all of its lines say events, and the machine is the one after these and those
--- before them
-pub record GoesOn (platform : Layout) (events : List (ℕ × Event)) (replies : List Reply) (old new : Machine) (before after : Option (List ℕ)) : Type 0 where
+-- with these lines the bytes begin, each before its LF, or they are all of its lines
+abbrev pub BeginsWith : List ℕ → List (List ℕ) → Type 0
+BeginsWith bytes lines = ((rest : List ℕ) × (bytes ≡ ended lines ++ rest)) ⊎ AreLines bytes lines
+
+-- which lines of what was read were done. Where the run ended well, all; where line n was not understood, those before it; where the
+-- reader failed or too much came, each that a LF ended, of the first 2^40 bytes; else one at least, the last of which ended the run
+abbrev pub AreDone : Result (Unit {0}) RunFault → List ℕ → List (List ℕ) → Type 0
+AreDone (Ok done) bytes lines = AreLines bytes lines
+AreDone (Err (faults.Line n)) bytes lines = (length lines + 1 ≡ n) × ((rest : List ℕ) × (bytes ≡ ended lines ++ rest))
+AreDone (Err faults.Read) bytes lines = (rest : List ℕ) × (bytes ≡ ended lines ++ rest) × IsShortLine rest
+AreDone (Err faults.TooLong) bytes lines = (rest beyond : List ℕ) × (bytes ≡ ended lines ++ (rest ++ beyond)) × IsShortLine rest × (length (ended lines ++ rest) ≡ 2 ^ 40)
+AreDone (Err faults.Write) bytes lines = (0 < length lines) × BeginsWith bytes lines
+AreDone (Err faults.Memory) bytes lines = (0 < length lines) × BeginsWith bytes lines
+
+-- the lines that were done say events, and the machine is the one after these and those before them
+pub record GoesOn (platform : Layout) (events : List (ℕ × Event)) (replies : List Reply) (result : Result (Unit {0}) RunFault) (old new : Machine) (before after : Option (List ℕ)) : Type 0 where
   pub bytes : List ℕ
   pub consumed : Consumes before after bytes
   pub lines : List (List ℕ)
-  pub begins : ((rest : List ℕ) × (bytes ≡ ended lines ++ rest)) ⊎ AreLines bytes lines
+  pub done : AreDone result bytes lines
   pub more : List (ℕ × Event)
   pub spelled : Spells (state_of old).table.layout.harts lines more
   pub answered : List Reply

@@ -10,6 +10,7 @@ use Rattle.worlds.specs.declared.world.World.TheVariants.{Host}
 use Rattle.sbi_decode.specs.Registers.{RegisterFile, zeros}
 use Rattle.worlds.specs.Runners.{Runner}
 use Rattle.monitor_core.specs.States.{State as Core}
+use Rattle.monitor_core.specs.Changes.{without_mark}
 
 -- the enclaves, the world that runs on each hart, the registers of each host and enclave, the byte at each address, the pages
 -- that were written, and the harts that are marked: each of these loads the host's entries before its next event. A hart that
@@ -29,6 +30,10 @@ core_of s = record { table = s.table; worlds = s.worlds; registers = s.registers
 -- a state with another such part
 abbrev pub with_core : State → Core → State
 with_core s core = record s { table = core.table; worlds = core.worlds; registers = core.registers; marked = core.marked }
+
+-- the state that an event on a hart meets: the hart is not marked
+abbrev pub awoken : State → ℕ → State
+awoken s hart = with_core s (without_mark (core_of s) hart)
 
 -- the opening state of a platform: no enclave, each hart in the host's world, all registers and bytes zero, no page written
 abbrev pub opening : Layout → State

@@ -1,12 +1,14 @@
 -- One step of the machine: what an event on a hart may be answered, and the state that it leaves.
 use Rattle.std.specs.Prelude.{◌≡◌, ◌≢◌, ◌⊎◌, ℕ, ◌/◌, ◌%◌, ◌^◌, ◌<◌, false, ◌&&◌, ◌==◌, nat_lt, if◌then◌else◌, List, [], ◌∷◌, ◌++◌, Option, Result, Ok, Err, ◌*◌}
 use Rattle.pmp_encoding.specs.declared.perm.Perm.{Perm}
+use Rattle.pmp_encoding.specs.declared.region.Entry.{Entry}
 use Rattle.pmp_match.specs.declared.access.Access.{Access}
 use Rattle.pmp_match.specs.declared.access.Kind.{Kind}
 use Rattle.pmp_match.specs.declared.access.Kind.TheVariants.{Fetch, Load, Store}
 use Rattle.pmp_match.specs.declared.access.Mode.TheVariants.{Machine}
 use Rattle.pmp_match.specs.declared.cause.Cause.{Cause}
 use Rattle.pmp_match.specs.Causes.{misaligned, access_fault}
+use Rattle.pmp_match.specs.Judgement.{Judges}
 use Rattle.pmp_match.specs.Kinds.{holds}
 use Rattle.page_views.specs.declared.pages.PageRange.{PageRange}
 use Rattle.sbi_decode.specs.Calls.{call_of}
@@ -19,7 +21,7 @@ use Rattle.hart_trace.specs.declared.event.Event.TheVariants as events
 use Rattle.machine_replies.specs.declared.reply.Reply.{Reply}
 use Rattle.machine_replies.specs.declared.reply.Reply.TheVariants as replies
 use Rattle.machine_memory.specs.Memory.{bytes_at, number_of}
-use Rattle.hart_sim.specs.States.{State, core_of, with_core}
+use Rattle.hart_sim.specs.States.{State, awoken, core_of, with_core}
 use Rattle.hart_sim.specs.Changes.{with_x, calling, storing, zeroing}
 use Rattle.hart_sim.specs.Replies.{RepliesWith}
 use Rattle.enclave_table.specs.Views.{current_view}
@@ -59,9 +61,17 @@ Does (events.Ecall words) s hart reply new =
     Serves (DoesCall (call_of file) (λ page. bytes_at s.bytes (page * 4096) 4096) (with_running (core_of s) hart file) hart) s hart reply new
 Does events.Irq s hart reply new = (core : Core) × Interrupts (s.worlds hart) (core_of s) hart core × (new ≡ with_core s core) × RepliesWith replies.Irq new hart reply
 
+-- an event by the lists that an access may meet, whatever they mean: the access does what such a list says of it, and any other event
+-- what it does
+abbrev pub DoesBy : (List Entry → Type 0) → Event → State → ℕ → Reply → State → Type 0
+DoesBy Meets (events.Access a value) s hart reply new = (list : List Entry) (said : Result (Unit {0}) Cause) → Meets list → Judges list a said → Accesses said s a value reply new
+DoesBy Meets (events.Reg n value) s hart reply new = Does (events.Reg n value) s hart reply new
+DoesBy Meets (events.Ecall words) s hart reply new = Does (events.Ecall words) s hart reply new
+DoesBy Meets events.Irq s hart reply new = Does events.Irq s hart reply new
+
 -- a step: the event first takes the mark of its hart away
 abbrev pub Step : State → ℕ → Event → Reply → State → Type 0
-Step old hart event reply new = Does event (record old { marked = λ h. if h == hart then false else old.marked h }) hart reply new
+Step old hart event reply new = Does event (awoken old hart) hart reply new
 
 -- what may happen on a hart: accesses by supervisor or user, settings of x0 to x31, calls of at most eight words, interrupts
 abbrev pub IsEvent : Event → Type 0

@@ -28,7 +28,7 @@ fn reach(memory: &mut Memory, alloc: Global, access: &Access, value: u64) -> Rep
 }
 
 impl Parts {
-    ghost use Rattle.std.specs.Prelude.{◌≡◌, ◌≢◌, ◌↔◌, ◌<◌, List, false, Err, Some};
+    ghost use Rattle.std.specs.Prelude.{◌≡◌, ◌≢◌, ◌↔◌, ◌<◌, List, false, Result, Err, Some};
     ghost use Rattle.pmp_encoding.specs.declared.bank.Bank.{Bank};
     ghost use Rattle.pmp_encoding.specs.declared.region.Entry.{Entry};
     ghost use Rattle.pmp_encoding.specs.Banks.{HasList};
@@ -41,8 +41,8 @@ impl Parts {
     ghost use Rattle.hart_sim.specs.States.{view_on};
     ghost use Rattle.hart_sim.specs.Steps.{Accesses, verdict};
 
-    /// An access on a hart that is not marked. By the bank that is loaded there it is a fault or not, on every machine;
-    /// where the banks are right, it is what the view of the hart's world says.
+    /// An access on a hart that is not marked. The bank that is loaded there says whether it is a fault or takes effect, on
+    /// every machine; where the banks are right, it is what the view of the hart's world says.
     #[inline(always)]
     pub(crate) fn access(&mut self, hart: u8, access: &Access, value: u64) -> Reply
         requires on { IsOn self.old hart }
@@ -58,6 +58,10 @@ impl Parts {
             → (let s = state_in self.old in
             Accesses (verdict (view_on s hart) access.now) s access.now value result
             (state_in self.new)) }
+        ensures effect { (bank : Bank) (list : List Entry) (said : Result (Unit {0}) Cause)
+            → bank_in self.old hart ≡ Some bank
+            → HasList bank list → Judges list access.now said
+            → Accesses said (state_in self.old) access.now value result (state_in self.new) }
         ensures monitor { self.new.monitor ≡ self.old.monitor }
         ensures banks { self.new.banks ≡ self.old.banks }
     {

@@ -32,7 +32,7 @@ impl Machine {
     ghost use Rattle.enclave_table.specs.Views.{host_view};
     ghost use Rattle.hart_trace.specs.declared.event.Event.{Event};
     ghost use Rattle.machine_replies.specs.declared.reply.Reply.{Reply};
-    ghost use Rattle.hart_sim.specs.Machines.{state_of, kept_of, bank_on, IsJudged, KeepsBanksRight};
+    ghost use Rattle.hart_sim.specs.Machines.{state_of, kept_of, bank_on, DoesByList, IsJudged, KeepsBanksRight};
     ghost use Rattle.hart_sim.specs.Banks.{MeetsList};
     ghost use Rattle.hart_sim.specs.Privacy.{KeepsPrivate, DeniesOthers, ZeroesDestroyed};
     ghost use Rattle.hart_sim.specs.After.{After, Happens};
@@ -40,7 +40,7 @@ impl Machine {
     ghost use Rattle.hart_sim.specs.Wants.{RefusesByNeed};
     ghost use Rattle.hart_sim.specs.States.{opening};
     ghost use Rattle.hart_sim.specs.Steps.{IsEvent, Step};
-    ghost use Rattle.worlds.specs.Runners.{runner_of};
+    ghost use Rattle.worlds.specs.Runners.{IsWorld, runner_of};
 
     /// The PMP registers that are loaded on a hart.
     pub fn bank(&self, hart: u8) -> &Bank
@@ -70,6 +70,16 @@ impl Machine {
         self.parts.monitor.registers(hart)
     }
 
+    /// The registers of the host on a hart, or of an enclave by its id from 1 to 64, whether it runs or not.
+    #[tactic(auto, unfolding(crate::specs::Machines::state_of, crate::specs::Machines::kept_of))]
+    pub fn registers_of(&self, hart: u8, world: World) -> &Registers
+        requires hart { hart < 4 }
+        requires world { IsWorld world }
+        ensures { result.now ≡ (state_of self.now).registers (runner_of hart world) }
+    {
+        self.parts.monitor.registers_of(hart, world)
+    }
+
     /// Whether a hart is marked: it loads the host's entries before its next event.
     pub fn marked(&self, hart: u8) -> bool
         requires { hart < 4 }
@@ -85,6 +95,15 @@ impl Machine {
         ensures { result ≡ (state_of self.now).bytes address }
     {
         self.parts.memory.byte(address)
+    }
+
+    /// Whether a page was written since boot, and not made zero since: a store to another page may want memory.
+    #[tactic(auto, unfolding(crate::specs::Machines::state_of, crate::specs::Machines::kept_of))]
+    pub fn is_written(&self, page: u64) -> bool
+        requires { page < 2 ^ 44 }
+        ensures { result ≡ (state_of self.now).written page }
+    {
+        self.parts.memory.is_written(page)
     }
 
     /// The table of enclaves.
@@ -139,7 +158,7 @@ impl Machine {
         }
     }
 
-    /// An event happens on a hart, numbered from 0. On every machine the list that the event meets judges an access. From
+    /// An event happens on a hart, numbered from 0. On every machine an access does what the list says that it meets. From
     /// boot on, as long as no other bank was put in place, the event is answered as the state says, and each hart that is
     /// not marked has the fewest entries of the view of its world.
     #[inline(always)]
@@ -147,6 +166,7 @@ impl Machine {
         requires hart { hart < (state_of self.old).table.layout.harts }
         requires event { IsEvent event }
         ensures judged { IsJudged self.old hart event result }
+        ensures does { DoesByList self.old hart event result self.new }
         ensures loaded { (access : Access) (value : ℕ) (list : List Entry) (bank : Bank)
             → event ≡ Event.Access access value
             → MeetsList (state_of self.old) (kept_of self.old) (bank_on self.old) hart list

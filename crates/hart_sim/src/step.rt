@@ -17,7 +17,8 @@ impl Parts {
     ghost use Rattle.hart_sim.specs.Banks.{AreBanksRight, MeetsList};
     ghost use Rattle.hart_sim.specs.Frames.{IsOn, KeepsFrame};
     ghost use Rattle.hart_sim.specs.Parts.{state_in, bank_in};
-    ghost use Rattle.hart_sim.specs.Steps.{Does, IsEvent, Step};
+    ghost use Rattle.hart_sim.specs.States.{awoken};
+    ghost use Rattle.hart_sim.specs.Steps.{Does, DoesBy, IsEvent, Step};
 
     /// A register of the world that runs on a hart is set.
     #[inline(always)]
@@ -49,6 +50,9 @@ impl Parts {
             → self.new.banks ≡ self.old.banks }
         ensures step { AreBanksRight (state_in self.old) (bank_in self.old)
             → Does event (state_in self.old) hart result (state_in self.new) }
+        ensures effect { let met = bank_in self.old hart in
+            DoesBy (λ list. (bank : Bank) × (met ≡ Some bank) × HasList bank list)
+            event (state_in self.old) hart result (state_in self.new) }
     {
         match event {
             Event::Access(access, value) => self.access(hart, &access, value),
@@ -77,6 +81,9 @@ impl Parts {
             → bank_in self.new hart ≡ Some bank → HasList bank list }
         ensures step { AreBanksRight (state_in self.old) (bank_in self.old)
             → Step (state_in self.old) hart event result (state_in self.new) }
+        ensures effect { let s = state_in self.old in
+            DoesBy (MeetsList s (kept_of self.old.monitor) (bank_in self.old) hart)
+            event (awoken s hart) hart result (state_in self.new) }
     {
         self.wake(hart);
         self.happen(hart, event)

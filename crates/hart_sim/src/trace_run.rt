@@ -171,8 +171,8 @@ pub fn run<R: Source, W: Sink>(
     ensures kept { KeepsBanksRight machine.old → KeepsBanksRight machine.new }
     ensures after { (platform : Layout) (events : List (ℕ × Event)) (replies : List Reply)
         → After platform events replies machine.old
-        → GoesOn platform events replies machine.old machine.new (R.remaining source.old)
-        (R.remaining source.new) }
+        → GoesOn platform events replies result machine.old machine.new
+        (R.remaining source.old) (R.remaining source.new) }
     ensures reads { CountsReads result (R.failures source.old) (R.failures source.new) }
     ensures writes { CountsWrites result (W.failures sink.old)
         (W.failures sink.new) (W.stalls sink.old) (W.stalls sink.new) }

@@ -53,6 +53,13 @@ impl Memory {
         }
     }
 
+    /// Whether a page was written, and not made zero since. A store to a page that was not may want memory.
+    pub fn is_written(&self, page: u64) -> bool
+        ensures { result ≡ is_written self.now page }
+    {
+        self.page(page).is_some()
+    }
+
     /// The little-endian number of bytes within one page.
     pub fn load(&self, address: u64, size: usize) -> u64
         requires size { size ≤ 8 }

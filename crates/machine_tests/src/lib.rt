@@ -19,6 +19,8 @@ mod headline;
 #[cfg(test)]
 mod machines;
 #[cfg(test)]
+mod observed;
+#[cfg(test)]
 mod outgrown;
 #[cfg(test)]
 mod refused_frames;

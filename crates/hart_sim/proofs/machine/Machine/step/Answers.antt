@@ -21,6 +21,10 @@ pub returns-clause-judged : goal.returns-clause-judged
 unfolding state_of kept_of bank_on
 returns-clause-judged c = c.step.ensures.judged
 
+pub returns-clause-does : goal.returns-clause-does
+unfolding state_of kept_of bank_on
+returns-clause-does c = c.step.ensures.effect
+
 pub returns-clause-loaded : goal.returns-clause-loaded
 unfolding state_of kept_of bank_on
 returns-clause-loaded c = c.step.ensures.loaded
