@@ -43,7 +43,7 @@ key_step keys.Size = 2
 key_step keys.Perm = 4
 key_step _ = 0
 
--- the part of the file, the item of the part and the step at its table, at which a breach is found
+-- the part of the file in which a breach is found
 abbrev pub part_of : Breach → ℕ
 part_of (Unknown place key) = place_part place
 part_of (Missing place key) = key_part place key
@@ -55,6 +55,7 @@ part_of (NoTables key) = file_part key
 part_of (Overlap one other) = 6
 part_of (Rule fault) = 6
 
+-- the number of the range or of the device at which it is found, 0 for none
 abbrev pub item_of : Breach → ℕ
 item_of (Unknown place key) = place_item place
 item_of (Missing place key) = place_item place
@@ -64,6 +65,7 @@ item_of (NoPerm place) = place_item place
 item_of (NoTable place) = place_item place
 item_of _ = 0
 
+-- the step at the table at which it is found, 0 for the first and where there is no table
 abbrev pub step_of : Breach → ℕ
 step_of (Missing place key) = key_step key
 step_of (NoNumber place key) = key_step key
