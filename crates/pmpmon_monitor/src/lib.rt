@@ -9,15 +9,12 @@
 //! ```
 #![tactic(auto)]
 
-use byte_streams::Counted;
 use std::alloc::Global;
 use std::io::{Stdin, Stdout};
-use trap_server::{serve_traps, served_number};
+use trap_server::serve_on;
 
 /// Serves the traps until the input ends (0), a frame was refused (1), or a device failed (2 reading, 3 writing).
 #[unsafe(no_mangle)]
 pub extern "C" fn pmpmon_serve(alloc: Global, from: Stdin, to: Stdout) -> i64 {
-    let mut source = Counted::new(from);
-    let mut sink = Counted::new(to);
-    served_number(serve_traps(alloc, &mut source, &mut sink))
+    serve_on(alloc, from, to)
 }

@@ -2,3 +2,4 @@ mod Waking
 mod Served
 mod Looped
 mod Came
+mod ServedFrom

@@ -5,3 +5,4 @@ pub mod Steps
 pub mod Boot
 pub mod Runs
 pub mod Numbers
+pub mod Served

@@ -20,10 +20,12 @@ mod fault;
 mod laws;
 mod numbers;
 mod service;
+mod serving;
 mod trap_loop;
 
 pub use fault::ServeFault;
 pub use laws::words_law;
 pub use numbers::{served_number, served_status};
+pub use serving::{replay_on, serve_on};
 pub use trap_frames::Refusal;
 pub use trap_loop::serve_traps;
