@@ -7,7 +7,7 @@ use Rattle.map_text.specs.declared.map_file.MapFileFault.{MapFileFault}
 use Rattle.map_text.specs.declared.map_file.MapFileFault.TheVariants as maps
 use Rattle.map_text.specs.MapFile.{FaultAt, IsUnknown, Makes, MakesFirst, MakesTooMany}
 use Rattle.permission_map.specs.declared.runs.Run.{Run}
-use Rattle.platforms.specs.Platform.{Layout}
+use Rattle.platforms.specs.Platform.{PlatformLayout}
 use Rattle.platform_file.specs.Document.{IsPlatformFile}
 use Rattle.program_troubles.specs.declared.trouble.Trouble.{Trouble}
 use Rattle.program_troubles.specs.declared.trouble.Trouble.TheVariants.{NotAPlatform, Memory}
@@ -63,7 +63,7 @@ map_read source bytes map read makes = record { bytes = bytes; read = read; make
 -- why there is no platform of a file whose bytes were read
 pub no_platform :
     {R X : Type 0} (file : Bor (List ℕ)) (source : Reading R) (bytes : List ℕ) (result : Result X Trouble) → HasBytes (2 ^ 20) source bytes
-    → IfErr result (λ trouble. (trouble ≡ Memory) ⊎ ((trouble ≡ NotAPlatform file) × ((platform : Layout) → IsPlatformFile bytes platform → ⊥)))
+    → IfErr result (λ trouble. (trouble ≡ Memory) ⊎ ((trouble ≡ NotAPlatform file) × ((platform : PlatformLayout) → IsPlatformFile bytes platform → ⊥)))
     → IfErr result (HasNoPlatform file source)
 no_platform file source bytes (Ok x) read refused = tt
 no_platform file source bytes (Err trouble) read (inl e) = rw e (platforms.HasNoPlatform.memory bytes read)

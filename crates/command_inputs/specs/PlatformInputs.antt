@@ -1,14 +1,14 @@
 -- The platform of a file that a command reads.
 use Rattle.std.specs.Prelude.{ℕ, ◌^◌, List}
 use Rattle.std.specs.Borrow.{Bor}
-use Rattle.platforms.specs.Platform.{Layout}
+use Rattle.platforms.specs.Platform.{PlatformLayout}
 use Rattle.platform_file.specs.Document.{IsPlatformFile}
 use Rattle.program_troubles.specs.declared.trouble.Trouble.{Trouble}
 use Rattle.program_troubles.specs.declared.trouble.Trouble.TheVariants.{NotAPlatform, Memory}
 use Rattle.command_inputs.specs.Inputs.{HasBytes, HasNoBytes, Reading}
 
 -- the bytes of a file are the platform
-pub record HasPlatform {R : Type 0} (source : Reading R) (platform : Layout) : Type 0 where
+pub record HasPlatform {R : Type 0} (source : Reading R) (platform : PlatformLayout) : Type 0 where
   pub bytes : List ℕ
   pub read : HasBytes (2 ^ 20) source bytes
   pub is_platform : IsPlatformFile bytes platform
@@ -16,5 +16,5 @@ pub record HasPlatform {R : Type 0} (source : Reading R) (platform : Layout) : T
 -- why the platform of a file could not be had
 pub data HasNoPlatform {R : Type 0} (file : Bor (List ℕ)) (source : Reading R) : Trouble → Type 0 where
   no_bytes : (trouble : Trouble) → HasNoBytes (2 ^ 20) file source trouble → HasNoPlatform file source trouble
-  no_platform : (bytes : List ℕ) → HasBytes (2 ^ 20) source bytes → ((platform : Layout) → IsPlatformFile bytes platform → ⊥) → HasNoPlatform file source (NotAPlatform file)
+  no_platform : (bytes : List ℕ) → HasBytes (2 ^ 20) source bytes → ((platform : PlatformLayout) → IsPlatformFile bytes platform → ⊥) → HasNoPlatform file source (NotAPlatform file)
   memory : (bytes : List ℕ) → HasBytes (2 ^ 20) source bytes → HasNoPlatform file source Memory

@@ -1,7 +1,7 @@
 //! The platform of a platform file.
 
 ghost use Rattle.std.specs.Prelude.{◌≡◌, ◌-◌, ◌^◌, ◌<◌, ◌⊎◌, IfErr, IfOk};
-ghost use Rattle.platforms.specs.Platform.{Layout};
+ghost use Rattle.platforms.specs.Platform.{PlatformLayout};
 ghost use Rattle.platform_file.specs.Document.{IsPlatformFile};
 ghost use Rattle.command_inputs.specs.Inputs.{reading};
 ghost use Rattle.command_inputs.specs.PlatformInputs.{HasNoPlatform, HasPlatform};
@@ -23,7 +23,7 @@ pub fn platform_in<'a>(alloc: Global, file: &'a str, bytes: &[u8]) -> Result<Pla
     ensures refused { IfErr result (λ trouble.
         (trouble ≡ Trouble.Memory)
         ⊎ ((trouble ≡ Trouble.NotAPlatform file.entry)
-        × ((platform : Layout) → IsPlatformFile bytes.now platform → ⊥))) }
+        × ((platform : PlatformLayout) → IsPlatformFile bytes.now platform → ⊥))) }
 {
     let Ok(text) = str::from_utf8(bytes) else {
         return Err(Trouble::NotAPlatform { file });

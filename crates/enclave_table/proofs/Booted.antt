@@ -6,13 +6,13 @@ use Rattle.pmp_encoding.specs.declared.perm.Perm.TheVariants.{NoAccess}
 use Rattle.pmp_encoding.specs.declared.region.Entry.{Entry}
 use Rattle.pmp_match.specs.Meaning.{View}
 use Rattle.permission_map.specs.Views.{SameView}
-use Rattle.platforms.specs.Platform.{Layout, IsLayout, platform_perm}
+use Rattle.platforms.specs.Platform.{PlatformLayout, IsLayout, platform_perm}
 use Rattle.enclave_table.specs.Enclaves.{enclave_at}
 use Rattle.enclave_table.specs.Views.{host_view}
 use Rattle.enclave_table.proofs.ShortNames.{any_private}
 use Rattle.enclave_table.specs.Fewest.{IsListOf}
 use Rattle.enclave_table.specs.Tables.{IsKept}
-use Rattle.enclave_table.specs.Boot.{opening}
+use Rattle.enclave_table.specs.Boot.{opening_table}
 use Rattle.enclave_table.specs.declared.enclave.Enclave.{Enclave}
 use Rattle.enclave_table.proofs.Places.{live_place}
 use Rattle.platforms.specs.Ranges.{has_page}
@@ -39,15 +39,15 @@ or_none : (b : Bool) → (b || false) ≡ b
 or_none true = refl
 or_none false = refl
 
-pub opening_view : (layout : Layout) (view : View) → SameView view (λ page. cond (has_page layout.monitor page) NoAccess (platform_perm layout page)) → SameView view (host_view (opening layout))
+pub opening_view : (layout : PlatformLayout) (view : View) → SameView view (λ page. cond (has_page layout.monitor page) NoAccess (platform_perm layout page)) → SameView view (host_view (opening_table layout))
 opening_view layout view same page small =
     let hidden : (has_page layout.monitor page || any_private (replicate 64 None) page) ≡ has_page layout.monitor page =
     ap (λ t. has_page layout.monitor page || t) (none_private 64 page) ∙ or_none (has_page layout.monitor page) in
     same page small ∙ sym (ap (λ t. cond t NoAccess (platform_perm layout page)) hidden)
 
 pub opening_kept :
-    (layout : Layout) (list : List Entry) (lists : List (List Entry)) → IsLayout layout → IsListOf layout.limit (host_view (opening layout)) list → length lists ≡ 64
-    → IsKept (record { table = opening layout; host_list = list; lists = lists })
+    (layout : PlatformLayout) (list : List Entry) (lists : List (List Entry)) → IsLayout layout → IsListOf layout.limit (host_view (opening_table layout)) list → length lists ≡ 64
+    → IsKept (record { table = opening_table layout; host_list = list; lists = lists })
 opening_kept layout list lists is host places =
     record {
       table =

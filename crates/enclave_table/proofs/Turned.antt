@@ -15,17 +15,17 @@ use Rattle.enclave_table.specs.Tables.{IsSound, IsTable, Kept, IsKept, IsHostTre
 use Rattle.enclave_table.specs.Fewest.{IsListOf}
 use Rattle.enclave_requests.specs.declared.request.Create.{Create}
 use Rattle.enclave_table.specs.declared.enclave.Enclave.{Enclave}
-use Rattle.enclave_table.specs.declared.enclave.State.{State}
+use Rattle.enclave_table.specs.declared.enclave.Stage.{Stage}
 use Rattle.enclave_table.proofs.Places.{live_above, live_inside, live_place, set_same, set_other, private_set}
 use Rattle.enclave_table.proofs.SameViews.{list_same, tree_same}
 use Rattle.platforms.specs.Ranges.{has_page}
 
-abbrev pub in_state : Enclave → State → Enclave
+abbrev pub in_state : Enclave → Stage → Enclave
 in_state e state = record e { state = state }
 
 -- who is live then was live before, with the same parts
 pub was_live :
-    (table : EnclaveTable) (id : ℕ) (e : Enclave) (state : State) (other : ℕ) (f : Enclave) → Live table id e → Live (with_enclave table id (Some (in_state e state))) other f
+    (table : EnclaveTable) (id : ℕ) (e : Enclave) (state : Stage) (other : ℕ) (f : Enclave) → Live table id e → Live (with_enclave table id (Some (in_state e state))) other f
     → (g : Enclave) × Live table other g × (f.parts ≡ g.parts)
 was_live table id e state other f live after =
     let above : 1 ≤ id = live_above table.enclaves id e live in
@@ -39,7 +39,7 @@ was_live table id e state other f live after =
     (cases_eq other id)
 
 pub same_host_view :
-    (table : EnclaveTable) (id : ℕ) (e : Enclave) (state : State) → Live table id e → SameView (host_view table) (host_view (with_enclave table id (Some (in_state e state))))
+    (table : EnclaveTable) (id : ℕ) (e : Enclave) (state : Stage) → Live table id e → SameView (host_view table) (host_view (with_enclave table id (Some (in_state e state))))
 same_host_view table id e state live page small =
     let same : any_private (set table.enclaves (id - 1) (Some (in_state e state))) page ≡ any_private table.enclaves page
     = private_set table.enclaves (id - 1) (Some (in_state e state)) page (sym (ap (λ slot. has_private slot page) (live_place table.enclaves id e live))) (live_inside table.enclaves id e live) in
@@ -48,7 +48,7 @@ same_host_view table id e state live page small =
 sound_along : (table new : EnclaveTable) (p q : Create) → new.layout ≡ table.layout → p ≡ q → IsSound table q → IsSound new p
 sound_along table new p q layout parts sound = rw (parts, layout) (record { counts = sound.counts; places = sound.places; entry = sound.entry; in_ram = sound.in_ram; not_monitor = sound.not_monitor; apart = sound.apart })
 
-pub turned_table : (table : EnclaveTable) (id : ℕ) (e : Enclave) (state : State) → Live table id e → IsTable table → IsTable (with_enclave table id (Some (in_state e state)))
+pub turned_table : (table : EnclaveTable) (id : ℕ) (e : Enclave) (state : Stage) → Live table id e → IsTable table → IsTable (with_enclave table id (Some (in_state e state)))
 turned_table table id e state live is =
     record {
       layout = is.layout;
@@ -63,7 +63,7 @@ turned_table table id e state live is =
     }
 
 pub turned_kept :
-    (kept : Kept) (id : ℕ) (e : Enclave) (state : State) → Live kept.table id e → IsKept kept
+    (kept : Kept) (id : ℕ) (e : Enclave) (state : Stage) → Live kept.table id e → IsKept kept
     → IsKept (record kept { table = with_enclave kept.table id (Some (in_state e state)) })
 turned_kept kept id e state live is =
     record {
@@ -77,7 +77,7 @@ turned_kept kept id e state live is =
     }
 
 pub turned_tree :
-    (table : EnclaveTable) (tree : PermTree) (id : ℕ) (e : Enclave) (state : State) → Live table id e → IsHostTree table tree
+    (table : EnclaveTable) (tree : PermTree) (id : ℕ) (e : Enclave) (state : Stage) → Live table id e → IsHostTree table tree
     → IsHostTree (with_enclave table id (Some (in_state e state))) tree
 turned_tree table tree id e state live is =
     record {

@@ -6,8 +6,8 @@ use Rattle.platforms.specs.Platform.{is_ram}
 use Rattle.enclave_requests.specs.Requests.{is_private, is_shared, is_part, HasCounts, HasPlaces, HasEntry}
 use Rattle.enclave_table.specs.Enclaves.{EnclaveTable, Live, IsFree}
 use Rattle.enclave_table.specs.declared.enclave.Enclave.{Enclave}
-use Rattle.enclave_table.specs.declared.enclave.State.{State}
-use Rattle.enclave_table.specs.declared.enclave.State.TheVariants.{Fresh, Running, Stopped}
+use Rattle.enclave_table.specs.declared.enclave.Stage.{Stage}
+use Rattle.enclave_table.specs.declared.enclave.Stage.TheVariants.{Fresh, Running, Stopped}
 use Rattle.enclave_table.specs.declared.life.Entering.{Entering}
 use Rattle.enclave_table.specs.declared.life.Entering.TheVariants.{Run, Resume}
 use Rattle.enclave_table.specs.declared.refusal.Refusal.{Refusal}
@@ -35,7 +35,7 @@ create_checks table world parts =
     ∷ []))))))
 
 -- the calls of the host on an enclave: the host asks, the id is live, and the enclave is in a state that the call wants
-abbrev pub host_checks : (State → Type 0) → EnclaveTable → World → ℕ → List (Refusal × Type 0)
+abbrev pub host_checks : (Stage → Type 0) → EnclaveTable → World → ℕ → List (Refusal × Type 0)
 host_checks Wanted table world id =
     (NotHost, world ≡ Host)
     ∷ ((BadId, (e : Enclave) × Live table id e)
@@ -43,11 +43,11 @@ host_checks Wanted table world id =
     ∷ []))
 
 -- destroy wants any state but Running
-abbrev pub MayDestroy : State → Type 0
+abbrev pub MayDestroy : Stage → Type 0
 MayDestroy state = state ≢ Running
 
 -- a first entry wants Fresh, and a resumption Stopped
-abbrev pub state_before : Entering → State
+abbrev pub state_before : Entering → Stage
 state_before Run = Fresh
 state_before Resume = Stopped
 

@@ -9,7 +9,7 @@ use Rattle.enclave_table.specs.Checks.{create_checks}
 use Rattle.enclave_table.specs.Fewest.{FitsIn, NeedsMore}
 use Rattle.enclave_requests.specs.Digests.{measured}
 use Rattle.enclave_table.specs.declared.enclave.Enclave.{Enclave}
-use Rattle.enclave_table.specs.declared.enclave.State.TheVariants.{Fresh}
+use Rattle.enclave_table.specs.declared.enclave.Stage.TheVariants.{Fresh}
 use Rattle.enclave_requests.specs.declared.request.Create.{Create}
 
 -- the enclave as it is made

@@ -10,7 +10,7 @@ use Rattle.enclave_table.specs.Enclaves.{EnclaveTable, Live}
 use Rattle.enclave_table.specs.Views.{host_view, enclave_view}
 use Rattle.enclave_table.specs.Fewest.{IsListOf}
 use Rattle.enclave_table.specs.declared.enclave.Enclave.{Enclave}
-use Rattle.enclave_table.specs.declared.enclave.State.TheVariants.{Running}
+use Rattle.enclave_table.specs.declared.enclave.Stage.TheVariants.{Running}
 use Rattle.enclave_requests.specs.declared.request.Create.{Create}
 use Rattle.platforms.specs.Ranges.{has_page}
 

@@ -3,7 +3,7 @@
 ghost use Rattle.std.specs.Prelude.{◌≡◌, ◌<◌, None, replicate, length, IfOk, IfErr};
 ghost use Rattle.enclave_table.specs.Fewest.{FitsIn};
 ghost use Rattle.enclave_table.specs.Views.{host_view};
-ghost use Rattle.enclave_table.specs.Boot.{opening, IsBootFault};
+ghost use Rattle.enclave_table.specs.Boot.{opening_table, IsBootFault};
 
 use crate::enclave::Enclave;
 use crate::entry_list::EntryList;
@@ -40,9 +40,9 @@ fn no_lists(alloc: Global) -> Result<Vec<EntryList>, Memory>
 impl Table {
     /// The table of a platform, with no enclave.
     pub fn boot(alloc: Global, platform: Platform) -> Result<Table, BootFault>
-        ensures opening { IfOk result (λ table. table.table ≡ opening platform) }
+        ensures opening { IfOk result (λ table. table.table ≡ opening_table platform) }
         ensures fits { IfOk result (λ table.
-            FitsIn platform.limit (host_view (opening platform))) }
+            FitsIn platform.limit (host_view (opening_table platform))) }
         ensures fault { IfErr result (λ fault. IsBootFault platform fault) }
     {
         platform.cite_invariant();

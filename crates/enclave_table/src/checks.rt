@@ -9,7 +9,7 @@ ghost use Rattle.enclave_table.specs.Checks.{IsClear, create_checks, host_checks
 ghost use Rattle.enclave_table.specs.Tables.{IsSound};
 ghost use Rattle.enclave_table.specs.declared.enclave.Enclave.{Enclave};
 
-use crate::enclave::{Enclave, State};
+use crate::enclave::{Enclave, Stage};
 use crate::refusal::Refusal;
 use crate::table::Table;
 use enclave_requests::Create;
@@ -107,7 +107,7 @@ impl Table {
         let Some(enclave) = self.find(id) else {
             return Err(Refusal::BadId);
         };
-        if enclave.state == State::Running {
+        if enclave.state == Stage::Running {
             return Err(Refusal::BadState);
         }
         Ok(enclave)

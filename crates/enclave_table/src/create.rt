@@ -8,7 +8,7 @@ ghost use Rattle.enclave_table.specs.Create.{Creates, OutgrowsByCreate};
 ghost use Rattle.enclave_table.specs.Refusals.{RefusesBy};
 ghost use Rattle.enclave_table.specs.Checks.{create_checks};
 
-use crate::enclave::{Enclave, State};
+use crate::enclave::{Enclave, Stage};
 use crate::fewest::enclave_list;
 use crate::refusal::Refusal;
 use crate::table::Table;
@@ -50,7 +50,7 @@ impl Table {
         let digest = self.digest_of(pages, &parts);
         let enclave = Enclave {
             parts,
-            state: State::Fresh,
+            state: Stage::Fresh,
             digest,
         };
         self.place(id, Some(enclave), host, list);

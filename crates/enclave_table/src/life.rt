@@ -6,7 +6,7 @@ ghost use Rattle.enclave_table.specs.Checks.{host_checks, leave_checks, state_be
 ghost use Rattle.platforms.specs.CheckLists.{FailsFirst};
 ghost use Rattle.enclave_table.specs.Lives.{state_after, Enters, Leaves};
 
-use crate::enclave::State;
+use crate::enclave::Stage;
 use crate::refusal::Refusal;
 use crate::table::Table;
 use worlds::World;
@@ -31,24 +31,24 @@ pub enum Leaving {
 
 impl Entering {
     /// The state that it wants.
-    fn before(self) -> State
+    fn before(self) -> Stage
         ensures { result ≡ state_before self }
     {
         match self {
-            Entering::Run => State::Fresh,
-            Entering::Resume => State::Stopped,
+            Entering::Run => Stage::Fresh,
+            Entering::Resume => Stage::Stopped,
         }
     }
 }
 
 impl Leaving {
     /// The state in which the enclave is left.
-    fn after(self) -> State
+    fn after(self) -> Stage
         ensures { result ≡ state_after self }
     {
         match self {
-            Leaving::Stop => State::Stopped,
-            Leaving::Exit => State::Exited,
+            Leaving::Stop => Stage::Stopped,
+            Leaving::Exit => Stage::Exited,
         }
     }
 }
@@ -74,7 +74,7 @@ impl Table {
         if enclave.state != entering.before() {
             return Err(Refusal::BadState);
         }
-        self.turn(id, State::Running);
+        self.turn(id, Stage::Running);
         Ok(())
     }
 

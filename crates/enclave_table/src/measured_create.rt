@@ -9,7 +9,7 @@ ghost use Rattle.platforms.specs.CheckLists.{AllPass};
 ghost use Rattle.enclave_table.specs.Refusals.{RefusesBy};
 ghost use Rattle.enclave_table.specs.Create.{Creates, IsMeasured, measured_as, OutgrowsByCreate};
 
-use crate::enclave::{Enclave, State};
+use crate::enclave::{Enclave, Stage};
 use crate::fewest::enclave_list;
 use crate::refusal::Refusal;
 use crate::table::Table;
@@ -64,7 +64,7 @@ impl Table {
         let list = enclave_list(self.alloc(), self.limit(), &parts)?;
         let enclave = Enclave {
             parts,
-            state: State::Fresh,
+            state: Stage::Fresh,
             digest: *digest,
         };
         self.place(id, Some(enclave), host, list);

@@ -1,7 +1,7 @@
 -- The summary of a run, as it is printed.
 use Rattle.std.specs.Prelude.{ℕ, zero, suc, ◌+◌, ◌==◌, Bool, cond, if◌then◌else◌, is_some, List, [], ◌∷◌, ◌++◌, codes, decimal}
 use Rattle.enclave_table.specs.Enclaves.{EnclaveTable, enclave_at}
-use Rattle.hart_sim.specs.States.{State}
+use Rattle.hart_sim.specs.States.{MachineState}
 use Rattle.explained_runs.specs.declared.groups.Count.{Count}
 use Rattle.explained_runs.specs.declared.groups.Subject.{Subject}
 use Rattle.explained_runs.specs.declared.groups.Subject.TheVariants.{Events, Faults, Calls, Refusals}
@@ -82,7 +82,7 @@ unfoldable pub live_count : EnclaveTable → ℕ
 live_count table = how_many (λ i. is_some (enclave_at table.enclaves (i + 1))) 64
 
 -- how many harts are marked
-unfoldable pub marked_count : State → ℕ
+unfoldable pub marked_count : MachineState → ℕ
 marked_count s = how_many s.marked s.table.layout.harts
 
 -- the line of the end, always there
@@ -90,7 +90,7 @@ abbrev pub end_text : ℕ → ℕ → List ℕ
 end_text live marked = named_text (codes "at the end: enclaves live") live ++ codes ", harts marked: " ++ decimal marked ++ codes "\n"
 
 -- the summary of what happened, and of the state after it
-abbrev pub summary_text : List Happening → State → List ℕ
+abbrev pub summary_text : List Happening → MachineState → List ℕ
 summary_text happened s =
     subject_text Events happened
     ++ subject_text Faults happened

@@ -15,8 +15,8 @@ use Rattle.hart_trace.specs.declared.event.Event.{Event}
 use Rattle.hart_trace.specs.declared.event.Event.TheVariants as events
 use Rattle.machine_replies.specs.declared.reply.Reply.{Reply}
 use Rattle.machine_replies.specs.declared.reply.Reply.TheVariants as replies
-use Rattle.machine_memory.specs.Memory.{bytes_at, number_of, in_range}
-use Rattle.hart_sim.specs.States.{State, core_of, with_core, view_of, view_on}
+use Rattle.machine_memory.specs.Memory.{bytes_at, number_of_bytes, in_range}
+use Rattle.hart_sim.specs.States.{MachineState, core_of, with_core, view_of, view_on}
 use Rattle.enclave_table.proofs.ShortNames.{view_in}
 use Rattle.monitor_core.specs.Changes.{is_same, with_running}
 use Rattle.monitor_core.proofs.Put.{same_not}
@@ -28,14 +28,14 @@ use Rattle.machine_memory.proofs.Bytes.{bytes_moved}
 use Rattle.hart_sim.proofs.Verdicts.{IsAllowed, allowed_by, some_held, page_of_byte}
 
 -- the view of an enclave that runs
-pub view_is : (s : State) (hart id : ℕ) (e : Enclave) → RunsOn s hart id e → view_on s hart ≡ enclave_view e.parts
+pub view_is : (s : MachineState) (hart id : ℕ) (e : Enclave) → RunsOn s hart id e → view_on s hart ≡ enclave_view e.parts
 view_is s hart id e r = ap (λ w page. view_of s.table w page) r.world ∙ ap (λ o page. view_in o page) r.live
 
-runner_is : (s : State) (hart id : ℕ) (e : Enclave) → RunsOn s hart id e → runner_of hart (s.worlds hart) ≡ EnclaveOf id
+runner_is : (s : MachineState) (hart id : ℕ) (e : Enclave) → RunsOn s hart id e → runner_of hart (s.worlds hart) ≡ EnclaveOf id
 runner_is s hart id e r = ap (runner_of hart) r.world
 
 -- where the mark is not there, taking it away changes nothing
-pub unmarked : (s : State) (hart h : ℕ) → s.marked hart ≡ false → (if h == hart then false else s.marked h) ≡ s.marked h
+pub unmarked : (s : MachineState) (hart h : ℕ) → s.marked hart ≡ false → (if h == hart then false else s.marked h) ≡ s.marked h
 unmarked s hart h none = pick (h == hart) refl
   where
     pick : (b : Bool) → (h == hart) ≡ b → (if b then false else s.marked h) ≡ s.marked h
@@ -43,7 +43,7 @@ unmarked s hart h none = pick (h == hart) refl
     pick false e = refl
 
 -- nothing changed but a mark that was not there
-stays : (s new : State) (hart id : ℕ) (e : Enclave) → RunsOn s hart id e → new ≡ awoken s hart → ChangesOwn id e s new
+stays : (s new : MachineState) (hart id : ℕ) (e : Enclave) → RunsOn s hart id e → new ≡ awoken s hart → ChangesOwn id e s new
 stays s new hart id e r is = subst (ChangesOwn id e s) (sym is) (record {
   table = refl;
   worlds = refl;
@@ -54,7 +54,7 @@ stays s new hart id e r is = subst (ChangesOwn id e s) (sym is) (record {
 })
 
 -- the enclave still runs where nothing but its own changed
-pub still_runs : (s new : State) (hart id : ℕ) (e : Enclave) → RunsOn s hart id e → ChangesOwn id e s new → RunsOn new hart id e
+pub still_runs : (s new : MachineState) (hart id : ℕ) (e : Enclave) → RunsOn s hart id e → ChangesOwn id e s new → RunsOn new hart id e
 still_runs s new hart id e r ch = record {
   known = subst (λ t. hart < t.layout.harts) (sym ch.table) r.known;
   world = ap (λ f. f hart) ch.worlds ∙ r.world;
@@ -64,7 +64,7 @@ still_runs s new hart id e r ch = record {
 }
 
 -- both states as they were
-same_still : (s other new now : State) (hart there id : ℕ) (e f : Enclave) → RunsOn s hart id e → RunsOn other there id f → LooksSame id e f s other → new ≡ awoken s hart → now ≡ awoken other there → LooksSame id e f new now
+same_still : (s other new now : MachineState) (hart there id : ℕ) (e f : Enclave) → RunsOn s hart id e → RunsOn other there id f → LooksSame id e f s other → new ≡ awoken s hart → now ≡ awoken other there → LooksSame id e f new now
 same_still s other new now hart there id e f r q l is is' = record {
   parts = l.parts;
   registers = ap (λ x. x.registers (EnclaveOf id)) is ∙ l.registers ∙ sym (ap (λ x. x.registers (EnclaveOf id)) is');
@@ -84,12 +84,12 @@ within_parts first count n e = let p = and_parts _ _ e in (leb-true _ _ p.0, ltb
 untouched : (e : Enclave) (a : Access) (byte : ℕ) → IsAllowed (enclave_view e.parts) a → enclave_view e.parts (byte / 4096) ≡ NoAccess → in_range a.address a.size byte ≡ false
 untouched e a byte ok none = false_from_ne_true (in_range a.address a.size byte) (λ yes. let p = within_parts a.address a.size byte yes in reached e a byte ok p.0 p.1 none)
 
-loaded_same : (s other : State) (id : ℕ) (e f : Enclave) (a : Access) → LooksSame id e f s other → IsAllowed (enclave_view e.parts) a → bytes_at s.bytes a.address a.size ≡ bytes_at other.bytes a.address a.size
+loaded_same : (s other : MachineState) (id : ℕ) (e f : Enclave) (a : Access) → LooksSame id e f s other → IsAllowed (enclave_view e.parts) a → bytes_at s.bytes a.address a.size ≡ bytes_at other.bytes a.address a.size
 loaded_same s other id e f a l ok =
     bytes_moved s.bytes other.bytes a.address a.address a.size (λ k low. l.bytes (a.address + k) (reached e a (a.address + k) ok (omega arith) (omega arith)))
 
 -- the same store in both
-stored_same : (s other new now : State) (hart there id : ℕ) (e f : Enclave) (a : Access) (value : ℕ) → RunsOn s hart id e → RunsOn other there id f → LooksSame id e f s other → new ≡ storing (awoken s hart) a.address a.size value → now ≡ storing (awoken other there) a.address a.size value → LooksSame id e f new now
+stored_same : (s other new now : MachineState) (hart there id : ℕ) (e f : Enclave) (a : Access) (value : ℕ) → RunsOn s hart id e → RunsOn other there id f → LooksSame id e f s other → new ≡ storing (awoken s hart) a.address a.size value → now ≡ storing (awoken other there) a.address a.size value → LooksSame id e f new now
 stored_same s other new now hart there id e f a value r q l is is' = record {
   parts = l.parts;
   registers = ap (λ x. x.registers (EnclaveOf id)) is ∙ l.registers ∙ sym (ap (λ x. x.registers (EnclaveOf id)) is');
@@ -97,7 +97,7 @@ stored_same s other new now hart there id e f a value r q l is is' = record {
   written = λ p some. ap (λ x. x.written p) is ∙ ap (λ x. if p == a.address / 4096 then true else x) (l.written p some) ∙ sym (ap (λ x. x.written p) is');
 }
 
-stores_own : (s new : State) (hart id : ℕ) (e : Enclave) (a : Access) (value : ℕ) → RunsOn s hart id e → IsAllowed (enclave_view e.parts) a → new ≡ storing (awoken s hart) a.address a.size value → ChangesOwn id e s new
+stores_own : (s new : MachineState) (hart id : ℕ) (e : Enclave) (a : Access) (value : ℕ) → RunsOn s hart id e → IsAllowed (enclave_view e.parts) a → new ≡ storing (awoken s hart) a.address a.size value → ChangesOwn id e s new
 stores_own s new hart id e a value r ok is = subst (ChangesOwn id e s) (sym is) (record {
   table = refl;
   worlds = refl;
@@ -108,12 +108,12 @@ stores_own s new hart id e a value r ok is = subst (ChangesOwn id e s) (sym is) 
 })
 
 -- what may happen in the other state too
-abbrev Follows : State → State → State → ℕ → ℕ → ℕ → Enclave → Enclave → Event → Reply → Type 0
-Follows s other new hart there id e f event reply = (now : State) × Step other there event reply now × LooksSame id e f new now × ChangesOwn id e s new × ChangesOwn id f other now
+abbrev Follows : MachineState → MachineState → MachineState → ℕ → ℕ → ℕ → Enclave → Enclave → Event → Reply → Type 0
+Follows s other new hart there id e f event reply = (now : MachineState) × Step other there event reply now × LooksSame id e f new now × ChangesOwn id e s new × ChangesOwn id f other now
 
 -- accesses, by what the view says
-follow_access : (s other new : State) (hart there id : ℕ) (e f : Enclave) (a : Access) (value : ℕ) (reply : Reply) (said : Result (Unit {0}) Cause) → RunsOn s hart id e → RunsOn other there id f → LooksSame id e f s other → verdict (enclave_view e.parts) a ≡ said → Accesses said (awoken s hart) a value reply new
-    → (now : State) × Accesses said (awoken other there) a value reply now × LooksSame id e f new now × ChangesOwn id e s new × ChangesOwn id f other now
+follow_access : (s other new : MachineState) (hart there id : ℕ) (e f : Enclave) (a : Access) (value : ℕ) (reply : Reply) (said : Result (Unit {0}) Cause) → RunsOn s hart id e → RunsOn other there id f → LooksSame id e f s other → verdict (enclave_view e.parts) a ≡ said → Accesses said (awoken s hart) a value reply new
+    → (now : MachineState) × Accesses said (awoken other there) a value reply now × LooksSame id e f new now × ChangesOwn id e s new × ChangesOwn id f other now
 follow_access s other new hart there id e f a value reply (Err cause) r q l v x =
     let now = awoken other there in
     (now, (x.0, refl), same_still s other new now hart there id e f r q l x.1 (refl), stays s new hart id e r x.1, stays other now there id f q (refl))
@@ -125,17 +125,17 @@ follow_access s other new hart there id e f a value reply (Ok done) r q l v x = 
     ok' : IsAllowed (enclave_view f.parts) a
     ok' = subst (λ p. IsAllowed (enclave_view p) a) l.parts ok
 
-    now : State
+    now : MachineState
     now = awoken other there
 
-    by_kind : (kind : Kind) → TakesEffect kind (awoken s hart) a value reply new → (now : State) × TakesEffect kind (awoken other there) a value reply now × LooksSame id e f new now × ChangesOwn id e s new × ChangesOwn id f other now
+    by_kind : (kind : Kind) → TakesEffect kind (awoken s hart) a value reply new → (now : MachineState) × TakesEffect kind (awoken other there) a value reply now × LooksSame id e f new now × ChangesOwn id e s new × ChangesOwn id f other now
     by_kind Fetch x =
         let now = awoken other there in
         (now, (x.0, refl), same_still s other new now hart there id e f r q l x.1 (refl), stays s new hart id e r x.1, stays other now there id f q (refl))
     by_kind Load x =
         let now = awoken other there in (
           now,
-          (x.0 ∙ ap (λ xs. replies.Loaded (number_of xs)) (loaded_same s other id e f a l ok), refl),
+          (x.0 ∙ ap (λ xs. replies.Loaded (number_of_bytes xs)) (loaded_same s other id e f a l ok), refl),
           same_still s other new now hart there id e f r q l x.1 (refl),
           stays s new hart id e r x.1,
           stays other now there id f q (refl),
@@ -159,7 +159,7 @@ follow_access s other new hart there id e f a value reply (Ok done) r q l v x = 
         )
 
 -- a register set
-set_is : (s new : State) (hart id n value : ℕ) (e : Enclave) → RunsOn s hart id e → new ≡ with_core (awoken s hart) (with_running (core_of (awoken s hart)) hart (with_x (s.registers (runner_of hart (s.worlds hart))) n value)) → new.registers (EnclaveOf id) ≡ with_x (s.registers (EnclaveOf id)) n value
+set_is : (s new : MachineState) (hart id n value : ℕ) (e : Enclave) → RunsOn s hart id e → new ≡ with_core (awoken s hart) (with_running (core_of (awoken s hart)) hart (with_x (s.registers (runner_of hart (s.worlds hart))) n value)) → new.registers (EnclaveOf id) ≡ with_x (s.registers (EnclaveOf id)) n value
 set_is s new hart id n value e r is =
     let who = runner_is s hart id e r in
     let at : new.registers (EnclaveOf id) ≡ (if is_same (EnclaveOf id) (runner_of hart (s.worlds hart)) then with_x (s.registers (runner_of hart (s.worlds hart))) n value else s.registers (EnclaveOf id)) = ap (λ x. x.registers (EnclaveOf id)) is in
@@ -167,7 +167,7 @@ set_is s new hart id n value e r is =
     ap (λ w. if is_same (EnclaveOf id) w then with_x (s.registers w) n value else s.registers (EnclaveOf id)) who in
     at ∙ there ∙ ap (λ b. if b then with_x (s.registers (EnclaveOf id)) n value else s.registers (EnclaveOf id)) (eq-eqb id id refl)
 
-sets_own : (s new : State) (hart id n value : ℕ) (e : Enclave) → RunsOn s hart id e → new ≡ with_core (awoken s hart) (with_running (core_of (awoken s hart)) hart (with_x (s.registers (runner_of hart (s.worlds hart))) n value)) → ChangesOwn id e s new
+sets_own : (s new : MachineState) (hart id n value : ℕ) (e : Enclave) → RunsOn s hart id e → new ≡ with_core (awoken s hart) (with_running (core_of (awoken s hart)) hart (with_x (s.registers (runner_of hart (s.worlds hart))) n value)) → ChangesOwn id e s new
 sets_own s new hart id n value e r is = subst (ChangesOwn id e s) (sym is) (record {
   table = refl;
   worlds = refl;
@@ -178,7 +178,7 @@ sets_own s new hart id n value e r is = subst (ChangesOwn id e s) (sym is) (reco
 })
 
 -- one event
-follow : (s other new : State) (hart there id : ℕ) (e f : Enclave) (event : Event) (reply : Reply) → RunsOn s hart id e → RunsOn other there id f → LooksSame id e f s other → IsOwn event → Step s hart event reply new → Follows s other new hart there id e f event reply
+follow : (s other new : MachineState) (hart there id : ℕ) (e f : Enclave) (event : Event) (reply : Reply) → RunsOn s hart id e → RunsOn other there id f → LooksSame id e f s other → IsOwn event → Step s hart event reply new → Follows s other new hart there id e f event reply
 follow s other new hart there id e f (events.Access a value) reply r q l own x =
     let here = view_is s hart id e r in
     let other_view : view_on other there ≡ enclave_view e.parts = view_is other there id f q ∙ ap enclave_view (sym l.parts) in
@@ -202,7 +202,7 @@ follow s other new hart there id e f (events.Ecall words) reply r q l own x = ab
 follow s other new hart there id e f events.Irq reply r q l own x = absurd own
 
 -- one change after another
-changes_on : (s mid new : State) (id : ℕ) (e : Enclave) → ChangesOwn id e s mid → ChangesOwn id e mid new → ChangesOwn id e s new
+changes_on : (s mid new : MachineState) (id : ℕ) (e : Enclave) → ChangesOwn id e s mid → ChangesOwn id e mid new → ChangesOwn id e s new
 changes_on s mid new id e a b = record {
   table = b.table ∙ a.table;
   worlds = b.worlds ∙ a.worlds;
@@ -212,7 +212,7 @@ changes_on s mid new id e a b = record {
   marked = b.marked ∙ a.marked;
 }
 
-nothing : (s new : State) (id : ℕ) (e : Enclave) → new ≡ s → ChangesOwn id e s new
+nothing : (s new : MachineState) (id : ℕ) (e : Enclave) → new ≡ s → ChangesOwn id e s new
 nothing s new id e is = subst (λ x. ChangesOwn id e s x) (sym is) (record { table = refl; worlds = refl; registers = λ who other. refl; bytes = λ x none. refl; written = λ p none. refl; marked = refl })
 
 pub private_run : IsPrivate

@@ -17,7 +17,7 @@ use Rattle.hart_sim.specs.declared.machine.Machine.{Machine}
 use Rattle.hart_sim.specs.Banks.{LoadsFewest, AreBanksRight, MeetsList}
 use Rattle.hart_sim.specs.Machines.{state_of, bank_on}
 use Rattle.hart_sim.specs.Parts.{AreBanks}
-use Rattle.hart_sim.specs.States.{State, view_on}
+use Rattle.hart_sim.specs.States.{MachineState, view_on}
 
 -- what is read at a place that there is
 pub at_place : (banks : List Bank) (n : ℕ) → n < length banks → (bank : Bank) × (slice_get banks n ≡ Some bank)
@@ -70,7 +70,7 @@ pub loads_same : (bank : Bank) (view other : ℕ → Perm) → SameView view oth
 loads_same bank view other same l = record { list = l.list; loaded = l.loaded; fewest = fewest_same view other l.list same l.fewest }
 
 -- the banks are right where that of one hart is, and each other one that is not marked has the same view as before
-pub banks_after : (s new : State) (old now : ℕ → Option Bank) (hart : ℕ) → new.table.layout.harts ≡ s.table.layout.harts
+pub banks_after : (s new : MachineState) (old now : ℕ → Option Bank) (hart : ℕ) → new.table.layout.harts ≡ s.table.layout.harts
     → (new.marked hart ≡ false → (bank : Bank) × (now hart ≡ Some bank) × LoadsFewest bank (view_on new hart))
     → ((other : ℕ) → other ≢ hart → now other ≡ old other)
     → ((i : ℕ) → i ≢ hart → i < s.table.layout.harts → new.marked i ≡ false → (s.marked i ≡ false) × SameView (view_on s i) (view_on new i))
@@ -88,7 +88,7 @@ banks_after s new old now hart harts here others stay right = λ i b low off has
     loads_same b (view_on s i) (view_on new i) was.1 (right i b under was.0 (sym (others i other) ∙ has)))
 
 -- once a marked hart has loaded the host's entries, the list that an event meets is loaded
-pub met : (s : State) (kept : Kept) (old mid : ℕ → Option Bank) (hart : ℕ) (list : List Entry) → MeetsList s kept old hart list
+pub met : (s : MachineState) (kept : Kept) (old mid : ℕ → Option Bank) (hart : ℕ) (list : List Entry) → MeetsList s kept old hart list
     → (s.marked hart ≡ true → (bank : Bank) × (mid hart ≡ Some bank) × HasList bank kept.host_list)
     → (s.marked hart ≡ false → mid hart ≡ old hart)
     → (bank : Bank) × (mid hart ≡ Some bank) × HasList bank list

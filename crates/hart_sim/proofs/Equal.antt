@@ -1,10 +1,10 @@
 -- Two states are one where each part of the one is that of the other.
 use Rattle.std.proofs.Common.{◌≡◌, ℕ}
 use Rattle.worlds.specs.Runners.{Runner}
-use Rattle.hart_sim.specs.States.{State}
+use Rattle.hart_sim.specs.States.{MachineState}
 
 -- part by part
-pub record SameParts (s that : State) : Type 0 where
+pub record SameParts (s that : MachineState) : Type 0 where
   pub table : s.table ≡ that.table
   pub worlds : (hart : ℕ) → s.worlds hart ≡ that.worlds hart
   pub registers : (who : Runner) → s.registers who ≡ that.registers who
@@ -12,7 +12,7 @@ pub record SameParts (s that : State) : Type 0 where
   pub written : (page : ℕ) → s.written page ≡ that.written page
   pub marked : (hart : ℕ) → s.marked hart ≡ that.marked hart
 
-pub equal : {s that : State} → SameParts s that → s ≡ that
+pub equal : {s that : MachineState} → SameParts s that → s ≡ that
 equal {s} {that} x = λ i. record {
   table = x.table i;
   worlds = λ hart. x.worlds hart i;

@@ -1,7 +1,7 @@
 -- However a run of lines ends, the machine is the one after the events that its first lines say.
 use Rattle.std.proofs.Common.{◌≡◌, ◌⊎◌, ◌∙◌, inl, inr, ℕ, ◌<◌, true, List, [], ◌∷◌, ◌++◌, length, Option, Some, Result, Ok, Err, refl, ap, sym, arith, append_assoc}
 use Rattle.std.specs.Prelude.{IfOk}
-use Rattle.platforms.specs.Platform.{Layout}
+use Rattle.platforms.specs.Platform.{PlatformLayout}
 use Rattle.hart_trace.specs.declared.event.Event.{Event}
 use Rattle.hart_trace.specs.Events.{meaning_of}
 use Rattle.text_lines.specs.declared.fault.RunFault.{RunFault}
@@ -52,13 +52,13 @@ one_begins lines bytes line after h short (inr p) =
     along : (P : List ℕ → Type 0) (xs ys : List ℕ) → xs ≡ ys → P xs → P ys
     along P xs ys e p = rw (← e) p
 
-by_all : (platform : Layout) (events : List (ℕ × Event)) (replies : List Reply) (old new : Machine) (before after held holds : Option (List ℕ)) → After platform events replies old → DoesAll DoesLine old new before after held holds
+by_all : (platform : PlatformLayout) (events : List (ℕ × Event)) (replies : List Reply) (old new : Machine) (before after held holds : Option (List ℕ)) → After platform events replies old → DoesAll DoesLine old new before after held holds
     → GoesOn platform events replies (Ok tt) old new before after
 by_all platform events replies old new before after held holds a d =
     let r = is_reported old new d.lines d.answers d.done in
     record { bytes = d.input; consumed = d.consumed; lines = d.lines; done = d.are_lines; more = r.events; spelled = r.spelled; answered = r.replies; went = r.after platform events replies a }
 
-by_lines : (platform : Layout) (events : List (ℕ × Event)) (replies : List Reply) (old new : Machine) (before after held holds : Option (List ℕ)) (lines : List (List ℕ)) (bytes : List ℕ) (fault : RunFault) → After platform events replies old
+by_lines : (platform : PlatformLayout) (events : List (ℕ × Event)) (replies : List Reply) (old new : Machine) (before after held holds : Option (List ℕ)) (lines : List (List ℕ)) (bytes : List ℕ) (fault : RunFault) → After platform events replies old
     → DoesLines DoesLine old new before after held holds lines bytes → AreDone (Err fault) (ended lines ++ bytes) lines → GoesOn platform events replies (Err fault) old new before after
 by_lines platform events replies old new before after held holds lines bytes fault a d done =
     let r = is_reported old new lines d.answers d.done in
@@ -69,7 +69,7 @@ some_lines [] line = omega arith
 some_lines (first ∷ lines) line = omega arith
 
 -- one line more, whose event happened
-by_one : (platform : Layout) (events : List (ℕ × Event)) (replies : List Reply) (old now new : Machine) (before after : Option (List ℕ)) (answers : List (List ℕ)) (line : List ℕ) (hart : ℕ) (event : Event) (reply : Reply) (fault : RunFault) → ((bytes : List ℕ) (lines : List (List ℕ)) → 0 < length lines → BeginsWith bytes lines → AreDone (Err fault) bytes lines) → After platform events replies old
+by_one : (platform : PlatformLayout) (events : List (ℕ × Event)) (replies : List Reply) (old now new : Machine) (before after : Option (List ℕ)) (answers : List (List ℕ)) (line : List ℕ) (hart : ℕ) (event : Event) (reply : Reply) (fault : RunFault) → ((bytes : List ℕ) (lines : List (List ℕ)) → 0 < length lines → BeginsWith bytes lines → AreDone (Err fault) bytes lines) → After platform events replies old
     → ComesTo DoesLine old now before after answers line → meaning_of (harts_of now) (without_return line) ≡ Some (Some (hart, event)) → Happens now hart event reply new → GoesOn platform events replies (Err fault) old new before after
 by_one platform events replies old now new before after answers line hart event reply fault so a c said x =
     let w = way old now c.lines answers c.done in
@@ -85,7 +85,7 @@ by_one platform events replies old now new before after answers line hart event 
       went = one_more platform events r.events replies r.replies now new hart event reply (r.after platform events replies a) x;
     }
 
-pub goes_on : (platform : Layout) (events : List (ℕ × Event)) (replies : List Reply) (old new : Machine) (before after held holds : Option (List ℕ)) (result : Result (Unit {0}) RunFault) → After platform events replies old
+pub goes_on : (platform : PlatformLayout) (events : List (ℕ × Event)) (replies : List Reply) (old new : Machine) (before after held holds : Option (List ℕ)) (result : Result (Unit {0}) RunFault) → After platform events replies old
     → IfOk result (λ done. DoesAll DoesLine old new before after held holds)
     → ((n : ℕ) → result ≡ Err (faults.Line n) → StopsAt n DoesLine RefusesLine old new before after held holds)
     → (result ≡ Err faults.TooLong → StopsTooLong DoesLine old new before after held holds)

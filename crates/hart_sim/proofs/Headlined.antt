@@ -1,12 +1,12 @@
 -- The headline, by induction over the events.
 use Rattle.std.proofs.Common.{◌≡◌, ◌⊎◌, ◌∙◌, inl, inr, ℕ, ◌<◌, List, [], ◌∷◌, ◌++◌, refl, ap, ap₂, sym, subst, append_assoc}
-use Rattle.platforms.specs.Platform.{Layout, IsLayout}
+use Rattle.platforms.specs.Platform.{PlatformLayout, IsLayout}
 use Rattle.enclave_table.specs.Tables.{IsTable}
 use Rattle.hart_trace.specs.declared.event.Event.{Event}
 use Rattle.hart_sim.specs.declared.machine.Machine.{Machine}
 use Rattle.machine_replies.specs.declared.reply.Reply.{Reply}
 use Rattle.hart_sim.specs.Machines.{state_of, KeepsBanksRight}
-use Rattle.hart_sim.specs.States.{State, opening}
+use Rattle.hart_sim.specs.States.{MachineState, opening_state}
 use Rattle.hart_sim.specs.Steps.{Run, still, step}
 use Rattle.hart_sim.specs.After.{After, booted, happened, Happens}
 use Rattle.hart_sim.specs.Headline.{Moment, Headline}
@@ -19,24 +19,24 @@ use Rattle.hart_sim.proofs.SoundTables.{run_sound}
 use Rattle.hart_sim.proofs.WorldsKept.{worlds_kept}
 
 -- what boot said of the platform
-rules_of : (platform : Layout) (events : List (ℕ × Event)) (replies : List Reply) (m : Machine) → After platform events replies m → IsLayout platform
+rules_of : (platform : PlatformLayout) (events : List (ℕ × Event)) (replies : List Reply) (m : Machine) → After platform events replies m → IsLayout platform
 rules_of platform _ _ m (booted b) = b.rules
 rules_of platform _ _ m (happened {events} {replies} {old} a hart event reply x) = rules_of platform events replies old a
 
-pub run_of : (platform : Layout) (events : List (ℕ × Event)) (replies : List Reply) (m : Machine) → After platform events replies m → Run (opening platform) events replies (state_of m)
-run_of platform _ _ m (booted b) = subst (Run (opening platform) [] []) (sym b.state) still
+pub run_of : (platform : PlatformLayout) (events : List (ℕ × Event)) (replies : List Reply) (m : Machine) → After platform events replies m → Run (opening_state platform) events replies (state_of m)
+run_of platform _ _ m (booted b) = subst (Run (opening_state platform) [] []) (sym b.state) still
 run_of platform _ _ m (happened {events} {replies} {old} a hart event reply x) = step (run_of platform events replies old a) hart event reply x.known x.possible x.happened
 
-pub banks_of : (platform : Layout) (events : List (ℕ × Event)) (replies : List Reply) (m : Machine) → After platform events replies m → KeepsBanksRight m
+pub banks_of : (platform : PlatformLayout) (events : List (ℕ × Event)) (replies : List Reply) (m : Machine) → After platform events replies m → KeepsBanksRight m
 banks_of platform _ _ m (booted b) = b.banks
 banks_of platform _ _ m (happened a hart event reply x) = x.kept
 
-layout_of : (platform : Layout) (s : State) (events : List (ℕ × Event)) (replies : List Reply) → Run (opening platform) events replies s → s.table.layout ≡ platform
+layout_of : (platform : PlatformLayout) (s : MachineState) (events : List (ℕ × Event)) (replies : List Reply) → Run (opening_state platform) events replies s → s.table.layout ≡ platform
 layout_of platform _ _ _ still = refl
 layout_of platform s _ _ (step {events} {replies} {mid} run hart event reply low possible x) = layout_stays mid hart event reply s x ∙ layout_of platform mid events replies run
 
-table_of : (platform : Layout) (events : List (ℕ × Event)) (replies : List Reply) (m : Machine) → After platform events replies m → IsTable (state_of m).table
-table_of platform events replies m a = run_sound (opening platform) (state_of m) events replies (opening_sound platform (rules_of platform events replies m a)) (run_of platform events replies m a)
+table_of : (platform : PlatformLayout) (events : List (ℕ × Event)) (replies : List Reply) (m : Machine) → After platform events replies m → IsTable (state_of m).table
+table_of platform events replies m a = run_sound (opening_state platform) (state_of m) events replies (opening_sound platform (rules_of platform events replies m a)) (run_of platform events replies m a)
 
 -- where a list with one more at its end is parted, the part is that one, or it stands before it
 parted : {X : Type 0} (xs : List X) (x : X) (before : List X) (y : X) (after : List X) → xs ++ x ∷ [] ≡ before ++ y ∷ after
@@ -61,7 +61,7 @@ none_parted [] y after e = cc
 none_parted (b ∷ before) y after e = cc
 
 -- the last event
-last : (platform : Layout) (events before : List (ℕ × Event)) (replies : List Reply) (old new : Machine) (hart there : ℕ) (event that : Event) (reply : Reply) (after : List (ℕ × Event)) → After platform events replies old → Happens old there that reply new
+last : (platform : PlatformLayout) (events before : List (ℕ × Event)) (replies : List Reply) (old new : Machine) (hart there : ℕ) (event that : Event) (reply : Reply) (after : List (ℕ × Event)) → After platform events replies old → Happens old there that reply new
     → events ≡ before → ◌≡◌ {A = ℕ × Event} (there, that) (hart, event) → after ≡ [] → Moment platform before hart event after (replies ++ reply ∷ []) new
 last platform events before replies old new hart there event that reply after a x front same none =
     let is : Happens old hart event reply new = subst (λ (p : ℕ × Event). Happens old p.0 p.1 reply new) same x in
@@ -79,7 +79,7 @@ last platform events before replies old new hart there event that reply after a 
     }
 
 -- one before the last
-further : (platform : Layout) (before init after : List (ℕ × Event)) (replies : List Reply) (old new : Machine) (hart there : ℕ) (event that : Event) (reply : Reply) → Moment platform before hart event init replies old → Happens old there that reply new
+further : (platform : PlatformLayout) (before init after : List (ℕ × Event)) (replies : List Reply) (old new : Machine) (hart there : ℕ) (event that : Event) (reply : Reply) → Moment platform before hart event init replies old → Happens old there that reply new
     → after ≡ init ++ (there, that) ∷ [] → Moment platform before hart event after (replies ++ reply ∷ []) new
 further platform before init after replies old new hart there event that reply m x is = record {
   answered = m.answered;
@@ -94,7 +94,7 @@ further platform before init after replies old new hart there event that reply m
   since = subst (λ es. Run (state_of m.new) es (m.rest ++ reply ∷ []) (state_of new)) (sym is) (step m.since there that reply x.known x.possible x.happened);
 }
 
-moment_of : (platform : Layout) (events : List (ℕ × Event)) (replies : List Reply) (m : Machine) → After platform events replies m → (before : List (ℕ × Event)) (hart : ℕ) (event : Event) (after : List (ℕ × Event)) → events ≡ before ++ (hart, event) ∷ after
+moment_of : (platform : PlatformLayout) (events : List (ℕ × Event)) (replies : List Reply) (m : Machine) → After platform events replies m → (before : List (ℕ × Event)) (hart : ℕ) (event : Event) (after : List (ℕ × Event)) → events ≡ before ++ (hart, event) ∷ after
     → Moment platform before hart event after replies m
 moment_of platform _ _ m (booted b) before hart event after is = absurd (none_parted before (hart, event) after is)
 moment_of platform _ _ m (happened {events} {replies} {old} a there that reply x) before hart event after is = elim (parted events (there, that) before (hart, event) after is) [
@@ -102,7 +102,7 @@ moment_of platform _ _ m (happened {events} {replies} {old} a there that reply x
   | inr p ↦ further platform before p.0 after replies old m hart there event that reply (moment_of platform events replies old a before hart event p.0 p.2) x p.1
 ]
 
-pub headline : (platform : Layout) (events : List (ℕ × Event)) (replies : List Reply) (machine : Machine) → After platform events replies machine → Headline platform events replies machine
+pub headline : (platform : PlatformLayout) (events : List (ℕ × Event)) (replies : List Reply) (machine : Machine) → After platform events replies machine → Headline platform events replies machine
 headline platform events replies m a =
     let run = run_of platform events replies m a in
     let layout = layout_of platform (state_of m) events replies run in

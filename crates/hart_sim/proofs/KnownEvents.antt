@@ -15,7 +15,7 @@ use Rattle.hart_trace.specs.declared.event.Event.TheVariants as events
 use Rattle.text_lines.specs.declared.lexical.NotUnderstood.{NotUnderstood}
 use Rattle.text_lines.specs.Words.{words_of}
 use Rattle.text_lines.specs.Numbers.{numeral_of, number_of}
-use Rattle.hart_trace.specs.Events.{Word, ◌>>=◌, mode_of, sized, access_of, with_no_value, with_value, has_leading_zero, register_of, setting_of, numbers_of, call_of, interrupt_of, event_of, hart_of, on_hart, said_by, meaning_of}
+use Rattle.hart_trace.specs.Events.{Word, ◌>>=◌, mode_of, sized, access_of, with_no_value, with_value, has_leading_zero, register_of, setting_of, numbers_of, call_in, interrupt_of, event_of, hart_of, on_hart, said_by, meaning_of}
 use Rattle.hart_sim.specs.Steps.{IsEvent}
 
 under : {A : Type 0} {x y : A} → Some x ≡ Some y → x ≡ y
@@ -90,7 +90,7 @@ setting_known (register ∷ word ∷ []) event e =
     rw (← is) (register_known register n.0 n.1)
 setting_known (register ∷ word ∷ next ∷ words) event e = absurd (let h : None ≡ Some event = e in cc)
 
-call_known : (words : List Word) (event : Event) → call_of words ≡ Some event → IsEvent event
+call_known : (words : List Word) (event : Event) → call_in words ≡ Some event → IsEvent event
 call_known words event e = elim (chosen (nat_le (length words) 8) _ None event e) [
   | inl p ↦ let m = mapped (numbers_of words) _ event p in rw (← m.2) tt
   | inr q ↦ absurd (let h : None ≡ Some event = q in cc)
@@ -110,7 +110,7 @@ event_known (k ∷ words) event e = elim (chosen (bytes_eq k (codes "fetch")) (a
       | inl p ↦ let x = bound (access_of Store words) with_value event p in value_known x.0 event (access_known Store words x.0 x.1) x.2
       | inr e3 ↦ elim (chosen (bytes_eq k (codes "reg")) (setting_of words) _ event e3) [
         | inl p ↦ setting_known words event p
-        | inr e4 ↦ elim (chosen (bytes_eq k (codes "ecall")) (call_of words) _ event e4) [
+        | inr e4 ↦ elim (chosen (bytes_eq k (codes "ecall")) (call_in words) _ event e4) [
           | inl p ↦ call_known words event p
           | inr e5 ↦ elim (chosen (bytes_eq k (codes "irq")) (interrupt_of words) None event e5) [
             | inl p ↦ irq_known words event p

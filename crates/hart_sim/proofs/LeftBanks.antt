@@ -2,7 +2,7 @@
 use Rattle.std.proofs.Common.{◌≡◌, ◌≢◌, ◌∙◌, inl, inr, ℕ, ◌<◌, ◌==◌, List, [], ◌∷◌, ◌++◌, Some, refl, ap, sym, subst, append_assoc, append-nil}
 use Rattle.std.proofs.lemmas.Bool.{eq-eqb, eqb-true, both_ways}
 use Rattle.pmp_encoding.specs.declared.bank.Bank.{Bank}
-use Rattle.platforms.specs.Platform.{Layout}
+use Rattle.platforms.specs.Platform.{PlatformLayout}
 use Rattle.enclave_table.specs.Views.{current_view}
 use Rattle.hart_trace.specs.declared.event.Event.{Event}
 use Rattle.machine_replies.specs.declared.reply.Reply.{Reply}
@@ -26,7 +26,7 @@ meant_then old new hart event reply x bank has =
     x.kept hart bank (subst (λ l. hart < l.harts) (sym (layout_stays (state_of old) hart event reply (state_of new) x.happened)) x.known) (awake_then (state_of old) hart event reply (state_of new) x.happened) has
 
 -- nothing happened since boot
-at_boot : (platform : Layout) (hart : ℕ) (m : Machine) → hart < platform.harts → IsBooted platform m → IsLeft platform hart [] [] m
+at_boot : (platform : PlatformLayout) (hart : ℕ) (m : Machine) → hart < platform.harts → IsBooted platform m → IsLeft platform hart [] [] m
 at_boot platform hart m low b = record {
   before = [];
   after = [];
@@ -44,7 +44,7 @@ at_boot platform hart m low b = record {
 }
 
 -- an event of its own
-left_here : (platform : Layout) (events : List (ℕ × Event)) (replies : List Reply) (old new : Machine) (hart : ℕ) (event : Event) (reply : Reply) → After platform events replies old → Happens old hart event reply new → IsLeft platform hart (events ++ (hart, event) ∷ []) (replies ++ reply ∷ []) new
+left_here : (platform : PlatformLayout) (events : List (ℕ × Event)) (replies : List Reply) (old new : Machine) (hart : ℕ) (event : Event) (reply : Reply) → After platform events replies old → Happens old hart event reply new → IsLeft platform hart (events ++ (hart, event) ∷ []) (replies ++ reply ∷ []) new
 left_here platform events replies old new hart event reply a x = record {
   before = events ++ (hart, event) ∷ [];
   after = [];
@@ -62,7 +62,7 @@ left_here platform events replies old new hart event reply a x = record {
 }
 
 -- one event more, on another hart
-left_further : (platform : Layout) (events : List (ℕ × Event)) (replies : List Reply) (old new : Machine) (hart there : ℕ) (event : Event) (reply : Reply) → hart ≢ there → Happens old there event reply new → IsLeft platform hart events replies old → IsLeft platform hart (events ++ (there, event) ∷ []) (replies ++ reply ∷ []) new
+left_further : (platform : PlatformLayout) (events : List (ℕ × Event)) (replies : List Reply) (old new : Machine) (hart there : ℕ) (event : Event) (reply : Reply) → hart ≢ there → Happens old there event reply new → IsLeft platform hart events replies old → IsLeft platform hart (events ++ (there, event) ∷ []) (replies ++ reply ∷ []) new
 left_further platform events replies old new hart there event reply other x l = record {
   before = l.before;
   after = l.after ++ (there, event) ∷ [];
@@ -79,7 +79,7 @@ left_further platform events replies old new hart there event reply other x l = 
   stays = x.others hart other ∙ l.stays;
 }
 
-pub left_of : (platform : Layout) (events : List (ℕ × Event)) (replies : List Reply) (m : Machine) → After platform events replies m → (hart : ℕ) → hart < platform.harts → IsLeft platform hart events replies m
+pub left_of : (platform : PlatformLayout) (events : List (ℕ × Event)) (replies : List Reply) (m : Machine) → After platform events replies m → (hart : ℕ) → hart < platform.harts → IsLeft platform hart events replies m
 left_of platform _ _ m (booted b) hart low = at_boot platform hart m low b
 left_of platform _ _ m (happened {events} {replies} {old} a there event reply x) hart low = both (hart == there)
     (λ yes.

@@ -23,11 +23,11 @@ use Rattle.worlds.specs.declared.world.World.TheVariants.{Host, Enclave as InEnc
 use Rattle.hart_trace.specs.declared.event.Event.{Event}
 use Rattle.hart_trace.specs.declared.event.Event.TheVariants as events
 use Rattle.machine_replies.specs.declared.reply.Reply.{Reply}
-use Rattle.hart_sim.specs.States.{State, with_core, view_of, view_on}
+use Rattle.hart_sim.specs.States.{MachineState, with_core, view_of, view_on}
 use Rattle.enclave_table.proofs.ShortNames.{view_in}
 use Rattle.hart_sim.specs.Changes.{zeroing}
 use Rattle.hart_sim.specs.Steps.{Step, Accesses, TakesEffect, verdict}
-use Rattle.monitor_core.specs.States.{State as Core}
+use Rattle.monitor_core.specs.States.{MonitorState}
 use Rattle.monitor_core.proofs.Zeroed.{Clears, cleared}
 use Rattle.page_views.specs.declared.pages.PageRange.{PageRange}
 use Rattle.hart_sim.proofs.Asked.{awoken, named, asked, lent, is_zeroed}
@@ -108,7 +108,7 @@ nobody table (InEnclave k) page kind right own h = by_slot (enclave_at table.enc
         let z : false ≡ true = sym ((right.sound k g is).not_monitor page part) ∙ own in cc
 
 -- the goal for one byte
-abbrev Kept : State → State → ℕ → ℕ → Event → Reply → ℕ → Type 0
+abbrev Kept : MachineState → MachineState → ℕ → ℕ → Event → Reply → ℕ → Type 0
 Kept old new hart byte event reply id = (new.bytes byte ≡ old.bytes byte) ⊎ StoresTo old hart event reply id byte
 
 within : (first count n : ℕ) → in_range first count n ≡ true → (first ≤ n) × (n < first + count)
@@ -118,7 +118,7 @@ test : {P : Type 0} (b : Bool) → (b ≡ true → P) → (b ≡ false → P) �
 test true when unless = when refl
 test false when unless = unless refl
 
-stored_there : (old new : State) (hart id byte value : ℕ) (a : Access) (e : Enclave) → IsTable old.table → Live old.table id e → is_private e.parts (byte / 4096) ≡ true → verdict (view_on old hart) a ≡ Ok tt → (kind : Kind) → a.kind ≡ kind → (reply : Reply) → TakesEffect kind (awoken old hart) a value reply new → Kept old new hart byte (events.Access a value) reply id
+stored_there : (old new : MachineState) (hart id byte value : ℕ) (a : Access) (e : Enclave) → IsTable old.table → Live old.table id e → is_private e.parts (byte / 4096) ≡ true → verdict (view_on old hart) a ≡ Ok tt → (kind : Kind) → a.kind ≡ kind → (reply : Reply) → TakesEffect kind (awoken old hart) a value reply new → Kept old new hart byte (events.Access a value) reply id
 stored_there old new hart id byte value a e right live p v Fetch k reply x = inl (ap (λ y. y.bytes byte) x.1)
 stored_there old new hart id byte value a e right live p v Load k reply x = inl (ap (λ y. y.bytes byte) x.1)
 stored_there old new hart id byte value a e right live p v Store k reply (inr x) = inl (ap (λ y. y.bytes byte) x.2)
@@ -130,7 +130,7 @@ stored_there old new hart id byte value a e right live p v Store k reply (inl x)
     inr (k, x.0, only_itself old.table (old.worlds hart) id (byte / 4096) e a.kind right live p held, v, w.0, w.1))
     (λ no. inl (ap (λ y. y.bytes byte) x.1 ∙ ap (λ b. if b then byte_of value (byte - a.address) else old.bytes byte) no))
 
-accessed : (old new : State) (hart id byte value : ℕ) (a : Access) (e : Enclave) (reply : Reply) (said : Result (Unit {0}) Cause) → IsTable old.table → Live old.table id e → is_private e.parts (byte / 4096) ≡ true → verdict (view_on old hart) a ≡ said → Accesses said (awoken old hart) a value reply new → Kept old new hart byte (events.Access a value) reply id
+accessed : (old new : MachineState) (hart id byte value : ℕ) (a : Access) (e : Enclave) (reply : Reply) (said : Result (Unit {0}) Cause) → IsTable old.table → Live old.table id e → is_private e.parts (byte / 4096) ≡ true → verdict (view_on old hart) a ≡ said → Accesses said (awoken old hart) a value reply new → Kept old new hart byte (events.Access a value) reply id
 accessed old new hart id byte value a e reply (Err cause) right live p v x = inl (ap (λ y. y.bytes byte) x.1)
 accessed old new hart id byte value a e reply (Ok done) right live p v x = stored_there old new hart id byte value a e right live p v a.kind refl reply x
 
@@ -145,7 +145,7 @@ gone table id f there =
     let h : None ≡ Some f = sym (none_there table.enclaves (id - 1)) ∙ at in cc
 
 -- the pages that a call makes zero are private to no enclave that is live after it
-called : (s new : State) (before core : Core) (pages : Option PageRange) (id byte : ℕ) (e f : Enclave) → before.table ≡ s.table → new ≡ zeroing (with_core s core) pages → IsTable s.table → Live s.table id e → Live new.table id f → is_private e.parts (byte / 4096) ≡ true
+called : (s new : MachineState) (before core : MonitorState) (pages : Option PageRange) (id byte : ℕ) (e f : Enclave) → before.table ≡ s.table → new ≡ zeroing (with_core s core) pages → IsTable s.table → Live s.table id e → Live new.table id f → is_private e.parts (byte / 4096) ≡ true
     → (pages ≡ None) ⊎ ((range : PageRange) × (pages ≡ Some range) × Clears before core range) → new.bytes byte ≡ s.bytes byte
 called s new before core pages id byte e f table is right live now p (inl none) =
     ap (λ y. y.bytes byte) is ∙ ap (λ q. if is_zeroed q (byte / 4096) then 0 else s.bytes byte) none
@@ -162,7 +162,7 @@ called s new before core pages id byte e f table is right live now p (inr x) =
     ap (λ y. y.bytes byte) is ∙ ap (λ q. if is_zeroed q (byte / 4096) then 0 else s.bytes byte) x.1 ∙ ap (λ b. if b then 0 else s.bytes byte) outside
 
 -- a step leaves each byte of a private page, but for the enclave's own stores
-pub keeps_private : (old : State) (hart : ℕ) (event : Event) (reply : Reply) (new : State) → IsTable old.table → Step old hart event reply new → KeepsPrivate old hart event reply new
+pub keeps_private : (old : MachineState) (hart : ℕ) (event : Event) (reply : Reply) (new : MachineState) → IsTable old.table → Step old hart event reply new → KeepsPrivate old hart event reply new
 keeps_private old hart (events.Access a value) reply new right x = λ id byte e f live now p q. accessed old new hart id byte value a e reply (verdict (view_on old hart) a) right live p refl x
 keeps_private old hart (events.Reg n value) reply new right x = λ id byte e f live now p q. inl (ap (λ y. y.bytes byte) x.1)
 keeps_private old hart (events.Ecall words) reply new right x = λ id byte e f live now p q.

@@ -12,7 +12,7 @@ use Rattle.machine_replies.specs.declared.reply.Reply.TheVariants.{NoMemory}
 use Rattle.hart_sim.specs.Machines.{state_of, bank_on}
 use Rattle.hart_sim.specs.Steps.{Run, still, step}
 use Rattle.machine_replies.specs.Texts.{reply_text, lines_from, report_text}
-use Rattle.platforms.specs.Platform.{Layout}
+use Rattle.platforms.specs.Platform.{PlatformLayout}
 use Rattle.hart_sim.specs.After.{After, AreElsewhere, happened, Happens}
 use Rattle.hart_sim.specs.Reports.{DoesLine, none, blank, one, AreAnswered, LastOwn, Report, IsReported}
 use Rattle.hart_sim.proofs.Layouts.{layout_stays}
@@ -101,7 +101,7 @@ last_then old mid new events replies there event reply run x hart was = both (ha
     ])
 
 -- the machine after one event more
-pub one_more : (platform : Layout) (before events : List (ℕ × Event)) (answered replies : List Reply) (mid new : Machine) (hart : ℕ) (event : Event) (reply : Reply) → After platform (before ++ events) (answered ++ replies) mid → Happens mid hart event reply new
+pub one_more : (platform : PlatformLayout) (before events : List (ℕ × Event)) (answered replies : List Reply) (mid new : Machine) (hart : ℕ) (event : Event) (reply : Reply) → After platform (before ++ events) (answered ++ replies) mid → Happens mid hart event reply new
     → After platform (before ++ (events ++ (hart, event) ∷ [])) (answered ++ (replies ++ reply ∷ [])) new
 one_more platform before events answered replies mid new hart event reply a x =
     subst (λ rs. After platform (before ++ (events ++ (hart, event) ∷ [])) rs new) (append_assoc answered replies (reply ∷ []))

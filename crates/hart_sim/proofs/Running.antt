@@ -7,7 +7,7 @@ use Rattle.worlds.specs.Runners.{runner_of}
 use Rattle.monitor_core.specs.declared.answer.Answer.{Answer}
 use Rattle.monitor_core.specs.Changes.{is_same, past_call, with_running}
 use Rattle.monitor_core.specs.Frames.{KeepsOthers, LoadsAnew}
-use Rattle.monitor_core.specs.States.{State, running_registers}
+use Rattle.monitor_core.specs.States.{MonitorState, running_registers}
 use Rattle.monitor_core.specs.Steps.{DoesCall}
 use Rattle.monitor_core.proofs.Equal.{equal}
 use Rattle.monitor_core.proofs.Put.{put_there}
@@ -16,7 +16,7 @@ last_choice : (b : Bool) (first last rest : RegisterFile) → (if b then last el
 last_choice true first last rest = refl
 last_choice false first last rest = refl
 
-pub running_over : (s : State) (hart : ℕ) (first last : RegisterFile) → with_running (with_running s hart first) hart last ≡ with_running s hart last
+pub running_over : (s : MonitorState) (hart : ℕ) (first last : RegisterFile) → with_running (with_running s hart first) hart last ≡ with_running s hart last
 running_over s hart first last = equal (record {
   table = refl;
   worlds = λ h. refl;
@@ -25,7 +25,7 @@ running_over s hart first last = equal (record {
 })
 
 -- the call of registers that were put there before
-pub call_there : (s mid new : State) (hart : ℕ) (file : RegisterFile) (pages : ℕ → List ℕ) (answer : Answer) (zero : Option PageRange)
+pub call_there : (s mid new : MonitorState) (hart : ℕ) (file : RegisterFile) (pages : ℕ → List ℕ) (answer : Answer) (zero : Option PageRange)
     → mid ≡ with_running s hart file
     → (let there = past_call (running_registers mid hart) in DoesCall (call_of there) pages (with_running mid hart there) hart answer zero new)
     → DoesCall (call_of (past_call file)) pages (with_running s hart (past_call file)) hart answer zero new
@@ -35,14 +35,14 @@ call_there s mid new hart file pages answer zero put step =
     (subst (λ m. DoesCall (call_of (past_call (running_registers m hart))) pages (with_running m hart (past_call (running_registers m hart))) hart answer zero new) put step))
 
 -- what was so after they were put is so as it was before
-pub others_put : (s mid new : State) (hart : ℕ) (file : RegisterFile) → mid ≡ with_running s hart file → KeepsOthers mid new hart → KeepsOthers s new hart
+pub others_put : (s mid new : MonitorState) (hart : ℕ) (file : RegisterFile) → mid ≡ with_running s hart file → KeepsOthers mid new hart → KeepsOthers s new hart
 others_put s mid new hart file put kept =
     let k = subst (λ m. KeepsOthers m new hart) put kept in
     record { awake = k.awake; views = k.views }
 
-anew_put : (load : Bool) (s new : State) (hart : ℕ) (file : RegisterFile) → LoadsAnew load (with_running s hart file) new hart → LoadsAnew load s new hart
+anew_put : (load : Bool) (s new : MonitorState) (hart : ℕ) (file : RegisterFile) → LoadsAnew load (with_running s hart file) new hart → LoadsAnew load s new hart
 anew_put true s new hart file anew = anew
 anew_put false s new hart file anew = anew
 
-pub loads_put : (load : Bool) (s mid new : State) (hart : ℕ) (file : RegisterFile) → mid ≡ with_running s hart file → LoadsAnew load mid new hart → LoadsAnew load s new hart
+pub loads_put : (load : Bool) (s mid new : MonitorState) (hart : ℕ) (file : RegisterFile) → mid ≡ with_running s hart file → LoadsAnew load mid new hart → LoadsAnew load s new hart
 loads_put load s mid new hart file put anew = anew_put load s new hart file (subst (λ m. LoadsAnew load m new hart) put anew)

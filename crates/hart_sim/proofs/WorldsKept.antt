@@ -1,21 +1,21 @@
 -- On which hart each enclave runs, from step to step.
 use Rattle.std.proofs.Common.{◌≡◌, ◌<◌, ℕ, List, refl, ap, sym, subst}
-use Rattle.monitor_core.specs.States.{State as Core, opening as opening_core}
+use Rattle.monitor_core.specs.States.{MonitorState, opening_monitor}
 use Rattle.monitor_core.proofs.WorldsKept.{call_keeps_worlds, interrupt_keeps_worlds, waking_keeps_worlds, putting_keeps_worlds, opened}
 use Rattle.hart_trace.specs.declared.event.Event.{Event}
 use Rattle.hart_trace.specs.declared.event.Event.TheVariants as events
 use Rattle.machine_replies.specs.declared.reply.Reply.{Reply}
-use Rattle.hart_sim.specs.States.{State, core_of, view_on, opening}
+use Rattle.hart_sim.specs.States.{MachineState, core_of, view_on, opening_state}
 use Rattle.hart_sim.specs.Steps.{Step, Run, still, step, verdict}
 use Rattle.hart_sim.specs.Worlds.{AreWorlds, RunsKeepWorlds}
 use Rattle.hart_sim.proofs.Asked.{awoken, named, asked, lent, core_access}
 use Rattle.hart_sim.proofs.Awake.{off}
 use Rattle.monitor_core.specs.Worlds.{ArePlaced}
 
-above : (s : State) (core : Core) → core_of s ≡ core → ArePlaced core → AreWorlds s
+above : (s : MachineState) (core : MonitorState) → core_of s ≡ core → ArePlaced core → AreWorlds s
 above s core is w = subst ArePlaced (sym is) w
 
-pub worlds_step : (s : State) (hart : ℕ) (event : Event) (reply : Reply) (n : State) → hart < s.table.layout.harts → Step s hart event reply n → AreWorlds s → AreWorlds n
+pub worlds_step : (s : MachineState) (hart : ℕ) (event : Event) (reply : Reply) (n : MachineState) → hart < s.table.layout.harts → Step s hart event reply n → AreWorlds s → AreWorlds n
 worlds_step s hart event reply n low x w = by_event event x
   where
     first : ArePlaced (core_of (awoken s hart))
@@ -29,9 +29,9 @@ worlds_step s hart event reply n low x w = by_event event x
         (putting_keeps_worlds (core_of (awoken s hart)) hart _ first))
     by_event events.Irq x = above n x.0 (ap core_of x.2) (interrupt_keeps_worlds (s.worlds hart) (core_of (awoken s hart)) hart x.0 refl low (off s hart) x.1 first)
 
-pub run_keeps_worlds : (old s : State) (events : List (ℕ × Event)) (replies : List Reply) → AreWorlds old → Run old events replies s → AreWorlds s
+pub run_keeps_worlds : (old s : MachineState) (events : List (ℕ × Event)) (replies : List Reply) → AreWorlds old → Run old events replies s → AreWorlds s
 run_keeps_worlds old _ _ _ w still = w
 run_keeps_worlds old s _ _ w (step {events} {replies} {mid} run hart event reply low possible happened) = worlds_step mid hart event reply s low happened (run_keeps_worlds old mid events replies w run)
 
 pub worlds_kept : RunsKeepWorlds
-worlds_kept layout events replies s run = run_keeps_worlds (opening layout) s events replies (above (opening layout) (opening_core layout) refl (opened layout)) run
+worlds_kept layout events replies s run = run_keeps_worlds (opening_state layout) s events replies (above (opening_state layout) (opening_monitor layout) refl (opened layout)) run

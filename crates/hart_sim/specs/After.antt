@@ -1,18 +1,18 @@
 -- A machine, after boot made it of a platform and so many events happened to it.
 use Rattle.std.specs.Prelude.{◌≡◌, ◌≢◌, ℕ, ◌<◌, List, [], ◌∷◌, ◌++◌}
-use Rattle.platforms.specs.Platform.{Layout, IsLayout}
+use Rattle.platforms.specs.Platform.{PlatformLayout, IsLayout}
 use Rattle.hart_trace.specs.declared.event.Event.{Event}
 use Rattle.hart_sim.specs.declared.machine.Machine.{Machine}
 use Rattle.machine_replies.specs.declared.reply.Reply.{Reply}
 use Rattle.hart_sim.specs.Machines.{state_of, bank_on, IsJudged, KeepsBanksRight}
-use Rattle.hart_sim.specs.States.{opening}
+use Rattle.hart_sim.specs.States.{opening_state}
 use Rattle.hart_sim.specs.Steps.{IsEvent, Step}
 
--- boot made the machine: the platform keeps its rules, the state is the opening one, and each hart has the fewest entries of its
+-- boot made the machine: the platform keeps its rules, the state is the opening_state one, and each hart has the fewest entries of its
 -- world's view
-pub record IsBooted (platform : Layout) (machine : Machine) : Type 0 where
+pub record IsBooted (platform : PlatformLayout) (machine : Machine) : Type 0 where
   pub rules : IsLayout platform
-  pub state : state_of machine ≡ opening platform
+  pub state : state_of machine ≡ opening_state platform
   pub banks : KeepsBanksRight machine
 
 -- an event happens on a hart of the machine: it is a step of its state, an access is judged by the list that it meets, the banks
@@ -26,7 +26,7 @@ pub record Happens (old : Machine) (hart : ℕ) (event : Event) (reply : Reply) 
   pub kept : KeepsBanksRight new
 
 -- the machine after boot and these events, each with its hart, which were given these replies
-pub data After (platform : Layout) : List (ℕ × Event) → List Reply → Machine → Type 0 where
+pub data After (platform : PlatformLayout) : List (ℕ × Event) → List Reply → Machine → Type 0 where
   booted : {machine : Machine} → IsBooted platform machine → After platform [] [] machine
   happened : {events : List (ℕ × Event)} {replies : List Reply} {old new : Machine} → After platform events replies old → (hart : ℕ) (event : Event) (reply : Reply) → Happens old hart event reply new → After platform (events ++ (hart, event) ∷ []) (replies ++ reply ∷ []) new
 

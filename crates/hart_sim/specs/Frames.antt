@@ -1,6 +1,6 @@
 -- What each part of an event on a hart may rely on, and what it keeps.
 use Rattle.std.specs.Prelude.{◌≡◌, ◌≢◌, ℕ, ◌<◌, false}
-use Rattle.monitor_core.specs.Monitors.{kept_of}
+use Rattle.monitor_core.specs.Monitors.{kept_by}
 use Rattle.hart_sim.specs.declared.parts.Parts.{Parts}
 use Rattle.hart_sim.specs.Banks.{AreBanksRight}
 use Rattle.hart_sim.specs.Parts.{AreBanks, state_in, bank_in}
@@ -18,4 +18,4 @@ pub record KeepsFrame (old new : Parts) (hart : ℕ) : Type 0 where
   pub banks : AreBanksRight (state_in old) (bank_in old) → AreBanksRight (state_in new) (bank_in new)
   pub others : (other : ℕ) → other ≢ hart → bank_in new other ≡ bank_in old other
   pub stays : (state_in old).marked hart ≡ false → (state_in new).table ≡ (state_in old).table → (state_in new).worlds hart ≡ (state_in old).worlds hart → bank_in new hart ≡ bank_in old hart
-  pub lists : (state_in new).table ≡ (state_in old).table → kept_of new.monitor ≡ kept_of old.monitor
+  pub lists : (state_in new).table ≡ (state_in old).table → kept_by new.monitor ≡ kept_by old.monitor

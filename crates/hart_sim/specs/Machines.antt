@@ -6,7 +6,7 @@ use Rattle.pmp_match.specs.declared.access.Access.{Access}
 use Rattle.pmp_match.specs.declared.cause.Cause.{Cause}
 use Rattle.pmp_match.specs.Judgement.{Judges}
 use Rattle.enclave_table.specs.Tables.{Kept}
-use Rattle.monitor_core.specs.Monitors.{kept_of as kept_in}
+use Rattle.monitor_core.specs.Monitors.{kept_by}
 use Rattle.hart_trace.specs.declared.event.Event.{Event}
 use Rattle.hart_trace.specs.declared.event.Event.TheVariants as events
 use Rattle.hart_sim.specs.declared.machine.Machine.{Machine}
@@ -14,17 +14,17 @@ use Rattle.machine_replies.specs.declared.reply.Reply.{Reply}
 use Rattle.machine_replies.specs.declared.reply.Reply.TheVariants as replies
 use Rattle.hart_sim.specs.Banks.{AreBanksRight, MeetsList}
 use Rattle.hart_sim.specs.Parts.{state_in, bank_in}
-use Rattle.hart_sim.specs.States.{State, awoken}
+use Rattle.hart_sim.specs.States.{MachineState, awoken}
 use Rattle.hart_sim.specs.Steps.{DoesBy}
 
 -- the state of the machine. What it is, its observers show: its table, the world and the registers on each hart, the marks, and the
 -- byte at each address
-unfoldable pub state_of : Machine → State
+unfoldable pub state_of : Machine → MachineState
 state_of machine = state_in machine.parts
 
 -- its table of enclaves, with the list of entries that is kept for each view, which `table` shows
 unfoldable pub kept_of : Machine → Kept
-kept_of machine = kept_in machine.parts.monitor
+kept_of machine = kept_by machine.parts.monitor
 
 -- the PMP registers that are loaded on a hart, which `bank` shows
 unfoldable pub bank_on : Machine → ℕ → Option Bank

@@ -3,15 +3,15 @@ use Rattle.std.specs.Prelude.{◌≡◌, ℕ, List, length, Option, Some, slice_
 use Rattle.pmp_encoding.specs.declared.bank.Bank.{Bank}
 use Rattle.pmp_encoding.specs.declared.limit.Limit.{Limit}
 use Rattle.pmp_encoding.specs.Limits.{limit_number}
-use Rattle.monitor_core.specs.Monitors.{state_of}
-use Rattle.monitor_core.specs.States.{State as Core}
+use Rattle.monitor_core.specs.Monitors.{state_by}
+use Rattle.monitor_core.specs.States.{MonitorState}
 use Rattle.machine_memory.specs.declared.memory.Memory.{Memory}
 use Rattle.hart_sim.specs.declared.parts.Parts.{Parts}
 use Rattle.machine_memory.specs.Memory.{byte_at, is_written}
-use Rattle.hart_sim.specs.States.{State}
+use Rattle.hart_sim.specs.States.{MachineState}
 
 -- the state that the monitor and memory show
-abbrev pub shown : Core → Memory → State
+abbrev pub shown : MonitorState → Memory → MachineState
 shown core memory = record {
   table = core.table;
   worlds = core.worlds;
@@ -21,8 +21,8 @@ shown core memory = record {
   marked = core.marked;
 }
 
-abbrev pub state_in : Parts → State
-state_in parts = shown (state_of parts.monitor) parts.memory
+abbrev pub state_in : Parts → MachineState
+state_in parts = shown (state_by parts.monitor) parts.memory
 
 -- the bank of a hart
 abbrev pub bank_in : Parts → ℕ → Option Bank

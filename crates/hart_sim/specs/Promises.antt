@@ -10,23 +10,23 @@ use Rattle.hart_trace.specs.declared.event.Event.TheVariants as events
 use Rattle.machine_replies.specs.declared.reply.Reply.{Reply}
 use Rattle.machine_replies.specs.declared.reply.Reply.TheVariants as replies
 use Rattle.monitor_core.specs.Switches.{KeepsRegisters}
-use Rattle.hart_sim.specs.States.{State, core_of}
+use Rattle.hart_sim.specs.States.{MachineState, core_of}
 use Rattle.hart_sim.specs.Privacy.{KeepsPrivate, DeniesMonitor, DeniesOthers, ZeroesDestroyed}
 use Rattle.hart_sim.specs.Wants.{RefusesByNeed}
 use Rattle.enclave_table.specs.Views.{current_view}
 
 -- an aligned access in the space is answered by no fault exactly where the current view of its hart holds its kind
-abbrev pub AnswersByView : State → ℕ → Event → Reply → Type 0
+abbrev pub AnswersByView : MachineState → ℕ → Event → Reply → Type 0
 AnswersByView old hart event reply =
     (access : Access) (value : ℕ) → event ≡ events.Access access value → IsAligned access → access.address < 2 ^ 56
     → ((cause : Cause) → reply ≢ replies.Fault cause) ↔ (holds (current_view old.table (old.worlds hart) (access.address / 4096)) access.kind ≡ true)
 
 -- an access changes no registers
-abbrev pub LeavesRegisters : State → Event → State → Type 0
+abbrev pub LeavesRegisters : MachineState → Event → MachineState → Type 0
 LeavesRegisters old event new = (access : Access) (value : ℕ) → event ≡ events.Access access value → new.registers ≡ old.registers
 
 -- what holds of one event, with the state before it, its reply and the state after it
-pub record Promises (old : State) (hart : ℕ) (event : Event) (reply : Reply) (new : State) : Type 0 where
+pub record Promises (old : MachineState) (hart : ℕ) (event : Event) (reply : Reply) (new : MachineState) : Type 0 where
   pub allowed : AnswersByView old hart event reply
   pub private : KeepsPrivate old hart event reply new
   pub denied : DeniesOthers old hart event reply

@@ -3,9 +3,9 @@ use Rattle.std.specs.Prelude.{◌≡◌, ℕ}
 use Rattle.pmp_match.specs.Meaning.{Needs}
 use Rattle.monitor_core.specs.Answers.{world_number}
 use Rattle.machine_replies.specs.declared.reply.Reply.{Reply}
-use Rattle.hart_sim.specs.States.{State}
+use Rattle.hart_sim.specs.States.{MachineState}
 use Rattle.enclave_table.specs.Views.{current_view}
 
 -- the reply to a call or an interrupt has the world on the hart after it, and how many entries the view of that world needs then
-abbrev pub RepliesWith : (ℕ → ℕ → Reply) → State → ℕ → Reply → Type 0
+abbrev pub RepliesWith : (ℕ → ℕ → Reply) → MachineState → ℕ → Reply → Type 0
 RepliesWith reply_of new hart reply = (used : ℕ) × Needs (current_view new.table (new.worlds hart)) used × (reply ≡ reply_of (world_number (new.worlds hart)) used)

@@ -3,7 +3,7 @@ use Rattle.std.specs.Prelude.{◌≡◌, ◌≢◌, ◌⊎◌, ℕ, ◌+◌, ◌
 use Rattle.std.specs.List.{concat}
 use Rattle.std.specs.Io.KnownBytes.{Consumes}
 use Rattle.pmp_encoding.specs.declared.bank.Bank.{Bank}
-use Rattle.platforms.specs.Platform.{Layout}
+use Rattle.platforms.specs.Platform.{PlatformLayout}
 use Rattle.hart_trace.specs.declared.event.Event.{Event}
 use Rattle.hart_trace.specs.Events.{meaning_of}
 use Rattle.text_lines.specs.declared.fault.RunFault.{RunFault}
@@ -76,7 +76,7 @@ pub record Report (old : Machine) (lines : List (List ℕ)) (text : List ℕ) (n
   pub each : AreAnswered replies
   pub idle : (hart : ℕ) → AreElsewhere hart events → bank_on new hart ≡ bank_on old hart
   pub last : (hart : ℕ) → AreElsewhere hart events ⊎ LastOwn old hart events replies new
-  pub after : (platform : Layout) (before : List (ℕ × Event)) (answered : List Reply) → After platform before answered old → After platform (before ++ events) (answered ++ replies) new
+  pub after : (platform : PlatformLayout) (before : List (ℕ × Event)) (answered : List Reply) → After platform before answered old → After platform (before ++ events) (answered ++ replies) new
 
 -- so it is wherever lines were done in turn
 abbrev pub IsReported : Type 0
@@ -97,7 +97,7 @@ AreDone (Err faults.Write) bytes lines = (0 < length lines) × BeginsWith bytes 
 AreDone (Err faults.Memory) bytes lines = (0 < length lines) × BeginsWith bytes lines
 
 -- the lines that were done say events, and the machine is the one after these and those before them
-pub record GoesOn (platform : Layout) (events : List (ℕ × Event)) (replies : List Reply) (result : Result (Unit {0}) RunFault) (old new : Machine) (before after : Option (List ℕ)) : Type 0 where
+pub record GoesOn (platform : PlatformLayout) (events : List (ℕ × Event)) (replies : List Reply) (result : Result (Unit {0}) RunFault) (old new : Machine) (before after : Option (List ℕ)) : Type 0 where
   pub bytes : List ℕ
   pub consumed : Consumes before after bytes
   pub lines : List (List ℕ)

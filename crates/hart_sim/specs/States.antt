@@ -1,21 +1,21 @@
 -- The state of the machine. There are no PMP entries in it.
 use Rattle.std.specs.Prelude.{ℕ, Bool, false}
 use Rattle.pmp_encoding.specs.declared.perm.Perm.{Perm}
-use Rattle.platforms.specs.Platform.{Layout}
+use Rattle.platforms.specs.Platform.{PlatformLayout}
 use Rattle.enclave_table.specs.Enclaves.{EnclaveTable}
-use Rattle.enclave_table.specs.Boot.{opening as opening_table}
+use Rattle.enclave_table.specs.Boot.{opening_table}
 pub use Rattle.enclave_table.specs.Views.{current_view as view_of}
 use Rattle.worlds.specs.declared.world.World.{World}
 use Rattle.worlds.specs.declared.world.World.TheVariants.{Host}
 use Rattle.sbi_decode.specs.Registers.{RegisterFile, zeros}
 use Rattle.worlds.specs.Runners.{Runner}
-use Rattle.monitor_core.specs.States.{State as Core}
+use Rattle.monitor_core.specs.States.{MonitorState}
 use Rattle.monitor_core.specs.Changes.{without_mark}
 
 -- the enclaves, the world that runs on each hart, the registers of each host and enclave, the byte at each address, the pages
 -- that were written, and the harts that are marked: each of these loads the host's entries before its next event. A hart that
 -- there is not stays in the host's world, its registers zero, and is never marked
-pub record State : Type 0 where
+pub record MachineState : Type 0 where
   pub table : EnclaveTable
   pub worlds : ℕ → World
   pub registers : Runner → RegisterFile
@@ -24,22 +24,22 @@ pub record State : Type 0 where
   pub marked : ℕ → Bool
 
 -- the monitor's part of a state
-abbrev pub core_of : State → Core
+abbrev pub core_of : MachineState → MonitorState
 core_of s = record { table = s.table; worlds = s.worlds; registers = s.registers; marked = s.marked }
 
 -- a state with another such part
-abbrev pub with_core : State → Core → State
+abbrev pub with_core : MachineState → MonitorState → MachineState
 with_core s core = record s { table = core.table; worlds = core.worlds; registers = core.registers; marked = core.marked }
 
 -- the state that an event on a hart meets: the hart is not marked
-abbrev pub awoken : State → ℕ → State
+abbrev pub awoken : MachineState → ℕ → MachineState
 awoken s hart = with_core s (without_mark (core_of s) hart)
 
--- the opening state of a platform: no enclave, each hart in the host's world, all registers and bytes zero, no page written
-abbrev pub opening : Layout → State
-opening layout =
+-- the opening_state state of a platform: no enclave, each hart in the host's world, all registers and bytes zero, no page written
+abbrev pub opening_state : PlatformLayout → MachineState
+opening_state layout =
     record { table = opening_table layout; worlds = λ hart. Host; registers = λ who. zeros; bytes = λ address. 0; written = λ page. false; marked = λ hart. false }
 
 -- the view of the world that runs on a hart
-abbrev pub view_on : State → ℕ → ℕ → Perm
+abbrev pub view_on : MachineState → ℕ → ℕ → Perm
 view_on s hart page = view_of s.table (s.worlds hart) page

@@ -13,15 +13,15 @@ use Rattle.pmp_match.specs.Kinds.{holds}
 use Rattle.page_views.specs.declared.pages.PageRange.{PageRange}
 use Rattle.sbi_decode.specs.Calls.{call_of}
 use Rattle.monitor_core.specs.declared.answer.Answer.{Answer}
-use Rattle.monitor_core.specs.States.{State as Core}
+use Rattle.monitor_core.specs.States.{MonitorState}
 use Rattle.monitor_core.specs.Changes.{with_running}
 use Rattle.monitor_core.specs.Steps.{DoesCall, Interrupts}
 use Rattle.hart_trace.specs.declared.event.Event.{Event}
 use Rattle.hart_trace.specs.declared.event.Event.TheVariants as events
 use Rattle.machine_replies.specs.declared.reply.Reply.{Reply}
 use Rattle.machine_replies.specs.declared.reply.Reply.TheVariants as replies
-use Rattle.machine_memory.specs.Memory.{bytes_at, number_of}
-use Rattle.hart_sim.specs.States.{State, awoken, core_of, with_core}
+use Rattle.machine_memory.specs.Memory.{bytes_at, number_of_bytes}
+use Rattle.hart_sim.specs.States.{MachineState, awoken, core_of, with_core}
 use Rattle.hart_sim.specs.Changes.{with_x, calling, storing, zeroing}
 use Rattle.hart_sim.specs.Replies.{RepliesWith}
 use Rattle.enclave_table.specs.Views.{current_view}
@@ -35,43 +35,43 @@ verdict view a =
     else Err (misaligned a.kind)
 
 -- an access that is allowed. A store may want memory where its page was not written, and then nothing changes
-abbrev pub TakesEffect : Kind → State → Access → ℕ → Reply → State → Type 0
+abbrev pub TakesEffect : Kind → MachineState → Access → ℕ → Reply → MachineState → Type 0
 TakesEffect Fetch s a value reply new = (reply ≡ replies.Done) × (new ≡ s)
-TakesEffect Load s a value reply new = (reply ≡ replies.Loaded (number_of (bytes_at s.bytes a.address a.size))) × (new ≡ s)
+TakesEffect Load s a value reply new = (reply ≡ replies.Loaded (number_of_bytes (bytes_at s.bytes a.address a.size))) × (new ≡ s)
 TakesEffect Store s a value reply new =
     ((reply ≡ replies.Done) × (new ≡ storing s a.address a.size value))
     ⊎ ((reply ≡ replies.NoMemory) × (s.written (a.address / 4096) ≡ false) × (new ≡ s))
 
 -- an access, by what the view says of it
-abbrev pub Accesses : Result (Unit {0}) Cause → State → Access → ℕ → Reply → State → Type 0
+abbrev pub Accesses : Result (Unit {0}) Cause → MachineState → Access → ℕ → Reply → MachineState → Type 0
 Accesses (Err cause) s a value reply new = (reply ≡ replies.Fault cause) × (new ≡ s)
 Accesses (Ok done) s a value reply new = TakesEffect a.kind s a value reply new
 
 -- the monitor serves a call: its state is the machine's then, the pages are zero that it says, and the reply is its answer
-abbrev pub Serves : (Answer → Option PageRange → Core → Type 0) → State → ℕ → Reply → State → Type 0
-Serves Does s hart reply new =
-    (answer : Answer) × (pages : Option PageRange) × (core : Core) × Does answer pages core × (new ≡ zeroing (with_core s core) pages) × RepliesWith (replies.Call answer.status answer.value) new hart reply
+abbrev pub Serves : (Answer → Option PageRange → MonitorState → Type 0) → MachineState → ℕ → Reply → MachineState → Type 0
+Serves DoesEvent s hart reply new =
+    (answer : Answer) × (pages : Option PageRange) × (core : MonitorState) × DoesEvent answer pages core × (new ≡ zeroing (with_core s core) pages) × RepliesWith (replies.Call answer.status answer.value) new hart reply
 
 -- an event, on a hart that is not marked
-abbrev pub Does : Event → State → ℕ → Reply → State → Type 0
-Does (events.Access a value) s hart reply new = Accesses (verdict (current_view s.table (s.worlds hart)) a) s a value reply new
-Does (events.Reg n value) s hart reply new = (reply ≡ replies.Done) × (new ≡ with_core s (with_running (core_of s) hart (with_x (s.registers (runner_of hart (s.worlds hart))) n value)))
-Does (events.Ecall words) s hart reply new =
+abbrev pub DoesEvent : Event → MachineState → ℕ → Reply → MachineState → Type 0
+DoesEvent (events.Access a value) s hart reply new = Accesses (verdict (current_view s.table (s.worlds hart)) a) s a value reply new
+DoesEvent (events.Reg n value) s hart reply new = (reply ≡ replies.Done) × (new ≡ with_core s (with_running (core_of s) hart (with_x (s.registers (runner_of hart (s.worlds hart))) n value)))
+DoesEvent (events.Ecall words) s hart reply new =
     let file = calling s hart words.items in
     Serves (DoesCall (call_of file) (λ page. bytes_at s.bytes (page * 4096) 4096) (with_running (core_of s) hart file) hart) s hart reply new
-Does events.Irq s hart reply new = (core : Core) × Interrupts (s.worlds hart) (core_of s) hart core × (new ≡ with_core s core) × RepliesWith replies.Irq new hart reply
+DoesEvent events.Irq s hart reply new = (core : MonitorState) × Interrupts (s.worlds hart) (core_of s) hart core × (new ≡ with_core s core) × RepliesWith replies.Irq new hart reply
 
 -- an event by the lists that an access may meet, whatever they mean: the access does what such a list says of it, and any other event
 -- what it does
-abbrev pub DoesBy : (List Entry → Type 0) → Event → State → ℕ → Reply → State → Type 0
+abbrev pub DoesBy : (List Entry → Type 0) → Event → MachineState → ℕ → Reply → MachineState → Type 0
 DoesBy Meets (events.Access a value) s hart reply new = (list : List Entry) (said : Result (Unit {0}) Cause) → Meets list → Judges list a said → Accesses said s a value reply new
-DoesBy Meets (events.Reg n value) s hart reply new = Does (events.Reg n value) s hart reply new
-DoesBy Meets (events.Ecall words) s hart reply new = Does (events.Ecall words) s hart reply new
-DoesBy Meets events.Irq s hart reply new = Does events.Irq s hart reply new
+DoesBy Meets (events.Reg n value) s hart reply new = DoesEvent (events.Reg n value) s hart reply new
+DoesBy Meets (events.Ecall words) s hart reply new = DoesEvent (events.Ecall words) s hart reply new
+DoesBy Meets events.Irq s hart reply new = DoesEvent events.Irq s hart reply new
 
 -- a step: the event first takes the mark of its hart away
-abbrev pub Step : State → ℕ → Event → Reply → State → Type 0
-Step old hart event reply new = Does event (awoken old hart) hart reply new
+abbrev pub Step : MachineState → ℕ → Event → Reply → MachineState → Type 0
+Step old hart event reply new = DoesEvent event (awoken old hart) hart reply new
 
 -- what may happen on a hart: accesses by supervisor or user, settings of x0 to x31, calls of at most eight words, interrupts
 abbrev pub IsEvent : Event → Type 0
@@ -80,6 +80,6 @@ IsEvent (events.Reg n value) = n < 32
 IsEvent _ = Unit {0}
 
 -- a run: each event may happen, on a hart that there is, and each step goes on from the state that the one before it left
-pub data Run (old : State) : List (ℕ × Event) → List Reply → State → Type 0 where
+pub data Run (old : MachineState) : List (ℕ × Event) → List Reply → MachineState → Type 0 where
   still : Run old [] [] old
-  step : {events : List (ℕ × Event)} {replies : List Reply} {mid new : State} → Run old events replies mid → (hart : ℕ) (event : Event) (reply : Reply) → hart < mid.table.layout.harts → IsEvent event → Step mid hart event reply new → Run old (events ++ (hart, event) ∷ []) (replies ++ reply ∷ []) new
+  step : {events : List (ℕ × Event)} {replies : List Reply} {mid new : MachineState} → Run old events replies mid → (hart : ℕ) (event : Event) (reply : Reply) → hart < mid.table.layout.harts → IsEvent event → Step mid hart event reply new → Run old (events ++ (hart, event) ∷ []) (replies ++ reply ∷ []) new

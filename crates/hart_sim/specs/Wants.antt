@@ -20,7 +20,7 @@ use Rattle.hart_trace.specs.declared.event.Event.{Event}
 use Rattle.hart_trace.specs.declared.event.Event.TheVariants as events
 use Rattle.machine_replies.specs.declared.reply.Reply.{Reply}
 use Rattle.machine_replies.specs.declared.reply.Reply.TheVariants as replies
-use Rattle.hart_sim.specs.States.{State, core_of}
+use Rattle.hart_sim.specs.States.{MachineState, core_of}
 use Rattle.hart_sim.specs.Changes.{calling}
 use Rattle.hart_sim.specs.Steps.{Serves}
 use Rattle.machine_memory.specs.Memory.{bytes_at}
@@ -36,16 +36,16 @@ IsRefusedExactlyWhere Outgrows reply = (IsAnsweredBy reply NoEntries → Outgrow
 
 abbrev pub CreatesByNeed : Type 0
 CreatesByNeed =
-    (asked : Create) (s : State) (hart : ℕ) (reply : Reply) (new : State) → AllPass (create_checks s.table (s.worlds hart) (parts_of asked)) → Serves (DoesCall (Some (calls.Create asked.base asked.text_pages asked.data_pages asked.shared_base asked.shared_count asked.entry_offset)) (λ page. bytes_at s.bytes (page * 4096) 4096) (core_of s) hart) s hart reply new
+    (asked : Create) (s : MachineState) (hart : ℕ) (reply : Reply) (new : MachineState) → AllPass (create_checks s.table (s.worlds hart) (parts_of asked)) → Serves (DoesCall (Some (calls.Create asked.base asked.text_pages asked.data_pages asked.shared_base asked.shared_count asked.entry_offset)) (λ page. bytes_at s.bytes (page * 4096) 4096) (core_of s) hart) s hart reply new
     → IsRefusedExactlyWhere (OutgrowsByCreate (λ page. bytes_at s.bytes (page * 4096) 4096) s.table asked) reply
 
 abbrev pub DestroysByNeed : Type 0
 DestroysByNeed =
-    (id : ℕ) (s : State) (hart : ℕ) (reply : Reply) (new : State) → AllPass (host_checks MayDestroy s.table (s.worlds hart) id) → Serves (DoesCall (Some (calls.Destroy id)) (λ page. bytes_at s.bytes (page * 4096) 4096) (core_of s) hart) s hart reply new
+    (id : ℕ) (s : MachineState) (hart : ℕ) (reply : Reply) (new : MachineState) → AllPass (host_checks MayDestroy s.table (s.worlds hart) id) → Serves (DoesCall (Some (calls.Destroy id)) (λ page. bytes_at s.bytes (page * 4096) 4096) (core_of s) hart) s hart reply new
     → IsRefusedExactlyWhere (NeedsMore s.table.layout.limit (host_view (with_enclave s.table id None))) reply
 
 -- the call that an event makes on a hart is refused for want of entries just where a view after it would need more; an event that is
 -- no call is never refused so
-abbrev pub RefusesByNeed : State → ℕ → Event → Reply → Type 0
+abbrev pub RefusesByNeed : MachineState → ℕ → Event → Reply → Type 0
 RefusesByNeed s hart (events.Ecall words) reply = IsRefusedByNeed (call_of (calling s hart words.items)) s.table (s.worlds hart) (IsAnsweredBy reply)
 RefusesByNeed s hart _ reply = IsRefusedByNeed None s.table (s.worlds hart) (IsAnsweredBy reply)

@@ -1,17 +1,17 @@
 -- On which hart each enclave runs.
 use Rattle.std.specs.Prelude.{ℕ, List}
-use Rattle.platforms.specs.Platform.{Layout}
+use Rattle.platforms.specs.Platform.{PlatformLayout}
 use Rattle.monitor_core.specs.Worlds.{ArePlaced}
 use Rattle.hart_trace.specs.declared.event.Event.{Event}
 use Rattle.machine_replies.specs.declared.reply.Reply.{Reply}
-use Rattle.hart_sim.specs.States.{State, core_of, opening}
+use Rattle.hart_sim.specs.States.{MachineState, core_of, opening_state}
 use Rattle.hart_sim.specs.Steps.{Run}
 
 -- the monitor's part says it: each hart is in the host's world or in that of an enclave that is Running, each of these runs on just
 -- one hart, and a marked hart is in the host's world
-abbrev pub AreWorlds : State → Type 0
+abbrev pub AreWorlds : MachineState → Type 0
 AreWorlds s = ArePlaced (core_of s)
 
--- so it is after every run from the opening state
+-- so it is after every run from the opening_state state
 abbrev pub RunsKeepWorlds : Type 0
-RunsKeepWorlds = (layout : Layout) (events : List (ℕ × Event)) (replies : List Reply) (s : State) → Run (opening layout) events replies s → AreWorlds s
+RunsKeepWorlds = (layout : PlatformLayout) (events : List (ℕ × Event)) (replies : List Reply) (s : MachineState) → Run (opening_state layout) events replies s → AreWorlds s

@@ -8,7 +8,7 @@ impl Parts {
     ghost use Rattle.pmp_encoding.specs.declared.bank.Bank.{Bank};
     ghost use Rattle.pmp_encoding.specs.Banks.{HasList};
     ghost use Rattle.pmp_encoding.specs.Limits.{limit_number};
-    ghost use Rattle.monitor_core.specs.Monitors.{kept_of, list_of};
+    ghost use Rattle.monitor_core.specs.Monitors.{kept_by, list_of};
     ghost use Rattle.monitor_core.specs.Changes.{without_mark};
     ghost use Rattle.hart_sim.specs.Banks.{LoadsFewest};
     ghost use Rattle.hart_sim.specs.Frames.{IsOn, KeepsFrame};
@@ -47,7 +47,7 @@ impl Parts {
             × LoadsFewest bank (view_on (state_in self.old) hart) }
         ensures list { (bank : Bank) × (bank_in self.new hart ≡ Some bank)
             × HasList bank
-            (list_of (kept_of self.old.monitor) ((state_in self.old).worlds hart)) }
+            (list_of (kept_by self.old.monitor) ((state_in self.old).worlds hart)) }
         ensures others { (other : ℕ) → other ≢ hart
             → bank_in self.new other ≡ bank_in self.old other }
         ensures limited { AreBanks self.new.banks (state_in self.old).table.layout.limit }
@@ -89,8 +89,8 @@ impl Parts {
             → self.new.banks ≡ self.old.banks }
         ensures woken { (state_in self.old).marked hart ≡ true
             → (bank : Bank) × (bank_in self.new hart ≡ Some bank)
-            × HasList bank (kept_of self.old.monitor).host_list }
-        ensures kept { kept_of self.new.monitor ≡ kept_of self.old.monitor }
+            × HasList bank (kept_by self.old.monitor).host_list }
+        ensures kept { kept_by self.new.monitor ≡ kept_by self.old.monitor }
     {
         if !self.monitor.is_marked(hart) {
             return;

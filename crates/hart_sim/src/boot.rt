@@ -9,17 +9,17 @@ use std::alloc::{AllocError, Global};
 
 impl Parts {
     ghost use Rattle.std.specs.Prelude.{◌≡◌, IfOk, IfErr};
-    ghost use Rattle.enclave_table.specs.Boot.{IsBootFault, opening as opening_table};
+    ghost use Rattle.enclave_table.specs.Boot.{IsBootFault, opening_table};
     ghost use Rattle.enclave_table.specs.Fewest.{FitsIn};
     ghost use Rattle.platforms.specs.Platform.{IsLayout};
     ghost use Rattle.enclave_table.specs.Views.{host_view};
     ghost use Rattle.hart_sim.specs.Banks.{AreBanksRight};
     ghost use Rattle.hart_sim.specs.Parts.{AreBanks, state_in, bank_in};
-    ghost use Rattle.hart_sim.specs.States.{opening};
+    ghost use Rattle.hart_sim.specs.States.{opening_state};
 
     /// The machine of a platform at boot: no enclave, nothing written, and the host's entries on each hart.
     pub(crate) fn boot(alloc: Global, platform: Platform) -> Result<Parts, BootFault>
-        ensures state { IfOk result (λ p. state_in p ≡ opening platform) }
+        ensures state { IfOk result (λ p. state_in p ≡ opening_state platform) }
         ensures rules { IfOk result (λ _. IsLayout platform) }
         ensures limited { IfOk result (λ p. AreBanks p.banks (state_in p).table.layout.limit) }
         ensures banks { IfOk result (λ p. AreBanksRight (state_in p) (bank_in p)) }

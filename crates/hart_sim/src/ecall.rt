@@ -10,7 +10,7 @@ impl Parts {
     ghost use Rattle.std.specs.Prelude.{◌≡◌, ◌+◌, ◌^◌, ◌<◌, ◌≤◌, false, IfSome, Option, ◌*◌};
     ghost use Rattle.sbi_decode.specs.Calls.{call_of};
     ghost use Rattle.monitor_core.specs.Changes.{with_running};
-    ghost use Rattle.monitor_core.specs.States.{State as Core};
+    ghost use Rattle.monitor_core.specs.States.{MonitorState};
     ghost use Rattle.monitor_core.specs.Steps.{DoesCall};
     ghost use Rattle.page_views.specs.declared.pages.PageRange.{PageRange};
     ghost use Rattle.hart_trace.specs.declared.event.Event.{Event};
@@ -19,7 +19,7 @@ impl Parts {
     ghost use Rattle.hart_sim.specs.Frames.{IsOn, KeepsFrame};
     ghost use Rattle.hart_sim.specs.Parts.{state_in, bank_in};
     ghost use Rattle.hart_sim.specs.States.{core_of, with_core};
-    ghost use Rattle.hart_sim.specs.Steps.{Serves, Does, Step};
+    ghost use Rattle.hart_sim.specs.Steps.{Serves, DoesEvent, Step};
     ghost use Rattle.machine_memory.specs.Memory.{bytes_at};
 
     /// Makes every byte of some pages zero, where there are any.
@@ -41,7 +41,7 @@ impl Parts {
         requires awake { (state_in self.old).marked hart ≡ false }
         ensures frame { KeepsFrame self.old self.new hart }
         ensures served { let s = state_in self.old in let file = calling s hart words.now in
-            (pages : Option PageRange) × (core : Core)
+            (pages : Option PageRange) × (core : MonitorState)
             × DoesCall (call_of file) (λ page. bytes_at s.bytes (page * 4096) 4096)
             (with_running (core_of s) hart file) hart result pages core
             × (state_in self.new ≡ zeroing (with_core s core) pages) }
@@ -88,7 +88,7 @@ impl Parts {
         requires few { hart < 4 }
         requires awake { (state_in self.old).marked hart ≡ false }
         ensures frame { KeepsFrame self.old self.new hart }
-        ensures step { Does Event.Irq (state_in self.old) hart result (state_in self.new) }
+        ensures step { DoesEvent Event.Irq (state_in self.old) hart result (state_in self.new) }
     {
         let load = self.monitor.interrupt_kept(hart);
         self.load_where(hart, load);

@@ -4,10 +4,10 @@ ghost use Rattle.std.specs.Prelude.{◌≡◌, ℕ, List};
 ghost use Rattle.enclave_table.specs.Tables.{IsTable};
 ghost use Rattle.hart_trace.specs.declared.event.Event.{Event};
 ghost use Rattle.machine_replies.specs.declared.reply.Reply.{Reply};
-ghost use Rattle.platforms.specs.Platform.{Layout};
+ghost use Rattle.platforms.specs.Platform.{PlatformLayout};
 ghost use Rattle.hart_sim.specs.declared.machine.Machine.{Machine};
 ghost use Rattle.hart_sim.specs.After.{After};
-ghost use Rattle.hart_sim.specs.States.{State};
+ghost use Rattle.hart_sim.specs.States.{MachineState};
 ghost use Rattle.hart_sim.specs.Steps.{Step};
 ghost use Rattle.hart_sim.specs.Headline.{Headline};
 ghost use Rattle.hart_sim.specs.Privacy.{IsPrivate, KeepsPrivate};
@@ -20,7 +20,8 @@ ghost use Rattle.hart_sim.specs.Worlds.{RunsKeepWorlds};
 /// on each hart that is not marked the loaded list means the view of its world and none that does so is shorter, each
 /// event was judged and answered as it should, and the worlds and the table are sound.
 pub fn headline_law()
-    ensures { (platform : Layout) (events : List (ℕ × Event)) (replies : List Reply)
+    ensures { (platform : PlatformLayout) (events : List (ℕ × Event))
+        (replies : List Reply)
         (machine : Machine)
         → After platform events replies machine
         → Headline platform events replies machine }
@@ -30,7 +31,7 @@ pub fn headline_law()
 /// accesses of them are denied, destroyed pages are zero, entries are wanting only where they are, and the table is sound
 /// after it.
 pub fn step_law()
-    ensures { (old : State) (hart : ℕ) (event : Event) (reply : Reply) (new : State)
+    ensures { (old : MachineState) (hart : ℕ) (event : Event) (reply : Reply) (new : MachineState)
         → IsTable old.table
         → Step old hart event reply new → Promises old hart event reply new }
 {}
@@ -50,14 +51,14 @@ pub fn privacy_law()
 /// A byte of a page that is private to an enclave before and after a step stays, but for the enclave's own stores that
 /// its view allowed and that were done.
 pub fn private_bytes_law()
-    ensures { (old : State) (hart : ℕ) (event : Event) (reply : Reply) (new : State)
+    ensures { (old : MachineState) (hart : ℕ) (event : Event) (reply : Reply) (new : MachineState)
         → IsTable old.table
         → Step old hart event reply new → KeepsPrivate old hart event reply new }
 {}
 
 /// A step leaves the platform as it is.
 pub fn platform_law()
-    ensures { (old : State) (hart : ℕ) (event : Event) (reply : Reply) (new : State)
+    ensures { (old : MachineState) (hart : ℕ) (event : Event) (reply : Reply) (new : MachineState)
         → Step old hart event reply new → new.table.layout ≡ old.table.layout }
 {}
 

@@ -1,6 +1,6 @@
 //! The machine: the monitor, the banks of the harts, and memory, to which events happen.
 
-ghost use Rattle.monitor_core.specs.Monitors.{state_of as core_state};
+ghost use Rattle.monitor_core.specs.Monitors.{state_by};
 ghost use Rattle.hart_sim.specs.Parts.{AreBanks};
 
 use crate::parts::Parts;
@@ -16,7 +16,7 @@ use std::alloc::Global;
 #[derive(Drop)]
 pub struct Machine {
     pub(crate) parts: Parts,
-    pub ghost limited: { AreBanks parts.banks (core_state parts.monitor).table.layout.limit },
+    pub ghost limited: { AreBanks parts.banks (state_by parts.monitor).table.layout.limit },
 }
 
 impl Machine {
@@ -26,9 +26,9 @@ impl Machine {
     ghost use Rattle.pmp_encoding.specs.Banks.{HasList};
     ghost use Rattle.pmp_encoding.specs.Limits.{limit_number};
     ghost use Rattle.pmp_match.specs.declared.access.Access.{Access};
-    ghost use Rattle.enclave_table.specs.Boot.{IsBootFault, opening as opening_table};
+    ghost use Rattle.enclave_table.specs.Boot.{IsBootFault, opening_table};
     ghost use Rattle.enclave_table.specs.Fewest.{FitsIn};
-    ghost use Rattle.platforms.specs.Platform.{Layout, IsLayout};
+    ghost use Rattle.platforms.specs.Platform.{PlatformLayout, IsLayout};
     ghost use Rattle.enclave_table.specs.Views.{host_view};
     ghost use Rattle.hart_trace.specs.declared.event.Event.{Event};
     ghost use Rattle.machine_replies.specs.declared.reply.Reply.{Reply};
@@ -38,7 +38,7 @@ impl Machine {
     ghost use Rattle.hart_sim.specs.After.{After, Happens};
     ghost use Rattle.hart_sim.specs.Promises.{AnswersByView};
     ghost use Rattle.hart_sim.specs.Wants.{RefusesByNeed};
-    ghost use Rattle.hart_sim.specs.States.{opening};
+    ghost use Rattle.hart_sim.specs.States.{opening_state};
     ghost use Rattle.hart_sim.specs.Steps.{IsEvent, Step};
     ghost use Rattle.worlds.specs.Runners.{IsWorld, runner_of};
 
@@ -146,7 +146,7 @@ impl Machine {
     pub fn boot(alloc: Global, platform: Platform) -> Result<Machine, BootFault>
         ensures after { IfOk result (λ m. After platform [] [] m) }
         ensures rules { IfOk result (λ _. IsLayout platform) }
-        ensures state { IfOk result (λ m. state_of m ≡ opening platform) }
+        ensures state { IfOk result (λ m. state_of m ≡ opening_state platform) }
         ensures kept { IfOk result (λ m. KeepsBanksRight m) }
         ensures fits { IfOk result (λ _. FitsIn platform.limit
             (host_view (opening_table platform))) }
@@ -193,7 +193,8 @@ impl Machine {
             → KeepsPrivate (state_of self.old) hart event result (state_of self.new) }
         ensures entries { KeepsBanksRight self.old
             → RefusesByNeed (state_of self.old) hart event result }
-        ensures after { (platform : Layout) (events : List (ℕ × Event)) (replies : List Reply)
+        ensures after { (platform : PlatformLayout) (events : List (ℕ × Event))
+            (replies : List Reply)
             → After platform events replies self.old
             → After platform (events ++ (hart, event) ∷ []) (replies ++ result ∷ []) self.new }
     {

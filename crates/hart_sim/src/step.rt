@@ -12,13 +12,13 @@ impl Parts {
     ghost use Rattle.pmp_match.specs.declared.access.Access.{Access};
     ghost use Rattle.pmp_match.specs.declared.cause.Cause.{Cause};
     ghost use Rattle.pmp_match.specs.Judgement.{Judges};
-    ghost use Rattle.monitor_core.specs.Monitors.{kept_of};
+    ghost use Rattle.monitor_core.specs.Monitors.{kept_by};
     ghost use Rattle.hart_trace.specs.declared.event.Event.{Event};
     ghost use Rattle.hart_sim.specs.Banks.{AreBanksRight, MeetsList};
     ghost use Rattle.hart_sim.specs.Frames.{IsOn, KeepsFrame};
     ghost use Rattle.hart_sim.specs.Parts.{state_in, bank_in};
     ghost use Rattle.hart_sim.specs.States.{awoken};
-    ghost use Rattle.hart_sim.specs.Steps.{Does, DoesBy, IsEvent, Step};
+    ghost use Rattle.hart_sim.specs.Steps.{DoesEvent, DoesBy, IsEvent, Step};
 
     /// A register of the world that runs on a hart is set.
     #[inline(always)]
@@ -27,7 +27,7 @@ impl Parts {
         requires few { hart < 4 }
         requires register { n < 32 }
         ensures frame { KeepsFrame self.old self.new hart }
-        ensures step { Does (Event.Reg n value) (state_in self.old) hart result
+        ensures step { DoesEvent (Event.Reg n value) (state_in self.old) hart result
             (state_in self.new) }
     {
         self.monitor.set_register(hart, n, value);
@@ -49,7 +49,7 @@ impl Parts {
         ensures loaded { (access : Access) (value : ℕ) → event ≡ Event.Access access value
             → self.new.banks ≡ self.old.banks }
         ensures step { AreBanksRight (state_in self.old) (bank_in self.old)
-            → Does event (state_in self.old) hart result (state_in self.new) }
+            → DoesEvent event (state_in self.old) hart result (state_in self.new) }
         ensures effect { let met = bank_in self.old hart in
             DoesBy (λ list. (bank : Bank) × (met ≡ Some bank) × HasList bank list)
             event (state_in self.old) hart result (state_in self.new) }
@@ -71,18 +71,18 @@ impl Parts {
         ensures frame { KeepsFrame self.old self.new hart }
         ensures judged { (access : Access) (value : ℕ) (list : List Entry) (cause : Cause)
             → event ≡ Event.Access access value
-            → MeetsList (state_in self.old) (kept_of self.old.monitor) (bank_in self.old) hart
+            → MeetsList (state_in self.old) (kept_by self.old.monitor) (bank_in self.old) hart
             list
             → (result ≡ Reply.Fault cause) ↔ Judges list access (Err cause) }
         ensures loaded { (access : Access) (value : ℕ) (list : List Entry) (bank : Bank)
             → event ≡ Event.Access access value
-            → MeetsList (state_in self.old) (kept_of self.old.monitor) (bank_in self.old) hart
+            → MeetsList (state_in self.old) (kept_by self.old.monitor) (bank_in self.old) hart
             list
             → bank_in self.new hart ≡ Some bank → HasList bank list }
         ensures step { AreBanksRight (state_in self.old) (bank_in self.old)
             → Step (state_in self.old) hart event result (state_in self.new) }
         ensures effect { let s = state_in self.old in
-            DoesBy (MeetsList s (kept_of self.old.monitor) (bank_in self.old) hart)
+            DoesBy (MeetsList s (kept_by self.old.monitor) (bank_in self.old) hart)
             event (awoken s hart) hart result (state_in self.new) }
     {
         self.wake(hart);

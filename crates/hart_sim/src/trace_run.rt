@@ -2,7 +2,7 @@
 
 ghost use Rattle.std.specs.Prelude.{◌≡◌, ℕ, ◌-◌, ◌^◌, ◌<◌, List, Err, IfOk};
 ghost use Rattle.text_lines.specs.LineLoop.{DoesAll, StopsAt, StopsTooLong, StopsReading, StopsWriting, StopsForMemory, CountsReads, CountsWrites};
-ghost use Rattle.platforms.specs.Platform.{Layout};
+ghost use Rattle.platforms.specs.Platform.{PlatformLayout};
 ghost use Rattle.hart_trace.specs.declared.event.Event.{Event};
 ghost use Rattle.machine_replies.specs.declared.reply.Reply.{Reply};
 ghost use Rattle.hart_sim.specs.Machines.{KeepsBanksRight};
@@ -169,7 +169,8 @@ pub fn run<R: Source, W: Sink>(
         → StopsForMemory DoesLine StarvesLine machine.old machine.new (R.remaining source.old)
         (R.remaining source.new) (W.contents sink.old) (W.contents sink.new) }
     ensures kept { KeepsBanksRight machine.old → KeepsBanksRight machine.new }
-    ensures after { (platform : Layout) (events : List (ℕ × Event)) (replies : List Reply)
+    ensures after { (platform : PlatformLayout) (events : List (ℕ × Event))
+        (replies : List Reply)
         → After platform events replies machine.old
         → GoesOn platform events replies result machine.old machine.new
         (R.remaining source.old) (R.remaining source.new) }

@@ -3,10 +3,10 @@ use Rattle.std.proofs.Common.{ℕ, List, [], ◌∷◌, ◌++◌, ◌≡◌, ◌
 use Rattle.std.proofs.lemmas.Bool.{le-leb}
 use Rattle.hart_trace.specs.declared.event.Event.TheVariants as events
 use Rattle.text_lines.specs.Numbers.{number_of}
-use Rattle.hart_trace.specs.Events.{numbers_of, call_of}
+use Rattle.hart_trace.specs.Events.{numbers_of, call_in}
 
 -- all words have been read
-pub all_read : (words rest : List (List ℕ)) (numbers : List ℕ) → rest ≡ [] → length numbers ≤ 8 → option_map (λ ns. numbers ++ ns) (numbers_of rest) ≡ numbers_of words → length numbers + length rest ≡ length words → Some (events.Ecall (record { items = numbers })) ≡ call_of words
+pub all_read : (words rest : List (List ℕ)) (numbers : List ℕ) → rest ≡ [] → length numbers ≤ 8 → option_map (λ ns. numbers ++ ns) (numbers_of rest) ≡ numbers_of words → length numbers + length rest ≡ length words → Some (events.Ecall (record { items = numbers })) ≡ call_in words
 all_read words rest numbers end few told count =
     let told = rw (end, append-nil) at told in
     let count = rw end at count in

@@ -10,7 +10,7 @@ use Rattle.text_lines.specs.Words.{is_plain, split_words}
 use Rattle.text_lines.specs.Numbers.{BeginsNumeral, digit_of, numeral_of, number_of}
 use Rattle.hart_trace.specs.declared.event.Event.TheVariants as events
 use Rattle.hart_trace.specs.declared.event.Event.{Event}
-use Rattle.hart_trace.specs.Events.{call_of, has_leading_zero, meaning_of, numbers_of, register_of, setting_of}
+use Rattle.hart_trace.specs.Events.{call_in, has_leading_zero, meaning_of, numbers_of, register_of, setting_of}
 use Rattle.hart_trace.specs.Plain.{BeginsCall, BeginsEvent, BeginsNumber, is_letter, is_mark}
 use Rattle.hart_trace.proofs.Calls.{all_read, one_read}
 use Rattle.hart_trace.proofs.PlainLines.{address_word, letters_last, letters_plain, letters_split, line_says, mark_number, numeral_digits, numeral_letters}
@@ -94,7 +94,7 @@ setting_said text rest end digits n value is letters named h none =
 setting_says : (rest : List ℕ) (event : Event) (harts : ℕ) → list_all is_plain rest ≡ true → setting_of (split_words rest) ≡ Some event → meaning_of harts (114 ∷ 101 ∷ 103 ∷ 32 ∷ rest) ≡ Some (Some (0, event))
 setting_says rest event harts plain is = line_says 114 (101 ∷ 103 ∷ []) rest event harts refl plain refl is
 
-call_says : (rest : List ℕ) (event : Event) (harts : ℕ) → list_all is_plain rest ≡ true → call_of (split_words rest) ≡ Some event → meaning_of harts (101 ∷ 99 ∷ 97 ∷ 108 ∷ 108 ∷ 32 ∷ rest) ≡ Some (Some (0, event))
+call_says : (rest : List ℕ) (event : Event) (harts : ℕ) → list_all is_plain rest ≡ true → call_in (split_words rest) ≡ Some event → meaning_of harts (101 ∷ 99 ∷ 97 ∷ 108 ∷ 108 ∷ 32 ∷ rest) ≡ Some (Some (0, event))
 call_says rest event harts plain is = line_says 101 (99 ∷ 97 ∷ 108 ∷ 108 ∷ []) rest event harts refl plain refl is
 
 -- a register and its value before the end of a line

@@ -76,8 +76,8 @@ numbers_of (word ∷ words) = do
   Some (n ∷ ns)
 
 -- a call of at most 8 words
-abbrev pub call_of : List Word → Option Event
-call_of words = if nat_le (length words) 8 then option_map (λ ns. events.Ecall (record { items = ns })) (numbers_of words) else None
+abbrev pub call_in : List Word → Option Event
+call_in words = if nat_le (length words) 8 then option_map (λ ns. events.Ecall (record { items = ns })) (numbers_of words) else None
 
 abbrev pub interrupt_of : List Word → Option Event
 interrupt_of [] = Some events.Irq
@@ -91,7 +91,7 @@ event_of (keyword ∷ words) =
     else if bytes_eq keyword (codes "load") then access_of Load words >>= with_no_value
     else if bytes_eq keyword (codes "store") then access_of Store words >>= with_value
     else if bytes_eq keyword (codes "reg") then setting_of words
-    else if bytes_eq keyword (codes "ecall") then call_of words
+    else if bytes_eq keyword (codes "ecall") then call_in words
     else if bytes_eq keyword (codes "irq") then interrupt_of words
     else None
 

@@ -11,7 +11,7 @@ pub use Rattle.text_lines.specs.Words.{is_letter}
 use Rattle.text_lines.specs.Numbers.{number_of}
 use Rattle.hart_trace.specs.declared.plain.Keyword.{Keyword}
 use Rattle.hart_trace.specs.declared.event.Event.{Event}
-use Rattle.hart_trace.specs.Events.{access_of, call_of, meaning_of, mode_of}
+use Rattle.hart_trace.specs.Events.{access_of, call_in, meaning_of, mode_of}
 
 -- after a 0 it says that the number is hexadecimal: `x` or `X`
 abbrev pub is_mark : ℕ → Bool
@@ -60,7 +60,7 @@ pub record BeginsCall (text : List ℕ) (event : Event) (behind : List ℕ) : Ty
   pub spelled : List ℕ
   pub parts : text ≡ spelled ++ behind
   pub plain : list_all is_plain spelled ≡ true
-  pub said : call_of (split_words spelled) ≡ Some event
+  pub said : call_in (split_words spelled) ≡ Some event
 
 -- a text begins with a plain line that says this event, on the first hart
 pub record BeginsEvent (text : List ℕ) (event : Event) (behind : List ℕ) : Type 0 where

@@ -4,7 +4,7 @@ ghost use Rattle.std.specs.Prelude.{◌≡◌, ◌-◌, ◌<◌, Some, None, IfS
 ghost use Rattle.std.specs.Result.{result_ok};
 ghost use Rattle.pmp_match.specs.Kinds.{has_size};
 ghost use Rattle.text_lines.specs.Words.{split_words};
-ghost use Rattle.hart_trace.specs.Events.{mode_of, sized, access_of, with_no_value, with_value, has_leading_zero, register_of, setting_of, call_of, interrupt_of, event_of, hart_of, on_hart, meaning_of};
+ghost use Rattle.hart_trace.specs.Events.{mode_of, sized, access_of, with_no_value, with_value, has_leading_zero, register_of, setting_of, call_in, interrupt_of, event_of, hart_of, on_hart, meaning_of};
 
 use crate::ahead::plain_line;
 use crate::event::Event;
@@ -125,7 +125,7 @@ fn setting_of(mut words: Words<'_>) -> Option<Event>
 }
 
 fn call_of(mut words: Words<'_>) -> Option<Event>
-    ensures { result ≡ call_of (split_words words.entry.rest.now) }
+    ensures { result ≡ call_in (split_words words.entry.rest.now) }
 {
     let mut numbers = ArrayVec::new();
     while let Some(word) = words.next_word() {

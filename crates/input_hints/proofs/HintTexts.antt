@@ -2,7 +2,7 @@
 use Rattle.std.proofs.Common.{ℕ, ◌≡◌, ◌≢◌, Bool, true, false, List, [], Option, Some, None, Result, Ok, Err, IfOk, refl, subst, sym}
 use Rattle.byte_streams.specs.Writings.{Prints, Writing}
 use Rattle.enclave_table.specs.Boot.{IsBootFault}
-use Rattle.platforms.specs.Platform.{Layout}
+use Rattle.platforms.specs.Platform.{PlatformLayout}
 use Rattle.platforms.specs.declared.boot_fault.BootFault.TheVariants.{NeedsMoreEntries}
 use Rattle.program_tasks.specs.declared.request.Request.{Request}
 use Rattle.program_troubles.specs.declared.trouble.Trouble.{Trouble}
@@ -44,7 +44,7 @@ carried P Q text (Err fault) f has = tt
 
 -- the hint of a platform that does not boot
 pub of_need :
-    {R : Type 0} (file bytes name hint : List ℕ) (second : Reading R) (platform : Layout) → IsPlatformFile bytes platform
+    {R : Type 0} (file bytes name hint : List ℕ) (second : Reading R) (platform : PlatformLayout) → IsPlatformFile bytes platform
     → ((n : ℕ) × IsBootFault platform (NeedsMoreEntries n) × (hint ≡ boot_hint file platform n)) → IsUnread second → AreRunHints file bytes name second (Some hint)
 of_need file bytes name hint second platform is needs unread =
     subst (λ said. AreRunHints file bytes name second (Some said)) (sym needs.2) (of_boot platform needs.0 is needs.1 unread)

@@ -5,7 +5,7 @@ use Rattle.byte_streams.specs.Writings.{Breaks, IsUnwritten, TakesAll, Writing}
 use Rattle.text_lines.specs.Lines.{raw_lines}
 use Rattle.pmp_encoding.specs.Limits.{limit_number}
 use Rattle.enclave_table.specs.Boot.{IsBootFault}
-use Rattle.platforms.specs.Platform.{Layout}
+use Rattle.platforms.specs.Platform.{PlatformLayout}
 use Rattle.platforms.specs.declared.boot_fault.BootFault.TheVariants.{NeedsMoreEntries}
 use Rattle.hart_sim.specs.declared.machine.Machine.{Machine}
 use Rattle.hart_sim.specs.After.{IsBooted}
@@ -89,7 +89,7 @@ HasFileHints true xlen name bounds source hints = HasHints (Listing xlen) name s
 HasFileHints false xlen name bounds source hints = HasMapHints name bounds source hints
 
 -- what is said of a platform whose host's view needs n entries, which is more than its harts have
-abbrev pub boot_hint : List ℕ → Layout → ℕ → List ℕ
+abbrev pub boot_hint : List ℕ → PlatformLayout → ℕ → List ℕ
 boot_hint name platform n = need_text name (most_text n (limit_number platform.limit))
 
 -- the hints of `run` for the bytes of its platform: what is wrong with them; or that the host's view needs more entries than a hart
@@ -97,10 +97,10 @@ boot_hint name platform n = need_text name (most_text n (limit_number platform.l
 pub data AreRunHints {R : Type 0} (file bytes trace : List ℕ) (second : Reading R) : Option (List ℕ) → Type 0 where
   of_platform : (hints : List ℕ) → AreHints (IsPlatformLint file bytes) (Some hints) → IsUnread second → AreRunHints file bytes trace second (Some hints)
   of_boot :
-      (platform : Layout) (n : ℕ) → IsPlatformFile bytes platform → IsBootFault platform (NeedsMoreEntries n) → IsUnread second
+      (platform : PlatformLayout) (n : ℕ) → IsPlatformFile bytes platform → IsBootFault platform (NeedsMoreEntries n) → IsUnread second
       → AreRunHints file bytes trace second (Some (boot_hint file platform n))
   of_trace :
-      (platform : Layout) (machine : Machine) (hints : Option (List ℕ)) → IsPlatformFile bytes platform → IsBooted platform machine
+      (platform : PlatformLayout) (machine : Machine) (hints : Option (List ℕ)) → IsPlatformFile bytes platform → IsBooted platform machine
       → HasHints (Trace (takers.Run platform.harts)) trace second hints → AreRunHints file bytes trace second hints
 
 -- the platform of `run` was read, and where it is right its trace, and these are their hints

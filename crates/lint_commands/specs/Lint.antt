@@ -4,7 +4,7 @@ use Rattle.std.specs.List.{ends_with}
 use Rattle.std.specs.Option.{is_some}
 use Rattle.std.specs.Borrow.{Bor}
 use Rattle.byte_streams.specs.Writings.{Breaks, IsUnwritten, TakesAll, Writing}
-use Rattle.platforms.specs.Platform.{Layout}
+use Rattle.platforms.specs.Platform.{PlatformLayout}
 use Rattle.platform_file.specs.Document.{IsPlatformFile}
 use Rattle.platform_lint.specs.Lints.{IsLintLine}
 use Rattle.map_lint.specs.Findings.{IsLintText}
@@ -49,7 +49,7 @@ IsListingLint xlen name bytes false text = (n : ℕ) × IsFirstUnknown xlen byte
 
 -- of a file that should be a platform: nothing where it is one
 abbrev pub IsPlatformLint : List ℕ → List ℕ → Bool → List ℕ → Type 0
-IsPlatformLint name bytes true text = ((platform : Layout) × IsPlatformFile bytes platform) × (text ≡ [])
+IsPlatformLint name bytes true text = ((platform : PlatformLayout) × IsPlatformFile bytes platform) × (text ≡ [])
 IsPlatformLint name bytes false text = IsLintLine name bytes text
 
 -- what is written of the bytes of a file, by whether its name is that of a platform

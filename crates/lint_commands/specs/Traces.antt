@@ -2,7 +2,7 @@
 use Rattle.std.specs.Prelude.{◌≡◌, ℕ, ◌^◌, Bool, true, false, List, [], Option, Some, None, Result, Err}
 use Rattle.std.specs.Borrow.{Bor}
 use Rattle.byte_streams.specs.Writings.{IsUnwritten, Writing}
-use Rattle.platforms.specs.Platform.{Layout}
+use Rattle.platforms.specs.Platform.{PlatformLayout}
 use Rattle.program_troubles.specs.declared.trouble.Trouble.{Trouble}
 use Rattle.command_inputs.specs.Inputs.{HasBytes, HasNoBytes, IsUnread, Reading}
 use Rattle.lint_commands.specs.Lint.{Tells}
@@ -14,7 +14,7 @@ use Rattle.trace_lint.specs.Lints.{IsLintText, is_trace}
 -- how many harts a trace is for: those of a platform where one is named, otherwise four
 abbrev pub HasHarts : {R : Type 0} → Option (Bor (List ℕ)) → Reading R → ℕ → Type 0
 HasHarts None source harts = (harts ≡ 4) × IsUnread source
-HasHarts (Some file) source harts = (platform : Layout) × HasPlatform source platform × (harts ≡ platform.harts)
+HasHarts (Some file) source harts = (platform : PlatformLayout) × HasPlatform source platform × (harts ≡ platform.harts)
 
 -- why that is not known
 abbrev pub HasNoHarts : {R : Type 0} → Option (Bor (List ℕ)) → Reading R → Trouble → Type 0

@@ -5,7 +5,7 @@ use Rattle.std.proofs.lemmas.Grind.{common_steps}
 use Rattle.std.proofs.Common.{Option, replicate}
 use Rattle.machine_memory.specs.declared.memory.Memory.{Memory}
 use Rattle.machine_memory.specs.Groups.{byte_in, page_in}
-use Rattle.machine_memory.specs.Memory.{bytes_at, number_of, byte_at}
+use Rattle.machine_memory.specs.Memory.{bytes_at, number_of_bytes, byte_at}
 
 -- one byte more, in at most eight bytes
 pub fits_more : (len byte number : ℕ) → suc len ≤ 8 → byte ≤ 255 → number < 256 ^ len → byte + 256 * number < 2 ^ 64
@@ -30,7 +30,7 @@ bytes_of_list memory address (suc count) (x ∷ xs) size same =
     ap₂ ◌∷◌ here rest
 
 -- no bytes
-pub number_none : (memory : ℕ → ℕ) (address count : ℕ) → count ≡ 0 → 0 ≡ number_of (bytes_at memory address count)
+pub number_none : (memory : ℕ → ℕ) (address count : ℕ) → count ≡ 0 → 0 ≡ number_of_bytes (bytes_at memory address count)
 unfolding bytes_at
 number_none memory address zero none = refl
 number_none memory address (suc count) none = absurd (omega arith)
@@ -41,14 +41,14 @@ small_none (suc count) none = absurd (omega arith)
 
 -- a byte before those that are a number
 pub number_before :
-    (memory : ℕ → ℕ) (at left size byte number : ℕ) → 0 < left → left ≤ size → byte ≡ memory (at + (left - 1)) → number ≡ number_of (bytes_at memory (at + left) (size - left))
-    → byte + 256 * number ≡ number_of (bytes_at memory (at + (left - 1)) (size - (left - 1)))
+    (memory : ℕ → ℕ) (at left size byte number : ℕ) → 0 < left → left ≤ size → byte ≡ memory (at + (left - 1)) → number ≡ number_of_bytes (bytes_at memory (at + left) (size - left))
+    → byte + 256 * number ≡ number_of_bytes (bytes_at memory (at + (left - 1)) (size - (left - 1)))
 unfolding bytes_at
 number_before memory at left size byte number some within is rest =
     let more : size - (left - 1) ≡ suc (size - left) = omega arith in
     let next : at + left ≡ at + (left - 1) + 1 = omega arith in
-    let tail : number ≡ number_of (bytes_at memory (at + (left - 1) + 1) (size - left)) = rest ∙ ap (λ a. number_of (bytes_at memory a (size - left))) next in
-    ap₂ (λ b n. b + 256 * n) is tail ∙ ap (λ n. number_of (bytes_at memory (at + (left - 1)) n)) (sym more)
+    let tail : number ≡ number_of_bytes (bytes_at memory (at + (left - 1) + 1) (size - left)) = rest ∙ ap (λ a. number_of_bytes (bytes_at memory a (size - left))) next in
+    ap₂ (λ b n. b + 256 * n) is tail ∙ ap (λ n. number_of_bytes (bytes_at memory (at + (left - 1)) n)) (sym more)
 
 pub small_before : (left size byte number : ℕ) → 0 < left → left ≤ size → byte ≤ 255 → number < 256 ^ (size - left) → byte + 256 * number < 256 ^ (size - (left - 1))
 small_before left size byte number some within low small =
@@ -75,7 +75,7 @@ bytes_moved memory other address place (suc count) same =
     ap₂ ◌∷◌ here rest
 
 -- zero bytes are the number zero
-pub number_zero : (address count : ℕ) → number_of (bytes_at (λ k. 0) address count) ≡ 0
+pub number_zero : (address count : ℕ) → number_of_bytes (bytes_at (λ k. 0) address count) ≡ 0
 unfolding bytes_at
 number_zero address zero = refl
 number_zero address (suc count) = let h = number_zero (address + 1) count in omega (arith, h)

@@ -8,7 +8,7 @@ use Rattle.std.proofs.lemmas.Bool.{cases_lt}
 use Rattle.std.proofs.lemmas.Bool.Decides.{nat_tests}
 use Rattle.std.proofs.lemmas.Grind.{common_steps}
 use Rattle.pmp_encoding.specs.Registers.{byte_of}
-use Rattle.machine_memory.specs.Memory.{bytes_at, number_of, in_range}
+use Rattle.machine_memory.specs.Memory.{bytes_at, number_of_bytes, in_range}
 
 -- the table's mask of so many bytes keeps them
 pub masked : (number size : ℕ) → size ≤ 8
@@ -30,12 +30,12 @@ power_more n = (let s : 8 * suc n ≡ 8 * n + 8 = omega arith in ap (λ i. 2 ^ i
 
 -- the lowest bytes of a number are the number of those bytes alone
 pub lowest_are : (memory : ℕ → ℕ) (address count size : ℕ) → size ≤ count → ((a : ℕ) → memory a < 256)
-    → number_of (bytes_at memory address count) % 2 ^ (8 * size) ≡ number_of (bytes_at memory address size)
+    → number_of_bytes (bytes_at memory address count) % 2 ^ (8 * size) ≡ number_of_bytes (bytes_at memory address size)
 unfolding bytes_at
 lowest_are memory address count zero within bytes = omega arith
 lowest_are memory address zero (suc size) within bytes = absurd (omega arith)
 lowest_are memory address (suc count) (suc size) within bytes =
-    let rest = number_of (bytes_at memory (address + 1) count) in
+    let rest = number_of_bytes (bytes_at memory (address + 1) count) in
     let number = memory address + 256 * rest in
     let byte : memory address < 256 = bytes address in
     let above : number / 256 ≡ rest = omega (arith, byte) in
@@ -45,16 +45,16 @@ lowest_are memory address (suc count) (suc size) within bytes =
     omega (arith, parts, more, lowest)
 
 -- a byte of a number is the one that stands there
-byte_is : (memory : ℕ → ℕ) (address count k : ℕ) → k < count → ((a : ℕ) → memory a < 256) → byte_of (number_of (bytes_at memory address count)) k ≡ memory (address + k)
+byte_is : (memory : ℕ → ℕ) (address count k : ℕ) → k < count → ((a : ℕ) → memory a < 256) → byte_of (number_of_bytes (bytes_at memory address count)) k ≡ memory (address + k)
 unfolding bytes_at
 byte_is memory address zero k within bytes = absurd (omega arith)
 byte_is memory address (suc count) zero within bytes =
     let byte : memory address < 256 = bytes address in
     let here : address ≡ address + 0 = omega arith in
-    let lowest : (memory address + 256 * number_of (bytes_at memory (address + 1) count)) / 1 % 256 ≡ memory address = omega (arith, byte) in
+    let lowest : (memory address + 256 * number_of_bytes (bytes_at memory (address + 1) count)) / 1 % 256 ≡ memory address = omega (arith, byte) in
     lowest ∙ ap memory here
 byte_is memory address (suc count) (suc k) within bytes =
-    let rest = number_of (bytes_at memory (address + 1) count) in
+    let rest = number_of_bytes (bytes_at memory (address + 1) count) in
     let number = memory address + 256 * rest in
     let byte : memory address < 256 = bytes address in
     let above : number / 256 ≡ rest = omega (arith, byte) in
@@ -126,7 +126,7 @@ replaced_bytes number size value k = ap (λ n. byte_of n k) (replaced number siz
 
 -- so eight bytes that are put change no more than the value's
 pub put_lowest : (old new : ℕ → ℕ) (at size number value : ℕ) → size ≤ 8 → ((a : ℕ) → old a < 256)
-    → ((k : ℕ) → byte_of number k ≡ (if nat_lt k size then byte_of value k else byte_of (number_of (bytes_at old at 8)) k))
+    → ((k : ℕ) → byte_of number k ≡ (if nat_lt k size then byte_of value k else byte_of (number_of_bytes (bytes_at old at 8)) k))
     → ((k : ℕ) → new k ≡ (if in_range at 8 k then byte_of number (k - at) else old k))
     → (k : ℕ) → new k ≡ (if in_range at size k then byte_of value (k - at) else old k)
 put_lowest old new at size number value few bytes made put k = ⊎_elim before from (cases_lt k at)

@@ -11,9 +11,9 @@ bytes_at memory address zero = []
 bytes_at memory address (suc count) = memory address ∷ bytes_at memory (address + 1) count
 
 -- the number that bytes are, the lowest first
-abbrev pub number_of : List ℕ → ℕ
-number_of [] = 0
-number_of (byte ∷ bytes) = byte + 256 * number_of bytes
+abbrev pub number_of_bytes : List ℕ → ℕ
+number_of_bytes [] = 0
+number_of_bytes (byte ∷ bytes) = byte + 256 * number_of_bytes bytes
 
 -- the memory with the lowest bytes of a value put at an address, the lowest first
 abbrev pub stored : (ℕ → ℕ) → ℕ → ℕ → ℕ → ℕ → ℕ

@@ -2,7 +2,7 @@
 //! not written has no bytes of its own and reads as zero.
 
 ghost use Rattle.std.specs.Prelude.{◌≡◌, ℕ, ◌+◌, ◌-◌, ◌*◌, ◌/◌, ◌%◌, ◌^◌, ◌<◌, ◌≤◌, OnOk, OnErr, IfSome, None, Some, false, true, ◌==◌, ◌&&◌, if◌then◌else◌};
-ghost use Rattle.machine_memory.specs.Memory.{bytes_at, number_of, in_range, stored, zeroed, byte_at, is_written};
+ghost use Rattle.machine_memory.specs.Memory.{bytes_at, number_of_bytes, in_range, stored, zeroed, byte_at, is_written};
 ghost use Rattle.machine_memory.specs.Groups.{has_span, page_in};
 
 use crate::page_bytes::{clear, copy_page, number_at};
@@ -64,7 +64,7 @@ impl Memory {
     pub fn load(&self, address: u64, size: usize) -> u64
         requires size { size ≤ 8 }
         requires inside { address % 4096 + size ≤ 4096 }
-        ensures { result ≡ number_of (bytes_at (byte_at self.now) address size) }
+        ensures { result ≡ number_of_bytes (bytes_at (byte_at self.now) address size) }
     {
         match self.page(address / PAGE) {
             Some(page) => number_at(page, (address % PAGE) as usize, size),

@@ -2,7 +2,7 @@
 
 ghost use Rattle.std.specs.Prelude.{◌≡◌, ℕ, ◌+◌, ◌-◌, ◌*◌, ◌%◌, ◌^◌, ◌<◌, ◌≤◌, IfOk, nat_lt, if◌then◌else◌, slice_index};
 ghost use Rattle.pmp_encoding.specs.Registers.{byte_of};
-ghost use Rattle.machine_memory.specs.Memory.{bytes_at, number_of, in_range};
+ghost use Rattle.machine_memory.specs.Memory.{bytes_at, number_of_bytes, in_range};
 
 use std::alloc::{AllocError, Global};
 
@@ -11,7 +11,7 @@ use std::alloc::{AllocError, Global};
 fn number_of(page: &[u8; 4096], at: usize, size: usize) -> u64
     requires size { size ≤ 8 }
     requires inside { at + size ≤ 4096 }
-    ensures { result ≡ number_of (bytes_at (slice_index page.now) at size) }
+    ensures { result ≡ number_of_bytes (bytes_at (slice_index page.now) at size) }
 {
     let mut number = 0;
     let mut left = size;
@@ -50,7 +50,7 @@ fn lowest(number: u64, size: usize) -> u64
 fn number_at_end(page: &[u8; 4096], at: usize, size: usize) -> u64
     requires size { size ≤ 8 }
     requires inside { at + size ≤ 4096 }
-    ensures { result ≡ number_of (bytes_at (slice_index page.now) at size) }
+    ensures { result ≡ number_of_bytes (bytes_at (slice_index page.now) at size) }
 {
     number_of(page, at, size)
 }
@@ -60,7 +60,7 @@ fn number_at_end(page: &[u8; 4096], at: usize, size: usize) -> u64
 pub(crate) fn number_at(page: &[u8; 4096], at: usize, size: usize) -> u64
     requires size { size ≤ 8 }
     requires inside { at + size ≤ 4096 }
-    ensures { result ≡ number_of (bytes_at (slice_index page.now) at size) }
+    ensures { result ≡ number_of_bytes (bytes_at (slice_index page.now) at size) }
 {
     if at + 8 <= 4096 {
         lowest(number_of(page, at, 8), size)

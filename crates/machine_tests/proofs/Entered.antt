@@ -5,7 +5,7 @@ use Rattle.enclave_table.specs.Enclaves.{EnclaveTable, enclave_at}
 use Rattle.enclave_table.specs.Tables.{IsCurrent}
 use Rattle.enclave_table.specs.Lives.{Enters}
 use Rattle.enclave_table.specs.declared.enclave.Enclave.{Enclave}
-use Rattle.enclave_table.specs.declared.enclave.State.TheVariants.{Running}
+use Rattle.enclave_table.specs.declared.enclave.Stage.TheVariants.{Running}
 use Rattle.enclave_table.specs.declared.life.Entering.{Entering}
 use Rattle.enclave_table.proofs.Places.{live_above, live_inside, set_same}
 use Rattle.enclave_table.specs.Checks.{state_before}

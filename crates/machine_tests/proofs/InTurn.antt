@@ -1,6 +1,6 @@
 -- A machine after six events, one after the other.
 use Rattle.std.proofs.Common.{◌≡◌, ℕ, List, [], ◌∷◌, ◌++◌, refl, ap, subst}
-use Rattle.platforms.specs.Platform.{Layout}
+use Rattle.platforms.specs.Platform.{PlatformLayout}
 use Rattle.hart_trace.specs.declared.event.Event.{Event}
 use Rattle.hart_sim.specs.declared.machine.Machine.{Machine}
 use Rattle.machine_replies.specs.declared.reply.Reply.{Reply}
@@ -14,7 +14,7 @@ six : {X : Type 0} (xs : List X) (a b c d e f : X) → In xs a b c d e f ≡ xs 
 six [] a b c d e f = refl
 six (x ∷ xs) a b c d e f = ap (λ ys. x ∷ ys) (six xs a b c d e f)
 
-pub after_six : (platform : Layout) (events : List (ℕ × Event)) (replies : List Reply) (m : Machine) (a b c d e f : ℕ × Event) (r s t u v w : Reply)
+pub after_six : (platform : PlatformLayout) (events : List (ℕ × Event)) (replies : List Reply) (m : Machine) (a b c d e f : ℕ × Event) (r s t u v w : Reply)
     → After platform ((((((events ++ a ∷ []) ++ b ∷ []) ++ c ∷ []) ++ d ∷ []) ++ e ∷ []) ++ f ∷ []) ((((((replies ++ r ∷ []) ++ s ∷ []) ++ t ∷ []) ++ u ∷ []) ++ v ∷ []) ++ w ∷ []) m
     → After platform (events ++ a ∷ (b ∷ (c ∷ (d ∷ (e ∷ (f ∷ [])))))) (replies ++ r ∷ (s ∷ (t ∷ (u ∷ (v ∷ (w ∷ [])))))) m
 after_six platform events replies m a b c d e f r s t u v w after =

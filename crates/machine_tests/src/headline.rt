@@ -2,7 +2,7 @@
 //! what is known of the machine after it.
 
 ghost use Rattle.std.specs.Prelude.{◌≡◌, ℕ, List, [], ◌∷◌, ◌++◌};
-ghost use Rattle.platforms.specs.Platform.{Layout};
+ghost use Rattle.platforms.specs.Platform.{PlatformLayout};
 ghost use Rattle.hart_trace.specs.declared.event.Event.{Event};
 ghost use Rattle.hart_sim.specs.After.{After};
 ghost use Rattle.hart_sim.specs.Headline.{Headline};
@@ -24,7 +24,8 @@ pub fn life(
     destroy: ArrayVec<u64, 8>,
 ) -> [Reply; 6]
     requires { (state_of machine.old).table.layout.harts ≡ 2 }
-    ensures { (platform : Layout) (events : List (ℕ × Event)) (replies : List Reply)
+    ensures { (platform : PlatformLayout) (events : List (ℕ × Event))
+        (replies : List Reply)
         → After platform events replies machine.old
         → Headline platform (events ++ life_of create enter resume leave destroy)
         (replies ++ result) machine.new }
@@ -48,7 +49,8 @@ pub fn runs_on<R: Source, W: Sink>(
     report: &mut W,
     other: &mut W,
 ) -> Reply
-    ensures { (platform : Layout) (events : List (ℕ × Event)) (replies : List Reply)
+    ensures { (platform : PlatformLayout) (events : List (ℕ × Event))
+        (replies : List Reply)
         → After platform events replies machine.old
         → (more : List (ℕ × Event)) × (answered : List Reply)
         × Headline platform (events ++ more ++ (0, Event.Irq) ∷ [])

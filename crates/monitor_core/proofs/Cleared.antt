@@ -8,7 +8,7 @@ use Rattle.enclave_table.specs.Tables.{IsTable}
 use Rattle.sbi_decode.specs.declared.calls.Call.{Call}
 use Rattle.monitor_core.specs.declared.answer.Answer.{Answer}
 use Rattle.monitor_core.specs.Frames.{ClearsMemory}
-use Rattle.monitor_core.specs.States.{State}
+use Rattle.monitor_core.specs.States.{MonitorState}
 use Rattle.monitor_core.specs.Steps.{DoesCall}
 use Rattle.monitor_core.proofs.Zeroed.{private_of, cleared}
 
@@ -26,7 +26,7 @@ private_clears table id e t live =
       not_monitor = λ page is. sound.not_monitor page (first_is (is_private e.parts page) (is_shared e.parts page) is);
     }
 
-pub call_clears_memory : (call : Option Call) (pages : ℕ → List ℕ) (s : State) (hart : ℕ) (answer : Answer) (zero : Option PageRange) (new : State) → IsTable s.table → DoesCall call pages s hart answer zero new → IfSome zero (λ range. ClearsMemory s.table.layout range)
+pub call_clears_memory : (call : Option Call) (pages : ℕ → List ℕ) (s : MonitorState) (hart : ℕ) (answer : Answer) (zero : Option PageRange) (new : MonitorState) → IsTable s.table → DoesCall call pages s hart answer zero new → IfSome zero (λ range. ClearsMemory s.table.layout range)
 call_clears_memory call pages s hart answer zero new t x =
     let of = λ (o : Option PageRange). IfSome o (λ range. ClearsMemory s.table.layout range) in
     elim (cleared call pages s hart answer zero new x) [

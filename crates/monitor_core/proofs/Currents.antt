@@ -1,15 +1,15 @@
 -- Which worlds are current, as truth values and as facts.
 use Rattle.std.proofs.Common.{◌≡◌, ◌≢◌, ◌∙◌, ℕ, zero, suc, ◌-◌, ◌≤◌, true, false, replicate, Option, Some, None, slice_index_or, refl, ap, sym}
-use Rattle.platforms.specs.Platform.{Layout}
+use Rattle.platforms.specs.Platform.{PlatformLayout}
 use Rattle.enclave_table.specs.Enclaves.{EnclaveTable, Live, enclave_at, with_enclave}
 use Rattle.enclave_table.specs.Tables.{IsCurrent}
 use Rattle.enclave_table.specs.declared.enclave.Enclave.{Enclave}
-use Rattle.enclave_table.specs.declared.enclave.State.{State as Stage}
-use Rattle.enclave_table.specs.declared.enclave.State.TheVariants.{Fresh, Running, Stopped, Exited}
+use Rattle.enclave_table.specs.declared.enclave.Stage.{Stage}
+use Rattle.enclave_table.specs.declared.enclave.Stage.TheVariants.{Fresh, Running, Stopped, Exited}
 use Rattle.worlds.specs.declared.world.World.{World}
 use Rattle.worlds.specs.declared.world.World.TheVariants.{Host, Enclave as InEnclave}
 use Rattle.enclave_table.proofs.Places.{live_place, set_other}
-use Rattle.monitor_core.specs.States.{opening}
+use Rattle.monitor_core.specs.States.{opening_monitor}
 use Rattle.monitor_core.specs.Changes.{is_host}
 use Rattle.monitor_core.specs.declared.parts.Parts.{Parts}
 use Rattle.monitor_core.specs.Parts.{is_run, is_running, is_current, world_in, state_in, HoldsTogether}
@@ -25,7 +25,7 @@ none_at (suc n) zero = refl
 none_at (suc n) (suc k) = none_at n k
 
 -- no enclave is live at boot
-pub none_live : (layout : Layout) (id : ℕ) (e : Enclave) → Live (opening layout).table id e → ⊥
+pub none_live : (layout : PlatformLayout) (id : ℕ) (e : Enclave) → Live (opening_monitor layout).table id e → ⊥
 none_live layout id e live =
     let at : slice_index_or (replicate 64 absent) (id - 1) None ≡ Some e = live_place (replicate 64 absent) id e live in
     let z : absent ≡ Some e = sym (none_at 64 (id - 1)) ∙ at in cc

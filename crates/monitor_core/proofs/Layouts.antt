@@ -6,14 +6,14 @@ use Rattle.sbi_decode.specs.declared.calls.Call.{Call}
 use Rattle.sbi_decode.specs.declared.calls.Call.TheVariants as calls
 use Rattle.page_views.specs.declared.pages.PageRange.{PageRange}
 use Rattle.monitor_core.specs.declared.answer.Answer.{Answer}
-use Rattle.monitor_core.specs.States.{State}
+use Rattle.monitor_core.specs.States.{MonitorState}
 use Rattle.monitor_core.specs.Steps.{DoesCall, Interrupts}
 
 -- the platform of a state
-abbrev Same : State → State → Type 0
+abbrev Same : MonitorState → MonitorState → Type 0
 Same s new = new.table.layout ≡ s.table.layout
 
-pub call_keeps_layout : (call : Option Call) (pages : ℕ → List ℕ) (s : State) (hart : ℕ) (answer : Answer) (zero : Option PageRange) (new : State) → DoesCall call pages s hart answer zero new → Same s new
+pub call_keeps_layout : (call : Option Call) (pages : ℕ → List ℕ) (s : MonitorState) (hart : ℕ) (answer : Answer) (zero : Option PageRange) (new : MonitorState) → DoesCall call pages s hart answer zero new → Same s new
 call_keeps_layout None pages s hart answer zero new x = ap (λ y. y.table.layout) x.state
 call_keeps_layout (Some (calls.Create base text_pages data_pages shared_base shared_count entry_offset)) pages s hart answer zero new (inl x) = ap (λ y. y.table.layout) x.3.state ∙ ap (λ t. t.layout) x.2.added
 call_keeps_layout (Some (calls.Create base text_pages data_pages shared_base shared_count entry_offset)) pages s hart answer zero new (inr x) = ap (λ y. y.table.layout) x.2.state
@@ -30,6 +30,6 @@ call_keeps_layout (Some (calls.Exit value)) pages s hart answer zero new (inr x)
 call_keeps_layout (Some (calls.Measure id k)) pages s hart answer zero new (inl x) = ap (λ y. y.table.layout) x.2.state
 call_keeps_layout (Some (calls.Measure id k)) pages s hart answer zero new (inr x) = ap (λ y. y.table.layout) x.2.state
 
-pub interrupt_keeps_layout : (world : World) (s : State) (hart : ℕ) (new : State) → Interrupts world s hart new → Same s new
+pub interrupt_keeps_layout : (world : World) (s : MonitorState) (hart : ℕ) (new : MonitorState) → Interrupts world s hart new → Same s new
 interrupt_keeps_layout Host s hart new x = ap (λ y. y.table.layout) x
 interrupt_keeps_layout (InEnclave id) s hart new x = ap (λ y. y.table.layout) x.2 ∙ ap (λ t. t.layout) x.1.turned.2

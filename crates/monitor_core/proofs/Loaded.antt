@@ -6,11 +6,11 @@ use Rattle.pmp_match.specs.Meaning.{IsFewest}
 use Rattle.enclave_table.proofs.SameViews.{fewest_same}
 use Rattle.monitor_core.specs.Frames.{LoadsAnew}
 use Rattle.monitor_core.specs.Loads.{KeepsLoaded, LoadsAsTold}
-use Rattle.monitor_core.specs.States.{State, view_on, view_of}
+use Rattle.monitor_core.specs.States.{MonitorState, view_on, view_of}
 use Rattle.monitor_core.proofs.Cases.{both}
 
 -- the hart's own list, loaded anew or as it was
-own : (old new : State) (hart : ℕ) (load : Bool) (entries : List Entry) (before after : ℕ → List Entry) → LoadsAnew load old new hart → IsFewest (view_on new hart) entries → LoadsAsTold load hart entries before after
+own : (old new : MonitorState) (hart : ℕ) (load : Bool) (entries : List Entry) (before after : ℕ → List Entry) → LoadsAnew load old new hart → IsFewest (view_on new hart) entries → LoadsAsTold load hart entries before after
     → IsFewest (view_on old hart) (before hart) → IsFewest (view_on new hart) (after hart)
 own old new hart true entries before after anew fewest does was = subst (IsFewest (view_on new hart)) (sym (does.told refl)) fewest
 own old new hart false entries before after anew fewest does was =

@@ -6,8 +6,8 @@ use Rattle.enclave_table.specs.Enclaves.{EnclaveTable, Live, enclave_at, with_en
 use Rattle.enclave_table.specs.Views.{enclave_view}
 use Rattle.enclave_table.specs.Tables.{Kept, IsCurrent}
 use Rattle.enclave_table.specs.declared.enclave.Enclave.{Enclave}
-use Rattle.enclave_table.specs.declared.enclave.State.{State as Stage}
-use Rattle.enclave_table.specs.declared.enclave.State.TheVariants.{Fresh, Running, Stopped, Exited}
+use Rattle.enclave_table.specs.declared.enclave.Stage.{Stage}
+use Rattle.enclave_table.specs.declared.enclave.Stage.TheVariants.{Fresh, Running, Stopped, Exited}
 use Rattle.enclave_table.specs.declared.life.Entering.{Entering}
 use Rattle.enclave_table.specs.declared.life.Entering.TheVariants.{Run, Resume}
 use Rattle.enclave_table.specs.declared.life.Leaving.{Leaving}

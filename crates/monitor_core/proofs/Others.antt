@@ -7,8 +7,8 @@ use Rattle.enclave_table.specs.Enclaves.{EnclaveTable, Live, enclave_at, with_en
 use Rattle.enclave_table.specs.Tables.{IsCurrent}
 use Rattle.enclave_table.specs.Lives.{Enters, Leaves, state_after}
 use Rattle.enclave_table.specs.declared.enclave.Enclave.{Enclave}
-use Rattle.enclave_table.specs.declared.enclave.State.{State as Stage}
-use Rattle.enclave_table.specs.declared.enclave.State.TheVariants.{Fresh, Running, Stopped}
+use Rattle.enclave_table.specs.declared.enclave.Stage.{Stage}
+use Rattle.enclave_table.specs.declared.enclave.Stage.TheVariants.{Fresh, Running, Stopped}
 use Rattle.enclave_table.specs.Checks.{state_before}
 use Rattle.enclave_table.specs.declared.life.Entering.{Entering}
 use Rattle.enclave_table.specs.declared.life.Entering.TheVariants.{Run as FirstRun, Resume}
@@ -20,7 +20,7 @@ use Rattle.worlds.specs.declared.world.World.TheVariants.{Host, Enclave as InEnc
 use Rattle.sbi_decode.specs.declared.calls.Call.{Call}
 use Rattle.sbi_decode.specs.declared.calls.Call.TheVariants as calls
 use Rattle.monitor_core.specs.declared.answer.Answer.{Answer}
-use Rattle.monitor_core.specs.States.{State, view_of, view_on}
+use Rattle.monitor_core.specs.States.{MonitorState, view_of, view_on}
 use Rattle.monitor_core.specs.Changes.{is_host}
 pub use Rattle.monitor_core.specs.Frames.{KeepsOthers}
 use Rattle.monitor_core.specs.Steps.{DoesCall, DoesEnter, Interrupts}
@@ -28,11 +28,11 @@ use Rattle.monitor_core.specs.Worlds.{ArePlaced}
 use Rattle.monitor_core.proofs.Views.{view_other, view_turned}
 
 -- the view of a hart in another table, its world as it was
-there : (s new : State) (i : ℕ) (table : EnclaveTable) → new.table ≡ table → new.worlds i ≡ s.worlds i → SameView (view_of s.table (s.worlds i)) (view_of table (s.worlds i)) → SameView (view_on s i) (view_on new i)
+there : (s new : MonitorState) (i : ℕ) (table : EnclaveTable) → new.table ≡ table → new.worlds i ≡ s.worlds i → SameView (view_of s.table (s.worlds i)) (view_of table (s.worlds i)) → SameView (view_on s i) (view_on new i)
 there s new i table is world v = subst (λ t. SameView (view_of s.table (s.worlds i)) (view_of t (new.worlds i))) (sym is) (subst (λ w. SameView (view_of s.table (s.worlds i)) (view_of table w)) (sym world) v)
 
 -- table, worlds and marks stayed
-pub others_stay : (s new that : State) (hart : ℕ) → new ≡ that → that.table ≡ s.table → that.worlds ≡ s.worlds → that.marked ≡ s.marked → KeepsOthers s new hart
+pub others_stay : (s new that : MonitorState) (hart : ℕ) → new ≡ that → that.table ≡ s.table → that.worlds ≡ s.worlds → that.marked ≡ s.marked → KeepsOthers s new hart
 others_stay s new that hart is table worlds marked = record {
   awake = λ i other off. sym (ap (λ y. y.marked i) is ∙ ap (λ f. f i) marked) ∙ off;
   views = λ i other low off. there s new i s.table (ap (λ y. y.table) is ∙ table) (ap (λ y. y.worlds i) is ∙ ap (λ f. f i) worlds) (λ page small. refl);
@@ -43,7 +43,7 @@ neither true b e = absurd (let h : true ≡ false = e in cc)
 neither false b e = (refl, e)
 
 -- an enclave was made or taken away, which runs nowhere; the harts in the host's world are marked
-owned : (s new : State) (hart id : ℕ) (slot : Option Enclave) (harts : ℕ) → 1 ≤ id → harts ≡ s.table.layout.harts → ((i : ℕ) → i < s.table.layout.harts → s.worlds i ≢ InEnclave id)
+owned : (s new : MonitorState) (hart id : ℕ) (slot : Option Enclave) (harts : ℕ) → 1 ≤ id → harts ≡ s.table.layout.harts → ((i : ℕ) → i < s.table.layout.harts → s.worlds i ≢ InEnclave id)
     → new.table ≡ with_enclave s.table id slot → ((i : ℕ) → new.worlds i ≡ s.worlds i)
     → ((i : ℕ) → new.marked i ≡ (if i == hart then s.marked i else (nat_lt i harts && is_host (s.worlds i) || s.marked i))) → KeepsOthers s new hart
 owned s new hart id slot harts above many free table worlds marks = record {
@@ -56,7 +56,7 @@ owned s new hart id slot harts above many free table worlds marks = record {
 }
 
 -- a hart went from one world to another, and an enclave that no other hart runs into another state
-moved : (s new : State) (hart id : ℕ) (e : Enclave) (stage : Stage) (to : World) → Live s.table id e → ((i : ℕ) → i ≢ hart → i < s.table.layout.harts → s.worlds i ≢ InEnclave id)
+moved : (s new : MonitorState) (hart id : ℕ) (e : Enclave) (stage : Stage) (to : World) → Live s.table id e → ((i : ℕ) → i ≢ hart → i < s.table.layout.harts → s.worlds i ≢ InEnclave id)
     → new.table ≡ with_enclave s.table id (Some (record e { state = stage })) → ((i : ℕ) → new.worlds i ≡ (if i == hart then to else s.worlds i)) → ((i : ℕ) → new.marked i ≡ s.marked i) → KeepsOthers s new hart
 moved s new hart id e stage to live free table worlds marks = record {
   awake = λ i other off. sym (marks i) ∙ off;
@@ -65,13 +65,13 @@ moved s new hart id e stage to live free table worlds marks = record {
 }
 
 -- an id that is free runs on no hart
-free_nowhere : (s : State) (id : ℕ) → ArePlaced s → enclave_at s.table.enclaves id ≡ None → (i : ℕ) → i < s.table.layout.harts → s.worlds i ≢ InEnclave id
+free_nowhere : (s : MonitorState) (id : ℕ) → ArePlaced s → enclave_at s.table.enclaves id ≡ None → (i : ℕ) → i < s.table.layout.harts → s.worlds i ≢ InEnclave id
 free_nowhere s id w free i low is =
     let now : IsCurrent s.table (InEnclave id) = subst (IsCurrent s.table) is (w.current i low) in
     let z : None ≡ Some now.0 = sym free ∙ now.1 in absurd cc
 
 -- nor one that is entered
-entered_nowhere : (s : State) (id : ℕ) (world : World) (entering : Entering) (table : EnclaveTable) → ArePlaced s → Enters s.table world id (state_before entering) table → (i : ℕ) → i < s.table.layout.harts → s.worlds i ≢ InEnclave id
+entered_nowhere : (s : MonitorState) (id : ℕ) (world : World) (entering : Entering) (table : EnclaveTable) → ArePlaced s → Enters s.table world id (state_before entering) table → (i : ℕ) → i < s.table.layout.harts → s.worlds i ≢ InEnclave id
 entered_nowhere s id world entering table w en i low is =
     let now : IsCurrent s.table (InEnclave id) = subst (IsCurrent s.table) is (w.current i low) in
     never entering (sym (en.passes.1.1.0 now.0 now.1) ∙ now.2)
@@ -80,19 +80,19 @@ entered_nowhere s id world entering table w en i low is =
     never FirstRun e = let z : Fresh ≡ Running = e in cc
     never Resume e = let z : Stopped ≡ Running = e in cc
 
-enters : (entering : Entering) (s : State) (hart id : ℕ) (answer : Answer) (zero : Option PageRange) (new : State) → ArePlaced s → DoesEnter entering id s hart answer zero new → KeepsOthers s new hart
+enters : (entering : Entering) (s : MonitorState) (hart id : ℕ) (answer : Answer) (zero : Option PageRange) (new : MonitorState) → ArePlaced s → DoesEnter entering id s hart answer zero new → KeepsOthers s new hart
 enters entering s hart id answer zero new w (inr x) = others_stay s new _ hart x.2.state refl refl refl
 enters FirstRun s hart id answer zero new w (inl x) =
     moved s new hart id x.3.turned.0 _ (InEnclave id) x.3.turned.1 (λ i other low. entered_nowhere s id (s.worlds hart) FirstRun x.1 w x.3 i low) (ap (λ y. y.table) x.4.state ∙ x.3.turned.2) (λ i. ap (λ y. y.worlds i) x.4.state) (λ i. ap (λ y. y.marked i) x.4.state)
 enters Resume s hart id answer zero new w (inl x) =
     moved s new hart id x.3.turned.0 _ (InEnclave id) x.3.turned.1 (λ i other low. entered_nowhere s id (s.worlds hart) Resume x.1 w x.3 i low) (ap (λ y. y.table) x.4.state ∙ x.3.turned.2) (λ i. ap (λ y. y.worlds i) x.4.state) (λ i. ap (λ y. y.marked i) x.4.state)
 
-left : (s new : State) (hart id : ℕ) (leaving : Leaving) (table : EnclaveTable) → hart < s.table.layout.harts → ArePlaced s → Leaves s.table (s.worlds hart) (state_after leaving) id table
+left : (s new : MonitorState) (hart id : ℕ) (leaving : Leaving) (table : EnclaveTable) → hart < s.table.layout.harts → ArePlaced s → Leaves s.table (s.worlds hart) (state_after leaving) id table
     → new.table ≡ table → ((i : ℕ) → new.worlds i ≡ (if i == hart then Host else s.worlds i)) → ((i : ℕ) → new.marked i ≡ s.marked i) → KeepsOthers s new hart
 left s new hart id leaving table low w l is worlds marks =
     moved s new hart id l.turned.0 _ Host l.turned.1 (λ i other under at. other (w.alone i hart id under low at l.left)) (is ∙ l.turned.2) worlds marks
 
-pub others_call : (call : Option Call) (pages : ℕ → List ℕ) (s : State) (hart : ℕ) (answer : Answer) (zero : Option PageRange) (new : State) → hart < s.table.layout.harts → ArePlaced s → DoesCall call pages s hart answer zero new → KeepsOthers s new hart
+pub others_call : (call : Option Call) (pages : ℕ → List ℕ) (s : MonitorState) (hart : ℕ) (answer : Answer) (zero : Option PageRange) (new : MonitorState) → hart < s.table.layout.harts → ArePlaced s → DoesCall call pages s hart answer zero new → KeepsOthers s new hart
 others_call None pages s hart answer zero new low w x = others_stay s new _ hart x.state refl refl refl
 others_call (Some (calls.Create base text_pages data_pages shared_base shared_count entry_offset)) pages s hart answer zero new low w (inl x) =
     owned s new hart x.0 _ x.1.layout.harts x.2.next.free.0 (ap (λ t. t.layout.harts) x.2.added) (free_nowhere s x.0 w x.2.next.free.2)
@@ -115,7 +115,7 @@ others_call (Some (calls.Exit value)) pages s hart answer zero new low w (inr x)
 others_call (Some (calls.Measure id k)) pages s hart answer zero new low w (inl x) = others_stay s new _ hart x.2.state refl refl refl
 others_call (Some (calls.Measure id k)) pages s hart answer zero new low w (inr x) = others_stay s new _ hart x.2.state refl refl refl
 
-pub others_irq : (world : World) (s : State) (hart : ℕ) (new : State) → s.worlds hart ≡ world → hart < s.table.layout.harts → ArePlaced s → Interrupts world s hart new → KeepsOthers s new hart
+pub others_irq : (world : World) (s : MonitorState) (hart : ℕ) (new : MonitorState) → s.worlds hart ≡ world → hart < s.table.layout.harts → ArePlaced s → Interrupts world s hart new → KeepsOthers s new hart
 others_irq Host s hart new at low w x = others_stay s new s hart x refl refl refl
 others_irq (InEnclave id) s hart new at low w x =
     left s new hart id Stop x.0 low w (subst (λ v. Leaves s.table v Stopped id x.0) (sym at) x.1) (ap (λ y. y.table) x.2) (λ i. ap (λ y. y.worlds i) x.2) (λ i. ap (λ y. y.marked i) x.2)

@@ -4,13 +4,13 @@ use Rattle.std.proofs.lemmas.Bool.{eq-eqb, ne_eqb}
 use Rattle.sbi_decode.specs.Registers.{RegisterFile}
 use Rattle.worlds.specs.Runners.{Runner, HostOf, EnclaveOf, runner_of}
 use Rattle.monitor_core.specs.Changes.{is_same, with_running}
-use Rattle.monitor_core.specs.States.{State, running_registers}
+use Rattle.monitor_core.specs.States.{MonitorState, running_registers}
 
 pub same_self : (who : Runner) → is_same who who ≡ true
 same_self (HostOf hart) = eq-eqb hart hart refl
 same_self (EnclaveOf id) = eq-eqb id id refl
 
-pub put_there : (s : State) (hart : ℕ) (file : RegisterFile) → running_registers (with_running s hart file) hart ≡ file
+pub put_there : (s : MonitorState) (hart : ℕ) (file : RegisterFile) → running_registers (with_running s hart file) hart ≡ file
 put_there s hart file = ap (λ b. if b then file else s.registers (runner_of hart (s.worlds hart))) (same_self (runner_of hart (s.worlds hart)))
 
 pub same_not : (a b : Runner) → a ≢ b → is_same a b ≡ false
@@ -19,5 +19,5 @@ same_not (HostOf a) (EnclaveOf b) n = refl
 same_not (EnclaveOf a) (HostOf b) n = refl
 same_not (EnclaveOf a) (EnclaveOf b) n = ne_eqb a b (λ e. n (ap EnclaveOf e))
 
-pub put_other : (s : State) (hart : ℕ) (file : RegisterFile) (who : Runner) → who ≢ runner_of hart (s.worlds hart) → (with_running s hart file).registers who ≡ s.registers who
+pub put_other : (s : MonitorState) (hart : ℕ) (file : RegisterFile) (who : Runner) → who ≢ runner_of hart (s.worlds hart) → (with_running s hart file).registers who ≡ s.registers who
 put_other s hart file who other = ap (λ b. if b then file else s.registers who) (same_not who (runner_of hart (s.worlds hart)) other)

@@ -1,6 +1,6 @@
 -- A call and an interrupt leave the table sound.
 use Rattle.std.proofs.Common.{◌≡◌, inl, inr, ℕ, List, Option, Some, None, refl, sym, subst, ap}
-use Rattle.platforms.specs.Platform.{Layout, IsLayout}
+use Rattle.platforms.specs.Platform.{PlatformLayout, IsLayout}
 use Rattle.enclave_table.specs.Enclaves.{EnclaveTable, with_enclave}
 use Rattle.enclave_requests.specs.Requests.{parts_of}
 use Rattle.enclave_table.specs.Tables.{IsTable}
@@ -8,7 +8,7 @@ use Rattle.enclave_table.specs.Create.{Creates, fresh}
 use Rattle.enclave_table.specs.Destroy.{Destroys}
 use Rattle.enclave_table.specs.Lives.{Turns}
 use Rattle.enclave_requests.specs.declared.request.Create.{Create}
-use Rattle.enclave_table.specs.declared.enclave.State.{State as Stage}
+use Rattle.enclave_table.specs.declared.enclave.Stage.{Stage}
 use Rattle.page_views.specs.declared.pages.PageRange.{PageRange}
 use Rattle.enclave_table.proofs.Created.{sound_from, apart_from}
 use Rattle.enclave_table.proofs.Placed.{free_place, added_table, removed_table}
@@ -20,7 +20,7 @@ use Rattle.sbi_decode.specs.declared.calls.Call.{Call}
 use Rattle.sbi_decode.specs.declared.calls.Call.TheVariants as calls
 use Rattle.page_views.specs.declared.pages.PageRange.{PageRange}
 use Rattle.monitor_core.specs.declared.answer.Answer.{Answer}
-use Rattle.monitor_core.specs.States.{State, opening}
+use Rattle.monitor_core.specs.States.{MonitorState, opening_monitor}
 use Rattle.monitor_core.specs.Steps.{DoesCall, Interrupts}
 use Rattle.monitor_core.proofs.Currents.{none_live}
 
@@ -44,7 +44,7 @@ destroyed old world id range new x t =
 turned : (old : EnclaveTable) (id : ℕ) (stage : Stage) (new : EnclaveTable) → Turns old id stage new → IsTable old → IsTable new
 turned old id stage new x t = same (with_enclave old id (Some (record x.0 { state = stage }))) new x.2 (turned_table old id x.0 stage x.1 t)
 
-pub call_keeps_table : (call : Option Call) (pages : ℕ → List ℕ) (s : State) (hart : ℕ) (answer : Answer) (zero : Option PageRange) (new : State) → DoesCall call pages s hart answer zero new → IsTable s.table → IsTable new.table
+pub call_keeps_table : (call : Option Call) (pages : ℕ → List ℕ) (s : MonitorState) (hart : ℕ) (answer : Answer) (zero : Option PageRange) (new : MonitorState) → DoesCall call pages s hart answer zero new → IsTable s.table → IsTable new.table
 call_keeps_table None pages s hart answer zero new x t = same s.table new.table (ap (λ y. y.table) x.state) t
 call_keeps_table (Some (calls.Create base text_pages data_pages shared_base shared_count entry_offset)) pages s hart answer zero new (inl x) t = same x.1 new.table (ap (λ y. y.table) x.3.state) (created pages s.table (s.worlds hart) _ x.0 x.1 x.2 t)
 call_keeps_table (Some (calls.Create base text_pages data_pages shared_base shared_count entry_offset)) pages s hart answer zero new (inr x) t = same s.table new.table (ap (λ y. y.table) x.2.state) t
@@ -61,12 +61,12 @@ call_keeps_table (Some (calls.Exit value)) pages s hart answer zero new (inr x) 
 call_keeps_table (Some (calls.Measure id k)) pages s hart answer zero new (inl x) t = same s.table new.table (ap (λ y. y.table) x.2.state) t
 call_keeps_table (Some (calls.Measure id k)) pages s hart answer zero new (inr x) t = same s.table new.table (ap (λ y. y.table) x.2.state) t
 
-pub interrupt_keeps_table : (world : World) (s : State) (hart : ℕ) (new : State) → Interrupts world s hart new → IsTable s.table → IsTable new.table
+pub interrupt_keeps_table : (world : World) (s : MonitorState) (hart : ℕ) (new : MonitorState) → Interrupts world s hart new → IsTable s.table → IsTable new.table
 interrupt_keeps_table Host s hart new x t = same s.table new.table (ap (λ y. y.table) x) t
 interrupt_keeps_table (InEnclave id) s hart new x t = same x.0 new.table (ap (λ y. y.table) x.2) (turned s.table id _ x.0 x.1.turned t)
 
 -- the table at boot
-pub opening_sound : (layout : Layout) → IsLayout layout → IsTable (opening layout).table
+pub opening_sound : (layout : PlatformLayout) → IsLayout layout → IsTable (opening_monitor layout).table
 opening_sound layout rules = record {
   layout = rules;
   places = refl;

@@ -5,8 +5,8 @@ use Rattle.std.proofs.lemmas.Option.{same_Some}
 use Rattle.enclave_table.specs.Enclaves.{EnclaveTable, Live, enclave_at, with_enclave}
 use Rattle.enclave_table.specs.Lives.{Leaves}
 use Rattle.enclave_table.specs.declared.enclave.Enclave.{Enclave}
-use Rattle.enclave_table.specs.declared.enclave.State.{State as Stage}
-use Rattle.enclave_table.specs.declared.enclave.State.TheVariants.{Fresh, Running, Stopped, Exited}
+use Rattle.enclave_table.specs.declared.enclave.Stage.{Stage}
+use Rattle.enclave_table.specs.declared.enclave.Stage.TheVariants.{Fresh, Running, Stopped, Exited}
 use Rattle.enclave_table.proofs.Places.{live_above, live_inside, set_same, set_other}
 use Rattle.page_views.specs.declared.pages.PageRange.{PageRange}
 use Rattle.sbi_decode.specs.Registers.{RegisterFile, with_x, zeros}
@@ -17,7 +17,7 @@ use Rattle.worlds.specs.declared.world.World.TheVariants.{Host, Enclave as InEnc
 use Rattle.worlds.specs.Runners.{Runner, HostOf, EnclaveOf, runner_of}
 use Rattle.monitor_core.specs.declared.answer.Answer.{Answer}
 use Rattle.monitor_core.specs.Changes.{first_registers, is_same, in_world, with_registers, with_running, answering, marking_others, back_to_host}
-use Rattle.monitor_core.specs.States.{State}
+use Rattle.monitor_core.specs.States.{MonitorState}
 use Rattle.monitor_core.specs.Steps.{DoesCall, Interrupts}
 use Rattle.monitor_core.specs.Switches.{runner_on, IsGone, HasExited, ComesBack, GoesIn, KeepsRegisters}
 use Rattle.monitor_core.proofs.Cases.{both}
@@ -26,29 +26,29 @@ use Rattle.monitor_core.proofs.Put.{same_not, same_self, put_other}
 use Rattle.monitor_core.proofs.Zeroed.{not_lost, still_there}
 
 -- no enclave is gone where the table stayed, or where another is put at some id
-same_gone : (s n : State) (id : ℕ) → n.table ≡ s.table → IsGone s n id → ⊥
+same_gone : (s n : MonitorState) (id : ℕ) → n.table ≡ s.table → IsGone s n id → ⊥
 same_gone s n id table g = not_lost s.table n.table id g.0 table g.1 g.2
 
-put_gone : (s n : State) (k id : ℕ) (slot : Enclave) → 1 ≤ k → n.table ≡ with_enclave s.table k (Some slot) → IsGone s n id → ⊥
+put_gone : (s n : MonitorState) (k id : ℕ) (slot : Enclave) → 1 ≤ k → n.table ≡ with_enclave s.table k (Some slot) → IsGone s n id → ⊥
 put_gone s n k id slot above table g = still_there s.table k id slot g.0 above g.1 (ap (λ t. enclave_at t.enclaves id) (sym table) ∙ g.2)
 
 -- and none has exited
-same_exit : (s n : State) (id : ℕ) → n.table ≡ s.table → HasExited s n id → ⊥
+same_exit : (s n : MonitorState) (id : ℕ) → n.table ≡ s.table → HasExited s n id → ⊥
 same_exit s n id table x =
     let same : x.0 ≡ x.1 = same_Some x.0 x.1 (sym x.2 ∙ ap (λ t. enclave_at t.enclaves id) (sym table) ∙ x.4) in x.3 (ap (λ e. e.state) same ∙ x.5)
 
-other_exit : (s n : State) (k id : ℕ) (slot : Option Enclave) → 1 ≤ k → n.table ≡ with_enclave s.table k slot → id ≢ k → HasExited s n id → ⊥
+other_exit : (s n : MonitorState) (k id : ℕ) (slot : Option Enclave) → 1 ≤ k → n.table ≡ with_enclave s.table k slot → id ≢ k → HasExited s n id → ⊥
 other_exit s n k id slot above table other x =
     let was : Live s.table id x.1 = was_live s.table n.table k id slot x.1 above table x.4 other in
     let same : x.0 ≡ x.1 = same_Some x.0 x.1 (sym x.2 ∙ was) in x.3 (ap (λ e. e.state) same ∙ x.5)
 
-put_exit : (s n : State) (k id : ℕ) (slot : Option Enclave) → 1 ≤ k → n.table ≡ with_enclave s.table k slot → ((e : Enclave) → slot ≡ Some e → e.state ≢ Exited) → HasExited s n id → ⊥
+put_exit : (s n : MonitorState) (k id : ℕ) (slot : Option Enclave) → 1 ≤ k → n.table ≡ with_enclave s.table k slot → ((e : Enclave) → slot ≡ Some e → e.state ≢ Exited) → HasExited s n id → ⊥
 put_exit s n k id slot above table rests x = both (id == k)
     (λ yes. rests x.1 (put_is s.table n.table k id slot x.1 table x.4 (eqb-true id k yes)) x.5)
     (λ no. other_exit s n k id slot above table (λ same. both_ways (id == k) no (eq-eqb id k same)) x)
 
 -- the hart stays in its world, and all but who runs there keep their registers
-pub stayed : (s n : State) (hart : ℕ) → n.worlds hart ≡ s.worlds hart → ((who : Runner) → who ≢ runner_on s hart → n.registers who ≡ s.registers who) → ((id : ℕ) → IsGone s n id → ⊥) → ((id : ℕ) → HasExited s n id → ⊥) → KeepsRegisters s hart n
+pub stayed : (s n : MonitorState) (hart : ℕ) → n.worlds hart ≡ s.worlds hart → ((who : Runner) → who ≢ runner_on s hart → n.registers who ≡ s.registers who) → ((id : ℕ) → IsGone s n id → ⊥) → ((id : ℕ) → HasExited s n id → ⊥) → KeepsRegisters s hart n
 stayed s n hart world kept none ended = record {
   gone = λ id g. absurd (none id g);
   exited = λ id x. absurd (ended id x);
@@ -58,24 +58,24 @@ stayed s n hart world kept none ended = record {
 }
 
 -- registers are put
-pub putting_keeps_registers : (s n : State) (hart : ℕ) (file : RegisterFile) → n ≡ with_running s hart file → KeepsRegisters s hart n
+pub putting_keeps_registers : (s n : MonitorState) (hart : ℕ) (file : RegisterFile) → n ≡ with_running s hart file → KeepsRegisters s hart n
 putting_keeps_registers s n hart file is =
     stayed s n hart (ap (λ y. y.worlds hart) is) (λ who other. ap (λ y. y.registers who) is ∙ put_other s hart file who other)
     (λ id g. same_gone s n id (ap (λ y. y.table) is) g) (λ id x. same_exit s n id (ap (λ y. y.table) is) x)
 
 -- nothing changed but marks
-pub marking_keeps_registers : (s n : State) (hart : ℕ) → n.table ≡ s.table → n.worlds hart ≡ s.worlds hart → n.registers ≡ s.registers → KeepsRegisters s hart n
+pub marking_keeps_registers : (s n : MonitorState) (hart : ℕ) → n.table ≡ s.table → n.worlds hart ≡ s.worlds hart → n.registers ≡ s.registers → KeepsRegisters s hart n
 marking_keeps_registers s n hart table world registers = stayed s n hart world (λ who other. ap (λ f. f who) registers) (λ id g. same_gone s n id table g) (λ id x. same_exit s n id table x)
 
 -- one more enclave
-created : (s n : State) (hart id : ℕ) (table : EnclaveTable) (slot : Enclave) → 1 ≤ id → slot.state ≡ Fresh → table ≡ with_enclave s.table id (Some slot) → n ≡ marking_others (answering (record s { table = table }) hart 0 id) hart → KeepsRegisters s hart n
+created : (s n : MonitorState) (hart id : ℕ) (table : EnclaveTable) (slot : Enclave) → 1 ≤ id → slot.state ≡ Fresh → table ≡ with_enclave s.table id (Some slot) → n ≡ marking_others (answering (record s { table = table }) hart 0 id) hart → KeepsRegisters s hart n
 created s n hart id table slot above fresh added is =
     stayed s n hart (ap (λ y. y.worlds hart) is) (λ who other. ap (λ y. y.registers who) is ∙ put_other (record s { table = table }) hart _ who other)
     (λ k g. put_gone s n id k slot above (ap (λ y. y.table) is ∙ added) g)
     (λ k x. put_exit s n id k (Some slot) above (ap (λ y. y.table) is ∙ added) (λ e put over. let same = same_Some slot e put in let z : Fresh ≡ Exited = sym fresh ∙ ap (λ g. g.state) same ∙ over in cc) x)
 
 -- one enclave fewer
-destroyed : (s n : State) (hart id : ℕ) (table : EnclaveTable) (e : Enclave) → s.worlds hart ≡ Host → Live s.table id e → table ≡ with_enclave s.table id None
+destroyed : (s n : MonitorState) (hart id : ℕ) (table : EnclaveTable) (e : Enclave) → s.worlds hart ≡ Host → Live s.table id e → table ≡ with_enclave s.table id None
     → n ≡ marking_others (answering (with_registers (record s { table = table }) (EnclaveOf id) zeros) hart 0 0) hart → KeepsRegisters s hart n
 destroyed s n hart id table e host live removed is = record {
   gone = λ k g.
@@ -90,7 +90,7 @@ destroyed s n hart id table e host live removed is = record {
   enclave = λ k other at. absurd (other (sym (ap (λ y. y.worlds hart) is) ∙ at));
 }
   where
-    mid : State
+    mid : MonitorState
     mid = with_registers (record s { table = table }) (EnclaveOf id) zeros
 
     now : n.table ≡ with_enclave s.table id None
@@ -101,7 +101,7 @@ destroyed s n hart id table e host live removed is = record {
         let z : Some g.0 ≡ None = sym g.1 ∙ sym (set_other s.table.enclaves id k None (live_above s.table.enclaves id e live) other) ∙ ap (λ t. enclave_at t.enclaves k) (sym now) ∙ g.2 in cc
 
 -- an enclave goes in
-entered : (s n : State) (hart id : ℕ) (e slot : Enclave) → Live s.table id e → slot.state ≡ Running → n.worlds hart ≡ InEnclave id → n.table ≡ with_enclave s.table id (Some slot)
+entered : (s n : MonitorState) (hart id : ℕ) (e slot : Enclave) → Live s.table id e → slot.state ≡ Running → n.worlds hart ≡ InEnclave id → n.table ≡ with_enclave s.table id (Some slot)
     → ((who : Runner) → who ≢ EnclaveOf id → n.registers who ≡ s.registers who) → GoesIn id e (s.registers (EnclaveOf id)) (n.registers (EnclaveOf id)) → KeepsRegisters s hart n
 entered s n hart id e slot live runs world table kept goes = record {
   gone = λ k g. absurd (put_gone s n id k slot (live_above s.table.enclaves id e live) table g);
@@ -115,12 +115,12 @@ entered s n hart id e slot live runs world table kept goes = record {
 }
 
 -- the registers where the host goes on
-back_there : (s : State) (hart first second : ℕ) (who : Runner) → (back_to_host s hart first second).registers who ≡ (if is_same who (HostOf hart) then with_x (with_x (s.registers (HostOf hart)) 10 first) 11 second else s.registers who)
+back_there : (s : MonitorState) (hart first second : ℕ) (who : Runner) → (back_to_host s hart first second).registers who ≡ (if is_same who (HostOf hart) then with_x (with_x (s.registers (HostOf hart)) 10 first) 11 second else s.registers who)
 back_there s hart first second who =
     ap (λ b. let runner = runner_of hart (if b then Host else s.worlds hart) in if is_same who runner then with_x (with_x (s.registers runner) 10 first) 11 second else s.registers who) (eq-eqb hart hart refl)
 
 -- the host comes back
-left : (s mid n : State) (hart id first second : ℕ) (stage : Stage) (table : EnclaveTable) → Leaves s.table (s.worlds hart) stage id table → mid.table ≡ table → ((who : Runner) → who ≢ EnclaveOf id → mid.registers who ≡ s.registers who)
+left : (s mid n : MonitorState) (hart id first second : ℕ) (stage : Stage) (table : EnclaveTable) → Leaves s.table (s.worlds hart) stage id table → mid.table ≡ table → ((who : Runner) → who ≢ EnclaveOf id → mid.registers who ≡ s.registers who)
     → n ≡ back_to_host mid hart first second → ((file : RegisterFile) → file ≡ with_x (with_x (s.registers (HostOf hart)) 10 first) 11 second → ComesBack (s.registers (HostOf hart)) file) → (stage ≡ Exited → mid.registers (EnclaveOf id) ≡ zeros) → KeepsRegisters s hart n
 left s mid n hart id first second stage table l now kept is says ends = record {
   gone = λ k g. absurd (put_gone s n id k _ (live_above s.table.enclaves id l.turned.0 l.turned.1) placed g);
@@ -151,10 +151,10 @@ stopped : Stopped ≡ Exited → ⊥
 stopped e = cc
 
 -- a hart that goes to an enclave is there
-there : (s n : State) (hart id : ℕ) → n.worlds hart ≡ (in_world s hart (InEnclave id)).worlds hart → n.worlds hart ≡ InEnclave id
+there : (s n : MonitorState) (hart id : ℕ) → n.worlds hart ≡ (in_world s hart (InEnclave id)).worlds hart → n.worlds hart ≡ InEnclave id
 there s n hart id is = is ∙ ap (λ b. if b then InEnclave id else s.worlds hart) (eq-eqb hart hart refl)
 
-pub call_keeps_registers : (call : Option Call) (pages : ℕ → List ℕ) (s : State) (hart : ℕ) (answer : Answer) (zero : Option PageRange) (n : State) → DoesCall call pages s hart answer zero n → KeepsRegisters s hart n
+pub call_keeps_registers : (call : Option Call) (pages : ℕ → List ℕ) (s : MonitorState) (hart : ℕ) (answer : Answer) (zero : Option PageRange) (n : MonitorState) → DoesCall call pages s hart answer zero n → KeepsRegisters s hart n
 call_keeps_registers None pages s hart answer zero n x = putting_keeps_registers s n hart _ x.state
 call_keeps_registers (Some (calls.Create base text_pages data_pages shared_base shared_count entry_offset)) pages s hart answer zero n (inl x) =
     created s n hart x.0 x.1 _ x.2.next.free.0 refl x.2.added x.3.state
@@ -182,13 +182,13 @@ call_keeps_registers (Some (calls.Exit value)) pages s hart answer zero n (inr x
 call_keeps_registers (Some (calls.Measure id k)) pages s hart answer zero n (inl x) = putting_keeps_registers s n hart _ x.2.state
 call_keeps_registers (Some (calls.Measure id k)) pages s hart answer zero n (inr x) = putting_keeps_registers s n hart _ x.2.state
 
-pub interrupt_keeps_registers : (world : World) (s : State) (hart : ℕ) (n : State) → s.worlds hart ≡ world → Interrupts world s hart n → KeepsRegisters s hart n
+pub interrupt_keeps_registers : (world : World) (s : MonitorState) (hart : ℕ) (n : MonitorState) → s.worlds hart ≡ world → Interrupts world s hart n → KeepsRegisters s hart n
 interrupt_keeps_registers Host s hart n at x = marking_keeps_registers s n hart (ap (λ y. y.table) x) (ap (λ y. y.worlds hart) x) (ap (λ y. y.registers) x)
 interrupt_keeps_registers (InEnclave id) s hart n at x =
     left s (record s { table = x.0 }) n hart id 1 0 _ x.0 (subst (λ w. Leaves s.table w Stopped id x.0) (sym at) x.1) refl (λ who other. refl) x.2 (λ file is. inl is) (λ e. absurd (stopped e))
 
 -- so it is of an event that first put the registers of the hart
-pub put_before : (s n : State) (hart : ℕ) (file : RegisterFile) → KeepsRegisters (with_running s hart file) hart n → KeepsRegisters s hart n
+pub put_before : (s n : MonitorState) (hart : ℕ) (file : RegisterFile) → KeepsRegisters (with_running s hart file) hart n → KeepsRegisters s hart n
 put_before s n hart file k = record {
   gone = k.gone;
   exited = k.exited;

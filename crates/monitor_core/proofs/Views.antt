@@ -3,7 +3,7 @@ use Rattle.std.proofs.Common.{◌≡◌, ◌≢◌, ℕ, ◌≤◌, true, false,
 use Rattle.permission_map.specs.Views.{SameView}
 use Rattle.enclave_table.specs.Enclaves.{EnclaveTable, Live, with_enclave}
 use Rattle.enclave_table.specs.declared.enclave.Enclave.{Enclave}
-use Rattle.enclave_table.specs.declared.enclave.State.{State}
+use Rattle.enclave_table.specs.declared.enclave.Stage.{Stage}
 use Rattle.enclave_table.proofs.Places.{live_above, set_other}
 use Rattle.enclave_table.proofs.ShortNames.{view_in}
 use Rattle.enclave_table.proofs.Turned.{same_host_view}
@@ -18,6 +18,6 @@ view_other table id slot Host above other not = absurd (let h : true ≡ false =
 view_other table id slot (InEnclave k) above other not = λ page small. ap (λ o. view_in o page) (sym (set_other table.enclaves id k slot above (λ e. other (ap InEnclave e))))
 
 -- where an enclave is put into another state, every other world has the same view
-pub view_turned : (table : EnclaveTable) (id : ℕ) (e : Enclave) (state : State) (world : World) → Live table id e → world ≢ InEnclave id → SameView (view_of table world) (view_of (with_enclave table id (Some (record e { state = state }))) world)
+pub view_turned : (table : EnclaveTable) (id : ℕ) (e : Enclave) (state : Stage) (world : World) → Live table id e → world ≢ InEnclave id → SameView (view_of table world) (view_of (with_enclave table id (Some (record e { state = state }))) world)
 view_turned table id e state Host live other = same_host_view table id e state live
 view_turned table id e state (InEnclave k) live other = view_other table id (Some (record e { state = state })) (InEnclave k) (live_above table.enclaves id e live) other refl

@@ -17,7 +17,7 @@ use Rattle.enclave_requests.specs.declared.request.Create.{Create}
 use Rattle.enclave_table.specs.declared.refusal.Refusal.{Refusal}
 use Rattle.enclave_table.specs.declared.refusal.Refusal.TheVariants.{NotHost, NotEnclave, BadCount, BadAddress, BadEntry, NotRam, Overlap, TableFull, NoEntries, NoMemory, BadId, BadState, BadWord}
 use Rattle.enclave_table.specs.Tables.{IsTable}
-use Rattle.enclave_table.specs.declared.enclave.State.TheVariants.{Fresh, Stopped}
+use Rattle.enclave_table.specs.declared.enclave.Stage.TheVariants.{Fresh, Stopped}
 use Rattle.enclave_table.proofs.Placed.{free_place, host_added}
 use Rattle.enclave_table.proofs.SameViews.{more_same}
 use Rattle.permission_map.specs.Views.{SameView}
@@ -26,7 +26,7 @@ use Rattle.sbi_decode.specs.declared.calls.Call.{Call}
 use Rattle.sbi_decode.specs.declared.calls.Call.TheVariants as calls
 use Rattle.monitor_core.specs.declared.answer.Answer.{Answer}
 use Rattle.monitor_core.specs.Answers.{below_zero}
-use Rattle.monitor_core.specs.States.{State}
+use Rattle.monitor_core.specs.States.{MonitorState}
 use Rattle.monitor_core.specs.Steps.{Done, Refuses, DoesCall}
 use Rattle.monitor_core.specs.Wants.{wants_of, IsRefusedByNeed}
 use Rattle.pmp_encoding.specs.declared.perm.Perm.{Perm}
@@ -59,10 +59,10 @@ under_zero (pos n) = 0
 under_zero (negsuc n) = n
 
 -- what a call that is refused, and one that is done, is answered with
-refused_says : (number : ℕ) (s : State) (hart : ℕ) (answer : Answer) (zero : Option PageRange) (new : State) → Refuses number s hart answer zero new → answer.status ≡ below_zero number
+refused_says : (number : ℕ) (s : MonitorState) (hart : ℕ) (answer : Answer) (zero : Option PageRange) (new : MonitorState) → Refuses number s hart answer zero new → answer.status ≡ below_zero number
 refused_says number s hart answer zero new x = ap (λ a. a.status) x.told
 
-done_says : (that : State) (value : ℕ) (pages : Option PageRange) (answer : Answer) (zero : Option PageRange) (new : State) → Done that value pages answer zero new → answer.status ≡ pos 0
+done_says : (that : MonitorState) (value : ℕ) (pages : Option PageRange) (answer : Answer) (zero : Option PageRange) (new : MonitorState) → Done that value pages answer zero new → answer.status ≡ pos 0
 done_says that value pages answer zero new x = ap (λ a. a.status) x.told
 
 -- a call that was done was not refused
@@ -81,7 +81,7 @@ one_next table id other n m = omega (arith, n.smallest other m.free, m.smallest 
 abbrev ExactlyWhere : Type 0 → Answer → Type 0
 ExactlyWhere More answer = (IsAnsweredBy answer NoEntries → More) × (More → IsAnsweredBy answer NoEntries ⊎ IsAnsweredBy answer NoMemory)
 
-create_refused : (asked : Create) (pages : ℕ → List ℕ) (s : State) (hart : ℕ) (answer : Answer) (refusal : Refusal) → AllPass (create_checks s.table (s.worlds hart) (parts_of asked))
+create_refused : (asked : Create) (pages : ℕ → List ℕ) (s : MonitorState) (hart : ℕ) (answer : Answer) (refusal : Refusal) → AllPass (create_checks s.table (s.worlds hart) (parts_of asked))
     → RefusesBy (create_checks s.table (s.worlds hart) (parts_of asked)) (OutgrowsByCreate pages s.table asked) refusal → IsAnsweredBy answer refusal → ExactlyWhere (OutgrowsByCreate pages s.table asked) answer
 create_refused asked pages s hart answer NoEntries pass why x = ((λ is. why.1), (λ out. inl x))
 create_refused asked pages s hart answer NoMemory pass why x = ((λ is. absurd (not_both answer x is)), (λ out. inr x))
@@ -97,7 +97,7 @@ create_refused asked pages s hart answer BadId pass why x = absurd (none_fails (
 create_refused asked pages s hart answer BadState pass why x = absurd (none_fails (create_checks s.table (s.worlds hart) (parts_of asked)) BadState pass why)
 create_refused asked pages s hart answer BadWord pass why x = absurd (none_fails (create_checks s.table (s.worlds hart) (parts_of asked)) BadWord pass why)
 
-pub creates_by_need : (asked : Create) (pages : ℕ → List ℕ) (s : State) (hart : ℕ) (answer : Answer) (zero : Option PageRange) (new : State) → AllPass (create_checks s.table (s.worlds hart) (parts_of asked)) → DoesCall (creates_of asked) pages s hart answer zero new
+pub creates_by_need : (asked : Create) (pages : ℕ → List ℕ) (s : MonitorState) (hart : ℕ) (answer : Answer) (zero : Option PageRange) (new : MonitorState) → AllPass (create_checks s.table (s.worlds hart) (parts_of asked)) → DoesCall (creates_of asked) pages s hart answer zero new
     → ExactlyWhere (OutgrowsByCreate pages s.table asked) answer
 creates_by_need asked pages s hart answer zero new pass (inr x) = create_refused asked pages s hart answer x.0 pass x.1 (refused_says _ s hart answer zero new x.2)
 creates_by_need asked pages s hart answer zero new pass (inl x) = (
@@ -113,7 +113,7 @@ creates_by_need asked pages s hart answer zero new pass (inl x) = (
   ])),
 )
 
-destroy_refused : (id : ℕ) (s : State) (hart : ℕ) (answer : Answer) (refusal : Refusal) → AllPass (host_checks MayDestroy s.table (s.worlds hart) id)
+destroy_refused : (id : ℕ) (s : MonitorState) (hart : ℕ) (answer : Answer) (refusal : Refusal) → AllPass (host_checks MayDestroy s.table (s.worlds hart) id)
     → RefusesBy (host_checks MayDestroy s.table (s.worlds hart) id) (NeedsMore s.table.layout.limit (host_view (with_enclave s.table id None))) refusal → IsAnsweredBy answer refusal → ExactlyWhere (NeedsMore s.table.layout.limit (host_view (with_enclave s.table id None))) answer
 destroy_refused id s hart answer NoEntries pass why x = ((λ is. why.1), (λ out. inl x))
 destroy_refused id s hart answer NoMemory pass why x = ((λ is. absurd (not_both answer x is)), (λ out. inr x))
@@ -129,7 +129,7 @@ destroy_refused id s hart answer BadId pass why x = absurd (none_fails (host_che
 destroy_refused id s hart answer BadState pass why x = absurd (none_fails (host_checks MayDestroy s.table (s.worlds hart) id) BadState pass why)
 destroy_refused id s hart answer BadWord pass why x = absurd (none_fails (host_checks MayDestroy s.table (s.worlds hart) id) BadWord pass why)
 
-pub destroys_by_need : (id : ℕ) (pages : ℕ → List ℕ) (s : State) (hart : ℕ) (answer : Answer) (zero : Option PageRange) (new : State) → AllPass (host_checks MayDestroy s.table (s.worlds hart) id) → DoesCall (Some (calls.Destroy id)) pages s hart answer zero new
+pub destroys_by_need : (id : ℕ) (pages : ℕ → List ℕ) (s : MonitorState) (hart : ℕ) (answer : Answer) (zero : Option PageRange) (new : MonitorState) → AllPass (host_checks MayDestroy s.table (s.worlds hart) id) → DoesCall (Some (calls.Destroy id)) pages s hart answer zero new
     → ExactlyWhere (NeedsMore s.table.layout.limit (host_view (with_enclave s.table id None))) answer
 destroys_by_need id pages s hart answer zero new pass (inr x) = destroy_refused id s hart answer x.0 pass x.1 (refused_says _ s hart answer zero new x.2)
 destroys_by_need id pages s hart answer zero new pass (inl x) = (
@@ -224,13 +224,13 @@ opens pages table id parts t next page small = sym (closes pages table id parts 
 otherwise : (call : Option Call) (table : EnclaveTable) (world : World) (answer : Answer) → ((wants_of call table world).0 → (wants_of call table world).1 → ⊥) → Neither answer → ByNeed call table world answer
 otherwise call table world answer none n = record { entries = λ is. absurd (n.entries is); outgrown = λ pass out. absurd (none pass out); memory = λ is. absurd (n.memory is) }
 
-create_failed : (asked : Create) (s : State) (hart : ℕ) (answer : Answer) (refusal : Refusal) → FailsFirst (create_checks s.table (s.worlds hart) (parts_of asked)) refusal → IsOther refusal
+create_failed : (asked : Create) (s : MonitorState) (hart : ℕ) (answer : Answer) (refusal : Refusal) → FailsFirst (create_checks s.table (s.worlds hart) (parts_of asked)) refusal → IsOther refusal
     → IsAnsweredBy answer refusal → ByNeed (creates_of asked) s.table (s.worlds hart) answer
 create_failed asked s hart answer refusal why other x =
     otherwise (creates_of asked) s.table (s.worlds hart) answer (λ pass out. none_fails (create_checks s.table (s.worlds hart) (parts_of asked)) refusal pass why) (checked refusal answer other x)
 
 -- a creation that is refused, by its refusal
-create_by_need : (asked : Create) (pages : ℕ → List ℕ) (s : State) (hart : ℕ) (answer : Answer) (refusal : Refusal) → IsTable s.table → RefusesBy (create_checks s.table (s.worlds hart) (parts_of asked)) (OutgrowsByCreate pages s.table asked) refusal
+create_by_need : (asked : Create) (pages : ℕ → List ℕ) (s : MonitorState) (hart : ℕ) (answer : Answer) (refusal : Refusal) → IsTable s.table → RefusesBy (create_checks s.table (s.worlds hart) (parts_of asked)) (OutgrowsByCreate pages s.table asked) refusal
     → IsAnsweredBy answer refusal → ByNeed (creates_of asked) s.table (s.worlds hart) answer
 create_by_need asked pages s hart answer NoEntries t why x = record {
   entries = λ is. (
@@ -260,12 +260,12 @@ create_by_need asked pages s hart answer BadId t why x = create_failed asked s h
 create_by_need asked pages s hart answer BadState t why x = create_failed asked s hart answer BadState why tt x
 create_by_need asked pages s hart answer BadWord t why x = create_failed asked s hart answer BadWord why tt x
 
-destroy_failed : (id : ℕ) (s : State) (hart : ℕ) (answer : Answer) (refusal : Refusal) → FailsFirst (host_checks MayDestroy s.table (s.worlds hart) id) refusal → IsOther refusal
+destroy_failed : (id : ℕ) (s : MonitorState) (hart : ℕ) (answer : Answer) (refusal : Refusal) → FailsFirst (host_checks MayDestroy s.table (s.worlds hart) id) refusal → IsOther refusal
     → IsAnsweredBy answer refusal → ByNeed (Some (calls.Destroy id)) s.table (s.worlds hart) answer
 destroy_failed id s hart answer refusal why other x =
     otherwise (Some (calls.Destroy id)) s.table (s.worlds hart) answer (λ pass out. none_fails (host_checks MayDestroy s.table (s.worlds hart) id) refusal pass why) (checked refusal answer other x)
 
-destroy_by_need : (id : ℕ) (s : State) (hart : ℕ) (answer : Answer) (refusal : Refusal) → RefusesBy (host_checks MayDestroy s.table (s.worlds hart) id) (NeedsMore s.table.layout.limit (host_view (with_enclave s.table id None))) refusal
+destroy_by_need : (id : ℕ) (s : MonitorState) (hart : ℕ) (answer : Answer) (refusal : Refusal) → RefusesBy (host_checks MayDestroy s.table (s.worlds hart) id) (NeedsMore s.table.layout.limit (host_view (with_enclave s.table id None))) refusal
     → IsAnsweredBy answer refusal → ByNeed (Some (calls.Destroy id)) s.table (s.worlds hart) answer
 destroy_by_need id s hart answer NoEntries why x = record {
   entries = λ is. (why.0, why.1);
@@ -290,12 +290,12 @@ destroy_by_need id s hart answer BadState why x = destroy_failed id s hart answe
 destroy_by_need id s hart answer BadWord why x = destroy_failed id s hart answer BadWord why tt x
 
 -- a call of another kind that is refused
-refused_other : (call : Option Call) (checks : List (Refusal × Type 0)) (s : State) (hart : ℕ) (answer : Answer) (refusal : Refusal) → ((wants_of call s.table (s.worlds hart)).0 → ⊥) → AreOthers checks → FailsFirst checks refusal
+refused_other : (call : Option Call) (checks : List (Refusal × Type 0)) (s : MonitorState) (hart : ℕ) (answer : Answer) (refusal : Refusal) → ((wants_of call s.table (s.worlds hart)).0 → ⊥) → AreOthers checks → FailsFirst checks refusal
     → IsAnsweredBy answer refusal → ByNeed call s.table (s.worlds hart) answer
 refused_other call checks s hart answer refusal none others why x =
     never call s.table (s.worlds hart) answer none (checked refusal answer (fails_other checks refusal others why) x)
 
-pub call_refused_by_need : (call : Option Call) (pages : ℕ → List ℕ) (s : State) (hart : ℕ) (answer : Answer) (zero : Option PageRange) (new : State) → IsTable s.table → DoesCall call pages s hart answer zero new → ByNeed call s.table (s.worlds hart) answer
+pub call_refused_by_need : (call : Option Call) (pages : ℕ → List ℕ) (s : MonitorState) (hart : ℕ) (answer : Answer) (zero : Option PageRange) (new : MonitorState) → IsTable s.table → DoesCall call pages s hart answer zero new → ByNeed call s.table (s.worlds hart) answer
 call_refused_by_need None pages s hart answer zero new t x =
     never None s.table (s.worlds hart) answer (λ none. none) (numbered 2 answer (λ e. let z : 1 ≡ 107 = e in omega (arith, z)) (λ e. let z : 1 ≡ 108 = e in omega (arith, z)) (refused_says 2 s hart answer zero new x))
 call_refused_by_need (Some (calls.Create base text_pages data_pages shared_base shared_count entry_offset)) pages s hart answer zero new t (inl x) =

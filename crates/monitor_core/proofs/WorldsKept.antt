@@ -2,7 +2,7 @@
 use Rattle.std.proofs.Common.{◌≡◌, ◌≢◌, ◌∙◌, inl, inr, ℕ, ◌<◌, ◌≤◌, List, Bool, true, false, ◌&&◌, ◌||◌, ◌==◌, nat_lt, if◌then◌else◌, Option, Some, None, refl, ap, sym, subst}
 use Rattle.std.proofs.lemmas.Bool.{eq-eqb, eqb-true, both_ways, or_cases, and_parts}
 use Rattle.std.proofs.lemmas.Option.{same_Some}
-use Rattle.platforms.specs.Platform.{Layout}
+use Rattle.platforms.specs.Platform.{PlatformLayout}
 use Rattle.enclave_table.specs.Enclaves.{EnclaveTable, Live, enclave_at, with_enclave}
 use Rattle.enclave_requests.specs.Requests.{parts_of}
 use Rattle.enclave_table.specs.Tables.{IsCurrent}
@@ -12,8 +12,8 @@ use Rattle.enclave_table.specs.Checks.{state_before}
 use Rattle.enclave_table.specs.Lives.{state_after}
 use Rattle.enclave_requests.specs.declared.request.Create.{Create}
 use Rattle.enclave_table.specs.declared.enclave.Enclave.{Enclave}
-use Rattle.enclave_table.specs.declared.enclave.State.{State as Stage}
-use Rattle.enclave_table.specs.declared.enclave.State.TheVariants.{Fresh, Running, Stopped, Exited}
+use Rattle.enclave_table.specs.declared.enclave.Stage.{Stage}
+use Rattle.enclave_table.specs.declared.enclave.Stage.TheVariants.{Fresh, Running, Stopped, Exited}
 use Rattle.enclave_table.specs.declared.life.Entering.{Entering}
 use Rattle.enclave_table.specs.declared.life.Entering.TheVariants.{Run as FirstRun, Resume}
 use Rattle.enclave_table.specs.declared.life.Leaving.{Leaving}
@@ -26,7 +26,7 @@ use Rattle.sbi_decode.specs.declared.calls.Call.{Call}
 use Rattle.sbi_decode.specs.declared.calls.Call.TheVariants as calls
 use Rattle.page_views.specs.declared.pages.PageRange.{PageRange}
 use Rattle.monitor_core.specs.declared.answer.Answer.{Answer}
-use Rattle.monitor_core.specs.States.{State, opening}
+use Rattle.monitor_core.specs.States.{MonitorState, opening_monitor}
 use Rattle.monitor_core.specs.Changes.{is_host, with_running, without_mark}
 use Rattle.monitor_core.specs.Steps.{DoesCall, DoesEnter, Interrupts}
 use Rattle.monitor_core.specs.Worlds.{ArePlaced}
@@ -35,7 +35,7 @@ use Rattle.monitor_core.proofs.Held.{held_moved}
 use Rattle.monitor_core.proofs.Cases.{both}
 
 -- what one hart's event may do to the table and the worlds: nothing but at one id and on that hart
-record Change (s n : State) (hart id : ℕ) (slot : Option Enclave) (to : World) : Type 0 where
+record Change (s n : MonitorState) (hart id : ℕ) (slot : Option Enclave) (to : World) : Type 0 where
   low : hart < s.table.layout.harts
   above : 1 ≤ id
   table : n.table ≡ with_enclave s.table id slot
@@ -47,7 +47,7 @@ record Change (s n : State) (hart id : ℕ) (slot : Option Enclave) (to : World)
   left : (k : ℕ) → s.worlds hart ≡ InEnclave k → k ≡ id
   marks : (h : ℕ) → h < s.table.layout.harts → n.marked h ≡ true → n.worlds h ≡ Host
 
-worlds_changed : (s n : State) (hart id : ℕ) (slot : Option Enclave) (to : World) → Change s n hart id slot to → ArePlaced s → ArePlaced n
+worlds_changed : (s n : MonitorState) (hart id : ℕ) (slot : Option Enclave) (to : World) → Change s n hart id slot to → ArePlaced s → ArePlaced n
 worlds_changed s n hart id slot to c w = record {
   current = λ h low. let low' = under h low in subst (IsCurrent n.table) (sym (c.worlds h low')) (both (h == hart)
       (λ e. subst (λ t. IsCurrent n.table (if t then to else s.worlds h)) (sym e) c.now_current)
@@ -78,7 +78,7 @@ worlds_changed s n hart id slot to c w = record {
     away h low e = c.worlds h (under h low) ∙ ap (λ t. if t then to else s.worlds h) e
 
 -- table and worlds are as they were, and no mark is new
-pub worlds_stay : (s n : State) → n.table ≡ s.table → ((h : ℕ) → h < s.table.layout.harts → n.worlds h ≡ s.worlds h) → ((h : ℕ) → h < s.table.layout.harts → n.marked h ≡ true → s.marked h ≡ true) → ArePlaced s → ArePlaced n
+pub worlds_stay : (s n : MonitorState) → n.table ≡ s.table → ((h : ℕ) → h < s.table.layout.harts → n.worlds h ≡ s.worlds h) → ((h : ℕ) → h < s.table.layout.harts → n.marked h ≡ true → s.marked h ≡ true) → ArePlaced s → ArePlaced n
 worlds_stay s n table worlds marks w = record {
   current = λ h low. subst (λ t. IsCurrent t (n.worlds h)) (sym table) (subst (IsCurrent s.table) (sym (worlds h (under h low))) (w.current h (under h low)));
   alone = λ h o k low also at there. w.alone h o k (under h low) (under o also) (sym (worlds h (under h low)) ∙ at) (sym (worlds o (under o also)) ∙ there);
@@ -90,11 +90,11 @@ worlds_stay s n table worlds marks w = record {
     under h low = subst (λ t. h < t.layout.harts) table low
 
 -- in a state that is that one
-pub worlds_same : (s n : State) → n ≡ s → ArePlaced s → ArePlaced n
+pub worlds_same : (s n : MonitorState) → n ≡ s → ArePlaced s → ArePlaced n
 worlds_same s n is w = subst ArePlaced (sym is) w
 
 -- an enclave was made or taken away, which is not Running before or after; the harts in the host's world may be marked
-owned : (s n : State) (hart id : ℕ) (slot : Option Enclave) (harts : ℕ) → hart < s.table.layout.harts → 1 ≤ id → s.worlds hart ≡ Host
+owned : (s n : MonitorState) (hart id : ℕ) (slot : Option Enclave) (harts : ℕ) → hart < s.table.layout.harts → 1 ≤ id → s.worlds hart ≡ Host
     → ((e : Enclave) → Live s.table id e → e.state ≢ Running) → ((e : Enclave) → slot ≡ Some e → e.state ≢ Running)
     → n.table ≡ with_enclave s.table id slot → ((h : ℕ) → h < s.table.layout.harts → n.worlds h ≡ s.worlds h)
     → ((h : ℕ) → h < s.table.layout.harts → n.marked h ≡ (if h == hart then s.marked h else (nat_lt h harts && is_host (s.worlds h) || s.marked h))) → ArePlaced s → ArePlaced n
@@ -123,7 +123,7 @@ owned s n hart id slot harts low above host before after table worlds marks w = 
     host_is (InEnclave k) e = absurd (let z : false ≡ true = e in cc)
 
 -- a hart that is not marked went from the host to an enclave, or back
-moved : (s n : State) (hart id : ℕ) (e : Enclave) (stage : Stage) (to : World) → hart < s.table.layout.harts → Live s.table id e → s.marked hart ≡ false
+moved : (s n : MonitorState) (hart id : ℕ) (e : Enclave) (stage : Stage) (to : World) → hart < s.table.layout.harts → Live s.table id e → s.marked hart ≡ false
     → ((h : ℕ) → h < s.table.layout.harts → h ≢ hart → s.worlds h ≢ InEnclave id)
     → n.table ≡ with_enclave s.table id (Some (record e { state = stage }))
     → ((h : ℕ) → h < s.table.layout.harts → n.worlds h ≡ (if h == hart then to else s.worlds h))
@@ -146,7 +146,7 @@ moved s n hart id e stage to low live awake free table worlds marks current alon
 }) w
 
 -- which harts run the enclave that a hart enters: none
-entered_free : (s : State) (id : ℕ) (world : World) (entering : Entering) (table : EnclaveTable) → ArePlaced s → Enters s.table world id (state_before entering) table → (h : ℕ) → h < s.table.layout.harts → s.worlds h ≢ InEnclave id
+entered_free : (s : MonitorState) (id : ℕ) (world : World) (entering : Entering) (table : EnclaveTable) → ArePlaced s → Enters s.table world id (state_before entering) table → (h : ℕ) → h < s.table.layout.harts → s.worlds h ≢ InEnclave id
 entered_free s id world entering table w en h low is =
     let now : IsCurrent s.table (InEnclave id) = subst (IsCurrent s.table) is (w.current h low) in
     never entering (sym (en.passes.1.1.0 now.0 now.1) ∙ now.2)
@@ -155,7 +155,7 @@ entered_free s id world entering table w en h low is =
     never FirstRun e = let z : Fresh ≡ Running = e in cc
     never Resume e = let z : Stopped ≡ Running = e in cc
 
-entered : (s n : State) (hart id : ℕ) (entering : Entering) (table : EnclaveTable) → hart < s.table.layout.harts → s.marked hart ≡ false → Enters s.table (s.worlds hart) id (state_before entering) table
+entered : (s n : MonitorState) (hart id : ℕ) (entering : Entering) (table : EnclaveTable) → hart < s.table.layout.harts → s.marked hart ≡ false → Enters s.table (s.worlds hart) id (state_before entering) table
     → n.table ≡ table → ((h : ℕ) → h < s.table.layout.harts → n.worlds h ≡ (if h == hart then InEnclave id else s.worlds h)) → ((h : ℕ) → h < s.table.layout.harts → n.marked h ≡ s.marked h) → ArePlaced s → ArePlaced n
 entered s n hart id entering table low awake en is worlds marks w =
     let e = en.turned.0 in
@@ -165,7 +165,7 @@ entered s n hart id entering table low awake en is worlds marks w =
     moved s n hart id e Running (InEnclave id) low en.turned.1 awake (λ h under other. free h under) made worlds marks (record e { state = Running }, there, refl)
     (λ k to. let z : id ≡ k = cc in sym z) (λ runs. refl) (λ k at. let z : Host ≡ InEnclave k = sym en.passes.0 ∙ at in absurd cc) w
 
-left_behind : (s n : State) (hart id : ℕ) (leaving : Leaving) (table : EnclaveTable) → hart < s.table.layout.harts → s.marked hart ≡ false → Leaves s.table (s.worlds hart) (state_after leaving) id table
+left_behind : (s n : MonitorState) (hart id : ℕ) (leaving : Leaving) (table : EnclaveTable) → hart < s.table.layout.harts → s.marked hart ≡ false → Leaves s.table (s.worlds hart) (state_after leaving) id table
     → n.table ≡ table → ((h : ℕ) → h < s.table.layout.harts → n.worlds h ≡ (if h == hart then Host else s.worlds h)) → ((h : ℕ) → h < s.table.layout.harts → n.marked h ≡ s.marked h) → ArePlaced s → ArePlaced n
 left_behind s n hart id leaving table low awake l is worlds marks w =
     moved s n hart id l.turned.0 (state_after leaving) Host low l.turned.1 awake
@@ -180,18 +180,18 @@ left_behind s n hart id leaving table low awake l is worlds marks w =
     same a b e = cc
 
 -- table, worlds and marks stayed
-refused : (s n m : State) → n ≡ m → m.table ≡ s.table → m.worlds ≡ s.worlds → m.marked ≡ s.marked → ArePlaced s → ArePlaced n
+refused : (s n m : MonitorState) → n ≡ m → m.table ≡ s.table → m.worlds ≡ s.worlds → m.marked ≡ s.marked → ArePlaced s → ArePlaced n
 refused s n m is table worlds marked w =
     worlds_stay s n (ap (λ y. y.table) is ∙ table) (λ h low. ap (λ y. y.worlds h) is ∙ ap (λ f. f h) worlds) (λ h low on. sym (ap (λ y. y.marked h) is ∙ ap (λ f. f h) marked) ∙ on) w
 
-enters : (entering : Entering) (s : State) (hart id : ℕ) (answer : Answer) (cleared : Option PageRange) (n : State) → hart < s.table.layout.harts → s.marked hart ≡ false → DoesEnter entering id s hart answer cleared n → ArePlaced s → ArePlaced n
+enters : (entering : Entering) (s : MonitorState) (hart id : ℕ) (answer : Answer) (cleared : Option PageRange) (n : MonitorState) → hart < s.table.layout.harts → s.marked hart ≡ false → DoesEnter entering id s hart answer cleared n → ArePlaced s → ArePlaced n
 enters entering s hart id answer cleared n low awake (inr x) w = refused s n _ x.2.state refl refl refl w
 enters FirstRun s hart id answer cleared n low awake (inl x) w =
     entered s n hart id FirstRun x.1 low awake x.3 (ap (λ y. y.table) x.4.state) (λ h under. ap (λ y. y.worlds h) x.4.state) (λ h under. ap (λ y. y.marked h) x.4.state) w
 enters Resume s hart id answer cleared n low awake (inl x) w =
     entered s n hart id Resume x.1 low awake x.3 (ap (λ y. y.table) x.4.state) (λ h under. ap (λ y. y.worlds h) x.4.state) (λ h under. ap (λ y. y.marked h) x.4.state) w
 
-pub call_keeps_worlds : (call : Option Call) (pages : ℕ → List ℕ) (s : State) (hart : ℕ) (answer : Answer) (cleared : Option PageRange) (n : State) → hart < s.table.layout.harts → s.marked hart ≡ false → DoesCall call pages s hart answer cleared n → ArePlaced s → ArePlaced n
+pub call_keeps_worlds : (call : Option Call) (pages : ℕ → List ℕ) (s : MonitorState) (hart : ℕ) (answer : Answer) (cleared : Option PageRange) (n : MonitorState) → hart < s.table.layout.harts → s.marked hart ≡ false → DoesCall call pages s hart answer cleared n → ArePlaced s → ArePlaced n
 call_keeps_worlds None pages s hart answer cleared n low awake x w = refused s n _ x.state refl refl refl w
 call_keeps_worlds (Some (calls.Create base text_pages data_pages shared_base shared_count entry_offset)) pages s hart answer cleared n low awake (inl x) w =
     let asked : Create = record { base = base; text_pages = text_pages; data_pages = data_pages; shared_base = shared_base; shared_count = shared_count; entry_offset = entry_offset } in
@@ -219,13 +219,13 @@ call_keeps_worlds (Some (calls.Exit value)) pages s hart answer cleared n low aw
 call_keeps_worlds (Some (calls.Measure id k)) pages s hart answer cleared n low awake (inl x) w = refused s n _ x.2.state refl refl refl w
 call_keeps_worlds (Some (calls.Measure id k)) pages s hart answer cleared n low awake (inr x) w = refused s n _ x.2.state refl refl refl w
 
-pub interrupt_keeps_worlds : (world : World) (s : State) (hart : ℕ) (n : State) → s.worlds hart ≡ world → hart < s.table.layout.harts → s.marked hart ≡ false → Interrupts world s hart n → ArePlaced s → ArePlaced n
+pub interrupt_keeps_worlds : (world : World) (s : MonitorState) (hart : ℕ) (n : MonitorState) → s.worlds hart ≡ world → hart < s.table.layout.harts → s.marked hart ≡ false → Interrupts world s hart n → ArePlaced s → ArePlaced n
 interrupt_keeps_worlds Host s hart n at low awake x w = worlds_same s n x w
 interrupt_keeps_worlds (InEnclave id) s hart n at low awake x w =
     left_behind s n hart id Stop x.0 low awake (subst (λ v. Leaves s.table v Stopped id x.0) (sym at) x.1) (ap (λ y. y.table) x.2) (λ h under. ap (λ y. y.worlds h) x.2) (λ h under. ap (λ y. y.marked h) x.2) w
 
 -- a mark is taken away
-pub waking_keeps_worlds : (s : State) (hart : ℕ) → ArePlaced s → ArePlaced (without_mark s hart)
+pub waking_keeps_worlds : (s : MonitorState) (hart : ℕ) → ArePlaced s → ArePlaced (without_mark s hart)
 waking_keeps_worlds s hart w = worlds_stay s (without_mark s hart) refl (λ h under. refl) (λ h under on. was (h == hart) (s.marked h) on) w
   where
     was : (t m : Bool) → (if t then false else m) ≡ true → m ≡ true
@@ -233,11 +233,11 @@ waking_keeps_worlds s hart w = worlds_stay s (without_mark s hart) refl (λ h un
     was false m e = e
 
 -- registers are put
-pub putting_keeps_worlds : (s : State) (hart : ℕ) (file : RegisterFile) → ArePlaced s → ArePlaced (with_running s hart file)
+pub putting_keeps_worlds : (s : MonitorState) (hart : ℕ) (file : RegisterFile) → ArePlaced s → ArePlaced (with_running s hart file)
 putting_keeps_worlds s hart file w = refused s (with_running s hart file) (with_running s hart file) refl refl refl refl w
 
 -- so it is at boot
-pub opened : (layout : Layout) → ArePlaced (opening layout)
+pub opened : (layout : PlatformLayout) → ArePlaced (opening_monitor layout)
 opened layout = record {
   current = λ h low. tt;
   alone = λ h o k low also at there. let z : Host ≡ InEnclave k = at in absurd cc;

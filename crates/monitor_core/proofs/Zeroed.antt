@@ -11,7 +11,7 @@ use Rattle.worlds.specs.declared.world.World.TheVariants.{Host, Enclave as InEnc
 use Rattle.sbi_decode.specs.declared.calls.Call.{Call}
 use Rattle.sbi_decode.specs.declared.calls.Call.TheVariants as calls
 use Rattle.monitor_core.specs.declared.answer.Answer.{Answer}
-use Rattle.monitor_core.specs.States.{State}
+use Rattle.monitor_core.specs.States.{MonitorState}
 use Rattle.monitor_core.specs.Steps.{DoesCall, Interrupts}
 use Rattle.monitor_core.proofs.Cases.{both}
 
@@ -20,7 +20,7 @@ abbrev pub private_of : Enclave → PageRange
 private_of e = record { first = e.parts.base / 4096; count = e.parts.text_pages + e.parts.data_pages }
 
 -- an enclave is no more, and the pages are its private ones
-pub record Clears (s new : State) (range : PageRange) : Type 0 where
+pub record Clears (s new : MonitorState) (range : PageRange) : Type 0 where
   pub id : ℕ
   pub enclave : Enclave
   pub live : Live s.table id enclave
@@ -28,7 +28,7 @@ pub record Clears (s new : State) (range : PageRange) : Type 0 where
   pub table : new.table ≡ with_enclave s.table id None
 
 -- either none, or the private pages of an enclave that is no more
-pub cleared : (call : Option Call) (pages : ℕ → List ℕ) (s : State) (hart : ℕ) (answer : Answer) (zero : Option PageRange) (new : State) → DoesCall call pages s hart answer zero new → (zero ≡ None) ⊎ ((range : PageRange) × (zero ≡ Some range) × Clears s new range)
+pub cleared : (call : Option Call) (pages : ℕ → List ℕ) (s : MonitorState) (hart : ℕ) (answer : Answer) (zero : Option PageRange) (new : MonitorState) → DoesCall call pages s hart answer zero new → (zero ≡ None) ⊎ ((range : PageRange) × (zero ≡ Some range) × Clears s new range)
 cleared None pages s hart answer zero new x = inl x.zeroes
 cleared (Some (calls.Create base text_pages data_pages shared_base shared_count entry_offset)) pages s hart answer zero new (inl x) = inl x.3.zeroes
 cleared (Some (calls.Create base text_pages data_pages shared_base shared_count entry_offset)) pages s hart answer zero new (inr x) = inl x.2.zeroes
@@ -62,11 +62,11 @@ still_there table k id slot e above live gone = both (id == k)
 pub not_lost : (table new : EnclaveTable) (id : ℕ) (e : Enclave) → new ≡ table → Live table id e → enclave_at new.enclaves id ≡ None → ⊥
 not_lost table new id e same live gone = let z : Some e ≡ None = sym live ∙ ap (λ t. enclave_at t.enclaves id) (sym same) ∙ gone in cc
 
-abbrev Gone : State → ℕ → Type 0
+abbrev Gone : MonitorState → ℕ → Type 0
 Gone new id = enclave_at new.table.enclaves id ≡ None
 
 -- the private pages of an enclave that is no more
-pub lost_call : (call : Option Call) (pages : ℕ → List ℕ) (s : State) (hart : ℕ) (answer : Answer) (zero : Option PageRange) (new : State) (id : ℕ) (e : Enclave) → Live s.table id e → Gone new id → DoesCall call pages s hart answer zero new → zero ≡ Some (private_of e)
+pub lost_call : (call : Option Call) (pages : ℕ → List ℕ) (s : MonitorState) (hart : ℕ) (answer : Answer) (zero : Option PageRange) (new : MonitorState) (id : ℕ) (e : Enclave) → Live s.table id e → Gone new id → DoesCall call pages s hart answer zero new → zero ≡ Some (private_of e)
 lost_call None pages s hart answer zero new id e live gone x = absurd (not_lost s.table new.table id e (ap (λ y. y.table) x.state) live gone)
 lost_call (Some (calls.Create base text_pages data_pages shared_base shared_count entry_offset)) pages s hart answer zero new id e live gone (inl x) =
     absurd (still_there s.table x.0 id _ e x.2.next.free.0 live (ap (λ t. enclave_at t.enclaves id) (sym (ap (λ y. y.table) x.3.state ∙ x.2.added)) ∙ gone))
@@ -98,7 +98,7 @@ lost_call (Some (calls.Measure k n)) pages s hart answer zero new id e live gone
 lost_call (Some (calls.Measure k n)) pages s hart answer zero new id e live gone (inr x) = absurd (not_lost s.table new.table id e (ap (λ y. y.table) x.2.state) live gone)
 
 -- an interrupt ends none
-pub lost_irq : (world : World) (s : State) (hart : ℕ) (new : State) (id : ℕ) (e : Enclave) → Live s.table id e → Gone new id → Interrupts world s hart new → ⊥
+pub lost_irq : (world : World) (s : MonitorState) (hart : ℕ) (new : MonitorState) (id : ℕ) (e : Enclave) → Live s.table id e → Gone new id → Interrupts world s hart new → ⊥
 lost_irq Host s hart new id e live gone x = not_lost s.table new.table id e (ap (λ y. y.table) x) live gone
 lost_irq (InEnclave k) s hart new id e live gone x =
     still_there s.table k id _ e (live_above s.table.enclaves k x.1.turned.0 x.1.turned.1) live (ap (λ t. enclave_at t.enclaves id) (sym (ap (λ y. y.table) x.2 ∙ x.1.turned.2)) ∙ gone)

@@ -6,7 +6,7 @@ pub use Rattle.sbi_decode.specs.Registers.{with_x}
 use Rattle.sbi_decode.specs.Registers.{RegisterFile, zeros}
 use Rattle.enclave_requests.specs.declared.request.Create.{Create}
 use Rattle.worlds.specs.Runners.{Runner, HostOf, EnclaveOf, runner_of}
-use Rattle.monitor_core.specs.States.{State, running_registers}
+use Rattle.monitor_core.specs.States.{MonitorState, running_registers}
 
 -- after the instruction that made the call
 abbrev pub past_call : RegisterFile → RegisterFile
@@ -27,26 +27,26 @@ is_host Host = true
 is_host (InEnclave id) = false
 
 -- a state with another world of a hart, and with another register set of a runner
-abbrev pub in_world : State → ℕ → World → State
+abbrev pub in_world : MonitorState → ℕ → World → MonitorState
 in_world s hart world = record s { worlds = λ h. if h == hart then world else s.worlds h }
 
-abbrev pub with_registers : State → Runner → RegisterFile → State
+abbrev pub with_registers : MonitorState → Runner → RegisterFile → MonitorState
 with_registers s who file = record s { registers = λ other. if is_same other who then file else s.registers other }
 
 -- the hart's registers changed, and an answer put into its a0 and a1
-abbrev pub with_running : State → ℕ → RegisterFile → State
+abbrev pub with_running : MonitorState → ℕ → RegisterFile → MonitorState
 with_running s hart file = with_registers s (runner_of hart (s.worlds hart)) file
 
-abbrev pub answering : State → ℕ → ℕ → ℕ → State
+abbrev pub answering : MonitorState → ℕ → ℕ → ℕ → MonitorState
 answering s hart first second = with_running s hart (with_x (with_x (running_registers s hart) 10 first) 11 second)
 
 -- the mark of a hart taken away; every other hart of the platform that is in the host's world marked
-abbrev pub without_mark : State → ℕ → State
+abbrev pub without_mark : MonitorState → ℕ → MonitorState
 without_mark s hart = record s { marked = λ h. if h == hart then false else s.marked h }
 
-abbrev pub marking_others : State → ℕ → State
+abbrev pub marking_others : MonitorState → ℕ → MonitorState
 marking_others s hart = record s { marked = λ h. if h == hart then s.marked h else (nat_lt h s.table.layout.harts && is_host (s.worlds h) || s.marked h) }
 
 -- the host goes on on a hart, with two words in its a0 and a1
-abbrev pub back_to_host : State → ℕ → ℕ → ℕ → State
+abbrev pub back_to_host : MonitorState → ℕ → ℕ → ℕ → MonitorState
 back_to_host s hart first second = answering (in_world s hart Host) hart first second

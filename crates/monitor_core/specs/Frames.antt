@@ -2,10 +2,10 @@
 use Rattle.std.specs.Prelude.{◌≡◌, ◌≢◌, ℕ, ◌+◌, ◌^◌, ◌<◌, ◌≤◌, Bool, true, false}
 use Rattle.page_views.specs.Views.{in_range, SameView}
 use Rattle.page_views.specs.declared.pages.PageRange.{PageRange}
-use Rattle.platforms.specs.Platform.{Layout, is_ram}
+use Rattle.platforms.specs.Platform.{PlatformLayout, is_ram}
 use Rattle.monitor_core.specs.declared.parts.Parts.{Parts}
 use Rattle.monitor_core.specs.Parts.{HoldsTogether}
-use Rattle.monitor_core.specs.States.{State}
+use Rattle.monitor_core.specs.States.{MonitorState}
 use Rattle.enclave_table.specs.Views.{current_view}
 use Rattle.platforms.specs.Ranges.{has_page}
 
@@ -21,17 +21,17 @@ pub record KeepsFrame (old new : Parts) : Type 0 where
   pub lists : new.table.table ≡ old.table.table → new.table ≡ old.table
 
 -- the entries of a hart are to be loaded anew exactly where the table changed, or the world on the hart
-abbrev pub LoadsAnew : Bool → State → State → ℕ → Type 0
+abbrev pub LoadsAnew : Bool → MonitorState → MonitorState → ℕ → Type 0
 LoadsAnew false old new hart = (new.table ≡ old.table) × (new.worlds hart ≡ old.worlds hart)
 LoadsAnew true old new hart = new.table ≡ old.table → new.worlds hart ≡ old.worlds hart → ⊥
 
 -- every other hart that is not marked then was not marked before, and its view is the same: what is loaded there is right still
-pub record KeepsOthers (s new : State) (hart : ℕ) : Type 0 where
+pub record KeepsOthers (s new : MonitorState) (hart : ℕ) : Type 0 where
   pub awake : (i : ℕ) → i ≢ hart → new.marked i ≡ false → s.marked i ≡ false
   pub views : (i : ℕ) → i ≢ hart → i < s.table.layout.harts → new.marked i ≡ false → SameView (current_view s.table (s.worlds i)) (current_view new.table (new.worlds i))
 
 -- the pages of a range are memory, and none is the monitor's
-pub record ClearsMemory (layout : Layout) (range : PageRange) : Type 0 where
+pub record ClearsMemory (layout : PlatformLayout) (range : PageRange) : Type 0 where
   pub inside : range.first + range.count ≤ 2 ^ 44
   pub in_ram : (page : ℕ) → in_range range.first range.count page ≡ true → is_ram layout page ≡ true
   pub not_monitor : (page : ℕ) → in_range range.first range.count page ≡ true → has_page layout.monitor page ≡ false

@@ -11,7 +11,7 @@ use Rattle.sbi_decode.specs.declared.calls.Call.{Call}
 use Rattle.sbi_decode.specs.declared.calls.Call.TheVariants as calls
 use Rattle.sbi_decode.specs.Calls.{call_of}
 use Rattle.sbi_decode.specs.Registers.{RegisterFile}
-use Rattle.monitor_core.specs.States.{State}
+use Rattle.monitor_core.specs.States.{MonitorState}
 
 -- what a call asks for, where it is a creation
 abbrev pub asked_in : Option Call → Option Create
@@ -26,7 +26,7 @@ IsMeasuredFor (Some asked) table world digest pages = IsMeasured table world ask
 
 -- the digest that comes with a call on a hart is that of some pages, where these registers ask for a creation that passes its
 -- checks
-abbrev pub IsOfPages : State → ℕ → RegisterFile → List ℕ → Type 0
+abbrev pub IsOfPages : MonitorState → ℕ → RegisterFile → List ℕ → Type 0
 IsOfPages s hart registers digest = (pages : ℕ → List ℕ) × IsMeasuredFor (asked_in (call_of registers)) s.table (s.worlds hart) digest pages
 
 -- a creation with these parts, as they are kept, passes each check but those for entries and memory

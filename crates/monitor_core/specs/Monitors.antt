@@ -6,15 +6,15 @@ use Rattle.worlds.specs.declared.world.World.{World}
 use Rattle.worlds.specs.declared.world.World.TheVariants.{Host, Enclave as InEnclave}
 use Rattle.monitor_core.specs.declared.monitor.Monitor.{Monitor}
 use Rattle.monitor_core.specs.Parts.{state_in}
-use Rattle.monitor_core.specs.States.{State}
+use Rattle.monitor_core.specs.States.{MonitorState}
 
 -- the state of the monitor. What it is, its observers show: its table, the world and the registers on each hart, and the marks
-unfoldable pub state_of : Monitor → State
-state_of monitor = state_in monitor.parts
+unfoldable pub state_by : Monitor → MonitorState
+state_by monitor = state_in monitor.parts
 
 -- its table of enclaves, with the list of entries that is kept for each view, which `table` shows
-unfoldable pub kept_of : Monitor → Kept
-kept_of monitor = monitor.parts.table
+unfoldable pub kept_by : Monitor → Kept
+kept_by monitor = monitor.parts.table
 
 -- the list that is kept for a world
 abbrev pub list_of : Kept → World → List Entry

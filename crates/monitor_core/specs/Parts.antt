@@ -3,14 +3,14 @@ use Rattle.std.specs.Prelude.{◌≡◌, ℕ, zero, suc, ◌≤◌, Bool, true, 
 use Rattle.enclave_table.specs.Tables.{Kept}
 use Rattle.enclave_table.specs.Enclaves.{EnclaveTable, Live, enclave_at}
 use Rattle.enclave_table.specs.declared.enclave.Enclave.{Enclave}
-use Rattle.enclave_table.specs.declared.enclave.State.{State as Stage}
-use Rattle.enclave_table.specs.declared.enclave.State.TheVariants.{Running}
+use Rattle.enclave_table.specs.declared.enclave.Stage.{Stage}
+use Rattle.enclave_table.specs.declared.enclave.Stage.TheVariants.{Running}
 use Rattle.worlds.specs.declared.world.World.{World}
 use Rattle.worlds.specs.declared.world.World.TheVariants.{Host, Enclave as InEnclave}
 use Rattle.monitor_core.specs.declared.parts.Parts.{Parts}
 use Rattle.monitor_core.specs.Changes.{is_host}
 use Rattle.monitor_core.specs.RegisterSets.{registers_in}
-use Rattle.monitor_core.specs.States.{State}
+use Rattle.monitor_core.specs.States.{MonitorState}
 
 -- the world on a hart, and whether it is marked
 abbrev pub world_in : List World → ℕ → World
@@ -20,7 +20,7 @@ abbrev pub mark_in : List Bool → ℕ → Bool
 mark_in marked hart = slice_index_or marked hart false
 
 -- the state that the parts show
-abbrev pub state_in : Parts → State
+abbrev pub state_in : Parts → MonitorState
 state_in parts = record {
   table = parts.table.table;
   worlds = world_in parts.worlds;

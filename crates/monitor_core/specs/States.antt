@@ -1,9 +1,9 @@
 -- The state of the monitor. There are no PMP entries in it, and no bytes of memory.
 use Rattle.std.specs.Prelude.{ℕ, Bool, false}
 use Rattle.pmp_encoding.specs.declared.perm.Perm.{Perm}
-use Rattle.platforms.specs.Platform.{Layout}
+use Rattle.platforms.specs.Platform.{PlatformLayout}
 use Rattle.enclave_table.specs.Enclaves.{EnclaveTable}
-use Rattle.enclave_table.specs.Boot.{opening as opening_table}
+use Rattle.enclave_table.specs.Boot.{opening_table}
 pub use Rattle.enclave_table.specs.Views.{current_view as view_of}
 use Rattle.worlds.specs.declared.world.World.{World}
 use Rattle.worlds.specs.declared.world.World.TheVariants.{Host}
@@ -13,15 +13,15 @@ use Rattle.worlds.specs.Runners.{Runner, runner_of}
 -- the enclaves, the world that runs on each hart, the registers of each host and enclave, and the harts that are marked: each of
 -- these is to load the host's entries before it goes on. A hart that there is not stays in the host's world, its registers zero,
 -- and is never marked
-pub record State : Type 0 where
+pub record MonitorState : Type 0 where
   pub table : EnclaveTable
   pub worlds : ℕ → World
   pub registers : Runner → RegisterFile
   pub marked : ℕ → Bool
 
--- the opening state of a platform: no enclave, each hart in the host's world, all registers zero, no hart marked
-abbrev pub opening : Layout → State
-opening layout = record {
+-- the opening_monitor state of a platform: no enclave, each hart in the host's world, all registers zero, no hart marked
+abbrev pub opening_monitor : PlatformLayout → MonitorState
+opening_monitor layout = record {
   table = opening_table layout;
   worlds = λ hart. Host;
   registers = λ who. zeros;
@@ -29,9 +29,9 @@ opening layout = record {
 }
 
 -- the view of the world that runs on a hart
-abbrev pub view_on : State → ℕ → ℕ → Perm
+abbrev pub view_on : MonitorState → ℕ → ℕ → Perm
 view_on s hart page = view_of s.table (s.worlds hart) page
 
 -- the registers of who runs on a hart
-abbrev pub running_registers : State → ℕ → RegisterFile
+abbrev pub running_registers : MonitorState → ℕ → RegisterFile
 running_registers s hart = s.registers (runner_of hart (s.worlds hart))

@@ -12,7 +12,7 @@ use Rattle.enclave_requests.specs.declared.request.Create.{Create}
 use Rattle.enclave_table.specs.declared.enclave.Enclave.{Enclave}
 use Rattle.enclave_table.specs.declared.life.Entering.{Entering}
 use Rattle.enclave_table.specs.declared.life.Entering.TheVariants as ways
-use Rattle.enclave_table.specs.declared.enclave.State.TheVariants.{Fresh, Stopped, Exited}
+use Rattle.enclave_table.specs.declared.enclave.Stage.TheVariants.{Fresh, Stopped, Exited}
 use Rattle.enclave_table.specs.declared.refusal.Refusal.{Refusal}
 use Rattle.page_views.specs.declared.pages.PageRange.{PageRange}
 use Rattle.worlds.specs.declared.world.World.{World}
@@ -20,7 +20,7 @@ use Rattle.worlds.specs.declared.world.World.TheVariants.{Host, Enclave as InEnc
 use Rattle.sbi_decode.specs.declared.calls.Call.{Call}
 use Rattle.sbi_decode.specs.declared.calls.Call.TheVariants as calls
 use Rattle.worlds.specs.Runners.{EnclaveOf}
-use Rattle.monitor_core.specs.States.{State}
+use Rattle.monitor_core.specs.States.{MonitorState}
 use Rattle.monitor_core.specs.Changes.{first_registers, in_world, with_registers, answering, marking_others, back_to_host}
 use Rattle.monitor_core.specs.Answers.{below_zero}
 use Rattle.monitor_core.specs.declared.answer.Answer.{Answer}
@@ -30,19 +30,19 @@ use Rattle.enclave_table.specs.Views.{host_view}
 use Rattle.sbi_decode.specs.Registers.{zeros}
 
 -- a call is done: this is the state after it, it is answered with 0 and a value, and these pages are to be made zero
-pub record Done (that : State) (value : ℕ) (pages : Option PageRange) (answer : Answer) (zero : Option PageRange) (new : State) : Type 0 where
+pub record Done (that : MonitorState) (value : ℕ) (pages : Option PageRange) (answer : Answer) (zero : Option PageRange) (new : MonitorState) : Type 0 where
   pub state : new ≡ that
   pub told : answer ≡ record { status = pos 0; value = value }
   pub zeroes : zero ≡ pages
 
 -- a call is refused with a number below zero: nothing changes but a0 and a1
-pub record Refuses (number : ℕ) (s : State) (hart : ℕ) (answer : Answer) (zero : Option PageRange) (new : State) : Type 0 where
+pub record Refuses (number : ℕ) (s : MonitorState) (hart : ℕ) (answer : Answer) (zero : Option PageRange) (new : MonitorState) : Type 0 where
   pub state : new ≡ answering s hart (2 ^ 64 - number) 0
   pub told : answer ≡ record { status = below_zero number; value = 0 }
   pub zeroes : zero ≡ None
 
 -- a call is refused, and this is why
-abbrev pub Refused : (Refusal → Type 0) → State → ℕ → Answer → Option PageRange → State → Type 0
+abbrev pub Refused : (Refusal → Type 0) → MonitorState → ℕ → Answer → Option PageRange → MonitorState → Type 0
 Refused Why s hart answer zero new = (refusal : Refusal) × Why refusal × Refuses (refusal_number refusal) s hart answer zero new
 
 -- the call that the registers name is done or refused, and an unknown one is refused; create measures these pages. Create: one more
@@ -50,7 +50,7 @@ Refused Why s hart answer zero new = (refusal : Refusal) × Why refusal × Refus
 -- registers are zero, and the other harts as for create. Run: the enclave goes on at its entry and with its id, and the host's
 -- registers wait. Resume: it goes on as it was stopped. Stop: the enclave will go on with 0 in a0 and a1, and the host goes on with 1
 -- and 0 there. Exit: the enclave's registers are zero, and the host goes on with 0 and the value. Measure: a word of the digest
-abbrev pub DoesCall : Option Call → (ℕ → List ℕ) → State → ℕ → Answer → Option PageRange → State → Type 0
+abbrev pub DoesCall : Option Call → (ℕ → List ℕ) → MonitorState → ℕ → Answer → Option PageRange → MonitorState → Type 0
 DoesCall None pages s hart answer zero new = Refuses 2 s hart answer zero new
 DoesCall (Some (calls.Create base text_pages data_pages shared_base shared_count entry_offset)) pages s hart answer zero new =
     let asked : Create = record { base = base; text_pages = text_pages; data_pages = data_pages; shared_base = shared_base; shared_count = shared_count; entry_offset = entry_offset } in
@@ -82,16 +82,16 @@ DoesCall (Some (calls.Measure id k)) pages s hart answer zero new =
     ⊎ Refused (FailsFirst (word_checks s.table id k)) s hart answer zero new
 
 -- an interrupt changes nothing in the host's world, and stops an enclave, its registers as they are
-abbrev pub Interrupts : World → State → ℕ → State → Type 0
+abbrev pub Interrupts : World → MonitorState → ℕ → MonitorState → Type 0
 Interrupts Host s hart new = new ≡ s
 Interrupts (InEnclave id) s hart new = (table : EnclaveTable) × Leaves s.table (InEnclave id) Stopped id table × (new ≡ back_to_host (record s { table = table }) hart 1 0)
 
 -- run and resume by one: what an enclave goes on with, and what is done
-abbrev pub entering_with : Entering → State → ℕ → Enclave → State
+abbrev pub entering_with : Entering → MonitorState → ℕ → Enclave → MonitorState
 entering_with ways.Run s id e = with_registers s (EnclaveOf id) (first_registers id e.parts)
 entering_with ways.Resume s id e = s
 
-abbrev pub DoesEnter : Entering → ℕ → State → ℕ → Answer → Option PageRange → State → Type 0
+abbrev pub DoesEnter : Entering → ℕ → MonitorState → ℕ → Answer → Option PageRange → MonitorState → Type 0
 DoesEnter entering id s hart answer zero new =
     ((e : Enclave) × (table : EnclaveTable) × Live s.table id e × Enters s.table (s.worlds hart) id (state_before entering) table
     × Done (in_world (entering_with entering (record s { table = table }) id e) hart (InEnclave id)) 0 None answer zero new)

@@ -2,23 +2,23 @@
 use Rattle.std.specs.Prelude.{◌≡◌, ◌≢◌, ◌⊎◌, ℕ, None}
 use Rattle.enclave_table.specs.Enclaves.{Live, enclave_at}
 use Rattle.enclave_table.specs.declared.enclave.Enclave.{Enclave}
-use Rattle.enclave_table.specs.declared.enclave.State.TheVariants.{Fresh, Stopped, Exited}
+use Rattle.enclave_table.specs.declared.enclave.Stage.TheVariants.{Fresh, Stopped, Exited}
 use Rattle.sbi_decode.specs.Registers.{RegisterFile, with_x, zeros}
 use Rattle.worlds.specs.declared.world.World.TheVariants.{Host, Enclave as InEnclave}
 use Rattle.worlds.specs.Runners.{Runner, HostOf, EnclaveOf, runner_of}
 use Rattle.monitor_core.specs.Changes.{first_registers}
-use Rattle.monitor_core.specs.States.{State}
+use Rattle.monitor_core.specs.States.{MonitorState}
 
 -- who runs on a hart
-abbrev pub runner_on : State → ℕ → Runner
+abbrev pub runner_on : MonitorState → ℕ → Runner
 runner_on s hart = runner_of hart (s.worlds hart)
 
 -- an enclave was live, and is no more
-abbrev pub IsGone : State → State → ℕ → Type 0
+abbrev pub IsGone : MonitorState → MonitorState → ℕ → Type 0
 IsGone old new id = (e : Enclave) × Live old.table id e × (enclave_at new.table.enclaves id ≡ None)
 
 -- an enclave has exited, and had not before
-abbrev pub HasExited : State → State → ℕ → Type 0
+abbrev pub HasExited : MonitorState → MonitorState → ℕ → Type 0
 HasExited old new id = (e now : Enclave) × Live old.table id e × (e.state ≢ Exited) × Live new.table id now × (now.state ≡ Exited)
 
 -- the host goes on with the registers that it had when it was left, but for a0 and a1: 1 and 0 after a stop, 0 and a value after an
@@ -32,7 +32,7 @@ GoesIn id e kept now = ((e.state ≡ Fresh) × (now ≡ first_registers id e.par
 
 -- the registers of an enclave that is no more, or has exited, are zero. Those of each other stay that runs on the hart neither before
 -- nor after. Where the hart goes to the host, the host comes back; where it goes to an enclave, the enclave goes in
-pub record KeepsRegisters (old : State) (hart : ℕ) (new : State) : Type 0 where
+pub record KeepsRegisters (old : MonitorState) (hart : ℕ) (new : MonitorState) : Type 0 where
   pub gone : (id : ℕ) → IsGone old new id → new.registers (EnclaveOf id) ≡ zeros
   pub exited : (id : ℕ) → HasExited old new id → new.registers (EnclaveOf id) ≡ zeros
   pub others : (who : Runner) → who ≢ runner_on old hart → who ≢ runner_on new hart → ((id : ℕ) → who ≡ EnclaveOf id → IsGone old new id → ⊥) → new.registers who ≡ old.registers who

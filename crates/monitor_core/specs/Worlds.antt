@@ -3,10 +3,10 @@ use Rattle.std.specs.Prelude.{◌≡◌, ℕ, ◌<◌, true}
 use Rattle.enclave_table.specs.Enclaves.{EnclaveTable, Live}
 use Rattle.enclave_table.specs.Tables.{IsCurrent}
 use Rattle.enclave_table.specs.declared.enclave.Enclave.{Enclave}
-use Rattle.enclave_table.specs.declared.enclave.State.TheVariants.{Running}
+use Rattle.enclave_table.specs.declared.enclave.Stage.TheVariants.{Running}
 use Rattle.worlds.specs.declared.world.World.{World}
 use Rattle.worlds.specs.declared.world.World.TheVariants.{Host, Enclave as InEnclave}
-use Rattle.monitor_core.specs.States.{State}
+use Rattle.monitor_core.specs.States.{MonitorState}
 
 -- each enclave that is Running runs on a hart of the platform
 abbrev pub AreHeld : EnclaveTable → (ℕ → World) → Type 0
@@ -14,7 +14,7 @@ AreHeld table worlds = (id : ℕ) (e : Enclave) → Live table id e → e.state 
 
 -- each hart is in the host's world or in that of an enclave that is Running, no enclave runs on two, each that is Running runs on
 -- one, and a marked hart is in the host's world
-pub record ArePlaced (s : State) : Type 0 where
+pub record ArePlaced (s : MonitorState) : Type 0 where
   pub current : (hart : ℕ) → hart < s.table.layout.harts → IsCurrent s.table (s.worlds hart)
   pub alone : (hart other id : ℕ) → hart < s.table.layout.harts → other < s.table.layout.harts → s.worlds hart ≡ InEnclave id → s.worlds other ≡ InEnclave id → hart ≡ other
   pub held : AreHeld s.table s.worlds

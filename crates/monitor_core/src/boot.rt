@@ -8,15 +8,15 @@ use std::alloc::Global;
 
 impl Parts {
     ghost use Rattle.std.specs.Prelude.{◌≡◌, IfOk, IfErr};
-    ghost use Rattle.enclave_table.specs.Boot.{IsBootFault, opening as opening_table};
+    ghost use Rattle.enclave_table.specs.Boot.{IsBootFault, opening_table};
     ghost use Rattle.enclave_table.specs.Fewest.{FitsIn};
     ghost use Rattle.enclave_table.specs.Views.{host_view};
     ghost use Rattle.monitor_core.specs.Parts.{HoldsTogether, state_in};
-    ghost use Rattle.monitor_core.specs.States.{opening};
+    ghost use Rattle.monitor_core.specs.States.{opening_monitor};
 
     /// The parts of a platform at boot: no enclave, each hart in the host's world, all registers zero, no hart marked.
     pub(crate) fn boot(alloc: Global, platform: Platform) -> Result<Parts, BootFault>
-        ensures state { IfOk result (λ p. state_in p ≡ opening platform) }
+        ensures state { IfOk result (λ p. state_in p ≡ opening_monitor platform) }
         ensures whole { IfOk result (λ p. HoldsTogether p.table p.worlds p.marked) }
         ensures fits { IfOk result (λ _. FitsIn platform.limit
             (host_view (opening_table platform))) }

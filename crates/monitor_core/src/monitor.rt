@@ -26,7 +26,7 @@ impl Monitor {
     ghost use Rattle.monitor_core.specs.Measured.{IsMeasuredFor, IsOfPages, Measures, asked_in};
     ghost use Rattle.pmp_encoding.specs.Limits.{limit_number};
     ghost use Rattle.pmp_match.specs.Meaning.{IsFewest, Needs};
-    ghost use Rattle.enclave_table.specs.Boot.{IsBootFault, opening as opening_table};
+    ghost use Rattle.enclave_table.specs.Boot.{IsBootFault, opening_table};
     ghost use Rattle.enclave_table.specs.Fewest.{FitsIn};
     ghost use Rattle.platforms.specs.Platform.{IsLayout};
     ghost use Rattle.enclave_table.specs.Tables.{IsTable};
@@ -34,8 +34,8 @@ impl Monitor {
     ghost use Rattle.sbi_decode.specs.Calls.{call_of};
     ghost use Rattle.monitor_core.specs.Changes.{past_call, with_running, with_x, without_mark};
     ghost use Rattle.monitor_core.specs.Frames.{LoadsAnew, KeepsOthers, ClearsMemory};
-    ghost use Rattle.monitor_core.specs.Monitors.{state_of, kept_of, list_of};
-    ghost use Rattle.monitor_core.specs.States.{opening, running_registers};
+    ghost use Rattle.monitor_core.specs.Monitors.{state_by, kept_by, list_of};
+    ghost use Rattle.monitor_core.specs.States.{opening_monitor, running_registers};
     ghost use Rattle.monitor_core.specs.Steps.{DoesCall, Interrupts};
     ghost use Rattle.monitor_core.specs.Worlds.{ArePlaced};
     ghost use Rattle.monitor_core.specs.Wants.{IsRefusedByNeed};
@@ -46,7 +46,7 @@ impl Monitor {
     /// The monitor of a platform: no enclave, each hart in the host's world, all registers zero, no hart marked. It is
     /// refused where the host's view needs more entries than the platform has, and where memory is.
     pub fn boot(alloc: Global, platform: Platform) -> Result<Monitor, BootFault>
-        ensures state { IfOk result (λ m. state_of m ≡ opening platform) }
+        ensures state { IfOk result (λ m. state_by m ≡ opening_monitor platform) }
         ensures rules { IfOk result (λ _. IsLayout platform) }
         ensures fits { IfOk result (λ _. FitsIn platform.limit
             (host_view (opening_table platform))) }
@@ -64,16 +64,16 @@ impl Monitor {
     /// What is true of every monitor: its table is sound; each hart is in the host's world or in that of an enclave that is
     /// Running; no enclave runs on two, and each that is Running runs on one; and a marked hart is in the host's world.
     pub fn cite_invariant(&self)
-        ensures table { IsTable (state_of self.now).table }
-        ensures worlds { ArePlaced (state_of self.now) }
+        ensures table { IsTable (state_by self.now).table }
+        ensures worlds { ArePlaced (state_by self.now) }
     {
         self.parts.table.cite_invariant();
     }
 
     /// How many harts there are, 1 to 4.
-    #[tactic(auto, unfolding(crate::specs::Monitors::state_of, crate::specs::Monitors::kept_of))]
+    #[tactic(auto, unfolding(crate::specs::Monitors::state_by, crate::specs::Monitors::kept_by))]
     pub fn harts(&self) -> u8
-        ensures value { result ≡ (state_of self.now).table.layout.harts }
+        ensures value { result ≡ (state_by self.now).table.layout.harts }
         ensures some { 0 < result }
         ensures most { result ≤ 4 }
     {
@@ -81,47 +81,47 @@ impl Monitor {
     }
 
     /// The table of enclaves.
-    #[tactic(auto, unfolding(crate::specs::Monitors::state_of, crate::specs::Monitors::kept_of))]
+    #[tactic(auto, unfolding(crate::specs::Monitors::state_by, crate::specs::Monitors::kept_by))]
     pub fn table(&self) -> &Table
-        ensures kept { result.now ≡ kept_of self.now }
-        ensures state { result.now.table ≡ (state_of self.now).table }
+        ensures kept { result.now ≡ kept_by self.now }
+        ensures state { result.now.table ≡ (state_by self.now).table }
     {
         &self.parts.table
     }
 
     /// The world that runs on a hart.
-    #[tactic(auto, unfolding(crate::specs::Monitors::state_of, crate::specs::Monitors::kept_of))]
+    #[tactic(auto, unfolding(crate::specs::Monitors::state_by, crate::specs::Monitors::kept_by))]
     pub fn world(&self, hart: u8) -> World
         requires { hart < 4 }
-        ensures { result ≡ (state_of self.now).worlds hart }
+        ensures { result ≡ (state_by self.now).worlds hart }
     {
         self.parts.world(hart)
     }
 
     /// The registers of the world that runs on a hart, as they are kept: those that went on there last, or were put since.
-    #[tactic(auto, unfolding(crate::specs::Monitors::state_of, crate::specs::Monitors::kept_of))]
+    #[tactic(auto, unfolding(crate::specs::Monitors::state_by, crate::specs::Monitors::kept_by))]
     pub fn registers(&self, hart: u8) -> &Registers
         requires { hart < 4 }
-        ensures { result.now ≡ running_registers (state_of self.now) hart }
+        ensures { result.now ≡ running_registers (state_by self.now) hart }
     {
         self.parts.running(hart)
     }
 
     /// The registers of the host on a hart, or of an enclave by its id, whether it runs or not, as they are kept.
-    #[tactic(auto, unfolding(crate::specs::Monitors::state_of, crate::specs::Monitors::kept_of))]
+    #[tactic(auto, unfolding(crate::specs::Monitors::state_by, crate::specs::Monitors::kept_by))]
     pub fn registers_of(&self, hart: u8, world: World) -> &Registers
         requires hart { hart < 4 }
         requires world { IsWorld world }
-        ensures { result.now ≡ (state_of self.now).registers (runner_of hart world) }
+        ensures { result.now ≡ (state_by self.now).registers (runner_of hart world) }
     {
         self.parts.registers.get(hart, world)
     }
 
     /// Whether a hart is marked: it is to load its entries, and to be woken, before it goes on.
-    #[tactic(auto, unfolding(crate::specs::Monitors::state_of, crate::specs::Monitors::kept_of))]
+    #[tactic(auto, unfolding(crate::specs::Monitors::state_by, crate::specs::Monitors::kept_by))]
     pub fn is_marked(&self, hart: u8) -> bool
         requires { hart < 4 }
-        ensures { result ≡ (state_of self.now).marked hart }
+        ensures { result ≡ (state_by self.now).marked hart }
     {
         self.parts.is_marked(hart)
     }
@@ -130,11 +130,11 @@ impl Monitor {
     /// in any order that means that view is shorter.
     pub fn entries(&self, hart: u8) -> &[Entry]
         requires { hart < 4 }
-        ensures fewest { let s = state_of self.now in
+        ensures fewest { let s = state_by self.now in
             IsFewest (current_view s.table (s.worlds hart)) result.now }
-        ensures room { length result.now ≤ limit_number (state_of self.now).table.layout.limit }
+        ensures room { length result.now ≤ limit_number (state_by self.now).table.layout.limit }
         ensures value { result.now
-            ≡ list_of (kept_of self.now) ((state_of self.now).worlds hart) }
+            ≡ list_of (kept_by self.now) ((state_by self.now).worlds hart) }
     {
         self.parts.entries(hart)
     }
@@ -142,28 +142,28 @@ impl Monitor {
     /// How many entries the view of the world on a hart needs, which are as many as [`Monitor::entries`].
     pub fn used(&self, hart: u8) -> u64
         requires { hart < 4 }
-        ensures { let s = state_of self.now in
+        ensures { let s = state_by self.now in
             Needs (current_view s.table (s.worlds hart)) result }
     {
         self.parts.entries(hart).len() as u64
     }
 
     /// The mark of a hart is taken away, which loads its entries before it goes on. Nothing else changes.
-    #[tactic(auto, unfolding(crate::specs::Monitors::state_of, crate::specs::Monitors::kept_of))]
+    #[tactic(auto, unfolding(crate::specs::Monitors::state_by, crate::specs::Monitors::kept_by))]
     pub fn wake(&mut self, hart: u8)
         requires { hart < 4 }
-        ensures state { state_of self.new ≡ without_mark (state_of self.old) hart }
-        ensures kept { kept_of self.new ≡ kept_of self.old }
+        ensures state { state_by self.new ≡ without_mark (state_by self.old) hart }
+        ensures kept { kept_by self.new ≡ kept_by self.old }
     {
         self.parts.clear_mark(hart);
     }
 
     /// The registers of the world that runs on a hart are these now. Nothing else changes.
-    #[tactic(auto, unfolding(crate::specs::Monitors::state_of, crate::specs::Monitors::kept_of))]
+    #[tactic(auto, unfolding(crate::specs::Monitors::state_by, crate::specs::Monitors::kept_by))]
     pub fn put_registers(&mut self, hart: u8, registers: &Registers)
         requires { hart < 4 }
-        ensures state { state_of self.new ≡ with_running (state_of self.old) hart registers.now }
-        ensures kept { kept_of self.new ≡ kept_of self.old }
+        ensures state { state_by self.new ≡ with_running (state_by self.old) hart registers.now }
+        ensures kept { kept_by self.new ≡ kept_by self.old }
     {
         self.parts.put_running(hart, *registers);
     }
@@ -172,9 +172,9 @@ impl Monitor {
     pub fn set_register(&mut self, hart: u8, n: u8, value: u64)
         requires hart { hart < 4 }
         requires register { n < 32 }
-        ensures state { let s = state_of self.old in
-            state_of self.new ≡ with_running s hart (with_x (running_registers s hart) n value) }
-        ensures kept { kept_of self.new ≡ kept_of self.old }
+        ensures state { let s = state_by self.old in
+            state_by self.new ≡ with_running s hart (with_x (running_registers s hart) n value) }
+        ensures kept { kept_by self.new ≡ kept_by self.old }
     {
         self.parts.set_register(hart, n, value);
     }
@@ -183,23 +183,23 @@ impl Monitor {
     /// of the hart where it is asked to, and stops every other hart that is marked now until it was woken; then the
     /// registers go on.
     pub fn serve<P: Pages>(&mut self, hart: u8, registers: &Registers, pages: &P) -> Served
-        requires hart { hart < (state_of self.old).table.layout.harts }
-        requires awake { (state_of self.old).marked hart ≡ false }
+        requires hart { hart < (state_by self.old).table.layout.harts }
+        requires awake { (state_by self.old).marked hart ≡ false }
         ensures step { let file = past_call registers.now in
             DoesCall (call_of file) (P.bytes_of pages.now)
-            (with_running (state_of self.old) hart file) hart result.answer result.zero
-            (state_of self.new) }
+            (with_running (state_by self.old) hart file) hart result.answer result.zero
+            (state_by self.new) }
         ensures registers { result.onward.registers
-            ≡ running_registers (state_of self.new) hart }
-        ensures load { LoadsAnew result.onward.load (state_of self.old) (state_of self.new) hart }
-        ensures others { KeepsOthers (state_of self.old) (state_of self.new) hart }
+            ≡ running_registers (state_by self.new) hart }
+        ensures load { LoadsAnew result.onward.load (state_by self.old) (state_by self.new) hart }
+        ensures others { KeepsOthers (state_by self.old) (state_by self.new) hart }
         ensures zeroed { IfSome result.zero (λ range.
-            ClearsMemory (state_of self.old).table.layout range) }
-        ensures awake { (state_of self.new).marked hart ≡ false }
-        ensures platform { (state_of self.new).table.layout ≡ (state_of self.old).table.layout }
-        ensures lists { (state_of self.new).table ≡ (state_of self.old).table
-            → kept_of self.new ≡ kept_of self.old }
-        ensures need { let s = state_of self.old in
+            ClearsMemory (state_by self.old).table.layout range) }
+        ensures awake { (state_by self.new).marked hart ≡ false }
+        ensures platform { (state_by self.new).table.layout ≡ (state_by self.old).table.layout }
+        ensures lists { (state_by self.new).table ≡ (state_by self.old).table
+            → kept_by self.new ≡ kept_by self.old }
+        ensures need { let s = state_by self.old in
             IsRefusedByNeed (call_of registers.now) s.table (s.worlds hart)
             (λ refusal. result.answer.status ≡ below_zero (refusal_number refusal)) }
     {
@@ -210,21 +210,21 @@ impl Monitor {
     /// The call that a hart made whose registers stand here, as [`Monitor::serve`] serves it. Those that go on are
     /// [`Monitor::registers`].
     pub fn serve_kept<P: Pages>(&mut self, hart: u8, pages: &P) -> Outcome
-        requires hart { hart < (state_of self.old).table.layout.harts }
-        requires awake { (state_of self.old).marked hart ≡ false }
-        ensures step { let s = state_of self.old in
+        requires hart { hart < (state_by self.old).table.layout.harts }
+        requires awake { (state_by self.old).marked hart ≡ false }
+        ensures step { let s = state_by self.old in
             let file = past_call (running_registers s hart) in
             DoesCall (call_of file) (P.bytes_of pages.now) (with_running s hart file) hart
-            result.answer result.zero (state_of self.new) }
-        ensures load { LoadsAnew result.load (state_of self.old) (state_of self.new) hart }
-        ensures others { KeepsOthers (state_of self.old) (state_of self.new) hart }
+            result.answer result.zero (state_by self.new) }
+        ensures load { LoadsAnew result.load (state_by self.old) (state_by self.new) hart }
+        ensures others { KeepsOthers (state_by self.old) (state_by self.new) hart }
         ensures zeroed { IfSome result.zero (λ range.
-            ClearsMemory (state_of self.old).table.layout range) }
-        ensures awake { (state_of self.new).marked hart ≡ false }
-        ensures platform { (state_of self.new).table.layout ≡ (state_of self.old).table.layout }
-        ensures lists { (state_of self.new).table ≡ (state_of self.old).table
-            → kept_of self.new ≡ kept_of self.old }
-        ensures need { let s = state_of self.old in
+            ClearsMemory (state_by self.old).table.layout range) }
+        ensures awake { (state_by self.new).marked hart ≡ false }
+        ensures platform { (state_by self.new).table.layout ≡ (state_by self.old).table.layout }
+        ensures lists { (state_by self.new).table ≡ (state_by self.old).table
+            → kept_by self.new ≡ kept_by self.old }
+        ensures need { let s = state_by self.old in
             IsRefusedByNeed (call_of (running_registers s hart)) s.table (s.worlds hart)
             (λ refusal. result.answer.status ≡ below_zero (refusal_number refusal)) }
     {
@@ -234,14 +234,14 @@ impl Monitor {
 
     /// The parts of the enclave that these registers ask for, as they are kept, where the call is a creation that passes each
     /// check but those for entries and memory: its private pages are to be measured for [`Monitor::serve_measured`].
-    #[tactic(auto, unfolding(crate::specs::Monitors::state_of, crate::specs::Monitors::kept_of))]
+    #[tactic(auto, unfolding(crate::specs::Monitors::state_by, crate::specs::Monitors::kept_by))]
     pub fn measures(&self, hart: u8, registers: &Registers) -> Option<Create>
         requires { hart < 4 }
-        ensures parts { let s = state_of self.now in IfSome result (λ parts.
+        ensures parts { let s = state_by self.now in IfSome result (λ parts.
             Measures (asked_in (call_of registers.now)) s.table (s.worlds hart) parts) }
         ensures counts { IfSome result (λ parts. HasCounts parts) }
         ensures places { IfSome result (λ parts. HasPlaces parts) }
-        ensures none { let s = state_of self.now in IfNone result ((parts : CreateParts)
+        ensures none { let s = state_by self.now in IfNone result ((parts : CreateParts)
             → Measures (asked_in (call_of registers.now)) s.table (s.worlds hart) parts → ⊥) }
     {
         let Ok(
@@ -273,26 +273,26 @@ impl Monitor {
     /// The call that a hart with these registers made, as [`Monitor::serve`] serves it, where the pages were measured before.
     /// The digest is looked at only where [`Monitor::measures`] gives parts.
     pub fn serve_measured(&mut self, hart: u8, registers: &Registers, digest: &[u8; 32]) -> Served
-        requires hart { hart < (state_of self.old).table.layout.harts }
-        requires awake { (state_of self.old).marked hart ≡ false }
-        ensures step { let file = past_call registers.now in let s = state_of self.old in
+        requires hart { hart < (state_by self.old).table.layout.harts }
+        requires awake { (state_by self.old).marked hart ≡ false }
+        ensures step { let file = past_call registers.now in let s = state_by self.old in
             (pages : ℕ → List ℕ)
             → IsMeasuredFor (asked_in (call_of file)) s.table (s.worlds hart) digest.now pages
             → DoesCall (call_of file) pages (with_running s hart file) hart
-            result.answer result.zero (state_of self.new) }
+            result.answer result.zero (state_by self.new) }
         ensures registers { result.onward.registers
-            ≡ running_registers (state_of self.new) hart }
-        ensures load { LoadsAnew result.onward.load (state_of self.old) (state_of self.new) hart }
-        ensures others { IsOfPages (state_of self.old) hart registers.now digest.now
-            → KeepsOthers (state_of self.old) (state_of self.new) hart }
-        ensures zeroed { IsOfPages (state_of self.old) hart registers.now digest.now
-            → IfSome result.zero (ClearsMemory (state_of self.old).table.layout) }
-        ensures awake { IsOfPages (state_of self.old) hart registers.now digest.now
-            → (state_of self.new).marked hart ≡ false }
-        ensures platform { (state_of self.new).table.layout ≡ (state_of self.old).table.layout }
-        ensures lists { (state_of self.new).table ≡ (state_of self.old).table
-            → kept_of self.new ≡ kept_of self.old }
-        ensures need { let s = state_of self.old in IsOfPages s hart registers.now digest.now
+            ≡ running_registers (state_by self.new) hart }
+        ensures load { LoadsAnew result.onward.load (state_by self.old) (state_by self.new) hart }
+        ensures others { IsOfPages (state_by self.old) hart registers.now digest.now
+            → KeepsOthers (state_by self.old) (state_by self.new) hart }
+        ensures zeroed { IsOfPages (state_by self.old) hart registers.now digest.now
+            → IfSome result.zero (ClearsMemory (state_by self.old).table.layout) }
+        ensures awake { IsOfPages (state_by self.old) hart registers.now digest.now
+            → (state_by self.new).marked hart ≡ false }
+        ensures platform { (state_by self.new).table.layout ≡ (state_by self.old).table.layout }
+        ensures lists { (state_by self.new).table ≡ (state_by self.old).table
+            → kept_by self.new ≡ kept_by self.old }
+        ensures need { let s = state_by self.old in IsOfPages s hart registers.now digest.now
             → IsRefusedByNeed (call_of registers.now) s.table (s.worlds hart)
             (λ refusal. result.answer.status ≡ below_zero (refusal_number refusal)) }
     {
@@ -303,17 +303,17 @@ impl Monitor {
     /// The timer's interrupt on a hart with these registers: an enclave is stopped, and the host goes on there. In the
     /// host's world nothing but the registers changes.
     pub fn interrupt(&mut self, hart: u8, registers: &Registers) -> Onward
-        requires hart { hart < (state_of self.old).table.layout.harts }
-        requires awake { (state_of self.old).marked hart ≡ false }
-        ensures step { let s = with_running (state_of self.old) hart registers.now in
-            Interrupts (s.worlds hart) s hart (state_of self.new) }
-        ensures registers { result.registers ≡ running_registers (state_of self.new) hart }
-        ensures load { LoadsAnew result.load (state_of self.old) (state_of self.new) hart }
-        ensures others { KeepsOthers (state_of self.old) (state_of self.new) hart }
-        ensures awake { (state_of self.new).marked hart ≡ false }
-        ensures platform { (state_of self.new).table.layout ≡ (state_of self.old).table.layout }
-        ensures lists { (state_of self.new).table ≡ (state_of self.old).table
-            → kept_of self.new ≡ kept_of self.old }
+        requires hart { hart < (state_by self.old).table.layout.harts }
+        requires awake { (state_by self.old).marked hart ≡ false }
+        ensures step { let s = with_running (state_by self.old) hart registers.now in
+            Interrupts (s.worlds hart) s hart (state_by self.new) }
+        ensures registers { result.registers ≡ running_registers (state_by self.new) hart }
+        ensures load { LoadsAnew result.load (state_by self.old) (state_by self.new) hart }
+        ensures others { KeepsOthers (state_by self.old) (state_by self.new) hart }
+        ensures awake { (state_by self.new).marked hart ≡ false }
+        ensures platform { (state_by self.new).table.layout ≡ (state_by self.old).table.layout }
+        ensures lists { (state_by self.new).table ≡ (state_by self.old).table
+            → kept_by self.new ≡ kept_by self.old }
     {
         self.parts.interrupt(hart, registers)
     }
@@ -321,16 +321,16 @@ impl Monitor {
     /// The timer's interrupt on a hart whose registers stand here, as [`Monitor::interrupt`] serves it. It answers whether
     /// the hart's entries are to be loaded anew before it goes on.
     pub fn interrupt_kept(&mut self, hart: u8) -> bool
-        requires hart { hart < (state_of self.old).table.layout.harts }
-        requires awake { (state_of self.old).marked hart ≡ false }
-        ensures step { let s = state_of self.old in
-            Interrupts (s.worlds hart) s hart (state_of self.new) }
-        ensures load { LoadsAnew result (state_of self.old) (state_of self.new) hart }
-        ensures others { KeepsOthers (state_of self.old) (state_of self.new) hart }
-        ensures awake { (state_of self.new).marked hart ≡ false }
-        ensures platform { (state_of self.new).table.layout ≡ (state_of self.old).table.layout }
-        ensures lists { (state_of self.new).table ≡ (state_of self.old).table
-            → kept_of self.new ≡ kept_of self.old }
+        requires hart { hart < (state_by self.old).table.layout.harts }
+        requires awake { (state_by self.old).marked hart ≡ false }
+        ensures step { let s = state_by self.old in
+            Interrupts (s.worlds hart) s hart (state_by self.new) }
+        ensures load { LoadsAnew result (state_by self.old) (state_by self.new) hart }
+        ensures others { KeepsOthers (state_by self.old) (state_by self.new) hart }
+        ensures awake { (state_by self.new).marked hart ≡ false }
+        ensures platform { (state_by self.new).table.layout ≡ (state_by self.old).table.layout }
+        ensures lists { (state_by self.new).table ≡ (state_by self.old).table
+            → kept_by self.new ≡ kept_by self.old }
     {
         self.parts.pause(hart)
     }

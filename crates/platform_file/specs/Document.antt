@@ -6,7 +6,7 @@ use Rattle.toml.specs.Parse.{parse_document}
 use Rattle.pmp_encoding.specs.declared.perm.Perm.{Perm}
 use Rattle.pmp_encoding.specs.Limits.{limit_number}
 use Rattle.pmp_encoding.specs.Perms.{permission_of}
-use Rattle.platforms.specs.Platform.{Layout, platform_rules}
+use Rattle.platforms.specs.Platform.{PlatformLayout, platform_rules}
 use Rattle.platforms.specs.CheckLists.{AllPass}
 
 -- no key of a table has another name than these
@@ -88,7 +88,7 @@ abbrev pub known : List (List ℕ)
 known = codes "monitor" ∷ codes "ram" ∷ codes "device" ∷ codes "harts" ∷ codes "entries" ∷ []
 
 -- the platform of these ranges and numbers: no rule on platforms is broken
-pub record Builds (monitor : ℕ × ℕ) (ram : List (ℕ × ℕ)) (devices : List (ℕ × ℕ × Perm)) (harts entries : ℕ) (platform : Layout) : Type 0 where
+pub record Builds (monitor : ℕ × ℕ) (ram : List (ℕ × ℕ)) (devices : List (ℕ × ℕ × Perm)) (harts entries : ℕ) (platform : PlatformLayout) : Type 0 where
   pub rules : AllPass (platform_rules monitor ram devices)
   pub some_hart : 0 < harts
   pub four_harts : harts ≤ 4
@@ -96,7 +96,7 @@ pub record Builds (monitor : ℕ × ℕ) (ram : List (ℕ × ℕ)) (devices : Li
   pub is : platform ≡ record { monitor = monitor; ram = ram; devices = devices; harts = harts; limit = platform.limit }
 
 -- a document of those keys alone tells a platform: one hart where no `harts` is told, and sixteen entries
-pub record Tells (document : Members) (platform : Layout) : Type 0 where
+pub record Tells (document : Members) (platform : PlatformLayout) : Type 0 where
   pub keys : has_only known document ≡ true
   pub monitor : ℕ × ℕ
   pub ram : List (ℕ × ℕ)
@@ -111,12 +111,12 @@ pub record Tells (document : Members) (platform : Layout) : Type 0 where
   pub built : Builds monitor ram devices harts entries platform
 
 -- a text is the platform: it is a TOML document that tells it
-pub record IsPlatformText (text : List ℕ) (platform : Layout) : Type 0 where
+pub record IsPlatformText (text : List ℕ) (platform : PlatformLayout) : Type 0 where
   pub document : Members
   pub parsed : parse_document text ≡ Some document
   pub told : Tells document platform
 
 -- the bytes of a file are the platform: they are a text of UTF-8 that is
-pub record IsPlatformFile (bytes : List ℕ) (platform : Layout) : Type 0 where
+pub record IsPlatformFile (bytes : List ℕ) (platform : PlatformLayout) : Type 0 where
   pub text : IsUtf8 bytes
   pub platform_text : IsPlatformText bytes platform

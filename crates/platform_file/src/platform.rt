@@ -3,7 +3,7 @@
 ghost use Rattle.std.specs.Prelude.{◌≡◌, ◌<◌, Err, IfOk, IfSome, None};
 ghost use Rattle.toml.specs.Parse.{parse_document};
 ghost use Rattle.toml.specs.View.{table_view};
-ghost use Rattle.platforms.specs.Platform.{Layout};
+ghost use Rattle.platforms.specs.Platform.{PlatformLayout};
 ghost use Rattle.platform_file.specs.Document.{IsPlatformText, Builds, Tells};
 
 use crate::TextFault;
@@ -50,7 +50,7 @@ fn built(
     entries: u64,
 ) -> Option<Platform>
     ensures some { IfSome result (Builds monitor ram.now devices.now harts entries) }
-    ensures none { result ≡ None → (platform : Layout)
+    ensures none { result ≡ None → (platform : PlatformLayout)
         → Builds monitor ram.now devices.now harts entries platform → ⊥ }
 {
     let harts = byte_of(harts)?;
@@ -70,7 +70,7 @@ fn built(
 /// The platform that a document tells.
 fn told(alloc: Global, document: &Table) -> Result<Platform, TextFault>
     ensures ok { IfOk result (Tells (table_view document.now)) }
-    ensures refused { result ≡ Err TextFault.NotAPlatform → (platform : Layout)
+    ensures refused { result ≡ Err TextFault.NotAPlatform → (platform : PlatformLayout)
         → Tells (table_view document.now) platform → ⊥ }
 {
     if !has_only(document, &["monitor", "ram", "device", "harts", "entries"]) {
@@ -102,7 +102,7 @@ fn told(alloc: Global, document: &Table) -> Result<Platform, TextFault>
 /// was refused.
 pub fn platform_of(alloc: Global, text: &str) -> Result<Platform, TextFault>
     ensures ok { IfOk result (IsPlatformText text.now) }
-    ensures refused { result ≡ Err TextFault.NotAPlatform → (platform : Layout)
+    ensures refused { result ≡ Err TextFault.NotAPlatform → (platform : PlatformLayout)
         → IsPlatformText text.now platform
         → ⊥ }
 {

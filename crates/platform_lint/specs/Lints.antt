@@ -3,7 +3,7 @@ use Rattle.std.specs.Prelude.{◌≡◌, ◌⊎◌, ℕ, ◌+◌, ◌≤◌, ◌
 use Rattle.std.specs.Str.{IsUtf8}
 use Rattle.toml.specs.Data.{Members}
 use Rattle.toml.specs.Parse.{parse_document}
-use Rattle.platforms.specs.Platform.{Layout}
+use Rattle.platforms.specs.Platform.{PlatformLayout}
 use Rattle.platform_file.specs.Document.{IsPlatformFile}
 use Rattle.platform_lint.specs.Order.{IsFirstBreach}
 use Rattle.platform_lint.specs.Texts.{breach_text}
@@ -37,7 +37,7 @@ no_text_line name = name ++ codes ": not UTF-8\n"
 
 -- the file is no platform
 abbrev pub IsNoPlatform : List ℕ → Type 0
-IsNoPlatform bytes = (platform : Layout) → IsPlatformFile bytes platform → ⊥
+IsNoPlatform bytes = (platform : PlatformLayout) → IsPlatformFile bytes platform → ⊥
 
 -- the line for a file that is no platform: it is no text, or the text of none
 abbrev pub IsLintLine : List ℕ → List ℕ → List ℕ → Type 0

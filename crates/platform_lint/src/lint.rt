@@ -4,7 +4,7 @@ ghost use Rattle.std.specs.Prelude.{◌≡◌, ◌++◌, List, ℕ, Err, IfOk, I
 ghost use Rattle.byte_streams.specs.Writings.{writing, Breaks, TakesAll};
 ghost use Rattle.toml.specs.Errors.{IsMemory, IsWithin, span_start};
 ghost use Rattle.toml.specs.View.{table_view};
-ghost use Rattle.platforms.specs.Platform.{Layout};
+ghost use Rattle.platforms.specs.Platform.{PlatformLayout};
 ghost use Rattle.platform_file.specs.Document.{IsPlatformFile, IsPlatformText, Tells};
 ghost use Rattle.platform_lint.specs.Lints.{IsFinding, IsLintLine, IsSyntaxText, no_text_line, position_after};
 ghost use Rattle.platform_lint.specs.Order.{IsFirstBreach};
@@ -26,7 +26,7 @@ use toml::de::Error;
 
 /// What a document breaks first that tells no platform.
 fn breach_of<'a>(alloc: Global, document: &'a Table) -> Result<Breach<'a>, AllocError>
-    requires { (platform : Layout) → Tells (table_view document.now) platform → ⊥ }
+    requires { (platform : PlatformLayout) → Tells (table_view document.now) platform → ⊥ }
     ensures { IfOk result (IsFirstBreach (table_view document.now)) }
 {
     if let Some(breach) = form_breach(document) {
@@ -85,7 +85,7 @@ fn push_syntax(line: &mut Vec<u8>, text: &str, error: &Error) -> Result<(), Allo
 
 /// Appends what a document breaks first that tells no platform.
 fn push_document(alloc: Global, line: &mut Vec<u8>, document: &Table) -> Result<(), AllocError>
-    requires { (platform : Layout) → Tells (table_view document.now) platform → ⊥ }
+    requires { (platform : PlatformLayout) → Tells (table_view document.now) platform → ⊥ }
     ensures { OnOk result ((breach : Breach) × IsFirstBreach (table_view document.now) breach
         × (line.new.items ≡ line.old.items ++ (codes ": " ++ breach_text breach))) }
 {
@@ -96,7 +96,7 @@ fn push_document(alloc: Global, line: &mut Vec<u8>, document: &Table) -> Result<
 
 /// The line for a text that is no platform.
 fn finding(alloc: Global, name: &str, text: &str) -> Result<Vec<u8>, AllocError>
-    requires { (platform : Layout) → IsPlatformText text.now platform → ⊥ }
+    requires { (platform : PlatformLayout) → IsPlatformText text.now platform → ⊥ }
     ensures { IfOk result (λ line. IsFinding name.now text.now line.items) }
 {
     let mut line = Vec::new(alloc);
@@ -127,7 +127,7 @@ fn no_text(alloc: Global, name: &str) -> Result<Vec<u8>, AllocError>
 /// The line for a file that is no platform, and none for a platform.
 fn lint_line(alloc: Global, name: &str, bytes: &[u8]) -> Result<Option<Vec<u8>>, AllocError>
     ensures platform { result ≡ Ok None
-        → (platform : Layout) × IsPlatformFile bytes.now platform }
+        → (platform : PlatformLayout) × IsPlatformFile bytes.now platform }
     ensures line { IfOk result (λ found.
         IfSome found (λ line. IsLintLine name.now bytes.now line.items)) }
 {
@@ -150,7 +150,7 @@ pub fn lint_platform<W: Sink>(
     out: &mut W,
 ) -> Result<bool, LintFault>
     ensures platform { result ≡ Ok true
-        → (platform : Layout) × IsPlatformFile bytes.now platform }
+        → (platform : PlatformLayout) × IsPlatformFile bytes.now platform }
     ensures silent { result ≡ Ok true → out.new ≡ out.old }
     ensures written { result ≡ Ok false → (line : List ℕ)
         × IsLintLine name.now bytes.now line

@@ -2,7 +2,7 @@
 
 ghost use Rattle.std.specs.Prelude.{◌≡◌, ◌++◌, ◌<◌, ◌≤◌, IfOk, IfSome, None, Ok, map};
 ghost use Rattle.toml.specs.View.{table_view};
-ghost use Rattle.platforms.specs.Platform.{Layout};
+ghost use Rattle.platforms.specs.Platform.{PlatformLayout};
 ghost use Rattle.platforms.specs.Ranges.{EachApart, device_range};
 ghost use Rattle.platforms.specs.declared.platform.PlatformFault.TheVariants.{Overlap};
 ghost use Rattle.platform_file.specs.Document.{Builds, Tells};
@@ -35,7 +35,7 @@ pub(crate) fn rule_breach<'a>(
         IfSome found (IsBreach (table_view document.now))) }
     ensures last { IfOk result (λ found. IfSome found IsOfRules) }
     ensures none { result ≡ Ok None
-        → (platform : Layout) × Tells (table_view document.now) platform }
+        → (platform : PlatformLayout) × Tells (table_view document.now) platform }
 {
     let Some(monitor) = monitor_at(document) else {
         unreachable!();
@@ -98,7 +98,7 @@ fn broken_rule(
 ) -> Option<PlatformFault>
     ensures some { IfSome result (BreaksRule monitor ram.now devices.now harts entries) }
     ensures none { result ≡ None
-        → (platform : Layout) × Builds monitor ram.now devices.now harts entries platform }
+        → (platform : PlatformLayout) × Builds monitor ram.now devices.now harts entries platform }
 {
     let bare = match Platform::new(monitor, ram, devices) {
         Ok(bare) => bare,

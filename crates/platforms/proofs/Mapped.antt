@@ -5,7 +5,7 @@ use Rattle.pmp_encoding.specs.declared.perm.Perm.TheVariants.{NoAccess, ReadWrit
 use Rattle.page_views.specs.Views.{in_range}
 use Rattle.page_views.specs.Views.{View, SameView, overwritten}
 use Rattle.page_views.specs.declared.pages.PageRange.{PageRange}
-use Rattle.platforms.specs.Platform.{Layout, device_perm, platform_perm}
+use Rattle.platforms.specs.Platform.{PlatformLayout, device_perm, platform_perm}
 use Rattle.platforms.specs.Ranges.{has_page}
 use Rattle.platforms.proofs.ShortNames.{is_among}
 
@@ -23,7 +23,7 @@ device_set devices i d old new inside is before set page small =
 
 -- the devices set first, then the memory, then nothing on the monitor's pages: that is what the platform allows
 pub platform_view :
-    (layout : Layout) (devices : List (ℕ × ℕ × Perm)) (ram : List (ℕ × ℕ)) (pages : PageRange) (first second third : View) → layout.devices ≡ devices → layout.ram ≡ ram
+    (layout : PlatformLayout) (devices : List (ℕ × ℕ × Perm)) (ram : List (ℕ × ℕ)) (pages : PageRange) (first second third : View) → layout.devices ≡ devices → layout.ram ≡ ram
     → pages ≡ record { first = layout.monitor.0 / 4096; count = layout.monitor.1 / 4096 } → SameView first (device_perm devices)
     → SameView second (λ page. cond (is_among ram page) ReadWriteExecute (first page)) → SameView third (overwritten second pages.first pages.count NoAccess)
     → SameView third (λ page. cond (has_page layout.monitor page) NoAccess (platform_perm layout page))

@@ -19,7 +19,7 @@ platform_fault_number BadHarts = 5
 platform_fault_number BadEntries = 6
 
 -- the pages of memory, of devices and of the monitor, how many harts there are, and how many entries each has
-pub record Layout : Type 0 where
+pub record PlatformLayout : Type 0 where
   pub monitor : ℕ × ℕ
   pub ram : List (ℕ × ℕ)
   pub devices : List (ℕ × ℕ × Perm)
@@ -38,7 +38,7 @@ platform_rules monitor ram devices =
     ∷ [])))
 
 -- a platform keeps every rule, and has one to four harts
-pub record IsLayout (layout : Layout) : Type 0 where
+pub record IsLayout (layout : PlatformLayout) : Type 0 where
   pub rules : AllPass (platform_rules layout.monitor layout.ram layout.devices)
   pub some_hart : 0 < layout.harts
   pub four_harts : layout.harts ≤ 4
@@ -49,9 +49,9 @@ device_perm [] page = NoAccess
 device_perm (device ∷ devices) page = cond (has_page (device.0, device.1) page) device.2 (device_perm devices page)
 
 -- whether a page is memory
-abbrev pub is_ram : Layout → ℕ → Bool
+abbrev pub is_ram : PlatformLayout → ℕ → Bool
 is_ram layout page = list_any (λ range. has_page range page) layout.ram
 
 -- what the platform allows on a page: everything in memory, on a device what is said of it, and nothing elsewhere
-abbrev pub platform_perm : Layout → ℕ → Perm
+abbrev pub platform_perm : PlatformLayout → ℕ → Perm
 platform_perm layout page = cond (is_ram layout page) ReadWriteExecute (device_perm layout.devices page)

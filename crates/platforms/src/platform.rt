@@ -4,7 +4,7 @@ ghost use Rattle.std.specs.Prelude.{◌≡◌, ◌≢◌, ◌<◌, ◌≤◌, �
 ghost use Rattle.std.specs.List.{All};
 ghost use Rattle.pmp_encoding.specs.declared.limit.Limit.TheVariants.{Sixteen};
 ghost use Rattle.pmp_encoding.specs.Limits.{limit_number};
-ghost use Rattle.platforms.specs.Platform.{IsLayout, Layout, platform_fault_number, platform_rules};
+ghost use Rattle.platforms.specs.Platform.{IsLayout, PlatformLayout, platform_fault_number, platform_rules};
 ghost use Rattle.platforms.specs.CheckLists.{AllPass, FailsFirst};
 ghost use Rattle.platforms.specs.Ranges.{AreAmong, IsRange, device_range};
 
@@ -44,7 +44,7 @@ impl PlatformFault {
 }
 
 /// Where memory, devices and the monitor are, how many harts there are and how many PMP entries each has. It takes no
-/// memory. Contracts see it as its `Layout`.
+/// memory. Contracts see it as its `PlatformLayout`.
 #[derive(Drop)]
 pub struct Platform {
     monitor: (u64, u64),
@@ -55,9 +55,9 @@ pub struct Platform {
 }
 
 impl Model for Platform {
-    ghost use Rattle.platforms.specs.Platform.{Layout, IsLayout};
+    ghost use Rattle.platforms.specs.Platform.{PlatformLayout, IsLayout};
 
-    ghost Value = { Layout };
+    ghost Value = { PlatformLayout };
 
     ghost view = { λ p. record { monitor = p.monitor; ram = p.ram.items; devices = p.devices.items; harts = p.harts; limit = p.limit } };
 

@@ -7,7 +7,7 @@ use Rattle.byte_streams.specs.Writings.{IsUnwritten, IsWell, TakesPart, Writing}
 use Rattle.text_lines.specs.declared.fault.RunFault.{RunFault}
 use Rattle.text_lines.specs.LineLoop.{CountsReads, CountsWrites, DoesAll, Meaning}
 use Rattle.enclave_table.specs.Boot.{IsBootFault}
-use Rattle.platforms.specs.Platform.{Layout}
+use Rattle.platforms.specs.Platform.{PlatformLayout}
 use Rattle.platforms.specs.declared.boot_fault.BootFault.{BootFault}
 use Rattle.hart_sim.specs.declared.machine.Machine.{Machine}
 use Rattle.hart_sim.specs.After.{IsBooted}
@@ -99,9 +99,9 @@ RunsTraceAs answers.Compared booted trace measure second out done = RunsExpectin
 -- `run`: the platform is read and booted, and then the trace happens to its machine
 pub data Runs {R W : Type 0} (answers : Answers) (file trace : Bor (List ℕ)) (measure : Bool) (first second : Reading R) (out : Writing W) : Result ℕ Trouble → Type 0 where
   ran :
-      (platform : Layout) (booted : Machine) (result : Result ℕ Trouble) → HasPlatform first platform → IsBooted platform booted → RunsTraceAs answers booted trace measure second out result
+      (platform : PlatformLayout) (booted : Machine) (result : Result ℕ Trouble) → HasPlatform first platform → IsBooted platform booted → RunsTraceAs answers booted trace measure second out result
       → Runs answers file trace measure first second out result
   no_platform : (trouble : Trouble) → HasNoPlatform file first trouble → IsUnread second → IsUnwritten out → Runs answers file trace measure first second out (Err trouble)
   not_booted :
-      (platform : Layout) (fault : BootFault) → HasPlatform first platform → IsBootFault platform fault → IsUnread second → IsUnwritten out
+      (platform : PlatformLayout) (fault : BootFault) → HasPlatform first platform → IsBootFault platform fault → IsUnread second → IsUnwritten out
       → Runs answers file trace measure first second out (Err (boot_trouble fault))

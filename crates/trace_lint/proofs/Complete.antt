@@ -8,7 +8,7 @@ use Rattle.pmp_match.specs.declared.access.Access.{Access}
 use Rattle.pmp_match.specs.Kinds.{has_size}
 use Rattle.text_lines.specs.Numbers.{number_of}
 use Rattle.hart_trace.specs.declared.event.Event.{Event}
-use Rattle.hart_trace.specs.Events.{Word, ◌>>=◌, mode_of, sized, access_of, with_no_value, with_value, register_of, setting_of, numbers_of, call_of, interrupt_of, event_of}
+use Rattle.hart_trace.specs.Events.{Word, ◌>>=◌, mode_of, sized, access_of, with_no_value, with_value, register_of, setting_of, numbers_of, call_in, interrupt_of, event_of}
 use Rattle.trace_lint.specs.declared.forms.EventKind.{EventKind}
 use Rattle.trace_lint.specs.declared.forms.EventKind.TheVariants.{Fetch, Load, Store, Reg, Ecall, Irq}
 use Rattle.trace_lint.specs.declared.forms.Slot.{Slot}
@@ -21,7 +21,7 @@ event_by Fetch words = access_of accesses.Fetch words >>= with_no_value
 event_by Load words = access_of accesses.Load words >>= with_no_value
 event_by Store words = access_of accesses.Store words >>= with_value
 event_by Reg words = setting_of words
-event_by Ecall words = call_of words
+event_by Ecall words = call_in words
 event_by Irq words = interrupt_of words
 
 chosen :
@@ -133,7 +133,7 @@ numbers_there (suc n) (word ∷ words) h =
     let rest = numbers_there n words both.1 in
     (omega (arith, rest.0), numbers_by word words (number_of word) (numbers_of words) refl refl both.0 rest.1)
 
-called_by : (words : List Word) (ns : Option (List ℕ)) → nat_le (length words) 8 ≡ true → numbers_of words ≡ ns → is_some ns ≡ true → is_some (call_of words) ≡ true
+called_by : (words : List Word) (ns : Option (List ℕ)) → nat_le (length words) 8 ≡ true → numbers_of words ≡ ns → is_some ns ≡ true → is_some (call_in words) ≡ true
 called_by words None few e h = absurd (true≢false (sym h))
 called_by words (Some ns) few e h = rw (few, e) refl
 

@@ -3,7 +3,7 @@ use Rattle.std.proofs.Common.{◌≡◌, ◌≤◌, ◌<◌, ◌+◌, ◌/◌, a
 use Rattle.std.specs.Result.{IfOk, IfErr}
 use Rattle.std.specs.Io.KnownBytes.{Appends, Consumes}
 use Rattle.std.proofs.Common.{take_all}
-use Rattle.platforms.specs.Platform.{Layout}
+use Rattle.platforms.specs.Platform.{PlatformLayout}
 use Rattle.platforms.specs.CheckLists.{AllPass, FailsFirst}
 use Rattle.platforms.specs.declared.platform.PlatformFault.{PlatformFault}
 use Rattle.trap_frames.specs.declared.fault.FrameFault.{FrameFault}
@@ -58,6 +58,6 @@ page_asked faults.Read parts page bytes before after held holds reads asked = as
 page_asked faults.Write parts page bytes before after held holds reads asked = absurd reads
 
 -- a platform, or why it is none
-pub reads_platform : (result : Result Layout Refusal) (bytes : List ℕ) (before after : Option (List ℕ)) → length bytes ≡ 1336 → IfOk result (λ p. IsPlatformFrame bytes p) → IfErr result (λ refusal. IsNoPlatform refusal bytes) → Consumes before after bytes → ReadsPlatform (Ok result) before after
+pub reads_platform : (result : Result PlatformLayout Refusal) (bytes : List ℕ) (before after : Option (List ℕ)) → length bytes ≡ 1336 → IfOk result (λ p. IsPlatformFrame bytes p) → IfErr result (λ refusal. IsNoPlatform refusal bytes) → Consumes before after bytes → ReadsPlatform (Ok result) before after
 reads_platform (Ok layout) bytes before after size is not consumed = (bytes, size, is, consumed)
 reads_platform (Err refusal) bytes before after size is not consumed = (bytes, size, not, consumed)

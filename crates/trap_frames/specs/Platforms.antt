@@ -4,7 +4,7 @@ use Rattle.std.specs.Io.KnownBytes.{Consumes, IsAtEnd}
 use Rattle.pmp_encoding.specs.declared.perm.Perm.{Perm}
 use Rattle.pmp_encoding.specs.Perms.{bits_of}
 use Rattle.pmp_encoding.specs.Limits.{limit_number}
-use Rattle.platforms.specs.Platform.{Layout, platform_rules}
+use Rattle.platforms.specs.Platform.{PlatformLayout, platform_rules}
 use Rattle.platforms.specs.CheckLists.{FailsFirst}
 use Rattle.platforms.specs.declared.platform.PlatformFault.{PlatformFault}
 use Rattle.platforms.specs.declared.platform.PlatformFault.TheVariants.{BadNumber, BadHarts, BadEntries}
@@ -34,13 +34,13 @@ abbrev pub words_of : List (ℕ × ℕ × Perm) → List (ℕ × ℕ × ℕ)
 words_of devices = map words_of_device devices
 
 -- the words 3 to 6, and those from word 7 on, are the ranges of a platform
-pub record HasRanges (bytes : List ℕ) (layout : Layout) : Type 0 where
+pub record HasRanges (bytes : List ℕ) (layout : PlatformLayout) : Type 0 where
   pub monitor : layout.monitor ≡ (word_at bytes 3, word_at bytes 4)
   pub ram : layout.ram ≡ ram_in bytes (word_at bytes 5)
   pub devices : words_of layout.devices ≡ device_words bytes (word_at bytes 6)
 
 -- the bytes are the frame of a platform
-pub record IsPlatformFrame (bytes : List ℕ) (layout : Layout) : Type 0 where
+pub record IsPlatformFrame (bytes : List ℕ) (layout : PlatformLayout) : Type 0 where
   pub tag : word_at bytes 0 ≡ platform_tag
   pub harts : layout.harts ≡ word_at bytes 1
   pub entries : limit_number layout.limit ≡ word_at bytes 2
@@ -62,7 +62,7 @@ shape_rules bytes = (BadHarts, (0 < word_at bytes 1) × (word_at bytes 1 ≤ 4))
 abbrev pub BreaksRule : List ℕ → List (PlatformFault × Type 0) → PlatformFault → Type 0
 BreaksRule bytes more fault =
     ((fault ≡ BadNumber) × (AreFew bytes → ⊥))
-    ⊎ (AreFew bytes × (layout : Layout) × HasRanges bytes layout × FailsFirst (platform_rules layout.monitor layout.ram layout.devices ++ more) fault)
+    ⊎ (AreFew bytes × (layout : PlatformLayout) × HasRanges bytes layout × FailsFirst (platform_rules layout.monitor layout.ram layout.devices ++ more) fault)
 
 -- why bytes are the ranges of no platform
 abbrev pub AreNoRanges : Refusal → List ℕ → Type 0
@@ -80,7 +80,7 @@ IsNoPlatform (NeedsEntries count) bytes = ⊥
 IsNoPlatform Memory bytes = ⊥
 
 -- what the read of the platform answers, by what it consumed
-abbrev pub ReadsPlatform : Result (Result Layout Refusal) FrameFault → Option (List ℕ) → Option (List ℕ) → Type 0
+abbrev pub ReadsPlatform : Result (Result PlatformLayout Refusal) FrameFault → Option (List ℕ) → Option (List ℕ) → Type 0
 ReadsPlatform (Ok (Ok layout)) before after = (bytes : List ℕ) × (length bytes ≡ 1336) × IsPlatformFrame bytes layout × Consumes before after bytes
 ReadsPlatform (Ok (Err refusal)) before after = (bytes : List ℕ) × (length bytes ≡ 1336) × IsNoPlatform refusal bytes × Consumes before after bytes
 ReadsPlatform (Err faults.NotUnderstood) before after = (bytes : List ℕ) × (length bytes < 1336) × IsAtEnd after × Consumes before after bytes

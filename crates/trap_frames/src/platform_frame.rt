@@ -3,7 +3,7 @@
 ghost use Rattle.std.specs.Prelude.{◌≡◌, ◌≤◌, ◌<◌, ◌+◌, ◌*◌, ◌⊎◌, IfOk, IfErr, IfSome, IfNone, Some, ℕ};
 ghost use Rattle.pmp_encoding.specs.Perms.{bits_of};
 ghost use Rattle.pmp_encoding.specs.declared.perm.Perm.{Perm as PermOf};
-ghost use Rattle.platforms.specs.Platform.{Layout, IsLayout, platform_rules};
+ghost use Rattle.platforms.specs.Platform.{PlatformLayout, IsLayout, platform_rules};
 ghost use Rattle.platforms.specs.CheckLists.{AllPass};
 ghost use Rattle.byte_streams.specs.Streams.{CountsFailure};
 ghost use Rattle.trap_frames.specs.Words.{word_at};

@@ -2,9 +2,9 @@
 use Rattle.std.proofs.Common.{◌≡◌, ◌⊎◌, ◌∙◌, ◌+◌, ◌<◌, inl, inr, ℕ, Bool, List, [], ◌++◌, length, take, Option, None, Result, Ok, Err, ap, sym, subst, refl, append_assoc, append-nil}
 use Rattle.std.specs.Io.KnownBytes.{Appends, Consumes}
 use Rattle.std.proofs.KnownBytes.{Appends-trans, Consumes-trans}
-use Rattle.platforms.specs.Platform.{Layout}
+use Rattle.platforms.specs.Platform.{PlatformLayout}
 use Rattle.monitor_core.specs.declared.monitor.Monitor.{Monitor}
-use Rattle.monitor_core.specs.States.{State, opening}
+use Rattle.monitor_core.specs.States.{MonitorState, opening_monitor}
 use Rattle.control_words.specs.declared.words.ControlWords.{ControlWords}
 use Rattle.trap_frames.specs.declared.trap.Trap.{Trap}
 use Rattle.trap_frames.specs.declared.fault.FrameFault.{FrameFault}
@@ -25,8 +25,8 @@ use Rattle.trap_server.specs.Steps.{Serves}
 use Rattle.trap_server.proofs.Served.{refuse_why}
 
 -- the platform was read and answered, and traps were served from it to this state
-pub record Progress (count : ℕ) (now : State) (hosts : ℕ → ControlWords) (before after held holds : Option (List ℕ)) : Type 0 where
-  pub layout : Layout
+pub record Progress (count : ℕ) (now : MonitorState) (hosts : ℕ → ControlWords) (before after held holds : Option (List ℕ)) : Type 0 where
+  pub layout : PlatformLayout
   pub first : List ℕ
   pub opened : List ℕ
   pub read : List ℕ
@@ -34,7 +34,7 @@ pub record Progress (count : ℕ) (now : State) (hosts : ℕ → ControlWords) (
   pub size : length first ≡ 1336
   pub platform : IsPlatformFrame first layout
   pub begins : IsFirstAnswer layout opened
-  pub served : Served (opening layout) first_words read written now hosts
+  pub served : Served (opening_monitor layout) first_words read written now hosts
   pub counted : trap_count served ≡ count
   pub consumed : Consumes before after (first ++ read)
   pub appended : Appends held holds (opened ++ written)
@@ -46,10 +46,10 @@ consumed_as before after xs ys e c = subst (Consumes before after) e c
 appended_as : (held holds : Option (List ℕ)) (xs ys : List ℕ) → xs ≡ ys → Appends held holds xs → Appends held holds ys
 appended_as held holds xs ys e c = subst (Appends held holds) e c
 
--- the opening state
+-- the opening_monitor state
 opened_at :
-    (layout : Layout) (first opened : List ℕ) (before after held middle holds : Option (List ℕ)) → length first ≡ 1336 → IsPlatformFrame first layout → Consumes before after first → Appends held middle []
-    → IsFirstAnswer layout opened → Appends middle holds opened → Progress 0 (opening layout) first_words before after held holds
+    (layout : PlatformLayout) (first opened : List ℕ) (before after held middle holds : Option (List ℕ)) → length first ≡ 1336 → IsPlatformFrame first layout → Consumes before after first → Appends held middle []
+    → IsFirstAnswer layout opened → Appends middle holds opened → Progress 0 (opening_monitor layout) first_words before after held holds
 opened_at layout first opened before after held middle holds size platform consumed nothing answer wrote = record {
   layout = layout;
   first = first;
@@ -68,23 +68,23 @@ opened_at layout first opened before after held middle holds size platform consu
 
 -- the answer to the platform
 pub opens :
-    (s : State) (hosts : ℕ → ControlWords) (layout : Layout) (opened : List ℕ) (harts : ℕ) (woken : List Bool) → s ≡ opening layout → hosts ≡ first_words → harts ≡ s.table.layout.harts → woken ≡ others harts
+    (s : MonitorState) (hosts : ℕ → ControlWords) (layout : PlatformLayout) (opened : List ℕ) (harts : ℕ) (woken : List Bool) → s ≡ opening_monitor layout → hosts ≡ first_words → harts ≡ s.table.layout.harts → woken ≡ others harts
     → IsAnswer s (given_on s hosts 0) 0 no_answer None woken opened → IsFirstAnswer layout opened
 opens s hosts layout opened harts woken is words n w answer =
-    let known = subst (λ ws. IsAnswer s (given_on s hosts 0) 0 no_answer None ws opened) (w ∙ ap others (n ∙ ap (λ (x : State). x.table.layout.harts) is)) answer in
+    let known = subst (λ ws. IsAnswer s (given_on s hosts 0) 0 no_answer None ws opened) (w ∙ ap others (n ∙ ap (λ (x : MonitorState). x.table.layout.harts) is)) answer in
     let with_words = subst (λ (hs : ℕ → ControlWords). IsAnswer s (given_on s hs 0) 0 no_answer None (others layout.harts) opened) words known in
-    subst (λ (x : State). IsAnswer x (given_on x first_words 0) 0 no_answer None (others layout.harts) opened) is with_words
+    subst (λ (x : MonitorState). IsAnswer x (given_on x first_words 0) 0 no_answer None (others layout.harts) opened) is with_words
 
 pub begins :
-    (s : State) (hosts : ℕ → ControlWords) (layout : Layout) (first opened : List ℕ) (harts : ℕ) (woken : List Bool) (before after held middle holds : Option (List ℕ)) → length first ≡ 1336 → IsPlatformFrame first layout → s ≡ opening layout → hosts ≡ first_words
+    (s : MonitorState) (hosts : ℕ → ControlWords) (layout : PlatformLayout) (first opened : List ℕ) (harts : ℕ) (woken : List Bool) (before after held middle holds : Option (List ℕ)) → length first ≡ 1336 → IsPlatformFrame first layout → s ≡ opening_monitor layout → hosts ≡ first_words
     → Consumes before after first → Appends held middle [] → harts ≡ s.table.layout.harts → woken ≡ others harts → IsAnswer s (given_on s hosts 0) 0 no_answer None woken opened → Appends middle holds opened → Progress 0 s hosts before after held holds
 begins s hosts layout first opened harts woken before after held middle holds size platform is words consumed nothing n w answer wrote =
     subst (λ (hs : ℕ → ControlWords). Progress 0 s hs before after held holds) (sym words)
-    (subst (λ (x : State). Progress 0 x first_words before after held holds) (sym is) (opened_at layout first opened before after held middle holds size platform consumed nothing (opens s hosts layout opened harts woken is words n w answer) wrote))
+    (subst (λ (x : MonitorState). Progress 0 x first_words before after held holds) (sym is) (opened_at layout first opened before after held middle holds size platform consumed nothing (opens s hosts layout opened harts woken is words n w answer) wrote))
 
 -- it was not written whole
 pub answer_stops :
-    (fault : ServeFault) (s : State) (hosts : ℕ → ControlWords) (layout : Layout) (first answer : List ℕ) (n harts : ℕ) (woken : List Bool) (before after held middle holds : Option (List ℕ)) → length first ≡ 1336 → IsPlatformFrame first layout → s ≡ opening layout → hosts ≡ first_words
+    (fault : ServeFault) (s : MonitorState) (hosts : ℕ → ControlWords) (layout : PlatformLayout) (first answer : List ℕ) (n harts : ℕ) (woken : List Bool) (before after held middle holds : Option (List ℕ)) → length first ≡ 1336 → IsPlatformFrame first layout → s ≡ opening_monitor layout → hosts ≡ first_words
     → Consumes before after first → Appends held middle [] → harts ≡ s.table.layout.harts → woken ≡ others harts → fault ≡ faults.Write → IsAnswer s (given_on s hosts 0) 0 no_answer None woken answer → n < length answer → Appends middle holds (take n answer)
     → EndsAtFirst fault before after held holds
 answer_stops fault s hosts layout first answer n harts woken before after held middle holds size platform is words consumed nothing h w write whole less wrote =
@@ -98,7 +98,7 @@ answer_stops fault s hosts layout first answer n harts woken before after held m
 
 -- one trap more
 pub goes_on :
-    (count : ℕ) (old new : State) (hosts kept : ℕ → ControlWords) (trap : Trap) (frame : List ℕ) (harts : ℕ) (before now mid after held middle holds : Option (List ℕ)) → Progress count old hosts before now held middle → length frame ≡ 352 → IsTrapFrame frame harts trap
+    (count : ℕ) (old new : MonitorState) (hosts kept : ℕ → ControlWords) (trap : Trap) (frame : List ℕ) (harts : ℕ) (before now mid after held middle holds : Option (List ℕ)) → Progress count old hosts before now held middle → length frame ≡ 352 → IsTrapFrame frame harts trap
     → harts ≡ old.table.layout.harts → Consumes now mid frame → Serves (Ok tt) trap old hosts new kept mid after middle holds → Progress (count + 1) new kept before after held holds
 goes_on count old new hosts kept trap frame harts before now mid after held middle holds p size is n came s = record {
   layout = p.layout;
@@ -119,7 +119,7 @@ goes_on count old new hosts kept trap frame harts before now mid after held midd
 }
 
 -- what came and was written after them
-pub ran : (count : ℕ) (now : State) (hosts : ℕ → ControlWords) (before mid after held middle holds : Option (List ℕ)) (beyond rest : List ℕ) → Progress count now hosts before mid held middle → Consumes mid after beyond → Appends middle holds rest → Ran before after held holds beyond rest
+pub ran : (count : ℕ) (now : MonitorState) (hosts : ℕ → ControlWords) (before mid after held middle holds : Option (List ℕ)) (beyond rest : List ℕ) → Progress count now hosts before mid held middle → Consumes mid after beyond → Appends middle holds rest → Ran before after held holds beyond rest
 ran count now hosts before mid after held middle holds beyond rest p came wrote = record {
   layout = p.layout;
   first = p.first;
@@ -140,14 +140,14 @@ ran count now hosts before mid after held middle holds beyond rest p came wrote 
 
 -- and why the loop ends there
 pub ended :
-    (fault : ServeFault) (count : ℕ) (now : State) (hosts : ℕ → ControlWords) (before mid after held middle holds : Option (List ℕ)) (beyond rest : List ℕ) → Progress count now hosts before mid held middle → Consumes mid after beyond → Appends middle holds rest
+    (fault : ServeFault) (count : ℕ) (now : MonitorState) (hosts : ℕ → ControlWords) (before mid after held middle holds : Option (List ℕ)) (beyond rest : List ℕ) → Progress count now hosts before mid held middle → Consumes mid after beyond → Appends middle holds rest
     → StopsBetween fault count now beyond rest after ⊎ StopsInside fault now hosts beyond rest after → EndsEarly fault before after held holds
 unfolding ran
 ended fault count now hosts before mid after held middle holds beyond rest p came wrote why = inr (beyond, rest, ran count now hosts before mid after held middle holds beyond rest p came wrote, why)
 
 -- there is no next trap
 pub next_refused :
-    (result : ServeFault) (count : ℕ) (now : State) (hosts : ℕ → ControlWords) (before mid after held middle holds : Option (List ℕ)) (beyond : List ℕ) → Progress count now hosts before mid held middle → Consumes mid after beyond
+    (result : ServeFault) (count : ℕ) (now : MonitorState) (hosts : ℕ → ControlWords) (before mid after held middle holds : Option (List ℕ)) (beyond : List ℕ) → Progress count now hosts before mid held middle → Consumes mid after beyond
     → RefusesNext count now beyond after → Refuses result refusals.NotUnderstood middle holds → EndsEarly result before after held holds
 next_refused result count now hosts before mid after held middle holds beyond p came why refused =
     let e = refuse_why result refusals.NotUnderstood middle holds (λ f rest. StopsBetween f count now beyond rest after) refused (why, refl) (λ part off. (why, off)) in
@@ -155,7 +155,7 @@ next_refused result count now hosts before mid after held middle holds beyond p 
 
 -- a trap that was not read
 pub read_stops :
-    (result : ServeFault) (fault : FrameFault) (count : ℕ) (now : State) (hosts : ℕ → ControlWords) (harts : ℕ) (before mid after held middle holds : Option (List ℕ)) → Progress count now hosts before mid held middle → harts ≡ now.table.layout.harts
+    (result : ServeFault) (fault : FrameFault) (count : ℕ) (now : MonitorState) (hosts : ℕ → ControlWords) (harts : ℕ) (before mid after held middle holds : Option (List ℕ)) → Progress count now hosts before mid held middle → harts ≡ now.table.layout.harts
     → ReadsTrap (Err fault) harts mid after → EndsAs result fault middle holds → EndsEarly result before after held holds
 read_stops result frames.NotUnderstood count now hosts harts before mid after held middle holds p n reads ends =
     next_refused result count now hosts before mid after held middle holds reads.0 p reads.2 (inl (subst (λ k. IsNoTrap reads.0 k after) n reads.1)) ends
@@ -165,7 +165,7 @@ read_stops result frames.Write count now hosts harts before mid after held middl
 
 -- a trap that was read and not served
 pub trap_stops :
-    (fault : ServeFault) (count : ℕ) (now : State) (hosts kept : ℕ → ControlWords) (new : State) (trap : Trap) (harts : ℕ) (frame : List ℕ) (before mid next after held middle holds : Option (List ℕ)) → Progress count now hosts before mid held middle
+    (fault : ServeFault) (count : ℕ) (now : MonitorState) (hosts kept : ℕ → ControlWords) (new : MonitorState) (trap : Trap) (harts : ℕ) (frame : List ℕ) (before mid next after held middle holds : Option (List ℕ)) → Progress count now hosts before mid held middle
     → harts ≡ now.table.layout.harts → length frame ≡ 352 → IsTrapFrame frame harts trap → Consumes mid next frame → Serves (Err fault) trap now hosts new kept next after middle holds → EndsEarly fault before after held holds
 trap_stops fault count now hosts kept new trap harts frame before mid next after held middle holds p n size is came s =
     ended fault count now hosts before mid after held middle holds (frame ++ s.0) s.1 p (Consumes-trans mid next after frame s.0 came s.3) s.4 (inr (trap, frame, s.0, size, subst (λ k. IsTrapFrame frame k trap) n is, s.2, refl))
@@ -192,7 +192,7 @@ refuses_first refusals.Memory bytes after size not = absurd not
 
 -- the monitor on a platform that was read
 pub booted :
-    (result : Result Monitor ServeFault) (layout : Layout) (first : List ℕ) (before after held holds : Option (List ℕ)) → length first ≡ 1336 → IsPlatformFrame first layout → Consumes before after first → BootsOn result layout held holds
+    (result : Result Monitor ServeFault) (layout : PlatformLayout) (first : List ℕ) (before after held holds : Option (List ℕ)) → length first ≡ 1336 → IsPlatformFrame first layout → Consumes before after first → BootsOn result layout held holds
     → Boots result before after held holds
 booted (Ok monitor) layout first before after held holds size is consumed boots = (layout, first, size, is, boots.0, consumed, boots.1)
 booted (Err fault) layout first before after held holds size is consumed boots = (first, boots.0, boots.1 first after size is, consumed, boots.2)

@@ -28,7 +28,7 @@ use Rattle.trap_frames.specs.Traps.{CountsRead as CountsFrame}
 use Rattle.trap_frames.specs.Traps.{CountsWrite as CountsFrameWrite}
 use Rattle.trap_frames.specs.Platforms.{ReadsPlatform}
 use Rattle.trap_frames.specs.PageDigest.{next_page, no_page}
-use Rattle.monitor_core.specs.States.{State}
+use Rattle.monitor_core.specs.States.{MonitorState}
 use Rattle.control_words.specs.declared.words.ControlWords.{ControlWords}
 use Rattle.trap_frames.specs.declared.trap.Trap.{Trap}
 use Rattle.trap_server.specs.declared.fault.ServeFault.{ServeFault}
@@ -52,7 +52,7 @@ pub numbered_all : (pages : List (List ℕ)) (first n : ℕ) → length pages �
 numbered_all pages first n is = numbered_first pages first n (omega (arith, is)) ∙ take_all n pages (omega (arith, is))
 
 -- which of four harts are marked
-pub mark_at : (s : State) (hart : ℕ) → slice_index_or (marks_of s) hart false ≡ true → s.marked hart ≡ true
+pub mark_at : (s : MonitorState) (hart : ℕ) → slice_index_or (marks_of s) hart false ≡ true → s.marked hart ≡ true
 mark_at s zero is = is
 mark_at s (suc zero) is = is
 mark_at s (suc (suc zero)) is = is
@@ -63,7 +63,7 @@ none_there : (n harts : ℕ) → harts ≤ 4 → suc (suc (suc (suc n))) < harts
 none_there n harts most known = omega (arith, most, known)
 
 -- no hart of four is, once each was woken
-pub awake : (s : State) (harts hart : ℕ) → harts ≤ 4 → hart < harts → (unmarked 4 s).marked hart ≡ false
+pub awake : (s : MonitorState) (harts hart : ℕ) → harts ≤ 4 → hart < harts → (unmarked 4 s).marked hart ≡ false
 awake s harts zero most known = refl
 awake s harts (suc zero) most known = refl
 awake s harts (suc (suc zero)) most known = refl
@@ -72,7 +72,7 @@ awake s harts (suc (suc (suc (suc n)))) most known = absurd (none_there n harts 
 
 -- a trap was served where its answer was written
 pub serves :
-    (result : Result (Unit {0}) ServeFault) (Are : List ℕ → Type 0) (trap : Trap) (old new : State) (hosts kept : ℕ → ControlWords) (before after held middle holds : Option (List ℕ)) (question read : List ℕ)
+    (result : Result (Unit {0}) ServeFault) (Are : List ℕ → Type 0) (trap : Trap) (old new : MonitorState) (hosts kept : ℕ → ControlWords) (before after held middle holds : Option (List ℕ)) (question read : List ℕ)
     → ((bytes : List ℕ) → Are bytes → ServesTrap old hosts trap read question bytes new kept) → AreAwake new → new.table.layout ≡ old.table.layout → Consumes before after read → Appends held middle question
     → Writes result Are middle holds → Serves result trap old hosts new kept before after held holds
 serves (Ok done) Are trap old new hosts kept before after held middle holds question read served quiet layout consumed asked wrote =
@@ -104,12 +104,12 @@ pages_length first count read pages (next_page {count = n} {pages = ps} are fram
 
 -- who may be woken after a step, from its marks
 pub may_wake :
-    (mid new : State) (hart : ℕ) (woken : List Bool) → new ≡ unmarked 4 mid → woken ≡ marks_of mid
+    (mid new : MonitorState) (hart : ℕ) (woken : List Bool) → new ≡ unmarked 4 mid → woken ≡ marks_of mid
     → ((other : ℕ) → other < mid.table.layout.harts → mid.marked other ≡ true → (mid.worlds other ≡ Host) × (mid.worlds hart ≡ Host)) → MayWake new hart woken
 may_wake mid new hart woken n w hosts = rw (n, w) (λ other known is. hosts other known (mark_at mid other is))
 
 -- none is marked after the harts were woken
-pub quiet : (mid new : State) → new ≡ unmarked 4 mid → mid.table.layout.harts ≤ 4 → AreAwake new
+pub quiet : (mid new : MonitorState) → new ≡ unmarked 4 mid → mid.table.layout.harts ≤ 4 → AreAwake new
 quiet mid new n most = rw n (λ hart known. awake mid mid.table.layout.harts hart most known)
 
 -- a refusal was written, or a part of it, and why
@@ -130,7 +130,7 @@ refuse_then result refusal question held middle holds Why asked refused why fail
 
 -- a measurement that ended: what it had read, what was written, and why
 pub measure_stops :
-    (result : ServeFault) (fault : FrameFault) (s : State) (trap : Trap) (parts : Create) (before after held middle holds : Option (List ℕ)) → trap.event ≡ Call
+    (result : ServeFault) (fault : FrameFault) (s : MonitorState) (trap : Trap) (parts : Create) (before after held middle holds : Option (List ℕ)) → trap.event ≡ Call
     → Measures (asked_in (call_of trap.registers)) s.table (s.worlds trap.hart) parts → MeasuresPages (Err fault) parts before after → Asks (Err fault) parts held middle → EndsAs result fault middle holds
     → (read rest : List ℕ) × ((hosts : ℕ → ControlWords) → StopsTrap result s hosts trap read rest after) × Consumes before after read × Appends held holds rest
 measure_stops result frames.NotUnderstood s trap parts before after held middle holds call measures stops asked ends =

@@ -6,20 +6,20 @@ use Rattle.worlds.specs.declared.world.World.TheVariants.{Host}
 use Rattle.sbi_decode.specs.declared.calls.Call.{Call}
 use Rattle.sbi_decode.specs.declared.calls.Call.TheVariants as calls
 use Rattle.monitor_core.specs.declared.answer.Answer.{Answer}
-use Rattle.monitor_core.specs.States.{State}
+use Rattle.monitor_core.specs.States.{MonitorState}
 use Rattle.monitor_core.specs.Steps.{DoesCall}
 
 -- that hart was not marked
-no_mark : {P : Type 0} (s new that : State) (i : ℕ) → new ≡ that → that.marked i ≡ s.marked i → s.marked i ≡ false → new.marked i ≡ true → P
-no_mark s new that i is same awake marked = absurd (true≢false (sym marked ∙ ap (λ (y : State). y.marked i) is ∙ same ∙ awake))
+no_mark : {P : Type 0} (s new that : MonitorState) (i : ℕ) → new ≡ that → that.marked i ≡ s.marked i → s.marked i ≡ false → new.marked i ≡ true → P
+no_mark s new that i is same awake marked = absurd (true≢false (sym marked ∙ ap (λ (y : MonitorState). y.marked i) is ∙ same ∙ awake))
 
 pub marks_in_host :
-    (call : Option Call) (pages : ℕ → List ℕ) (s : State) (hart : ℕ) (answer : Answer) (cleared : Option PageRange) (new : State) (i : ℕ) → s.marked i ≡ false → DoesCall call pages s hart answer cleared new
+    (call : Option Call) (pages : ℕ → List ℕ) (s : MonitorState) (hart : ℕ) (answer : Answer) (cleared : Option PageRange) (new : MonitorState) (i : ℕ) → s.marked i ≡ false → DoesCall call pages s hart answer cleared new
     → new.marked i ≡ true → new.worlds hart ≡ Host
 marks_in_host None pages s hart answer cleared new i awake x m = no_mark s new _ i x.state refl awake m
-marks_in_host (Some (calls.Create base text_pages data_pages shared_base shared_count entry_offset)) pages s hart answer cleared new i awake (inl x) m = ap (λ (y : State). y.worlds hart) x.3.state ∙ x.2.passes.0
+marks_in_host (Some (calls.Create base text_pages data_pages shared_base shared_count entry_offset)) pages s hart answer cleared new i awake (inl x) m = ap (λ (y : MonitorState). y.worlds hart) x.3.state ∙ x.2.passes.0
 marks_in_host (Some (calls.Create base text_pages data_pages shared_base shared_count entry_offset)) pages s hart answer cleared new i awake (inr x) m = no_mark s new _ i x.2.state refl awake m
-marks_in_host (Some (calls.Destroy id)) pages s hart answer cleared new i awake (inl x) m = ap (λ (y : State). y.worlds hart) x.3.state ∙ x.2.passes.0
+marks_in_host (Some (calls.Destroy id)) pages s hart answer cleared new i awake (inl x) m = ap (λ (y : MonitorState). y.worlds hart) x.3.state ∙ x.2.passes.0
 marks_in_host (Some (calls.Destroy id)) pages s hart answer cleared new i awake (inr x) m = no_mark s new _ i x.2.state refl awake m
 marks_in_host (Some (calls.Run id)) pages s hart answer cleared new i awake (inl x) m = no_mark s new _ i x.4.state refl awake m
 marks_in_host (Some (calls.Run id)) pages s hart answer cleared new i awake (inr x) m = no_mark s new _ i x.2.state refl awake m

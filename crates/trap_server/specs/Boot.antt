@@ -1,10 +1,10 @@
 -- How the monitor is booted.
 use Rattle.std.specs.Prelude.{◌≡◌, ◌⊎◌, ◌<◌, ℕ, Bool, false, nat_lt, List, [], ◌∷◌, length, Option, None, Result, Ok, Err}
 use Rattle.std.specs.Io.KnownBytes.{Appends, Consumes, IsAtEnd}
-use Rattle.platforms.specs.Platform.{Layout}
+use Rattle.platforms.specs.Platform.{PlatformLayout}
 use Rattle.monitor_core.specs.declared.monitor.Monitor.{Monitor}
-use Rattle.monitor_core.specs.Monitors.{state_of}
-use Rattle.monitor_core.specs.States.{opening}
+use Rattle.monitor_core.specs.Monitors.{state_by}
+use Rattle.monitor_core.specs.States.{opening_monitor}
 use Rattle.enclave_table.specs.Boot.{IsBootFault}
 use Rattle.platforms.specs.declared.boot_fault.BootFault.TheVariants.{NeedsMoreEntries}
 use Rattle.trap_frames.specs.Platforms.{IsNoPlatform, IsPlatformFrame}
@@ -22,16 +22,16 @@ use Rattle.trap_server.specs.Ends.{IsPart}
 abbrev pub RefusesFirst : Refusal → List ℕ → Option (List ℕ) → Type 0
 RefusesFirst NotUnderstood read after = ((length read < 1336) × IsAtEnd after) ⊎ ((length read ≡ 1336) × IsNoPlatform NotUnderstood read)
 RefusesFirst (Platform fault) read after = (length read ≡ 1336) × IsNoPlatform (Platform fault) read
-RefusesFirst (NeedsEntries count) read after = (length read ≡ 1336) × (layout : Layout) × IsPlatformFrame read layout × IsBootFault layout (NeedsMoreEntries count)
-RefusesFirst Memory read after = (length read ≡ 1336) × (layout : Layout) × IsPlatformFrame read layout
+RefusesFirst (NeedsEntries count) read after = (length read ≡ 1336) × (layout : PlatformLayout) × IsPlatformFrame read layout × IsBootFault layout (NeedsMoreEntries count)
+RefusesFirst Memory read after = (length read ≡ 1336) × (layout : PlatformLayout) × IsPlatformFrame read layout
 
 -- the harts but hart 0
 abbrev pub others : ℕ → List Bool
 others harts = false ∷ (nat_lt 1 harts ∷ (nat_lt 2 harts ∷ (nat_lt 3 harts ∷ [])))
 
--- the answer to a platform: with which hart 0 goes on in the opening state, and all others load its entries
-abbrev pub IsFirstAnswer : Layout → List ℕ → Type 0
-IsFirstAnswer layout bytes = IsAnswer (opening layout) first_host_words 0 no_answer None (others layout.harts) bytes
+-- the answer to a platform: with which hart 0 goes on in the opening_monitor state, and all others load its entries
+abbrev pub IsFirstAnswer : PlatformLayout → List ℕ → Type 0
+IsFirstAnswer layout bytes = IsAnswer (opening_monitor layout) first_host_words 0 no_answer None (others layout.harts) bytes
 
 -- why the loop ends before a trap was read, and what was written. A refusal is the last frame. Where a read failed nothing was written; where
 -- a write did, a part of the last frame or of the answer to the platform
@@ -40,24 +40,24 @@ StopsAtFirst (faults.Refused refusal) read rest after = RefusesFirst refusal rea
 StopsAtFirst faults.Read read rest after = (length read < 1336) × (rest ≡ [])
 StopsAtFirst faults.Write read rest after =
     ((refusal : Refusal) × RefusesFirst refusal read after × IsPart rest (end_bytes refusal))
-    ⊎ ((layout : Layout) × (answer : List ℕ) × (length read ≡ 1336) × IsPlatformFrame read layout × IsFirstAnswer layout answer × IsPart rest answer)
+    ⊎ ((layout : PlatformLayout) × (answer : List ℕ) × (length read ≡ 1336) × IsPlatformFrame read layout × IsFirstAnswer layout answer × IsPart rest answer)
 
 -- the first bytes are a platform's
-abbrev pub IsFirst : Layout → Option (List ℕ) → Option (List ℕ) → Type 0
+abbrev pub IsFirst : PlatformLayout → Option (List ℕ) → Option (List ℕ) → Type 0
 IsFirst layout before after = (first : List ℕ) × (length first ≡ 1336) × IsPlatformFrame first layout × Consumes before after first
 
 -- the loop ends before a trap was read, and why
 abbrev pub EndsAtFirst : ServeFault → Option (List ℕ) → Option (List ℕ) → Option (List ℕ) → Option (List ℕ) → Type 0
 EndsAtFirst fault before after held holds = (read rest : List ℕ) × StopsAtFirst fault read rest after × Consumes before after read × Appends held holds rest
 
--- the platform was read and nothing written, and the monitor is as at its opening; or the loop ends, and why
+-- the platform was read and nothing written, and the monitor is as at its opening_monitor; or the loop ends, and why
 abbrev pub Boots : Result Monitor ServeFault → Option (List ℕ) → Option (List ℕ) → Option (List ℕ) → Option (List ℕ) → Type 0
 Boots (Ok monitor) before after held holds =
-    (layout : Layout) × (first : List ℕ) × (length first ≡ 1336) × IsPlatformFrame first layout × (state_of monitor ≡ opening layout) × Consumes before after first × Appends held holds []
+    (layout : PlatformLayout) × (first : List ℕ) × (length first ≡ 1336) × IsPlatformFrame first layout × (state_by monitor ≡ opening_monitor layout) × Consumes before after first × Appends held holds []
 Boots (Err fault) before after held holds = EndsAtFirst fault before after held holds
 
 -- the same of a platform that was read
-abbrev pub BootsOn : Result Monitor ServeFault → Layout → Option (List ℕ) → Option (List ℕ) → Type 0
-BootsOn (Ok monitor) layout held holds = (state_of monitor ≡ opening layout) × Appends held holds []
+abbrev pub BootsOn : Result Monitor ServeFault → PlatformLayout → Option (List ℕ) → Option (List ℕ) → Type 0
+BootsOn (Ok monitor) layout held holds = (state_by monitor ≡ opening_monitor layout) × Appends held holds []
 BootsOn (Err fault) layout held holds =
     (rest : List ℕ) × ((read : List ℕ) (after : Option (List ℕ)) → length read ≡ 1336 → IsPlatformFrame read layout → StopsAtFirst fault read rest after) × Appends held holds rest

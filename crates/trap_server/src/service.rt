@@ -1,7 +1,7 @@
 //! How a trap is served, and its answer written.
 
 ghost use Rattle.std.specs.Prelude.{◌≡◌, ◌<◌, ℕ, List, Option};
-ghost use Rattle.monitor_core.specs.Monitors.{state_of};
+ghost use Rattle.monitor_core.specs.Monitors.{state_by};
 ghost use Rattle.monitor_core.specs.Changes.{without_mark};
 ghost use Rattle.control_words.specs.Given.{host_words, keeping};
 ghost use Rattle.trap_server.specs.Answered.{AreAwake, IsAnswer, given_on, marks_of, status_word, unmarked};
@@ -24,8 +24,8 @@ pub(crate) const NOTHING: Answer = Answer {
 /// Wakes a hart, and says whether it was marked.
 fn take_mark(monitor: &mut Monitor, hart: u8) -> bool
     requires { hart < 4 }
-    ensures mark { result ≡ (state_of monitor.old).marked hart }
-    ensures state { state_of monitor.new ≡ without_mark (state_of monitor.old) hart }
+    ensures mark { result ≡ (state_by monitor.old).marked hart }
+    ensures state { state_by monitor.new ≡ without_mark (state_by monitor.old) hart }
 {
     let is_marked = monitor.is_marked(hart);
     monitor.wake(hart);
@@ -34,8 +34,8 @@ fn take_mark(monitor: &mut Monitor, hart: u8) -> bool
 
 /// Each hart that is marked is woken: it is to load the host's entries.
 fn wake_all(monitor: &mut Monitor) -> [bool; 4]
-    ensures marks { result ≡ marks_of (state_of monitor.old) }
-    ensures state { state_of monitor.new ≡ unmarked 4 (state_of monitor.old) }
+    ensures marks { result ≡ marks_of (state_by monitor.old) }
+    ensures state { state_by monitor.new ≡ unmarked 4 (state_by monitor.old) }
 {
     let first = take_mark(monitor, 0);
     let second = take_mark(monitor, 1);
@@ -67,8 +67,8 @@ fn put_frame(
     woken: [bool; 4],
 )
     requires hart { hart < 4 }
-    requires woken { MayWake (state_of monitor.now) hart woken }
-    ensures { let s = state_of monitor.now in
+    requires woken { MayWake (state_by monitor.now) hart woken }
+    ensures { let s = state_by monitor.now in
         IsAnswer s (given_on s (host_words hosts.now) hart) hart answer.now zero woken frame.new }
 {
     let world = monitor.world(hart);
@@ -102,8 +102,8 @@ pub(crate) fn write_answer<W: Sink>(
     sink: &mut W,
 ) -> Result<(), ServeFault>
     requires hart { hart < 4 }
-    requires woken { MayWake (state_of monitor.now) hart woken }
-    ensures bytes { let s = state_of monitor.now in Writes result
+    requires woken { MayWake (state_by monitor.now) hart woken }
+    ensures bytes { let s = state_by monitor.now in Writes result
         (IsAnswer s (given_on s (host_words hosts.now) hart) hart answer zero woken)
         (W.contents sink.old) (W.contents sink.new) }
     ensures reads { (n : ℕ) → CountsReads result n n }
@@ -121,7 +121,7 @@ pub(crate) fn write_answer<W: Sink>(
 /// Keeps the control words that came with a trap, where it is the host's.
 fn keep_words(monitor: &Monitor, hosts: &mut HostWords, trap: &Trap)
     requires { trap.now.hart < 4 }
-    ensures { host_words hosts.new ≡ keeping ((state_of monitor.now).worlds trap.now.hart)
+    ensures { host_words hosts.new ≡ keeping ((state_by monitor.now).worlds trap.now.hart)
         (host_words hosts.old) trap.now.hart trap.now.control }
 {
     hosts.keep(trap.hart, monitor.world(trap.hart), &trap.control);
@@ -138,7 +138,7 @@ fn measured<R: Source, W: Sink>(
 ) -> Result<[u8; 32], ServeFault>
     requires hart { trap.now.hart < 4 }
     requires call { trap.now.event ≡ Event.Call }
-    ensures digest { TakesDigest result (state_of monitor.now) trap.now (R.remaining source.old)
+    ensures digest { TakesDigest result (state_by monitor.now) trap.now (R.remaining source.old)
         (R.remaining source.new) (W.contents sink.old) (W.contents sink.new) }
     ensures reads { CountsReads result (R.failures source.old) (R.failures source.new) }
     ensures writes { CountsWrites result (W.failures sink.old) (W.failures sink.new)
@@ -161,11 +161,11 @@ fn serve_call<R: Source, W: Sink>(
     source: &mut R,
     sink: &mut W,
 ) -> Result<(), ServeFault>
-    requires hart { trap.now.hart < (state_of monitor.old).table.layout.harts }
-    requires awake { AreAwake (state_of monitor.old) }
+    requires hart { trap.now.hart < (state_by monitor.old).table.layout.harts }
+    requires awake { AreAwake (state_by monitor.old) }
     requires call { trap.now.event ≡ Event.Call }
-    ensures served { Serves result trap.now (state_of monitor.old) (host_words hosts.old)
-        (state_of monitor.new) (host_words hosts.new) (R.remaining source.old)
+    ensures served { Serves result trap.now (state_by monitor.old) (host_words hosts.old)
+        (state_by monitor.new) (host_words hosts.new) (R.remaining source.old)
         (R.remaining source.new) (W.contents sink.old) (W.contents sink.new) }
     ensures reads { CountsReads result (R.failures source.old) (R.failures source.new) }
     ensures writes { CountsWrites result (W.failures sink.old) (W.failures sink.new)
@@ -199,12 +199,12 @@ fn serve_stop<W: Sink>(
     trap: &Trap,
     sink: &mut W,
 ) -> Result<(), ServeFault>
-    requires hart { trap.now.hart < (state_of monitor.old).table.layout.harts }
-    requires awake { AreAwake (state_of monitor.old) }
+    requires hart { trap.now.hart < (state_by monitor.old).table.layout.harts }
+    requires awake { AreAwake (state_by monitor.old) }
     requires stop { trap.now.event ≡ Event.Stop }
     ensures served { (before : Option (List ℕ))
-        → Serves result trap.now (state_of monitor.old) (host_words hosts.old)
-        (state_of monitor.new) (host_words hosts.new) before before (W.contents sink.old)
+        → Serves result trap.now (state_by monitor.old) (host_words hosts.old)
+        (state_by monitor.new) (host_words hosts.new) before before (W.contents sink.old)
         (W.contents sink.new) }
     ensures reads { (n : ℕ) → CountsReads result n n }
     ensures writes { CountsWrites result (W.failures sink.old) (W.failures sink.new)
@@ -225,10 +225,10 @@ pub(crate) fn serve_trap<R: Source, W: Sink>(
     source: &mut R,
     sink: &mut W,
 ) -> Result<(), ServeFault>
-    requires hart { trap.now.hart < (state_of monitor.old).table.layout.harts }
-    requires awake { AreAwake (state_of monitor.old) }
-    ensures served { Serves result trap.now (state_of monitor.old) (host_words hosts.old)
-        (state_of monitor.new) (host_words hosts.new) (R.remaining source.old)
+    requires hart { trap.now.hart < (state_by monitor.old).table.layout.harts }
+    requires awake { AreAwake (state_by monitor.old) }
+    ensures served { Serves result trap.now (state_by monitor.old) (host_words hosts.old)
+        (state_by monitor.new) (host_words hosts.new) (R.remaining source.old)
         (R.remaining source.new) (W.contents sink.old) (W.contents sink.new) }
     ensures reads { CountsReads result (R.failures source.old) (R.failures source.new) }
     ensures writes { CountsWrites result (W.failures sink.old) (W.failures sink.new)

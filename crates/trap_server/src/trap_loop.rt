@@ -2,7 +2,7 @@
 
 ghost use Rattle.std.specs.Prelude.{◌≡◌, ◌+◌, ◌≤◌, ◌<◌, ℕ, List, [], IfErr, IfOk, MatchResult};
 ghost use Rattle.std.specs.Io.KnownBytes.{IsAtEnd};
-ghost use Rattle.monitor_core.specs.Monitors.{state_of};
+ghost use Rattle.monitor_core.specs.Monitors.{state_by};
 ghost use Rattle.trap_server.specs.Boot.{Boots, BootsOn, EndsAtFirst, IsFirst, others};
 ghost use Rattle.trap_server.specs.Answered.{AreAwake};
 ghost use Rattle.trap_server.specs.Ends.{CountsReads, CountsWrites};

@@ -1,6 +1,6 @@
 use Rattle.std.proofs.Common.{ℕ, List, ◌≡◌, ◌⊎◌, Err, ap, inl, inr, refl, sym}
 use Rattle.std.specs.Borrow.{Bor}
-use Rattle.platforms.specs.Platform.{Layout}
+use Rattle.platforms.specs.Platform.{PlatformLayout}
 use Rattle.platform_file.specs.declared.fault.TextFault.{TextFault}
 use Rattle.platform_file.specs.declared.fault.TextFault.TheVariants as texts
 use Rattle.program_troubles.specs.declared.trouble.Trouble.TheVariants.{NotAPlatform, Memory}
@@ -15,5 +15,5 @@ by_fault texts.Memory file P p = inl refl
 pub returns-in-Err-clause-refused : goal.returns-in-Err-clause-refused
 returns-in-Err-clause-refused c =
     rw c.of_text.ensures
-    (by_fault c.in-Err.fault c.args.file ((platform : Layout) → IsPlatformFile c.args.bytes.now platform → ⊥)
+    (by_fault c.in-Err.fault c.args.file ((platform : PlatformLayout) → IsPlatformFile c.args.bytes.now platform → ⊥)
     (λ e platform said. c.in-Err.ensures.refused (ap (λ f. Err f) e) platform (rw (sym c.in-Ok.ensures.cases.0) at said.platform_text)))

@@ -1,7 +1,7 @@
 use Rattle.std.proofs.Common.{◌≡◌, ℕ, [], Bool, true, false, List, Err, Ok, Option, ap, refl}
 use Rattle.byte_streams.specs.Writings.{writing, TakesAll}
 use Rattle.byte_streams.proofs.Writings.{takes_none}
-use Rattle.platforms.specs.Platform.{Layout}
+use Rattle.platforms.specs.Platform.{PlatformLayout}
 use Rattle.platform_file.specs.Document.{IsPlatformFile}
 use Rattle.platform_lint.specs.Lints.{IsLintLine}
 use Rattle.lint_commands.specs.Lint.{IsPlatformLint}
@@ -11,7 +11,7 @@ use Rattle.lint_commands.proofs.lint.lint_as_platform.Goals as goal
 -- what was written, by the answer
 text :
     {W : Type 0} (contents : W → Option (List ℕ)) (failures stalls : W → ℕ) (old new : W) (name bytes : List ℕ) (is : Bool)
-    → (is ≡ true → (platform : Layout) × IsPlatformFile bytes platform) → (is ≡ true → new ≡ old)
+    → (is ≡ true → (platform : PlatformLayout) × IsPlatformFile bytes platform) → (is ≡ true → new ≡ old)
     → (is ≡ false → (line : List ℕ) × IsLintLine name bytes line × TakesAll line (writing contents failures stalls old new))
     → (text : List ℕ) × IsPlatformLint name bytes is text × TakesAll text (writing contents failures stalls old new)
 text contents failures stalls old new name bytes true platform silent written =

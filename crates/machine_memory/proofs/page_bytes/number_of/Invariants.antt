@@ -1,11 +1,11 @@
 use Rattle.std.proofs.Common.{◌≡◌, ◌+◌, ◌-◌, ◌^◌, ◌<◌, ◌≤◌, slice_index}
-use Rattle.machine_memory.specs.Memory.{bytes_at, number_of}
+use Rattle.machine_memory.specs.Memory.{bytes_at, number_of_bytes}
 use Rattle.machine_memory.proofs.page_bytes.number_of.Given as goal
 
 abbrev pub invariant-loop-left : goal.invariant-loop-left
 invariant-loop-left l = record {
   within : l.left ≤ l.size;
-  value : l.number ≡ number_of (bytes_at (slice_index l.page) (l.at + l.left) (l.size - l.left));
+  value : l.number ≡ number_of_bytes (bytes_at (slice_index l.page) (l.at + l.left) (l.size - l.left));
   small : l.number < 256 ^ (l.size - l.left);
 }
 

@@ -2,7 +2,7 @@ use Rattle.std.proofs.Common.{◌∙◌, ◌+◌, ◌/◌, inl, inr, ℕ, List, 
 use Rattle.std.proofs.KnownBytes.{Appends-nil, Consumes-nil}
 use Rattle.measurement.specs.Measured.{digest_of}
 use Rattle.sbi_decode.specs.Calls.{call_of}
-use Rattle.monitor_core.specs.Monitors.{state_of}
+use Rattle.monitor_core.specs.Monitors.{state_by}
 use Rattle.monitor_core.specs.Measured.{asked_in}
 use Rattle.enclave_requests.specs.Digests.{layout_of}
 use Rattle.trap_frames.specs.PageDigest.{ArePages, question_of}
@@ -11,13 +11,13 @@ use Rattle.trap_server.proofs.service.measured.Goals as goal
 
 pub returns-in_default-clause-digest : goal.returns-in_default-clause-digest
 returns-in_default-clause-digest g c =
-    let s = state_of c.args.monitor.now in
+    let s = state_by c.args.monitor.now in
     let asked = asked_in (call_of c.args.trap.now.registers) in
     ([], [], (λ page. []), inl (refl, refl, c.in_default.ensures.none), unmeasured asked s.table (s.worlds c.args.trap.now.hart) _ _ c.in_default.ensures.none, Consumes-nil _, Appends-nil _)
 
 pub returns-in-Ok-clause-digest : goal.returns-in-Ok-clause-digest
 returns-in-Ok-clause-digest g c =
-    let s = state_of c.args.monitor.now in
+    let s = state_by c.args.monitor.now in
     let asked = asked_in (call_of c.args.trap.now.registers) in
     let parts = c.in-Some.parts in
     let first = parts.base / 4096 in
@@ -37,7 +37,7 @@ returns-in-Ok-clause-digest g c =
 
 pub returns-in-Err-clause-digest : goal.returns-in-Err-clause-digest
 returns-in-Err-clause-digest g c =
-    measure_stops c.end.result c.in-Err.fault (state_of c.args.monitor.now) c.args.trap.now c.in-Some.parts _ _ _ _ _ c.requires.call c.in-Some.ensures.parts c.in-Err.ensures.read c.in-Err.ensures.asked c.end.ensures.last
+    measure_stops c.end.result c.in-Err.fault (state_by c.args.monitor.now) c.args.trap.now c.in-Some.parts _ _ _ _ _ c.requires.call c.in-Some.ensures.parts c.in-Err.ensures.read c.in-Err.ensures.asked c.end.ensures.last
 
 pub returns-in-Err-clause-reads : goal.returns-in-Err-clause-reads
 returns-in-Err-clause-reads g c = c.end.ensures.reads _ _ (frame_reads (List ℕ) c.in-Err.fault _ _ c.in-Err.ensures.failures)

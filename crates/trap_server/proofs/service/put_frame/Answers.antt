@@ -2,7 +2,7 @@ use Rattle.std.proofs.Common.{◌∙◌, ℕ, ap, sym, subst}
 use Rattle.pmp_match.specs.Meaning.{IsFewest}
 use Rattle.worlds.specs.declared.world.World.{World}
 use Rattle.sbi_decode.specs.Registers.{RegisterFile}
-use Rattle.monitor_core.specs.Monitors.{state_of}
+use Rattle.monitor_core.specs.Monitors.{state_by}
 use Rattle.monitor_core.specs.States.{running_registers, view_of}
 use Rattle.control_words.specs.declared.words.ControlWords.{ControlWords}
 use Rattle.control_words.specs.Given.{host_words, words_in}
@@ -12,7 +12,7 @@ use Rattle.trap_server.proofs.service.put_frame.Goals as goal
 
 pub returns : goal.returns
 returns c =
-    let s = state_of c.args.monitor.now in
+    let s = state_by c.args.monitor.now in
     let entries = c.entries.result.now in
     let given = c.given-control.result in
     let hart = c.args.hart in (

@@ -1,8 +1,8 @@
 use Rattle.std.proofs.Common.{refl, ◌∙◌, ◌<◌, ◌≤◌, List, Bool, ap, sym, subst}
 use Rattle.sbi_decode.specs.Calls.{call_of}
 use Rattle.monitor_core.specs.Changes.{past_call, with_running}
-use Rattle.monitor_core.specs.Monitors.{state_of}
-use Rattle.monitor_core.specs.States.{State}
+use Rattle.monitor_core.specs.Monitors.{state_by}
+use Rattle.monitor_core.specs.States.{MonitorState}
 use Rattle.control_words.specs.Given.{host_words}
 use Rattle.trap_frames.specs.declared.trap.Event.{Event}
 use Rattle.trap_server.specs.Answered.{IsAnswer, given_on}
@@ -13,14 +13,14 @@ use Rattle.trap_server.proofs.service.serve_call.Goals as goal
 
 pub write_answer-requires-clause-woken : goal.write_answer-requires-clause-woken
 write_answer-requires-clause-woken g c =
-    let s = state_of c.args.monitor.now in
-    let mid = state_of c.serve_measured-served.new.self in
+    let s = state_by c.args.monitor.now in
+    let mid = state_by c.serve_measured-served.new.self in
     let hart = c.args.trap.now.hart in
     let file = past_call c.args.trap.now.registers in
     let taken = c.in-Ok.ensures.digest in
     let said = c.serve_measured-served.result in
     let step = c.serve_measured-served.ensures.step taken.2 taken.4 in
-    may_wake mid (state_of c.wake_all-woken.new.monitor) hart c.wake_all-woken.result c.wake_all-woken.ensures.state c.wake_all-woken.ensures.marks
+    may_wake mid (state_by c.wake_all-woken.new.monitor) hart c.wake_all-woken.result c.wake_all-woken.ensures.state c.wake_all-woken.ensures.marks
     (λ other known marked.
     let before = subst (λ t. other < t.harts) c.serve_measured-served.ensures.platform known in (
       c.cite_invariant.ensures.worlds.marked other known marked,
@@ -29,9 +29,9 @@ write_answer-requires-clause-woken g c =
 
 pub returns-clause-served : goal.returns-clause-served
 returns-clause-served g c =
-    let s = state_of c.args.monitor.now in
-    let mid = state_of c.serve_measured-served.new.self in
-    let new = state_of c.wake_all-woken.new.monitor in
+    let s = state_by c.args.monitor.now in
+    let mid = state_by c.serve_measured-served.new.self in
+    let new = state_by c.wake_all-woken.new.monitor in
     let trap = c.args.trap.now in
     let taken = c.in-Ok.ensures.digest in
     let said = c.serve_measured-served.result in
@@ -55,7 +55,7 @@ returns-clause-served g c =
         goes_on = subst (λ (w : List Bool). IsAnswer new given trap.hart said.answer said.zero w bytes) c.wake_all-woken.ensures.marks is;
       });
     })
-    (quiet mid new c.wake_all-woken.ensures.state few) (ap (λ (x : State). x.table.layout) c.wake_all-woken.ensures.state ∙ platform) taken.5 taken.6 c.write_answer.ensures.bytes
+    (quiet mid new c.wake_all-woken.ensures.state few) (ap (λ (x : MonitorState). x.table.layout) c.wake_all-woken.ensures.state ∙ platform) taken.5 taken.6 c.write_answer.ensures.bytes
 
 pub returns-clause-reads : goal.returns-clause-reads
 returns-clause-reads g c = reads_then c.write_answer.result _ _ _ c.in-Ok.ensures.reads (c.write_answer.ensures.reads _)

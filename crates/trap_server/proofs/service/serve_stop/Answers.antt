@@ -1,7 +1,7 @@
 use Rattle.std.proofs.Common.{◌∙◌, ◌≤◌, List, [], Bool, None, refl, ap, sym, subst}
 use Rattle.std.proofs.KnownBytes.{Appends-nil, Consumes-nil}
-use Rattle.monitor_core.specs.Monitors.{state_of}
-use Rattle.monitor_core.specs.States.{State}
+use Rattle.monitor_core.specs.Monitors.{state_by}
+use Rattle.monitor_core.specs.States.{MonitorState}
 use Rattle.control_words.specs.Given.{host_words}
 use Rattle.trap_frames.specs.declared.trap.Event.{Event}
 use Rattle.trap_server.specs.Answered.{IsAnswer, given_on, no_answer}
@@ -11,9 +11,9 @@ use Rattle.trap_server.proofs.service.serve_stop.Goals as goal
 
 pub returns-clause-served : goal.returns-clause-served
 returns-clause-served g c =
-    let s = state_of c.args.monitor.now in
-    let mid = state_of c.interrupt-onward.new.self in
-    let new = state_of c.wake_all-woken.new.monitor in
+    let s = state_by c.args.monitor.now in
+    let mid = state_by c.interrupt-onward.new.self in
+    let new = state_by c.wake_all-woken.new.monitor in
     let trap = c.args.trap.now in
     let platform = c.interrupt-onward.ensures.platform in
     let few : mid.table.layout.harts ≤ 4 = subst (λ t. t.harts ≤ 4) (sym platform) (subst (λ n. n ≤ 4) c.harts-most.ensures.value c.harts-most.ensures.most) in
@@ -33,4 +33,4 @@ returns-clause-served g c =
         goes_on = subst (λ (w : List Bool). IsAnswer new given trap.hart no_answer None w bytes) c.wake_all-woken.ensures.marks is;
       });
     })
-    (quiet mid new c.wake_all-woken.ensures.state few) (ap (λ (x : State). x.table.layout) c.wake_all-woken.ensures.state ∙ platform) (Consumes-nil before) (Appends-nil _) c.write_answer.ensures.bytes
+    (quiet mid new c.wake_all-woken.ensures.state few) (ap (λ (x : MonitorState). x.table.layout) c.wake_all-woken.ensures.state ∙ platform) (Consumes-nil before) (Appends-nil _) c.write_answer.ensures.bytes

@@ -8,7 +8,7 @@ use Rattle.pmp_encoding.specs.declared.region.Entry.{Entry}
 use Rattle.enclave_table.specs.Views.{host_view}
 use Rattle.enclave_table.specs.Tables.{IsKept, IsHostTree}
 use Rattle.enclave_table.specs.Fewest.{IsListOf}
-use Rattle.enclave_table.specs.Boot.{opening}
+use Rattle.enclave_table.specs.Boot.{opening_table}
 use Rattle.enclave_table.specs.declared.enclave.Enclave.{Enclave}
 use Rattle.enclave_table.proofs.SameViews.{tree_same, tree_view, fewest_same, needs_of}
 use Rattle.enclave_table.proofs.Booted.{opening_view, opening_kept}
@@ -16,7 +16,7 @@ use Rattle.enclave_table.proofs.table.Table.boot.Goals as goal
 
 pub returns-then-needed-number-clause-fault : goal.returns-then-needed-number-clause-fault
 returns-then-needed-number-clause-fault c =
-    let view : View = host_view (opening c.args.platform) in
+    let view : View = host_view (opening_table c.args.platform) in
     let own : View = view_of_tree c.in-Ok-build.tree in
     let means : TreeMeans view c.in-Ok-build.tree =
     tree_same (view_of_runs c.in-Ok.map) view c.in-Ok-build.tree (opening_view c.args.platform (view_of_runs c.in-Ok.map) c.in-Ok.ensures.view) c.in-Ok-build.ensures.means in
@@ -27,7 +27,7 @@ returns-then-needed-number-clause-fault c =
 
 pub invariant_of-result : goal.invariant_of-result
 invariant_of-result c =
-    let view : View = host_view (opening c.args.platform) in
+    let view : View = host_view (opening_table c.args.platform) in
     let own : View = view_of_tree c.in-Ok-build.tree in
     let means : TreeMeans view c.in-Ok-build.tree =
     tree_same (view_of_runs c.in-Ok.map) view c.in-Ok-build.tree (opening_view c.args.platform (view_of_runs c.in-Ok.map) c.in-Ok.ensures.view) c.in-Ok-build.ensures.means in
@@ -47,7 +47,7 @@ invariant_of-result c =
 
 pub returns-clause-fits : goal.returns-clause-fits
 returns-clause-fits c =
-    let view : View = host_view (opening c.args.platform) in
+    let view : View = host_view (opening_table c.args.platform) in
     let own : View = view_of_tree c.in-Ok-build.tree in
     let means : TreeMeans view c.in-Ok-build.tree =
     tree_same (view_of_runs c.in-Ok.map) view c.in-Ok-build.tree (opening_view c.args.platform (view_of_runs c.in-Ok.map) c.in-Ok.ensures.view) c.in-Ok-build.ensures.means in

@@ -9,7 +9,7 @@ use Rattle.enclave_table.specs.Fewest.{IsListOf}
 use Rattle.enclave_table.specs.Create.{fresh, OutgrowsByCreate}
 use Rattle.enclave_requests.specs.declared.request.Create.{Create}
 use Rattle.enclave_table.specs.declared.enclave.Enclave.{Enclave}
-use Rattle.enclave_table.specs.declared.enclave.State.TheVariants.{Fresh}
+use Rattle.enclave_table.specs.declared.enclave.Stage.TheVariants.{Fresh}
 use Rattle.page_views.specs.declared.pages.PageRange.{PageRange}
 use Rattle.enclave_table.proofs.Placed.{free_place, host_added, added_kept}
 use Rattle.enclave_table.proofs.SameViews.{list_same, tree_same, fits_same}

@@ -3,7 +3,7 @@ use Rattle.std.proofs.lemmas.List.{at_drop_all}
 use Rattle.pmp_encoding.specs.declared.perm.Perm.TheVariants.{NoAccess}
 use Rattle.permission_map.specs.Runs.{view_of_runs}
 use Rattle.permission_map.specs.Views.{SameView}
-use Rattle.platforms.specs.Platform.{Layout, platform_perm}
+use Rattle.platforms.specs.Platform.{PlatformLayout, platform_perm}
 use Rattle.enclave_table.proofs.ShortNames.{any_private}
 use Rattle.enclave_table.proofs.table.Table.host_view.Goals as goal
 use Rattle.platforms.specs.Ranges.{has_page}
@@ -16,7 +16,7 @@ pub loop-id-init : goal.loop-id-init
 loop-id-init c =
     let layout = c.args.self.now.table.layout in
     let es = c.args.self.now.table.enclaves in
-    let L : Layout → Type 0 = λ l. SameView (view_of_runs c.in_ok-map.map) (λ page. cond (has_page l.monitor page) NoAccess (platform_perm l page)) in
+    let L : PlatformLayout → Type 0 = λ l. SameView (view_of_runs c.in_ok-map.map) (λ page. cond (has_page l.monitor page) NoAccess (platform_perm l page)) in
     let here : SameView (view_of_runs c.in_ok-map.map) (λ page. cond (has_page layout.monitor page) NoAccess (platform_perm layout page)) = subst L c.platform.ensures c.in_ok-map.ensures.view in
     record {
       inside = omega arith;

@@ -1,7 +1,7 @@
 use Rattle.std.proofs.Common.{◌≡◌, ◌∙◌, ℕ, zero, suc, [], ◌∷◌, None, Some, slice_get, replicate, ap, sym, subst}
 use Rattle.std.proofs.lemmas.Option.{same_Some}
 use Rattle.pmp_encoding.specs.declared.bank.Bank.{Bank}
-use Rattle.monitor_core.specs.Monitors.{state_of}
+use Rattle.monitor_core.specs.Monitors.{state_by}
 use Rattle.monitor_core.specs.States.{view_of, view_on}
 use Rattle.hart_sim.specs.Banks.{LoadsFewest}
 use Rattle.hart_sim.proofs.BankPlaces.{loads_same}
@@ -30,7 +30,7 @@ returns-clause-state c = λ i.
 
 pub returns-clause-banks : goal.returns-clause-banks
 returns-clause-banks c = λ hart bank low off has.
-    let s = state_of c.in-Ok.monitor in
+    let s = state_by c.in-Ok.monitor in
     let is = c.in-Ok.ensures.state in
     let world : s.worlds 0 ≡ s.worlds hart = ap (λ x. x.worlds 0) is ∙ sym (ap (λ x. x.worlds hart) is) in
     let loaded : LoadsFewest c.of-bank.result (view_on s 0) = record { list = c.entries.result.now; loaded = c.of-bank.ensures.list; fewest = c.entries.ensures.fewest } in

@@ -7,8 +7,8 @@ use Rattle.monitor_core.specs.Changes.{with_running}
 use Rattle.monitor_core.specs.Steps.{DoesCall}
 use Rattle.hart_sim.specs.Changes.{calling}
 use Rattle.hart_sim.specs.Parts.{state_in, bank_in}
-use Rattle.hart_sim.specs.States.{State, core_of}
-use Rattle.hart_sim.specs.Steps.{Serves, Does, DoesBy}
+use Rattle.hart_sim.specs.States.{MachineState, core_of}
+use Rattle.hart_sim.specs.Steps.{Serves, DoesEvent, DoesBy}
 use Rattle.hart_sim.specs.declared.parts.Parts.{Parts}
 use Rattle.hart_sim.proofs.parts.Parts.happen.Goals as goal
 use Rattle.machine_memory.specs.Memory.{bytes_at}
@@ -17,7 +17,7 @@ pub returns-in-Ecall-clause-step : goal.returns-in-Ecall-clause-step
 returns-in-Ecall-clause-step c = λ right.
     let s = state_in c.args.self.now in
     let new = state_in c.ecall.new.self in
-    subst (λ e. Does e s c.args.hart c.ecall.result new) (sym c.in-Ecall.is)
+    subst (λ e. DoesEvent e s c.args.hart c.ecall.result new) (sym c.in-Ecall.is)
     (subst (λ words. Serves (DoesCall (call_of (calling s c.args.hart words)) (λ page. bytes_at s.bytes (page * 4096) 4096) (with_running (core_of s) c.args.hart (calling s c.args.hart words)) c.args.hart) s c.args.hart c.ecall.result new) c.as_slice.ensures.value c.ecall.ensures.step)
 
 -- the list of the bank that is loaded on a hart

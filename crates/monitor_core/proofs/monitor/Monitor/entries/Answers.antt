@@ -1,14 +1,14 @@
-use Rattle.monitor_core.specs.Monitors.{state_of, kept_of}
+use Rattle.monitor_core.specs.Monitors.{state_by, kept_by}
 use Rattle.monitor_core.proofs.monitor.Monitor.entries.Goals as goal
 
 pub returns-clause-fewest : goal.returns-clause-fewest
-unfolding state_of
+unfolding state_by
 returns-clause-fewest c = c.entries.ensures.list.fewest
 
 pub returns-clause-room : goal.returns-clause-room
-unfolding state_of
+unfolding state_by
 returns-clause-room c = c.entries.ensures.list.room
 
 pub returns-clause-value : goal.returns-clause-value
-unfolding state_of kept_of
+unfolding state_by kept_by
 returns-clause-value c = c.entries.ensures.value

@@ -1,5 +1,5 @@
 use Rattle.sbi_decode.specs.Calls.{call_of}
-use Rattle.monitor_core.specs.Monitors.{state_of, kept_of}
+use Rattle.monitor_core.specs.Monitors.{state_by, kept_by}
 use Rattle.monitor_core.specs.Changes.{past_call, with_running}
 use Rattle.monitor_core.specs.Parts.{state_in}
 use Rattle.monitor_core.proofs.Awake.{call_leaves_awake}
@@ -10,49 +10,49 @@ use Rattle.monitor_core.proofs.Wanted.{call_refused_by_need}
 use Rattle.monitor_core.proofs.monitor.Monitor.serve.Goals as goal
 
 pub serve-requires-clause-on : goal.serve-requires-clause-on
-unfolding state_of
+unfolding state_by
 serve-requires-clause-on g c = record { known = c.requires.hart; whole = c.args.self.now.whole }
 
 pub serve-requires-clause-awake : goal.serve-requires-clause-awake
-unfolding state_of
+unfolding state_by
 serve-requires-clause-awake g c = c.requires.awake
 
 pub returns-clause-step : goal.returns-clause-step
-unfolding state_of
+unfolding state_by
 returns-clause-step g c = c.serve.ensures.step
 
 pub returns-clause-registers : goal.returns-clause-registers
-unfolding state_of
+unfolding state_by
 returns-clause-registers g c = c.serve.ensures.registers
 
 pub returns-clause-load : goal.returns-clause-load
-unfolding state_of
+unfolding state_by
 returns-clause-load g c = c.serve.ensures.load
 
 pub returns-clause-awake : goal.returns-clause-awake
-unfolding state_of
+unfolding state_by
 returns-clause-awake g c =
     let file = past_call c.args.registers.now in
     let s = with_running (state_in c.args.self.now.parts) c.args.hart file in
     call_leaves_awake (call_of file) (g.P.Pages.bytes_of c.args.pages.now) s c.args.hart c.serve.result.answer c.serve.result.zero (state_in c.serve.new.self) c.requires.awake c.serve.ensures.step
 
 pub returns-clause-platform : goal.returns-clause-platform
-unfolding state_of
+unfolding state_by
 returns-clause-platform g c = c.serve.ensures.frame.layout
 
 pub returns-clause-lists : goal.returns-clause-lists
-unfolding state_of kept_of
+unfolding state_by kept_by
 returns-clause-lists g c = c.serve.ensures.frame.lists
 
 pub returns-clause-need : goal.returns-clause-need
-unfolding state_of
+unfolding state_by
 returns-clause-need g c =
     let file = past_call c.args.registers.now in
     let s = with_running (state_in c.args.self.now.parts) c.args.hart file in
     call_refused_by_need (call_of file) (g.P.Pages.bytes_of c.args.pages.now) s c.args.hart c.serve.result.answer c.serve.result.zero (state_in c.serve.new.self) c.cite_invariant.ensures.table c.serve.ensures.step
 
 pub returns-clause-others : goal.returns-clause-others
-unfolding state_of
+unfolding state_by
 returns-clause-others g c =
     let old = c.args.self.now.parts in
     let file = past_call c.args.registers.now in
@@ -63,7 +63,7 @@ returns-clause-others g c =
     record { awake = stays.awake; views = stays.views }
 
 pub returns-clause-zeroed : goal.returns-clause-zeroed
-unfolding state_of
+unfolding state_by
 returns-clause-zeroed g c =
     let file = past_call c.args.registers.now in
     let s = with_running (state_in c.args.self.now.parts) c.args.hart file in

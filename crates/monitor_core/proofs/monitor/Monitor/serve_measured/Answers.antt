@@ -1,5 +1,5 @@
 use Rattle.sbi_decode.specs.Calls.{call_of}
-use Rattle.monitor_core.specs.Monitors.{state_of, kept_of}
+use Rattle.monitor_core.specs.Monitors.{state_by, kept_by}
 use Rattle.monitor_core.specs.Changes.{past_call, with_running}
 use Rattle.monitor_core.specs.Parts.{state_in}
 use Rattle.monitor_core.proofs.Awake.{call_leaves_awake}
@@ -10,35 +10,35 @@ use Rattle.monitor_core.proofs.Wanted.{call_refused_by_need}
 use Rattle.monitor_core.proofs.monitor.Monitor.serve_measured.Goals as goal
 
 pub serve_measured-requires-clause-on : goal.serve_measured-requires-clause-on
-unfolding state_of
+unfolding state_by
 serve_measured-requires-clause-on c = record { known = c.requires.hart; whole = c.args.self.now.whole }
 
 pub serve_measured-requires-clause-awake : goal.serve_measured-requires-clause-awake
-unfolding state_of
+unfolding state_by
 serve_measured-requires-clause-awake c = c.requires.awake
 
 pub returns-clause-step : goal.returns-clause-step
-unfolding state_of
+unfolding state_by
 returns-clause-step c = c.serve_measured.ensures.step
 
 pub returns-clause-registers : goal.returns-clause-registers
-unfolding state_of
+unfolding state_by
 returns-clause-registers c = c.serve_measured.ensures.registers
 
 pub returns-clause-load : goal.returns-clause-load
-unfolding state_of
+unfolding state_by
 returns-clause-load c = c.serve_measured.ensures.load
 
 pub returns-clause-platform : goal.returns-clause-platform
-unfolding state_of
+unfolding state_by
 returns-clause-platform c = c.serve_measured.ensures.frame.layout
 
 pub returns-clause-lists : goal.returns-clause-lists
-unfolding state_of kept_of
+unfolding state_by kept_by
 returns-clause-lists c = c.serve_measured.ensures.frame.lists
 
 pub returns-clause-awake : goal.returns-clause-awake
-unfolding state_of
+unfolding state_by
 returns-clause-awake c = λ of.
     let file = past_call c.args.registers.now in
     let s = with_running (state_in c.args.self.now.parts) c.args.hart file in
@@ -46,7 +46,7 @@ returns-clause-awake c = λ of.
     (c.serve_measured.ensures.step of.0 of.1)
 
 pub returns-clause-need : goal.returns-clause-need
-unfolding state_of
+unfolding state_by
 returns-clause-need c = λ of.
     let file = past_call c.args.registers.now in
     let s = with_running (state_in c.args.self.now.parts) c.args.hart file in
@@ -54,7 +54,7 @@ returns-clause-need c = λ of.
     (c.serve_measured.ensures.step of.0 of.1)
 
 pub returns-clause-others : goal.returns-clause-others
-unfolding state_of
+unfolding state_by
 returns-clause-others c = λ of.
     let old = c.args.self.now.parts in
     let file = past_call c.args.registers.now in
@@ -65,7 +65,7 @@ returns-clause-others c = λ of.
     record { awake = stays.awake; views = stays.views }
 
 pub returns-clause-zeroed : goal.returns-clause-zeroed
-unfolding state_of
+unfolding state_by
 returns-clause-zeroed c = λ of.
     let file = past_call c.args.registers.now in
     let s = with_running (state_in c.args.self.now.parts) c.args.hart file in

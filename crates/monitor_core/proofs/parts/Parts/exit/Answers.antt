@@ -1,7 +1,7 @@
 use Rattle.std.proofs.Common.{◌≡◌, ◌∙◌, inl, inr, refl, ap, sym, subst}
 use Rattle.enclave_table.specs.Lives.{Leaves}
 use Rattle.enclave_table.specs.declared.refusal.Refusal.TheVariants.{NotEnclave}
-use Rattle.enclave_table.specs.declared.enclave.State.TheVariants.{Exited}
+use Rattle.enclave_table.specs.declared.enclave.Stage.TheVariants.{Exited}
 use Rattle.worlds.specs.declared.world.World.TheVariants.{Host, Enclave as InEnclave}
 use Rattle.worlds.specs.Runners.{EnclaveOf}
 use Rattle.sbi_decode.specs.Registers.{zeros}

@@ -4,7 +4,7 @@ use Rattle.worlds.specs.declared.world.World.TheVariants.{Host}
 use Rattle.monitor_core.specs.Parts.{state_in, world_in}
 use Rattle.monitor_core.specs.Steps.{Interrupts}
 use Rattle.monitor_core.proofs.parts.Parts.pause.Goals as goal
-use Rattle.enclave_table.specs.declared.enclave.State.TheVariants.{Stopped}
+use Rattle.enclave_table.specs.declared.enclave.Stage.TheVariants.{Stopped}
 
 pub returns-in-Host-clause-step : goal.returns-in-Host-clause-step
 returns-in-Host-clause-step c =

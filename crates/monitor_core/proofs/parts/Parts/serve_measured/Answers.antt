@@ -3,7 +3,7 @@ use Rattle.sbi_decode.specs.Calls.{call_of}
 use Rattle.monitor_core.specs.Changes.{past_call, with_running}
 use Rattle.monitor_core.specs.Measured.{IsMeasuredFor, asked_in}
 use Rattle.monitor_core.specs.Parts.{state_in}
-use Rattle.monitor_core.specs.States.{State, running_registers}
+use Rattle.monitor_core.specs.States.{MonitorState, running_registers}
 use Rattle.monitor_core.specs.Steps.{DoesCall}
 use Rattle.monitor_core.proofs.Put.{put_there}
 use Rattle.monitor_core.proofs.parts.Parts.serve_measured.Goals as goal
@@ -18,5 +18,5 @@ returns-clause-step c = λ pages measured.
     let new = state_in c.call_measured-outcome.new.self in
     let put : state_in c.put_past_call.new.self ≡ with_running s hart file = c.put_past_call.ensures.state in
     subst (λ x. IsMeasuredFor (asked_in (call_of x)) s.table (s.worlds hart) digest pages → DoesCall (call_of x) pages (with_running s hart file) hart said.answer said.zero new) (put_there s hart file)
-    (subst (λ (x : State). IsMeasuredFor (asked_in (call_of (running_registers x hart))) x.table (x.worlds hart) digest pages → DoesCall (call_of (running_registers x hart)) pages x hart said.answer said.zero new) put (c.call_measured-outcome.ensures.step pages))
+    (subst (λ (x : MonitorState). IsMeasuredFor (asked_in (call_of (running_registers x hart))) x.table (x.worlds hart) digest pages → DoesCall (call_of (running_registers x hart)) pages x hart said.answer said.zero new) put (c.call_measured-outcome.ensures.step pages))
     measured

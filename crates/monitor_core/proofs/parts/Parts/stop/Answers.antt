@@ -5,7 +5,7 @@ use Rattle.worlds.specs.declared.world.World.TheVariants.{Host, Enclave as InEnc
 use Rattle.monitor_core.specs.Changes.{back_to_host}
 use Rattle.monitor_core.specs.Parts.{world_in}
 use Rattle.monitor_core.proofs.parts.Parts.stop.Goals as goal
-use Rattle.enclave_table.specs.declared.enclave.State.TheVariants.{Stopped}
+use Rattle.enclave_table.specs.declared.enclave.Stage.TheVariants.{Stopped}
 
 pub returns-in-Host-clause-step : goal.returns-in-Host-clause-step
 returns-in-Host-clause-step c =
