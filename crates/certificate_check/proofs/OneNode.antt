@@ -2,7 +2,7 @@
 use Rattle.std.proofs.Common.{◌≡◌, ◌≢◌, ℕ, zero, suc, ◌+◌, ◌^◌, ⊎_elim, List, ◌∷◌, ◌++◌, drop, pow_pos, arith, refl, sym, ap, subst, ◌∙◌}
 use Rattle.pmp_encoding.specs.declared.perm.Perm.{Perm}
 use Rattle.pmp_encoding.specs.Perms.{bits_of}
-use Rattle.page_views.specs.Views.{View, IsUniform}
+use Rattle.pmp_encoding.specs.Views.{View, IsUniform}
 use Rattle.pmp_match.specs.Bounds.{BoundTree, bound_of}
 use Rattle.certificate_format.specs.declared.fault.ReadFault.{ReadFault}
 use Rattle.certificate_format.specs.declared.reader.Tag.TheVariants as Tags

@@ -14,7 +14,7 @@ use Rattle.certificate_format.proofs.Trees.{same_function, tags_differ, joined_b
 use Rattle.certificate_check.specs.declared.refusal.CheckRefusal.{CheckRefusal}
 use Rattle.certificate_check.specs.declared.refusal.CheckRefusal.TheVariants.{CostTooHigh, CostOverflow}
 use Rattle.certificate_format.specs.declared.costs.SixCosts.{SixCosts}
-use Rattle.page_views.specs.Views.{IsUniform}
+use Rattle.pmp_encoding.specs.Views.{IsUniform}
 use Rattle.certificate_check.specs.Later.{AgreeFrom}
 use Rattle.certificate_check.specs.Nodes.{IsRightNode, IsAllowed, IsTooLarge, BranchFault, NodeFault, overflow, too_high, IsNodeRead}
 

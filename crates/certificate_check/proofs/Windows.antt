@@ -13,7 +13,7 @@ use Rattle.certificate_format.specs.declared.fault.ReadFault.{ReadFault}
 use Rattle.byte_streams.specs.declared.fault.SourceFault.TheVariants as faults
 use Rattle.certificate_check.specs.declared.refusal.CheckRefusal.{CheckRefusal}
 use Rattle.certificate_format.specs.declared.header.Header.{Header}
-use Rattle.page_views.specs.Views.{View}
+use Rattle.pmp_encoding.specs.Views.{View}
 use Rattle.certificate_check.specs.declared.stop.Stop.{Stop}
 use Rattle.certificate_check.specs.declared.stop.Stop.TheVariants.{Refused, Unheld}
 use Rattle.certificate_check.specs.Certificates.{AreUnheld, IsJudged, IsRightWith, RefusalStands, TellsOfFew}

@@ -1,7 +1,7 @@
 -- The last runs of a map, and views that agree from a page on.
 use Rattle.std.specs.Prelude.{◌≡◌, ℕ, ◌<◌, ◌≤◌, List, [], ◌∷◌}
 use Rattle.pmp_encoding.specs.declared.perm.Perm.{Perm}
-use Rattle.page_views.specs.Views.{View}
+use Rattle.pmp_encoding.specs.Views.{View}
 use Rattle.permission_map.specs.declared.runs.Run.{Run}
 use Rattle.permission_map.specs.Runs.{AreRunsAfter, end_of}
 

@@ -2,7 +2,7 @@
 use Rattle.std.specs.Prelude.{◌≡◌, ◌≢◌, ℕ, suc, ◌+◌, ◌^◌, ◌<◌, ◌≤◌, ◌⊎◌, List, ◌∷◌, ◌++◌, Result, MatchResult}
 use Rattle.pmp_encoding.specs.declared.perm.Perm.{Perm}
 use Rattle.pmp_encoding.specs.Perms.{bits_of}
-use Rattle.page_views.specs.Views.{View, IsUniform}
+use Rattle.pmp_encoding.specs.Views.{View, IsUniform}
 use Rattle.pmp_match.specs.Bounds.{BoundTree, bound_of, IsSoundAt}
 use Rattle.certificate_format.specs.Costs.{cost_of}
 use Rattle.certificate_format.specs.Spelling.{costs_bytes, node_bytes, FitsNode, HasNoOverflow}

@@ -4,7 +4,7 @@ ghost use Rattle.std.specs.Prelude.{◌≡◌, ℕ, ◌+◌, ◌*◌, ◌/◌, �
 ghost use Rattle.pmp_encoding.specs.declared.region.Entry.{Entry};
 
 use byteorder::{ByteOrder, LittleEndian};
-use page_views::SPACE_PAGES;
+use pmp_encoding::SPACE_PAGES;
 use pmp_encoding::Perm;
 use std::marker::Model;
 

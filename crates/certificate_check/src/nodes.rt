@@ -16,7 +16,7 @@ use crate::runs::RunsAhead;
 use crate::window::Window;
 use byte_streams::Source;
 use certificate_format::{SixCosts, Tag};
-use page_views::pages_of;
+use pmp_encoding::pages_of;
 use permission_map::PermissionMap;
 
 /// Reads what follows the tag of a leaf of the 2^log2 pages from `first` on.

@@ -5,7 +5,7 @@ ghost use Rattle.permission_map.specs.Runs.{view_of_runs};
 ghost use Rattle.certificate_check.specs.Later.{AreLaterRuns, StartsBehind, AgreeFrom};
 
 use crate::piece::Piece;
-use page_views::SPACE_PAGES;
+use pmp_encoding::SPACE_PAGES;
 use permission_map::{PermissionMap, Run};
 use pmp_encoding::Perm;
 use std::marker::Model;

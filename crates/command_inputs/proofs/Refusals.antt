@@ -9,15 +9,15 @@ use Rattle.map_text.specs.MapFile.{FaultAt, IsUnknown, Makes, MakesFirst, MakesT
 use Rattle.permission_map.specs.declared.runs.Run.{Run}
 use Rattle.platforms.specs.Platform.{PlatformLayout}
 use Rattle.platform_file.specs.Document.{IsPlatformFile}
-use Rattle.program_troubles.specs.declared.trouble.Trouble.{Trouble}
-use Rattle.program_troubles.specs.declared.trouble.Trouble.TheVariants.{NotAPlatform, Memory}
+use Rattle.command_inputs.specs.declared.trouble.Trouble.{Trouble}
+use Rattle.command_inputs.specs.declared.trouble.Trouble.TheVariants.{NotAPlatform, Memory}
 use Rattle.byte_streams.specs.declared.fault.SourceFault.{SourceFault}
 use Rattle.byte_streams.specs.declared.fault.SourceFault.TheVariants as whole
 use Rattle.command_inputs.specs.Inputs.{HasBytes, HasMap, HasNoBytes, HasNoMap, IsMapFault, Reading, too_large, cannot_read}
 use Rattle.command_inputs.specs.Inputs as inputs
 use Rattle.command_inputs.specs.PlatformInputs.{HasNoPlatform}
 use Rattle.command_inputs.specs.PlatformInputs as platforms
-use Rattle.program_troubles.specs.Troubles.{map_trouble, source_trouble}
+use Rattle.command_inputs.specs.Troubles.{map_trouble, source_trouble}
 
 pub no_bytes :
     {R : Type 0} (most : ℕ) (file : Bor (List ℕ)) (source : Reading R) (fault : SourceFault)

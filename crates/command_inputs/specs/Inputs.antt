@@ -7,9 +7,9 @@ use Rattle.permission_map.specs.declared.runs.Run.{Run}
 use Rattle.map_text.specs.declared.map_file.MapFileFault.{MapFileFault}
 use Rattle.map_text.specs.declared.map_file.MapFileFault.TheVariants as maps
 use Rattle.map_text.specs.MapFile.{FaultAt, IsUnknown, Makes, MakesFirst, MakesTooMany}
-use Rattle.program_troubles.specs.declared.trouble.Trouble.{Trouble}
-use Rattle.program_troubles.specs.declared.trouble.Trouble.TheVariants.{TooLarge, CannotRead, Memory}
-use Rattle.program_troubles.specs.Troubles.{map_trouble}
+use Rattle.command_inputs.specs.declared.trouble.Trouble.{Trouble}
+use Rattle.command_inputs.specs.declared.trouble.Trouble.TheVariants.{TooLarge, CannotRead, Memory}
+use Rattle.command_inputs.specs.Troubles.{map_trouble}
 
 -- a source over a call: itself, the bytes that are still to come, and how often it has failed
 pub record Reading (R : Type 0) : Type 0 where

@@ -3,8 +3,8 @@ use Rattle.std.specs.Prelude.{ℕ, ◌^◌, List}
 use Rattle.std.specs.Borrow.{Bor}
 use Rattle.platforms.specs.Platform.{PlatformLayout}
 use Rattle.platform_file.specs.Document.{IsPlatformFile}
-use Rattle.program_troubles.specs.declared.trouble.Trouble.{Trouble}
-use Rattle.program_troubles.specs.declared.trouble.Trouble.TheVariants.{NotAPlatform, Memory}
+use Rattle.command_inputs.specs.declared.trouble.Trouble.{Trouble}
+use Rattle.command_inputs.specs.declared.trouble.Trouble.TheVariants.{NotAPlatform, Memory}
 use Rattle.command_inputs.specs.Inputs.{HasBytes, HasNoBytes, Reading}
 
 -- the bytes of a file are the platform

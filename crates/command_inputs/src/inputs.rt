@@ -4,13 +4,13 @@ ghost use Rattle.std.specs.Prelude.{◌≡◌, ◌-◌, ◌^◌, ◌<◌, IfErr,
 ghost use Rattle.command_inputs.specs.Inputs.{reading, HasBytes, HasMap, HasNoBytes, HasNoMap, IsMapFault};
 ghost use Rattle.map_text.specs.MapFile.{Makes};
 ghost use Rattle.map_text.specs.declared.map_file.MapFileFault.{MapFileFault};
-ghost use Rattle.program_troubles.specs.Troubles.{map_trouble};
+ghost use Rattle.command_inputs.specs.Troubles.{map_trouble};
 
 use byte_streams::Source;
 use map_text::{MAP_BYTES, map_of};
 use permission_map::PermissionMap;
 use program_files::read_whole;
-use program_troubles::Trouble;
+use crate::Trouble;
 use std::alloc::Global;
 
 /// How many bytes a listing of registers may have.

@@ -7,13 +7,30 @@
 //! ```rust
 //! let map = map_in(rt.alloc(), "map.txt", &mut first)?;
 //! ```
+//!
+//! Why a task of the program did not end well: the text for standard error, and the status.
+//!
+//! A [`Trouble`] has the names of the files that were given. For the layer above: `of_source`, `of_map`, `of_run`, `of_text`
+//! and `of_boot` say which trouble a fault is, `print` writes its line, and `status` is the one that the program ends with.
+//! [`print_reason`] writes why a device failed; [`shown`] is a name without control
+//! characters, each byte of which [`push_escaped`] writes.
+//!
+//! ```rust
+//! let trouble = Trouble::of_map(name, fault);
+//! ```
 #![tactic(auto)]
 
 mod inputs;
+mod names;
 mod platform_inputs;
+mod reason_hint;
 mod statuses;
+mod trouble;
 
 pub use inputs::{CERTIFICATE_BYTES, REGISTER_BYTES, bytes_in, map_by, map_in};
 pub use map_text::MAP_BYTES;
 pub use platform_inputs::{PLATFORM_BYTES, platform_in, read_platform};
 pub use statuses::answer_status;
+pub use names::{push_escaped, shown};
+pub use reason_hint::print_reason;
+pub use trouble::Trouble;

@@ -10,7 +10,7 @@ use crate::inputs::bytes_in;
 use byte_streams::Source;
 use platform_file::platform_of;
 use platforms::Platform;
-use program_troubles::Trouble;
+use crate::Trouble;
 use std::alloc::Global;
 use std::str;
 

@@ -1,3 +1,4 @@
 pub mod ClapModel
 pub mod CommandLine
 pub mod Faults
+pub mod Ends

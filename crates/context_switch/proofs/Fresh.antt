@@ -2,11 +2,11 @@
 use Rattle.std.proofs.Common.{ℕ, zero, suc, ◌≡◌, ◌<◌, ◌≤◌, ◌∙◌, ap, sym, arith, None, Some, slice_get, replicate}
 use Rattle.std.proofs.lemmas.Option.{slice_get_read, same_Some}
 use Rattle.std.proofs.lemmas.List.{get_or-replicate, length-replicate}
-use Rattle.worlds.specs.declared.world.World.{World}
-use Rattle.worlds.specs.declared.world.World.TheVariants.{Host, Enclave}
+use Rattle.sbi_decode.specs.declared.world.World.{World}
+use Rattle.sbi_decode.specs.declared.world.World.TheVariants.{Host, Enclave}
 use Rattle.sbi_decode.specs.Registers.{RegisterFile}
 use Rattle.context_switch.specs.declared.contexts.Contexts.{Contexts}
-use Rattle.worlds.specs.Runners.{Runner, HostOf, EnclaveOf, runner_of, IsWorld}
+use Rattle.sbi_decode.specs.Runners.{Runner, HostOf, EnclaveOf, runner_of, IsWorld}
 use Rattle.context_switch.specs.Contexts.{saved_of}
 
 -- each place of a list of copies has the copy

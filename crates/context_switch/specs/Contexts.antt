@@ -2,7 +2,7 @@
 use Rattle.std.specs.Prelude.{zero, suc, Option, None, slice_get}
 use Rattle.sbi_decode.specs.Registers.{RegisterFile}
 use Rattle.context_switch.specs.declared.contexts.Contexts.{Contexts}
-use Rattle.worlds.specs.Runners.{Runner, HostOf, EnclaveOf}
+use Rattle.sbi_decode.specs.Runners.{Runner, HostOf, EnclaveOf}
 
 -- the register set that is kept of a host or an enclave; enclaves are numbered from 1
 abbrev pub saved_of : Contexts → Runner → Option RegisterFile

@@ -1,4 +1,4 @@
-pub use Rattle.worlds.specs.Runners
+pub use Rattle.sbi_decode.specs.Runners
 pub mod Contexts
 pub mod Harts
 pub mod Switch

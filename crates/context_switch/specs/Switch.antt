@@ -1,9 +1,9 @@
 -- From one world to another on a hart.
 use Rattle.std.specs.Prelude.{◌≡◌, ◌≢◌, Some}
-use Rattle.worlds.specs.declared.world.World.{World}
+use Rattle.sbi_decode.specs.declared.world.World.{World}
 use Rattle.context_switch.specs.declared.hart.Hart.{Hart}
 use Rattle.context_switch.specs.declared.contexts.Contexts.{Contexts}
-use Rattle.worlds.specs.Runners.{Runner, runner_of}
+use Rattle.sbi_decode.specs.Runners.{Runner, runner_of}
 use Rattle.context_switch.specs.Contexts.{saved_of}
 use Rattle.context_switch.specs.Harts.{number_of, world_of, registers_of}
 

@@ -1,7 +1,7 @@
 //! The saved registers of the hosts and the enclaves.
 
 use sbi_decode::Registers;
-use worlds::World;
+use sbi_decode::World;
 
 /// The saved registers of each world: one set for the host of each of four harts, and one for each enclave, by its id
 /// from 1 to 64. An enclave's set is the same for every hart.
@@ -13,9 +13,9 @@ pub struct Contexts {
 
 impl Contexts {
     ghost use Rattle.std.specs.Prelude.{◌≡◌, ◌≢◌, ◌≤◌, ℕ, Some};
-    ghost use Rattle.worlds.specs.declared.world.World.{World};
+    ghost use Rattle.sbi_decode.specs.declared.world.World.{World};
     ghost use Rattle.sbi_decode.specs.Registers.{RegisterFile, zeros};
-    ghost use Rattle.worlds.specs.Runners.{Runner, runner_of, IsWorld};
+    ghost use Rattle.sbi_decode.specs.Runners.{Runner, runner_of, IsWorld};
     ghost use Rattle.context_switch.specs.Contexts.{saved_of};
 
     /// Every set zero.

@@ -1,11 +1,11 @@
 //! A hart: its world, its registers and its bank.
 
 ghost use Rattle.std.specs.Prelude.{◌<◌};
-ghost use Rattle.worlds.specs.Runners.{IsWorld, IsWorld-prop};
+ghost use Rattle.sbi_decode.specs.Runners.{IsWorld, IsWorld-prop};
 
 use pmp_encoding::{Bank, Entry, Limit};
 use sbi_decode::Registers;
-use worlds::World;
+use sbi_decode::World;
 
 /// One of up to four harts: the world that runs on it, and the registers and PMP entries that are loaded there.
 #[derive(Clone, Copy)]
@@ -24,7 +24,7 @@ impl Hart {
     ghost use Rattle.sbi_decode.specs.Registers.{zeros};
     ghost use Rattle.pmp_encoding.specs.Limits.{limit_number};
     ghost use Rattle.pmp_encoding.specs.Banks.{HasList, IsBankOf};
-    ghost use Rattle.worlds.specs.Runners.{IsWorld};
+    ghost use Rattle.sbi_decode.specs.Runners.{IsWorld};
     ghost use Rattle.context_switch.specs.Harts.{number_of, world_of, registers_of, bank_of, LendsRegisters};
 
     /// The hart of this number as at boot: in the host's world, its registers zero, these entries loaded.

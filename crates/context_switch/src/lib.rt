@@ -25,4 +25,4 @@ mod world_switch;
 pub use contexts::Contexts;
 pub use hart::Hart;
 pub use world_switch::switch;
-pub use worlds::World;
+pub use sbi_decode::World;

@@ -3,14 +3,14 @@
 ghost use Rattle.std.specs.Prelude.{◌≤◌, length};
 ghost use Rattle.pmp_encoding.specs.Limits.{limit_number};
 ghost use Rattle.pmp_encoding.specs.Banks.{HasList, IsBankOf};
-ghost use Rattle.worlds.specs.Runners.{IsWorld};
+ghost use Rattle.sbi_decode.specs.Runners.{IsWorld};
 ghost use Rattle.context_switch.specs.Harts.{bank_of};
 ghost use Rattle.context_switch.specs.Switch.{Switches};
 
 use crate::contexts::Contexts;
 use crate::hart::Hart;
 use pmp_encoding::Entry;
-use worlds::World;
+use sbi_decode::World;
 
 /// Leaves the hart's world and goes to `to`, the host or an enclave with an id from 1 to 64: the hart's registers are
 /// saved as those of the world that it leaves, those of the other are loaded, and the entries, at most as many as the

@@ -7,7 +7,7 @@ use Rattle.pmp_encoding.specs.declared.region.Entry.{Entry}
 use Rattle.pmp_match.specs.Meaning.{View}
 use Rattle.permission_map.specs.Views.{SameView, overwritten}
 use Rattle.enclave_table.specs.Enclaves.{EnclaveTable, Live, with_enclave, IsNextId}
-use Rattle.enclave_requests.specs.Requests.{parts_of, is_part, ArePartsApart}
+use Rattle.measurement.specs.Requests.{parts_of, is_part, ArePartsApart}
 use Rattle.enclave_table.specs.Views.{host_view, enclave_view}
 use Rattle.platforms.specs.CheckLists.{AllPass}
 use Rattle.enclave_table.specs.Refusals.{RefusesBy}
@@ -15,11 +15,11 @@ use Rattle.enclave_table.specs.Checks.{create_checks, IsClear}
 use Rattle.enclave_table.specs.Fewest.{FitsIn, IsWant, IsListOf}
 use Rattle.enclave_table.specs.Create.{fresh, Creates, OutgrowsByCreate}
 use Rattle.enclave_table.specs.Tables.{IsSound}
-use Rattle.enclave_requests.specs.declared.request.Create.{Create}
+use Rattle.measurement.specs.declared.request.Create.{Create}
 use Rattle.enclave_table.specs.declared.enclave.Enclave.{Enclave}
-use Rattle.page_views.specs.declared.pages.PageRange.{PageRange}
+use Rattle.pmp_encoding.specs.declared.pages.PageRange.{PageRange}
 use Rattle.enclave_table.specs.declared.refusal.Refusal.{Refusal}
-use Rattle.worlds.specs.declared.world.World.{World}
+use Rattle.sbi_decode.specs.declared.world.World.{World}
 use Rattle.enclave_table.proofs.SameViews.{needs_of}
 use Rattle.enclave_table.proofs.Refused.{create_host_want, create_enclave_want}
 

@@ -14,7 +14,7 @@ use Rattle.platforms.specs.Platform.{device_perm, platform_perm}
 use Rattle.platforms.specs.Ranges.{has_page}
 use Rattle.platforms.proofs.ShortNames.{is_among}
 use Rattle.enclave_table.specs.Enclaves.{EnclaveTable}
-use Rattle.enclave_requests.specs.Requests.{is_private}
+use Rattle.measurement.specs.Requests.{is_private}
 use Rattle.enclave_table.specs.Views.{host_view}
 use Rattle.enclave_table.proofs.ShortNames.{any_private}
 use Rattle.enclave_table.specs.Tables.{IsTable}

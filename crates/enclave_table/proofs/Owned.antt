@@ -5,7 +5,7 @@ use Rattle.std.proofs.lemmas.Option.{same_Some}
 use Rattle.pmp_encoding.specs.declared.perm.Perm.TheVariants.{NoAccess}
 use Rattle.platforms.specs.Platform.{platform_perm}
 use Rattle.enclave_table.specs.Enclaves.{EnclaveTable, enclave_at, Live}
-use Rattle.enclave_requests.specs.Requests.{is_private, is_shared, is_part}
+use Rattle.measurement.specs.Requests.{is_private, is_shared, is_part}
 use Rattle.enclave_table.specs.Owners.{IsOwner}
 use Rattle.enclave_table.specs.Views.{host_view, host_perm}
 use Rattle.enclave_table.proofs.ShortNames.{any_private, has_private}

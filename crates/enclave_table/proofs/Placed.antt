@@ -9,12 +9,12 @@ use Rattle.pmp_encoding.specs.declared.region.Entry.{Entry}
 use Rattle.permission_map.specs.Views.{SameView, overwritten}
 use Rattle.platforms.specs.Platform.{is_ram, platform_perm, device_perm}
 use Rattle.enclave_table.specs.Enclaves.{EnclaveTable, enclave_at, Live, with_enclave}
-use Rattle.enclave_requests.specs.Requests.{is_private, is_shared, is_part, ArePartsApart}
+use Rattle.measurement.specs.Requests.{is_private, is_shared, is_part, ArePartsApart}
 use Rattle.enclave_table.specs.Views.{host_view, enclave_view}
 use Rattle.enclave_table.proofs.ShortNames.{any_private, has_private}
 use Rattle.enclave_table.specs.Tables.{IsSound, IsTable, Kept, IsKept, list_at}
 use Rattle.enclave_table.specs.Fewest.{IsListOf}
-use Rattle.enclave_requests.specs.declared.request.Create.{Create}
+use Rattle.measurement.specs.declared.request.Create.{Create}
 use Rattle.enclave_table.specs.declared.enclave.Enclave.{Enclave}
 use Rattle.enclave_table.proofs.Places.{live_above, live_inside, live_place, at_place, set_same, set_other, private_set}
 use Rattle.platforms.specs.Ranges.{has_page}

@@ -5,17 +5,17 @@ use Rattle.std.proofs.lemmas.Bool.{true≢false}
 use Rattle.pmp_match.specs.Meaning.{View}
 use Rattle.permission_map.specs.Views.{SameView}
 use Rattle.enclave_table.specs.Enclaves.{EnclaveTable, with_enclave, IsNextId}
-use Rattle.enclave_requests.specs.Requests.{parts_of}
+use Rattle.measurement.specs.Requests.{parts_of}
 use Rattle.enclave_table.specs.Views.{host_view, enclave_view}
 use Rattle.platforms.specs.CheckLists.{AllPass, FailsFirst}
 use Rattle.enclave_table.specs.Refusals.{RefusesBy}
 use Rattle.enclave_table.specs.Checks.{create_checks, host_checks, MayDestroy}
 use Rattle.enclave_table.specs.Fewest.{IsWant, NeedsMore}
 use Rattle.enclave_table.specs.Create.{fresh, OutgrowsByCreate}
-use Rattle.enclave_requests.specs.declared.request.Create.{Create}
+use Rattle.measurement.specs.declared.request.Create.{Create}
 use Rattle.enclave_table.specs.declared.refusal.Refusal.{Refusal}
 use Rattle.enclave_table.specs.declared.refusal.Refusal.TheVariants.{NotHost, NotEnclave, BadCount, BadAddress, BadEntry, NotRam, Overlap, TableFull, NoEntries, NoMemory, BadId, BadState, BadWord}
-use Rattle.worlds.specs.declared.world.World.{World}
+use Rattle.sbi_decode.specs.declared.world.World.{World}
 use Rattle.enclave_table.proofs.SameViews.{more_same}
 
 is_want : Refusal → Bool

@@ -4,7 +4,7 @@ use Rattle.std.specs.List.{list_any}
 use Rattle.pmp_encoding.specs.declared.perm.Perm.{Perm}
 use Rattle.pmp_encoding.specs.declared.perm.Perm.TheVariants.{NoAccess}
 use Rattle.enclave_table.specs.Views.{enclave_view}
-use Rattle.enclave_requests.specs.Requests.{is_private}
+use Rattle.measurement.specs.Requests.{is_private}
 use Rattle.enclave_table.specs.declared.enclave.Enclave.{Enclave}
 
 -- whether a page is private to the enclave of a slot, if there is one

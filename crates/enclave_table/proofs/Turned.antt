@@ -8,12 +8,12 @@ use Rattle.permission_map.specs.Views.{SameView}
 use Rattle.prefix_tree.specs.Trees.{PermTree}
 use Rattle.platforms.specs.Platform.{platform_perm}
 use Rattle.enclave_table.specs.Enclaves.{EnclaveTable, enclave_at, Live, with_enclave}
-use Rattle.enclave_requests.specs.Requests.{is_part}
+use Rattle.measurement.specs.Requests.{is_part}
 use Rattle.enclave_table.specs.Views.{host_view, enclave_view}
 use Rattle.enclave_table.proofs.ShortNames.{any_private, has_private}
 use Rattle.enclave_table.specs.Tables.{IsSound, IsTable, Kept, IsKept, IsHostTree, list_at}
 use Rattle.enclave_table.specs.Fewest.{IsListOf}
-use Rattle.enclave_requests.specs.declared.request.Create.{Create}
+use Rattle.measurement.specs.declared.request.Create.{Create}
 use Rattle.enclave_table.specs.declared.enclave.Enclave.{Enclave}
 use Rattle.enclave_table.specs.declared.enclave.Stage.{Stage}
 use Rattle.enclave_table.proofs.Places.{live_above, live_inside, live_place, set_same, set_other, private_set}

@@ -1,9 +1,9 @@
 -- What each call asks before it does anything, in this order.
 use Rattle.std.specs.Prelude.{◌≡◌, ℕ, true, List, false, [], ◌∷◌, ◌≢◌, ◌<◌}
-use Rattle.worlds.specs.declared.world.World.{World}
-use Rattle.worlds.specs.declared.world.World.TheVariants.{Host, Enclave as InEnclave}
+use Rattle.sbi_decode.specs.declared.world.World.{World}
+use Rattle.sbi_decode.specs.declared.world.World.TheVariants.{Host, Enclave as InEnclave}
 use Rattle.platforms.specs.Platform.{is_ram}
-use Rattle.enclave_requests.specs.Requests.{is_private, is_shared, is_part, HasCounts, HasPlaces, HasEntry}
+use Rattle.measurement.specs.Requests.{is_private, is_shared, is_part, HasCounts, HasPlaces, HasEntry}
 use Rattle.enclave_table.specs.Enclaves.{EnclaveTable, Live, IsFree}
 use Rattle.enclave_table.specs.declared.enclave.Enclave.{Enclave}
 use Rattle.enclave_table.specs.declared.enclave.Stage.{Stage}
@@ -12,7 +12,7 @@ use Rattle.enclave_table.specs.declared.life.Entering.{Entering}
 use Rattle.enclave_table.specs.declared.life.Entering.TheVariants.{Run, Resume}
 use Rattle.enclave_table.specs.declared.refusal.Refusal.{Refusal}
 use Rattle.enclave_table.specs.declared.refusal.Refusal.TheVariants.{NotHost, NotEnclave, BadCount, BadAddress, BadEntry, NotRam, Overlap, TableFull, BadId, BadState, BadWord}
-use Rattle.enclave_requests.specs.declared.request.Create.{Create}
+use Rattle.measurement.specs.declared.request.Create.{Create}
 use Rattle.platforms.specs.Ranges.{has_page}
 
 -- no page is the monitor's or an enclave's, and none is both private and shared

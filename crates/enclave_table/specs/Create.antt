@@ -1,16 +1,16 @@
 -- How create is answered, and what it makes of the table.
 use Rattle.std.specs.Prelude.{◌≡◌, ℕ, List, Some, ◌⊎◌}
-use Rattle.worlds.specs.declared.world.World.{World}
-use Rattle.enclave_requests.specs.Requests.{parts_of}
+use Rattle.sbi_decode.specs.declared.world.World.{World}
+use Rattle.measurement.specs.Requests.{parts_of}
 use Rattle.enclave_table.specs.Enclaves.{EnclaveTable, with_enclave, IsNextId}
 use Rattle.enclave_table.specs.Views.{host_view, enclave_view}
 use Rattle.platforms.specs.CheckLists.{AllPass}
 use Rattle.enclave_table.specs.Checks.{create_checks}
 use Rattle.enclave_table.specs.Fewest.{FitsIn, NeedsMore}
-use Rattle.enclave_requests.specs.Digests.{measured}
+use Rattle.measurement.specs.Digests.{measured}
 use Rattle.enclave_table.specs.declared.enclave.Enclave.{Enclave}
 use Rattle.enclave_table.specs.declared.enclave.Stage.TheVariants.{Fresh}
-use Rattle.enclave_requests.specs.declared.request.Create.{Create}
+use Rattle.measurement.specs.declared.request.Create.{Create}
 
 -- the enclave as it is made
 abbrev pub fresh : (ℕ → List ℕ) → Create → Enclave

@@ -1,13 +1,13 @@
 -- How destroy is answered, and what it makes of the table.
 use Rattle.std.specs.Prelude.{◌≡◌, ℕ, ◌+◌, ◌/◌, None}
-use Rattle.worlds.specs.declared.world.World.{World}
+use Rattle.sbi_decode.specs.declared.world.World.{World}
 use Rattle.enclave_table.specs.Enclaves.{EnclaveTable, Live, with_enclave}
 use Rattle.enclave_table.specs.Views.{host_view}
 use Rattle.platforms.specs.CheckLists.{AllPass}
 use Rattle.enclave_table.specs.Checks.{host_checks, MayDestroy}
 use Rattle.enclave_table.specs.Fewest.{FitsIn}
 use Rattle.enclave_table.specs.declared.enclave.Enclave.{Enclave}
-use Rattle.page_views.specs.declared.pages.PageRange.{PageRange}
+use Rattle.pmp_encoding.specs.declared.pages.PageRange.{PageRange}
 
 -- destroy, where it is not refused: the enclave is gone, its private pages are to be zeroed, and the host fits
 pub record Destroys (old : EnclaveTable) (world : World) (id : ℕ) (range : PageRange) (new : EnclaveTable) : Type 0 where

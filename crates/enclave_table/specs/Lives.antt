@@ -1,7 +1,7 @@
 -- How an enclave is entered and left, and what that makes of the table.
 use Rattle.std.specs.Prelude.{◌≡◌, ℕ, Some}
-use Rattle.worlds.specs.declared.world.World.{World}
-use Rattle.worlds.specs.declared.world.World.TheVariants.{Enclave as InEnclave}
+use Rattle.sbi_decode.specs.declared.world.World.{World}
+use Rattle.sbi_decode.specs.declared.world.World.TheVariants.{Enclave as InEnclave}
 use Rattle.enclave_table.specs.Enclaves.{EnclaveTable, Live, with_enclave}
 use Rattle.platforms.specs.CheckLists.{AllPass}
 use Rattle.enclave_table.specs.Checks.{host_checks}

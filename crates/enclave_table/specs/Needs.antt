@@ -1,11 +1,11 @@
 -- How many entries the host's view after a creation needs.
 use Rattle.std.specs.Prelude.{◌≡◌, ℕ, Some}
 use Rattle.pmp_match.specs.Meaning.{Needs}
-use Rattle.enclave_requests.specs.Requests.{parts_of}
+use Rattle.measurement.specs.Requests.{parts_of}
 use Rattle.enclave_table.specs.Enclaves.{EnclaveTable, with_enclave, IsNextId}
 use Rattle.enclave_table.specs.Views.{host_view}
 use Rattle.enclave_table.specs.declared.enclave.Enclave.{Enclave}
-use Rattle.enclave_requests.specs.declared.request.Create.{Create}
+use Rattle.measurement.specs.declared.request.Create.{Create}
 
 -- the host's view needs so many entries with one more enclave of what is asked for under the next id, whatever its pages hold
 abbrev pub NeedsWithCreated : EnclaveTable → Create → ℕ → Type 0

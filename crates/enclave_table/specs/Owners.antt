@@ -1,6 +1,6 @@
 -- Who owns each page.
 use Rattle.std.specs.Prelude.{◌≡◌, ℕ, true, false}
-use Rattle.enclave_requests.specs.Requests.{is_private, is_shared, is_part}
+use Rattle.measurement.specs.Requests.{is_private, is_shared, is_part}
 use Rattle.enclave_table.specs.Enclaves.{EnclaveTable, Live}
 use Rattle.enclave_table.specs.declared.enclave.Enclave.{Enclave}
 use Rattle.enclave_table.specs.declared.owner.Owner.{Owner}

@@ -2,16 +2,16 @@
 use Rattle.std.specs.Prelude.{◌≡◌, ℕ, ◌-◌, true, List, slice_index_or, false, [], length}
 use Rattle.pmp_encoding.specs.declared.region.Entry.{Entry}
 use Rattle.prefix_tree.specs.Trees.{PermTree, TreeMeans, IsCanonical}
-use Rattle.worlds.specs.declared.world.World.{World}
-use Rattle.worlds.specs.declared.world.World.TheVariants.{Host, Enclave as InEnclave}
+use Rattle.sbi_decode.specs.declared.world.World.{World}
+use Rattle.sbi_decode.specs.declared.world.World.TheVariants.{Host, Enclave as InEnclave}
 use Rattle.platforms.specs.Platform.{is_ram, IsLayout}
-use Rattle.enclave_requests.specs.Requests.{is_private, is_shared, is_part, HasCounts, HasPlaces, HasEntry}
+use Rattle.measurement.specs.Requests.{is_private, is_shared, is_part, HasCounts, HasPlaces, HasEntry}
 use Rattle.enclave_table.specs.Enclaves.{EnclaveTable, Live}
 use Rattle.enclave_table.specs.Views.{host_view, enclave_view}
 use Rattle.enclave_table.specs.Fewest.{IsListOf}
 use Rattle.enclave_table.specs.declared.enclave.Enclave.{Enclave}
 use Rattle.enclave_table.specs.declared.enclave.Stage.TheVariants.{Running}
-use Rattle.enclave_requests.specs.declared.request.Create.{Create}
+use Rattle.measurement.specs.declared.request.Create.{Create}
 use Rattle.platforms.specs.Ranges.{has_page}
 
 -- each live enclave is as create asked for it, its pages are memory, and none of the monitor's or both private and shared

@@ -4,14 +4,14 @@ use Rattle.std.specs.List.{list_any}
 use Rattle.pmp_encoding.specs.declared.perm.Perm.{Perm}
 use Rattle.pmp_encoding.specs.declared.perm.Perm.TheVariants.{NoAccess, ReadWrite, ReadExecute}
 use Rattle.permission_map.specs.Runs.{in_range}
-use Rattle.worlds.specs.declared.world.World.{World}
+use Rattle.sbi_decode.specs.declared.world.World.{World}
 use Rattle.platforms.specs.Platform.{platform_perm}
-use Rattle.enclave_requests.specs.Requests.{is_private, is_shared}
+use Rattle.measurement.specs.Requests.{is_private, is_shared}
 use Rattle.enclave_table.specs.Enclaves.{EnclaveTable, enclave_at}
 use Rattle.enclave_table.specs.declared.owner.Owner.{Owner}
 use Rattle.enclave_table.specs.declared.owner.Owner.TheVariants.{Monitor, Private, Shared, Host}
-use Rattle.enclave_requests.specs.declared.request.Create.{Create}
-use Rattle.worlds.specs.declared.world.World.TheVariants as world
+use Rattle.measurement.specs.declared.request.Create.{Create}
+use Rattle.sbi_decode.specs.declared.world.World.TheVariants as world
 use Rattle.platforms.specs.Ranges.{has_page}
 
 -- the host: nothing on what is the monitor's or private to an enclave, elsewhere what the platform allows

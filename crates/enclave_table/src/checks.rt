@@ -3,7 +3,7 @@
 ghost use Rattle.std.specs.Prelude.{◌≡◌, ℕ, ◌<◌, ◌≤◌, ◌↔◌, IsTrue, IfOk, IfErr, true, false};
 ghost use Rattle.enclave_table.specs.Enclaves.{Live, IsNextId};
 ghost use Rattle.platforms.specs.Platform.{is_ram};
-ghost use Rattle.enclave_requests.specs.Requests.{ArePartsApart, HasCounts, HasPlaces, is_part};
+ghost use Rattle.measurement.specs.Requests.{ArePartsApart, HasCounts, HasPlaces, is_part};
 ghost use Rattle.platforms.specs.CheckLists.{AllPass, FailsFirst};
 ghost use Rattle.enclave_table.specs.Checks.{IsClear, create_checks, host_checks, MayDestroy};
 ghost use Rattle.enclave_table.specs.Tables.{IsSound};
@@ -12,8 +12,8 @@ ghost use Rattle.enclave_table.specs.declared.enclave.Enclave.{Enclave};
 use crate::enclave::{Enclave, Stage};
 use crate::refusal::Refusal;
 use crate::table::Table;
-use enclave_requests::Create;
-use worlds::World;
+use measurement::Create;
+use sbi_decode::World;
 
 impl Table {
     /// Whether each page is memory.

@@ -2,8 +2,8 @@
 
 ghost use Rattle.std.specs.Prelude.{◌≡◌, ◌<◌, ◌-◌, IfOk, IfErr, OnErr, Some};
 ghost use Rattle.enclave_table.specs.Tables.{IsCurrent};
-ghost use Rattle.enclave_requests.specs.Requests.{HasCounts, HasPlaces, parts_of};
-ghost use Rattle.enclave_requests.specs.Digests.{measured};
+ghost use Rattle.measurement.specs.Requests.{HasCounts, HasPlaces, parts_of};
+ghost use Rattle.measurement.specs.Digests.{measured};
 ghost use Rattle.enclave_table.specs.Create.{Creates, OutgrowsByCreate};
 ghost use Rattle.enclave_table.specs.Refusals.{RefusesBy};
 ghost use Rattle.enclave_table.specs.Checks.{create_checks};
@@ -12,9 +12,9 @@ use crate::enclave::{Enclave, Stage};
 use crate::fewest::enclave_list;
 use crate::refusal::Refusal;
 use crate::table::Table;
-use enclave_requests::{Create, Pages, enclave_digest};
+use measurement::{Create, Pages, enclave_digest};
 use pmp_encoding::Perm;
-use worlds::World;
+use sbi_decode::World;
 
 impl Table {
     /// The digest of an enclave with these parts, over its private pages as they are.

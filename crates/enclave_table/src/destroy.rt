@@ -12,9 +12,9 @@ ghost use Rattle.enclave_table.specs.Enclaves.{with_enclave};
 use crate::entry_list::EntryList;
 use crate::refusal::Refusal;
 use crate::table::Table;
-use page_views::PageRange;
+use pmp_encoding::PageRange;
 use pmp_encoding::Perm;
-use worlds::World;
+use sbi_decode::World;
 
 impl Table {
     /// Destroys an enclave. The answer is its private pages, which the caller must zero.

@@ -9,7 +9,7 @@ ghost use Rattle.enclave_table.specs.Lives.{state_after, Enters, Leaves};
 use crate::enclave::Stage;
 use crate::refusal::Refusal;
 use crate::table::Table;
-use worlds::World;
+use sbi_decode::World;
 
 /// The two ways in which the host enters an enclave.
 #[derive(Clone, Copy)]

@@ -3,7 +3,7 @@
 ghost use Rattle.std.specs.Prelude.{◌≡◌, ◌<◌, ◌-◌, ℕ, List, IfOk, IfErr, IfSome, IfNone, OnErr, Some};
 ghost use Rattle.enclave_table.specs.Enclaves.{IsNextId, with_enclave};
 ghost use Rattle.enclave_table.specs.Tables.{IsCurrent};
-ghost use Rattle.enclave_requests.specs.Requests.{HasCounts, HasPlaces, parts_of};
+ghost use Rattle.measurement.specs.Requests.{HasCounts, HasPlaces, parts_of};
 ghost use Rattle.enclave_table.specs.Checks.{create_checks};
 ghost use Rattle.platforms.specs.CheckLists.{AllPass};
 ghost use Rattle.enclave_table.specs.Refusals.{RefusesBy};
@@ -13,9 +13,9 @@ use crate::enclave::{Enclave, Stage};
 use crate::fewest::enclave_list;
 use crate::refusal::Refusal;
 use crate::table::Table;
-use enclave_requests::Create;
+use measurement::Create;
 use pmp_encoding::Perm;
-use worlds::World;
+use sbi_decode::World;
 
 impl Table {
     /// The parts of an enclave, as they are kept, where a creation passes each check but those for entries and memory: its

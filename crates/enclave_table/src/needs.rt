@@ -6,15 +6,15 @@ ghost use Rattle.enclave_table.specs.Checks.{create_checks, host_checks, MayDest
 ghost use Rattle.enclave_table.specs.Enclaves.{with_enclave};
 ghost use Rattle.enclave_table.specs.Needs.{NeedsWithCreated};
 ghost use Rattle.platforms.specs.CheckLists.{AllPass};
-ghost use Rattle.enclave_requests.specs.Requests.{parts_of};
+ghost use Rattle.measurement.specs.Requests.{parts_of};
 ghost use Rattle.enclave_table.specs.Views.{host_view, enclave_view};
 
 use crate::planned::enclave_plan;
 use crate::table::Table;
-use enclave_requests::Create;
+use measurement::Create;
 use permission_map::Memory;
 use pmp_encoding::Perm;
-use worlds::World;
+use sbi_decode::World;
 
 /// How many entries the views after a creation need.
 #[derive(Clone, Copy, PartialEq, Eq)]

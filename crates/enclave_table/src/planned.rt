@@ -4,14 +4,14 @@ ghost use Rattle.std.specs.Prelude.{◌+◌, ◌^◌, ◌≤◌, IfOk};
 ghost use Rattle.pmp_match.specs.Meaning.{IsFewest};
 ghost use Rattle.permission_map.specs.Views.{overwritten};
 ghost use Rattle.prefix_tree.specs.Trees.{TreeMeans, IsCanonical};
-ghost use Rattle.enclave_requests.specs.Requests.{HasCounts, HasPlaces};
+ghost use Rattle.measurement.specs.Requests.{HasCounts, HasPlaces};
 ghost use Rattle.enclave_table.specs.Views.{host_view, enclave_view};
 
 use crate::table::Table;
 use crate::views::enclave_map;
-use enclave_requests::Create;
+use measurement::Create;
 use entry_planner::{Plan, plan, plan_map};
-use page_views::PageRange;
+use pmp_encoding::PageRange;
 use permission_map::{MapFault, Memory};
 use pmp_encoding::Perm;
 use prefix_tree::Tree;

@@ -4,7 +4,7 @@ use crate::beside::beside;
 use crate::costs::SplitCost;
 use crate::packed_cost::PackedCost;
 use crate::shelves::Shelves;
-use page_views::{PAGE_SIZE, pages_of};
+use pmp_encoding::{PAGE_SIZE, pages_of};
 use pmp_encoding::{Entry, PackedEntry, Perm, Region};
 use prefix_tree::{Chain, Halving};
 use std::alloc::AllocError;

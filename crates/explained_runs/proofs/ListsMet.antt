@@ -7,10 +7,10 @@ use Rattle.pmp_match.specs.declared.access.Access.{Access}
 use Rattle.hart_sim.specs.declared.machine.Machine.{Machine}
 use Rattle.hart_sim.specs.Banks.{MeetsList}
 use Rattle.hart_sim.specs.Machines.{bank_on, kept_of, state_of}
-use Rattle.explained_answers.specs.declared.deciders.Decider.{Decider}
-use Rattle.explained_answers.specs.declared.reasons.Reason.{Reason}
-use Rattle.explained_answers.specs.Deciders.{by_first}
-use Rattle.explained_answers.specs.Reasons.{Decides, IsReason, misaligned, outside, no_entry, entry}
+use Rattle.trace_answers.specs.declared.deciders.Decider.{Decider}
+use Rattle.trace_answers.specs.declared.reasons.Reason.{Reason}
+use Rattle.trace_answers.specs.Deciders.{by_first}
+use Rattle.trace_answers.specs.Reasons.{Decides, IsReason, misaligned, outside, no_entry, entry}
 use Rattle.explained_runs.specs.Asked.{by_met}
 
 -- a reason by what decides is one by what that decides too

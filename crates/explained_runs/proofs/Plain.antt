@@ -5,7 +5,7 @@ use Rattle.text_lines.specs.LineLoop.{Meaning, Does, none, silent, answer}
 use Rattle.text_lines.proofs.Mapped.{Follows, mapped}
 use Rattle.hart_sim.specs.declared.machine.Machine.{Machine}
 use Rattle.hart_sim.specs.Reports.{DoesLine}
-use Rattle.explained_answers.specs.Explained.{Comments, IsExplained, explained, explaining}
+use Rattle.trace_answers.specs.Explained.{Comments, IsExplained, explained, explaining}
 use Rattle.explained_runs.specs.Accounts.{Account, AccountsLine, on_event}
 use Rattle.explained_runs.specs.Plain.{AreExplained, IsRunExplained}
 

@@ -4,13 +4,13 @@ use Rattle.text_lines.specs.LineLoop.{Meaning}
 use Rattle.hart_trace.specs.declared.event.Event.{Event}
 use Rattle.hart_trace.specs.Events.{meaning_of}
 use Rattle.hart_sim.specs.declared.machine.Machine.{Machine}
-use Rattle.machine_replies.specs.declared.reply.Reply.{Reply}
-use Rattle.machine_replies.specs.declared.reply.Reply.TheVariants.{NoMemory}
+use Rattle.hart_trace.specs.declared.reply.Reply.{Reply}
+use Rattle.hart_trace.specs.declared.reply.Reply.TheVariants.{NoMemory}
 use Rattle.hart_sim.specs.After.{Happens}
 use Rattle.hart_sim.specs.Machines.{state_of}
 use Rattle.hart_sim.specs.Reports.{DoesLine, RefusesLine, StarvesLine}
-use Rattle.machine_replies.specs.Texts.{reply_text}
-use Rattle.explained_answers.specs.Explained.{Comments, explaining}
+use Rattle.hart_trace.specs.Texts.{reply_text}
+use Rattle.trace_answers.specs.Explained.{Comments, explaining}
 use Rattle.explained_runs.specs.declared.asked.Asked.{Asked}
 use Rattle.explained_runs.specs.Asked.{IsAsked}
 use Rattle.explained_runs.specs.Comments.{IsComment}

@@ -9,9 +9,9 @@ use Rattle.hart_sim.specs.declared.machine.Machine.{Machine}
 use Rattle.hart_sim.specs.Banks.{MeetsList}
 use Rattle.hart_sim.specs.Changes.{calling}
 use Rattle.hart_sim.specs.Machines.{bank_on, kept_of, state_of}
-use Rattle.explained_answers.specs.declared.reasons.Reason.{Reason}
-use Rattle.explained_answers.specs.Deciders.{DecidesIn}
-use Rattle.explained_answers.specs.Reasons.{Decides, IsReason}
+use Rattle.trace_answers.specs.declared.reasons.Reason.{Reason}
+use Rattle.trace_answers.specs.Deciders.{DecidesIn}
+use Rattle.trace_answers.specs.Reasons.{Decides, IsReason}
 use Rattle.explained_runs.specs.declared.asked.Asked.{Asked}
 use Rattle.explained_runs.specs.declared.asked.Deed.{Deed}
 use Rattle.explained_runs.specs.declared.asked.Deed.TheVariants as deeds

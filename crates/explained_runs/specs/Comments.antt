@@ -4,12 +4,12 @@ use Rattle.pmp_match.specs.declared.access.Access.{Access}
 use Rattle.lint_texts.specs.Pieces.{address_text}
 use Rattle.sbi_decode.specs.declared.calls.Call.{Call}
 use Rattle.sbi_decode.specs.declared.calls.Call.TheVariants as calls
-use Rattle.worlds.specs.declared.world.World.{World}
-use Rattle.worlds.specs.declared.world.World.TheVariants as worlds
+use Rattle.sbi_decode.specs.declared.world.World.{World}
+use Rattle.sbi_decode.specs.declared.world.World.TheVariants as worlds
 use Rattle.hart_trace.specs.Plain.{keyword}
-use Rattle.explained_answers.specs.Reasons.{reason_text}
+use Rattle.trace_answers.specs.Reasons.{reason_text}
 use Rattle.enclave_table.specs.Enclaves.{EnclaveTable}
-use Rattle.machine_replies.specs.declared.reply.Reply.{Reply}
+use Rattle.hart_trace.specs.declared.reply.Reply.{Reply}
 use Rattle.explained_runs.specs.declared.asked.Asked.{Asked}
 use Rattle.explained_runs.specs.declared.asked.Deed.{Deed}
 use Rattle.explained_runs.specs.declared.asked.Deed.TheVariants as deeds

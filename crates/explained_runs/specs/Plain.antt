@@ -2,7 +2,7 @@
 use Rattle.std.specs.Prelude.{◌≡◌, ℕ, List, [], ◌∷◌}
 use Rattle.text_lines.specs.LineLoop.{Does}
 use Rattle.hart_sim.specs.Reports.{DoesLine}
-use Rattle.explained_answers.specs.Explained.{explained}
+use Rattle.trace_answers.specs.Explained.{explained}
 use Rattle.explained_runs.specs.Accounts.{Account, ExplainsLine}
 
 -- each of these is an answer with a comment behind it

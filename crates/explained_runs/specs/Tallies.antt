@@ -4,8 +4,8 @@ use Rattle.pmp_match.specs.Causes.{cause_number}
 use Rattle.sbi_decode.specs.declared.calls.Call.{Call}
 use Rattle.sbi_decode.specs.declared.calls.Call.TheVariants as calls
 use Rattle.hart_sim.specs.declared.machine.Machine.{Machine}
-use Rattle.machine_replies.specs.declared.reply.Reply.{Reply}
-use Rattle.machine_replies.specs.declared.reply.Reply.TheVariants as replies
+use Rattle.hart_trace.specs.declared.reply.Reply.{Reply}
+use Rattle.hart_trace.specs.declared.reply.Reply.TheVariants as replies
 use Rattle.explained_runs.specs.declared.asked.Deed.{Deed}
 use Rattle.explained_runs.specs.declared.asked.Deed.TheVariants as deeds
 use Rattle.explained_runs.specs.declared.groups.Count.{Count}

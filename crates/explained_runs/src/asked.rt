@@ -2,15 +2,15 @@
 
 ghost use Rattle.std.specs.Prelude.{◌≡◌, ◌<◌};
 ghost use Rattle.hart_trace.specs.declared.event.Event.{Event};
-ghost use Rattle.explained_answers.specs.Reasons.{IsReason};
+ghost use Rattle.trace_answers.specs.Reasons.{IsReason};
 ghost use Rattle.explained_runs.specs.Asked.{by_met, IsAsked, IsDeed};
 
-use explained_answers::{Reason, reason_of};
+use trace_answers::{Reason, reason_of};
 use hart_sim::{Event, Machine};
 use pmp_encoding::Bank;
 use pmp_match::Access;
 use sbi_decode::Call;
-use worlds::World;
+use sbi_decode::World;
 
 /// What an event asks.
 #[derive(Clone, Copy)]

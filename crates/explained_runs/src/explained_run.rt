@@ -10,7 +10,7 @@ use crate::asked::asked_of;
 use crate::comment::comment_on;
 use crate::tally::Tally;
 use byte_streams::{Sink, Source};
-use explained_answers::explain;
+use trace_answers::explain;
 use hart_sim::{Machine, push_reply};
 use text_lines::{Interpreter, Line, Refusal, RunFault, interpret_lines};
 

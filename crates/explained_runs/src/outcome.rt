@@ -1,15 +1,15 @@
 //! What a call came to, by its reply and the table after it.
 
 ghost use Rattle.std.specs.Prelude.{◌≡◌, IfSome};
-ghost use Rattle.enclave_requests.specs.declared.request.Create.{Create};
+ghost use Rattle.measurement.specs.declared.request.Create.{Create};
 ghost use Rattle.explained_runs.specs.Outcomes.{below_zero, IsOutcome, OutgrownBy, OutgrownByCreate, OutgrownByDestroy, outcome_in};
 
 use crate::asked::{Asked, Deed};
-use enclave_requests::Create;
+use measurement::Create;
 use enclave_table::Table;
 use hart_sim::Reply;
 use sbi_decode::Call;
-use worlds::World;
+use sbi_decode::World;
 
 /// What a call came to.
 #[derive(Clone, Copy)]

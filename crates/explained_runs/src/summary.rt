@@ -14,7 +14,7 @@ use crate::summary_text::{Text, push_named, push_parts, title};
 use crate::tally::Tally;
 use arrayvec::ArrayVec;
 use byte_streams::{DeviceFault, Sink, write_whole};
-use explained_answers::push_number;
+use trace_answers::push_number;
 use hart_sim::Machine;
 use lint_texts::append;
 

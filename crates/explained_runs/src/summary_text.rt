@@ -6,7 +6,7 @@ ghost use Rattle.explained_runs.specs.Summaries.{event_name, function_name, kind
 
 use crate::groups::{Count, Subject};
 use arrayvec::ArrayVec;
-use explained_answers::push_number;
+use trace_answers::push_number;
 use lint_texts::append;
 
 /// A text that is being written.

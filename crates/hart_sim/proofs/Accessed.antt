@@ -10,9 +10,9 @@ use Rattle.pmp_match.specs.declared.cause.Cause.{Cause}
 use Rattle.pmp_match.specs.Judgement.{Judges}
 use Rattle.pmp_match.specs.Meaning.{Means}
 use Rattle.pmp_match.proofs.Judged.{judgement_law_proof}
-use Rattle.machine_memory.specs.declared.memory.Memory.{Memory}
-use Rattle.machine_replies.specs.declared.reply.Reply.{Reply}
-use Rattle.machine_replies.specs.declared.reply.Reply.TheVariants as replies
+use Rattle.hart_sim.specs.declared.memory.Memory.{Memory}
+use Rattle.hart_trace.specs.declared.reply.Reply.{Reply}
+use Rattle.hart_trace.specs.declared.reply.Reply.TheVariants as replies
 use Rattle.hart_sim.specs.Effects.{SameMemory, Stores, ReachesMemory}
 use Rattle.hart_sim.specs.Changes.{storing}
 use Rattle.hart_trace.specs.declared.event.Event.{Event}

@@ -10,12 +10,12 @@ use Rattle.pmp_match.specs.declared.cause.Cause.{Cause}
 use Rattle.enclave_table.specs.Enclaves.{Live}
 use Rattle.enclave_table.specs.Views.{enclave_view}
 use Rattle.enclave_table.specs.declared.enclave.Enclave.{Enclave}
-use Rattle.worlds.specs.Runners.{Runner, EnclaveOf, runner_of}
+use Rattle.sbi_decode.specs.Runners.{Runner, EnclaveOf, runner_of}
 use Rattle.hart_trace.specs.declared.event.Event.{Event}
 use Rattle.hart_trace.specs.declared.event.Event.TheVariants as events
-use Rattle.machine_replies.specs.declared.reply.Reply.{Reply}
-use Rattle.machine_replies.specs.declared.reply.Reply.TheVariants as replies
-use Rattle.machine_memory.specs.Memory.{bytes_at, number_of_bytes, in_range}
+use Rattle.hart_trace.specs.declared.reply.Reply.{Reply}
+use Rattle.hart_trace.specs.declared.reply.Reply.TheVariants as replies
+use Rattle.hart_sim.specs.Memory.{bytes_at, number_of_bytes, in_range}
 use Rattle.hart_sim.specs.States.{MachineState, core_of, with_core, view_of, view_on}
 use Rattle.enclave_table.proofs.ShortNames.{view_in}
 use Rattle.monitor_core.specs.Changes.{is_same, with_running}
@@ -24,7 +24,7 @@ use Rattle.hart_sim.specs.Changes.{with_x, storing}
 use Rattle.hart_sim.specs.Steps.{Step, verdict, Accesses, TakesEffect}
 use Rattle.hart_sim.specs.Privacy.{RunsOn, LooksSame, ChangesOwn, IsOwn, IsPrivate}
 use Rattle.hart_sim.proofs.Asked.{awoken}
-use Rattle.machine_memory.proofs.Bytes.{bytes_moved}
+use Rattle.hart_sim.proofs.Bytes.{bytes_moved}
 use Rattle.hart_sim.proofs.Verdicts.{IsAllowed, allowed_by, some_held, page_of_byte}
 
 -- the view of an enclave that runs

@@ -6,9 +6,9 @@ use Rattle.text_lines.specs.declared.line_loop.Refusal.TheVariants.{Memory, NotU
 use Rattle.text_lines.specs.LineLoop.{Comes}
 use Rattle.hart_trace.specs.declared.event.Event.{Event}
 use Rattle.hart_trace.specs.Events.{meaning_of}
-use Rattle.machine_replies.specs.declared.reply.Reply.{Reply}
-use Rattle.machine_replies.specs.declared.reply.Reply.TheVariants.{NoMemory}
-use Rattle.machine_replies.specs.Texts.{reply_text}
+use Rattle.hart_trace.specs.declared.reply.Reply.{Reply}
+use Rattle.hart_trace.specs.declared.reply.Reply.TheVariants.{NoMemory}
+use Rattle.hart_trace.specs.Texts.{reply_text}
 use Rattle.hart_sim.specs.declared.machine.Machine.{Machine}
 use Rattle.hart_sim.specs.After.{Happens}
 use Rattle.hart_sim.specs.Machines.{state_of}

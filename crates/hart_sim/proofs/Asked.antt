@@ -8,13 +8,13 @@ use Rattle.sbi_decode.specs.Calls.{call_of}
 use Rattle.sbi_decode.specs.declared.calls.Call.{Call}
 use Rattle.monitor_core.specs.States.{MonitorState}
 use Rattle.monitor_core.specs.Changes.{with_running}
-use Rattle.machine_replies.specs.declared.reply.Reply.{Reply}
+use Rattle.hart_trace.specs.declared.reply.Reply.{Reply}
 pub use Rattle.hart_sim.specs.States.{awoken}
 use Rattle.hart_sim.specs.States.{MachineState, core_of}
 use Rattle.hart_sim.specs.Changes.{calling}
 use Rattle.hart_sim.specs.Steps.{Accesses, TakesEffect}
-use Rattle.machine_memory.specs.Memory.{bytes_at, in_range}
-use Rattle.page_views.specs.declared.pages.PageRange.{PageRange}
+use Rattle.hart_sim.specs.Memory.{bytes_at, in_range}
+use Rattle.pmp_encoding.specs.declared.pages.PageRange.{PageRange}
 use Rattle.std.specs.Prelude.{unwrap_or, option_map}
 
 -- the call that words name there, and the monitor's state with them in its registers

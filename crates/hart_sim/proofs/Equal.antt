@@ -1,6 +1,6 @@
 -- Two states are one where each part of the one is that of the other.
 use Rattle.std.proofs.Common.{◌≡◌, ℕ}
-use Rattle.worlds.specs.Runners.{Runner}
+use Rattle.sbi_decode.specs.Runners.{Runner}
 use Rattle.hart_sim.specs.States.{MachineState}
 
 -- part by part

@@ -9,7 +9,7 @@ use Rattle.text_lines.specs.declared.fault.RunFault.TheVariants as faults
 use Rattle.text_lines.specs.Lines.{has_no_end, AreLines, IsShortLine, without_return}
 use Rattle.text_lines.specs.LineLoop.{Meaning, Does, none, silent, answer, ended, Stands, ComesTo, DoesAll, DoesLines, StopsAt, StopsTooLong, StopsReading, StopsWriting, StopsForMemory}
 use Rattle.hart_sim.specs.declared.machine.Machine.{Machine}
-use Rattle.machine_replies.specs.declared.reply.Reply.{Reply}
+use Rattle.hart_trace.specs.declared.reply.Reply.{Reply}
 use Rattle.hart_sim.specs.After.{After, Happens}
 use Rattle.hart_sim.specs.Reports.{DoesLine, RefusesLine, StarvesLine, BeginsWith, AreDone, GoesOn, one}
 use Rattle.hart_sim.proofs.Reported.{harts_of, is_reported, one_more, way}

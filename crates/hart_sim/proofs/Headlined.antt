@@ -4,7 +4,7 @@ use Rattle.platforms.specs.Platform.{PlatformLayout, IsLayout}
 use Rattle.enclave_table.specs.Tables.{IsTable}
 use Rattle.hart_trace.specs.declared.event.Event.{Event}
 use Rattle.hart_sim.specs.declared.machine.Machine.{Machine}
-use Rattle.machine_replies.specs.declared.reply.Reply.{Reply}
+use Rattle.hart_trace.specs.declared.reply.Reply.{Reply}
 use Rattle.hart_sim.specs.Machines.{state_of, KeepsBanksRight}
 use Rattle.hart_sim.specs.States.{MachineState, opening_state}
 use Rattle.hart_sim.specs.Steps.{Run, still, step}

@@ -3,7 +3,7 @@ use Rattle.std.proofs.Common.{◌≡◌, ◌∙◌, ℕ, ap}
 use Rattle.monitor_core.proofs.Layouts.{call_keeps_layout, interrupt_keeps_layout}
 use Rattle.hart_trace.specs.declared.event.Event.{Event}
 use Rattle.hart_trace.specs.declared.event.Event.TheVariants as events
-use Rattle.machine_replies.specs.declared.reply.Reply.{Reply}
+use Rattle.hart_trace.specs.declared.reply.Reply.{Reply}
 use Rattle.hart_sim.specs.States.{MachineState, core_of, view_on}
 use Rattle.hart_sim.specs.Steps.{Step, verdict}
 use Rattle.hart_sim.proofs.Asked.{awoken, named, asked, lent, core_access}

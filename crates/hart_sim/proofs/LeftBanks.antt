@@ -5,7 +5,7 @@ use Rattle.pmp_encoding.specs.declared.bank.Bank.{Bank}
 use Rattle.platforms.specs.Platform.{PlatformLayout}
 use Rattle.enclave_table.specs.Views.{current_view}
 use Rattle.hart_trace.specs.declared.event.Event.{Event}
-use Rattle.machine_replies.specs.declared.reply.Reply.{Reply}
+use Rattle.hart_trace.specs.declared.reply.Reply.{Reply}
 use Rattle.monitor_core.proofs.Cases.{both}
 use Rattle.hart_sim.specs.declared.machine.Machine.{Machine}
 use Rattle.hart_sim.specs.After.{After, AreElsewhere, IsBooted, booted, happened, Happens}

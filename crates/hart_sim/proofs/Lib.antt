@@ -22,3 +22,8 @@ mod Promises
 mod Headlined
 mod GoneOn
 mod AnsweredLines
+pub mod Bytes
+mod Groups
+mod Lowest
+mod Stored
+mod Written

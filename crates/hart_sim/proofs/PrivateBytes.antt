@@ -11,25 +11,25 @@ use Rattle.pmp_match.specs.Kinds.{holds}
 use Rattle.permission_map.specs.Runs.{in_range}
 use Rattle.enclave_table.proofs.Places.{live_place}
 use Rattle.enclave_table.specs.Enclaves.{EnclaveTable, Live, enclave_at}
-use Rattle.enclave_requests.specs.Requests.{is_private, is_shared, is_part}
+use Rattle.measurement.specs.Requests.{is_private, is_shared, is_part}
 use Rattle.enclave_table.specs.Views.{host_view, enclave_view}
 use Rattle.enclave_table.proofs.ShortNames.{any_private, has_private}
 use Rattle.platforms.specs.Platform.{platform_perm}
 use Rattle.enclave_table.specs.Tables.{IsTable}
-use Rattle.enclave_requests.specs.declared.request.Create.{Create}
+use Rattle.measurement.specs.declared.request.Create.{Create}
 use Rattle.enclave_table.specs.declared.enclave.Enclave.{Enclave}
-use Rattle.worlds.specs.declared.world.World.{World}
-use Rattle.worlds.specs.declared.world.World.TheVariants.{Host, Enclave as InEnclave}
+use Rattle.sbi_decode.specs.declared.world.World.{World}
+use Rattle.sbi_decode.specs.declared.world.World.TheVariants.{Host, Enclave as InEnclave}
 use Rattle.hart_trace.specs.declared.event.Event.{Event}
 use Rattle.hart_trace.specs.declared.event.Event.TheVariants as events
-use Rattle.machine_replies.specs.declared.reply.Reply.{Reply}
+use Rattle.hart_trace.specs.declared.reply.Reply.{Reply}
 use Rattle.hart_sim.specs.States.{MachineState, with_core, view_of, view_on}
 use Rattle.enclave_table.proofs.ShortNames.{view_in}
 use Rattle.hart_sim.specs.Changes.{zeroing}
 use Rattle.hart_sim.specs.Steps.{Step, Accesses, TakesEffect, verdict}
 use Rattle.monitor_core.specs.States.{MonitorState}
 use Rattle.monitor_core.proofs.Zeroed.{Clears, cleared}
-use Rattle.page_views.specs.declared.pages.PageRange.{PageRange}
+use Rattle.pmp_encoding.specs.declared.pages.PageRange.{PageRange}
 use Rattle.hart_sim.proofs.Asked.{awoken, named, asked, lent, is_zeroed}
 use Rattle.hart_sim.specs.Privacy.{StoresTo, KeepsPrivate}
 use Rattle.hart_sim.proofs.Verdicts.{allowed_by, some_held, page_of_byte}

@@ -10,14 +10,14 @@ use Rattle.pmp_match.specs.Causes.{access_fault}
 use Rattle.pmp_match.specs.Kinds.{holds}
 use Rattle.enclave_table.specs.Enclaves.{Live, enclave_at}
 use Rattle.platforms.specs.Ranges.{has_page}
-use Rattle.enclave_requests.specs.Requests.{is_private}
+use Rattle.measurement.specs.Requests.{is_private}
 use Rattle.enclave_table.specs.Tables.{IsTable}
 use Rattle.enclave_table.specs.declared.enclave.Enclave.{Enclave}
-use Rattle.worlds.specs.declared.world.World.TheVariants.{Enclave as InEnclave}
+use Rattle.sbi_decode.specs.declared.world.World.TheVariants.{Enclave as InEnclave}
 use Rattle.hart_trace.specs.declared.event.Event.{Event}
 use Rattle.hart_trace.specs.declared.event.Event.TheVariants as events
-use Rattle.machine_replies.specs.declared.reply.Reply.{Reply}
-use Rattle.machine_replies.specs.declared.reply.Reply.TheVariants as replies
+use Rattle.hart_trace.specs.declared.reply.Reply.{Reply}
+use Rattle.hart_trace.specs.declared.reply.Reply.TheVariants as replies
 use Rattle.hart_sim.specs.States.{MachineState, core_of, view_on}
 use Rattle.hart_sim.specs.Steps.{Step, Accesses, TakesEffect, verdict}
 use Rattle.monitor_core.proofs.Zeroed.{not_lost, lost_call, lost_irq}

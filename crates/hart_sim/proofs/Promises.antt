@@ -1,7 +1,7 @@
 -- What holds of each step from a table that is sound.
 use Rattle.std.proofs.Common.{ℕ, subst}
 use Rattle.hart_trace.specs.declared.event.Event.{Event}
-use Rattle.machine_replies.specs.declared.reply.Reply.{Reply}
+use Rattle.hart_trace.specs.declared.reply.Reply.{Reply}
 use Rattle.hart_sim.specs.States.{MachineState}
 use Rattle.hart_sim.specs.Steps.{Step}
 use Rattle.hart_sim.specs.Promises.{AnswersByView, Promises}

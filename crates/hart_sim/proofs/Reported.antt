@@ -7,11 +7,11 @@ use Rattle.text_lines.specs.Lines.{without_return}
 use Rattle.text_lines.specs.LineLoop.{Does}
 use Rattle.text_lines.specs.LineLoop as loop
 use Rattle.hart_sim.specs.declared.machine.Machine.{Machine}
-use Rattle.machine_replies.specs.declared.reply.Reply.{Reply}
-use Rattle.machine_replies.specs.declared.reply.Reply.TheVariants.{NoMemory}
+use Rattle.hart_trace.specs.declared.reply.Reply.{Reply}
+use Rattle.hart_trace.specs.declared.reply.Reply.TheVariants.{NoMemory}
 use Rattle.hart_sim.specs.Machines.{state_of, bank_on}
 use Rattle.hart_sim.specs.Steps.{Run, still, step}
-use Rattle.machine_replies.specs.Texts.{reply_text, lines_from, report_text}
+use Rattle.hart_trace.specs.Texts.{reply_text, lines_from, report_text}
 use Rattle.platforms.specs.Platform.{PlatformLayout}
 use Rattle.hart_sim.specs.After.{After, AreElsewhere, happened, Happens}
 use Rattle.hart_sim.specs.Reports.{DoesLine, none, blank, one, AreAnswered, LastOwn, Report, IsReported}

@@ -1,9 +1,9 @@
 -- Registers that are put on a hart: put twice, the last stay. And a call of those that were put.
 use Rattle.std.proofs.Common.{◌≡◌, ℕ, Bool, true, false, List, Option, if◌then◌else◌, refl, subst}
-use Rattle.page_views.specs.declared.pages.PageRange.{PageRange}
+use Rattle.pmp_encoding.specs.declared.pages.PageRange.{PageRange}
 use Rattle.sbi_decode.specs.Calls.{call_of}
 use Rattle.sbi_decode.specs.Registers.{RegisterFile}
-use Rattle.worlds.specs.Runners.{runner_of}
+use Rattle.sbi_decode.specs.Runners.{runner_of}
 use Rattle.monitor_core.specs.declared.answer.Answer.{Answer}
 use Rattle.monitor_core.specs.Changes.{is_same, past_call, with_running}
 use Rattle.monitor_core.specs.Frames.{KeepsOthers, LoadsAnew}

@@ -5,7 +5,7 @@ use Rattle.enclave_table.specs.Tables.{IsTable}
 use Rattle.monitor_core.proofs.SoundTables.{call_keeps_table, interrupt_keeps_table}
 use Rattle.hart_trace.specs.declared.event.Event.{Event}
 use Rattle.hart_trace.specs.declared.event.Event.TheVariants as events
-use Rattle.machine_replies.specs.declared.reply.Reply.{Reply}
+use Rattle.hart_trace.specs.declared.reply.Reply.{Reply}
 use Rattle.hart_sim.specs.States.{MachineState, core_of, view_on}
 use Rattle.hart_sim.specs.Steps.{Step, Run, still, step, verdict}
 use Rattle.hart_sim.proofs.Asked.{awoken, named, asked, lent, core_access}

@@ -5,7 +5,7 @@ use Rattle.monitor_core.specs.Switches.{KeepsRegisters}
 use Rattle.monitor_core.proofs.Switched.{call_keeps_registers, interrupt_keeps_registers, marking_keeps_registers, putting_keeps_registers, put_before}
 use Rattle.hart_trace.specs.declared.event.Event.{Event}
 use Rattle.hart_trace.specs.declared.event.Event.TheVariants as events
-use Rattle.machine_replies.specs.declared.reply.Reply.{Reply}
+use Rattle.hart_trace.specs.declared.reply.Reply.{Reply}
 use Rattle.hart_sim.specs.Changes.{calling}
 use Rattle.hart_sim.specs.Promises.{LeavesRegisters}
 use Rattle.hart_sim.specs.States.{MachineState, awoken, core_of, view_on}

@@ -9,7 +9,7 @@ use Rattle.enclave_table.specs.Refusals.{refusal_number}
 use Rattle.enclave_table.specs.Tables.{IsTable}
 use Rattle.enclave_table.specs.declared.refusal.Refusal.{Refusal}
 use Rattle.enclave_table.specs.declared.refusal.Refusal.TheVariants.{NoEntries, NoMemory}
-use Rattle.worlds.specs.declared.world.World.{World}
+use Rattle.sbi_decode.specs.declared.world.World.{World}
 use Rattle.sbi_decode.specs.declared.calls.Call.{Call}
 use Rattle.monitor_core.specs.Answers.{below_zero, world_number}
 use Rattle.monitor_core.specs.Wants.{IsRefusedByNeed}
@@ -17,14 +17,14 @@ use Rattle.monitor_core.specs.declared.answer.Answer.{Answer}
 use Rattle.monitor_core.proofs.Wanted as core
 use Rattle.hart_trace.specs.declared.event.Event.{Event}
 use Rattle.hart_trace.specs.declared.event.Event.TheVariants as events
-use Rattle.machine_replies.specs.declared.reply.Reply.{Reply}
-use Rattle.machine_replies.specs.declared.reply.Reply.TheVariants as replies
+use Rattle.hart_trace.specs.declared.reply.Reply.{Reply}
+use Rattle.hart_trace.specs.declared.reply.Reply.TheVariants as replies
 use Rattle.hart_sim.specs.Replies.{RepliesWith}
 use Rattle.hart_sim.specs.States.{MachineState, core_of, view_on}
 use Rattle.hart_sim.specs.Steps.{Step, Accesses, TakesEffect, verdict}
 use Rattle.hart_sim.specs.Wants.{IsAnsweredBy, CreatesByNeed, DestroysByNeed, RefusesByNeed}
 use Rattle.hart_sim.proofs.Asked.{awoken, named, asked, lent}
-use Rattle.machine_memory.specs.Memory.{bytes_at}
+use Rattle.hart_sim.specs.Memory.{bytes_at}
 
 -- the answer has the status of a refusal
 abbrev Says : Answer → Refusal → Type 0

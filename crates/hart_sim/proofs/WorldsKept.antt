@@ -4,7 +4,7 @@ use Rattle.monitor_core.specs.States.{MonitorState, opening_monitor}
 use Rattle.monitor_core.proofs.WorldsKept.{call_keeps_worlds, interrupt_keeps_worlds, waking_keeps_worlds, putting_keeps_worlds, opened}
 use Rattle.hart_trace.specs.declared.event.Event.{Event}
 use Rattle.hart_trace.specs.declared.event.Event.TheVariants as events
-use Rattle.machine_replies.specs.declared.reply.Reply.{Reply}
+use Rattle.hart_trace.specs.declared.reply.Reply.{Reply}
 use Rattle.hart_sim.specs.States.{MachineState, core_of, view_on, opening_state}
 use Rattle.hart_sim.specs.Steps.{Step, Run, still, step, verdict}
 use Rattle.hart_sim.specs.Worlds.{AreWorlds, RunsKeepWorlds}

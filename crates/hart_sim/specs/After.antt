@@ -3,7 +3,7 @@ use Rattle.std.specs.Prelude.{◌≡◌, ◌≢◌, ℕ, ◌<◌, List, [], ◌�
 use Rattle.platforms.specs.Platform.{PlatformLayout, IsLayout}
 use Rattle.hart_trace.specs.declared.event.Event.{Event}
 use Rattle.hart_sim.specs.declared.machine.Machine.{Machine}
-use Rattle.machine_replies.specs.declared.reply.Reply.{Reply}
+use Rattle.hart_trace.specs.declared.reply.Reply.{Reply}
 use Rattle.hart_sim.specs.Machines.{state_of, bank_on, IsJudged, KeepsBanksRight}
 use Rattle.hart_sim.specs.States.{opening_state}
 use Rattle.hart_sim.specs.Steps.{IsEvent, Step}

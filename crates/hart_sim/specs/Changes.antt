@@ -1,12 +1,12 @@
 -- Changes of a state, and what a call puts into registers.
 use Rattle.std.specs.Prelude.{ℕ, ◌/◌, true, false, ◌==◌, if◌then◌else◌, List, [], ◌∷◌, Option, unwrap_or, option_map}
-use Rattle.page_views.specs.declared.pages.PageRange.{PageRange}
+use Rattle.pmp_encoding.specs.declared.pages.PageRange.{PageRange}
 pub use Rattle.sbi_decode.specs.Registers.{with_x}
 use Rattle.sbi_decode.specs.Registers.{RegisterFile}
 use Rattle.monitor_core.specs.Changes.{past_call}
-use Rattle.machine_memory.specs.Memory.{in_range, stored}
+use Rattle.hart_sim.specs.Memory.{in_range, stored}
 use Rattle.hart_sim.specs.States.{MachineState}
-use Rattle.worlds.specs.Runners.{runner_of}
+use Rattle.sbi_decode.specs.Runners.{runner_of}
 
 -- words put into registers, one by one
 abbrev pub with_words : RegisterFile → List ℕ → List ℕ → RegisterFile

@@ -5,7 +5,7 @@ use Rattle.platforms.specs.Platform.{PlatformLayout}
 use Rattle.enclave_table.specs.Tables.{IsTable}
 use Rattle.hart_trace.specs.declared.event.Event.{Event}
 use Rattle.hart_sim.specs.declared.machine.Machine.{Machine}
-use Rattle.machine_replies.specs.declared.reply.Reply.{Reply}
+use Rattle.hart_trace.specs.declared.reply.Reply.{Reply}
 use Rattle.hart_sim.specs.Machines.{state_of, bank_on}
 use Rattle.hart_sim.specs.Banks.{LoadsFewest}
 use Rattle.hart_sim.specs.States.{opening_state}

@@ -10,8 +10,8 @@ use Rattle.monitor_core.specs.Monitors.{kept_by}
 use Rattle.hart_trace.specs.declared.event.Event.{Event}
 use Rattle.hart_trace.specs.declared.event.Event.TheVariants as events
 use Rattle.hart_sim.specs.declared.machine.Machine.{Machine}
-use Rattle.machine_replies.specs.declared.reply.Reply.{Reply}
-use Rattle.machine_replies.specs.declared.reply.Reply.TheVariants as replies
+use Rattle.hart_trace.specs.declared.reply.Reply.{Reply}
+use Rattle.hart_trace.specs.declared.reply.Reply.TheVariants as replies
 use Rattle.hart_sim.specs.Banks.{AreBanksRight, MeetsList}
 use Rattle.hart_sim.specs.Parts.{state_in, bank_in}
 use Rattle.hart_sim.specs.States.{MachineState, awoken}

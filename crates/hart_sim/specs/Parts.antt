@@ -5,9 +5,9 @@ use Rattle.pmp_encoding.specs.declared.limit.Limit.{Limit}
 use Rattle.pmp_encoding.specs.Limits.{limit_number}
 use Rattle.monitor_core.specs.Monitors.{state_by}
 use Rattle.monitor_core.specs.States.{MonitorState}
-use Rattle.machine_memory.specs.declared.memory.Memory.{Memory}
+use Rattle.hart_sim.specs.declared.memory.Memory.{Memory}
 use Rattle.hart_sim.specs.declared.parts.Parts.{Parts}
-use Rattle.machine_memory.specs.Memory.{byte_at, is_written}
+use Rattle.hart_sim.specs.Memory.{byte_at, is_written}
 use Rattle.hart_sim.specs.States.{MachineState}
 
 -- the state that the monitor and memory show

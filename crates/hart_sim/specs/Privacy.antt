@@ -7,16 +7,16 @@ use Rattle.pmp_match.specs.declared.access.Mode.TheVariants.{Machine}
 use Rattle.pmp_match.specs.declared.cause.Cause.{Cause}
 use Rattle.platforms.specs.Ranges.{has_page}
 use Rattle.enclave_table.specs.Enclaves.{Live, enclave_at}
-use Rattle.enclave_requests.specs.Requests.{is_private}
+use Rattle.measurement.specs.Requests.{is_private}
 use Rattle.enclave_table.specs.Views.{enclave_view, current_view}
 use Rattle.enclave_table.specs.declared.enclave.Enclave.{Enclave}
 use Rattle.enclave_table.specs.declared.enclave.Stage.TheVariants.{Running}
-use Rattle.worlds.specs.declared.world.World.TheVariants.{Enclave as InEnclave}
-use Rattle.worlds.specs.Runners.{Runner, EnclaveOf}
+use Rattle.sbi_decode.specs.declared.world.World.TheVariants.{Enclave as InEnclave}
+use Rattle.sbi_decode.specs.Runners.{Runner, EnclaveOf}
 use Rattle.hart_trace.specs.declared.event.Event.{Event}
 use Rattle.hart_trace.specs.declared.event.Event.TheVariants as events
-use Rattle.machine_replies.specs.declared.reply.Reply.{Reply}
-use Rattle.machine_replies.specs.declared.reply.Reply.TheVariants as replies
+use Rattle.hart_trace.specs.declared.reply.Reply.{Reply}
+use Rattle.hart_trace.specs.declared.reply.Reply.TheVariants as replies
 use Rattle.hart_sim.specs.States.{MachineState}
 use Rattle.hart_sim.specs.Steps.{Step, verdict}
 

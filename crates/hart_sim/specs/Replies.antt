@@ -2,7 +2,7 @@
 use Rattle.std.specs.Prelude.{◌≡◌, ℕ}
 use Rattle.pmp_match.specs.Meaning.{Needs}
 use Rattle.monitor_core.specs.Answers.{world_number}
-use Rattle.machine_replies.specs.declared.reply.Reply.{Reply}
+use Rattle.hart_trace.specs.declared.reply.Reply.{Reply}
 use Rattle.hart_sim.specs.States.{MachineState}
 use Rattle.enclave_table.specs.Views.{current_view}
 

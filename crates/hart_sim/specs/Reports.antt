@@ -11,13 +11,13 @@ use Rattle.text_lines.specs.declared.fault.RunFault.TheVariants as faults
 use Rattle.text_lines.specs.Lines.{AreLines, IsShortLine, without_return}
 use Rattle.text_lines.specs.LineLoop.{Does, ended}
 use Rattle.hart_sim.specs.declared.machine.Machine.{Machine}
-use Rattle.machine_replies.specs.declared.reply.Reply.{Reply}
-use Rattle.machine_replies.specs.declared.reply.Reply.TheVariants.{NoMemory}
+use Rattle.hart_trace.specs.declared.reply.Reply.{Reply}
+use Rattle.hart_trace.specs.declared.reply.Reply.TheVariants.{NoMemory}
 use Rattle.hart_sim.specs.Machines.{state_of, bank_on}
 use Rattle.hart_sim.specs.After.{After, AreElsewhere, Happens}
 use Rattle.hart_sim.specs.Banks.{LoadsFewest}
 use Rattle.hart_sim.specs.Steps.{Run}
-use Rattle.machine_replies.specs.Texts.{reply_text, report_text}
+use Rattle.hart_trace.specs.Texts.{reply_text, report_text}
 use Rattle.enclave_table.specs.Views.{current_view}
 
 -- what a line, which may name each hart of the platform, does after so many replies: nothing where it has no words; else its event happens, and the reply is told

@@ -5,10 +5,10 @@ use Rattle.platforms.specs.Platform.{PlatformLayout}
 use Rattle.enclave_table.specs.Enclaves.{EnclaveTable}
 use Rattle.enclave_table.specs.Boot.{opening_table}
 pub use Rattle.enclave_table.specs.Views.{current_view as view_of}
-use Rattle.worlds.specs.declared.world.World.{World}
-use Rattle.worlds.specs.declared.world.World.TheVariants.{Host}
+use Rattle.sbi_decode.specs.declared.world.World.{World}
+use Rattle.sbi_decode.specs.declared.world.World.TheVariants.{Host}
 use Rattle.sbi_decode.specs.Registers.{RegisterFile, zeros}
-use Rattle.worlds.specs.Runners.{Runner}
+use Rattle.sbi_decode.specs.Runners.{Runner}
 use Rattle.monitor_core.specs.States.{MonitorState}
 use Rattle.monitor_core.specs.Changes.{without_mark}
 

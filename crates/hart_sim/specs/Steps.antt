@@ -10,7 +10,7 @@ use Rattle.pmp_match.specs.declared.cause.Cause.{Cause}
 use Rattle.pmp_match.specs.Causes.{misaligned, access_fault}
 use Rattle.pmp_match.specs.Judgement.{Judges}
 use Rattle.pmp_match.specs.Kinds.{holds}
-use Rattle.page_views.specs.declared.pages.PageRange.{PageRange}
+use Rattle.pmp_encoding.specs.declared.pages.PageRange.{PageRange}
 use Rattle.sbi_decode.specs.Calls.{call_of}
 use Rattle.monitor_core.specs.declared.answer.Answer.{Answer}
 use Rattle.monitor_core.specs.States.{MonitorState}
@@ -18,14 +18,14 @@ use Rattle.monitor_core.specs.Changes.{with_running}
 use Rattle.monitor_core.specs.Steps.{DoesCall, Interrupts}
 use Rattle.hart_trace.specs.declared.event.Event.{Event}
 use Rattle.hart_trace.specs.declared.event.Event.TheVariants as events
-use Rattle.machine_replies.specs.declared.reply.Reply.{Reply}
-use Rattle.machine_replies.specs.declared.reply.Reply.TheVariants as replies
-use Rattle.machine_memory.specs.Memory.{bytes_at, number_of_bytes}
+use Rattle.hart_trace.specs.declared.reply.Reply.{Reply}
+use Rattle.hart_trace.specs.declared.reply.Reply.TheVariants as replies
+use Rattle.hart_sim.specs.Memory.{bytes_at, number_of_bytes}
 use Rattle.hart_sim.specs.States.{MachineState, awoken, core_of, with_core}
 use Rattle.hart_sim.specs.Changes.{with_x, calling, storing, zeroing}
 use Rattle.hart_sim.specs.Replies.{RepliesWith}
 use Rattle.enclave_table.specs.Views.{current_view}
-use Rattle.worlds.specs.Runners.{runner_of}
+use Rattle.sbi_decode.specs.Runners.{runner_of}
 
 -- what a view says of an access: misaligned first, then outside the space of 2 ^ 56 bytes, then what the page's permission holds
 abbrev pub verdict : (ℕ → Perm) → Access → Result (Unit {0}) Cause

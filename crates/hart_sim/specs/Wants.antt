@@ -1,6 +1,6 @@
 -- When a creation or a destruction is refused for want of entries.
 use Rattle.std.specs.Prelude.{◌≡◌, ◌⊎◌, ℕ, None, Some, ◌*◌}
-use Rattle.enclave_requests.specs.Requests.{parts_of}
+use Rattle.measurement.specs.Requests.{parts_of}
 use Rattle.enclave_table.specs.Enclaves.{with_enclave}
 use Rattle.enclave_table.specs.Views.{host_view}
 use Rattle.platforms.specs.CheckLists.{AllPass}
@@ -8,7 +8,7 @@ use Rattle.enclave_table.specs.Refusals.{refusal_number}
 use Rattle.enclave_table.specs.Checks.{create_checks, host_checks, MayDestroy}
 use Rattle.enclave_table.specs.Fewest.{NeedsMore}
 use Rattle.enclave_table.specs.Create.{OutgrowsByCreate}
-use Rattle.enclave_requests.specs.declared.request.Create.{Create}
+use Rattle.measurement.specs.declared.request.Create.{Create}
 use Rattle.enclave_table.specs.declared.refusal.Refusal.TheVariants.{NoEntries, NoMemory}
 use Rattle.enclave_table.specs.declared.refusal.Refusal.{Refusal}
 use Rattle.sbi_decode.specs.Calls.{call_of}
@@ -18,12 +18,12 @@ use Rattle.sbi_decode.specs.declared.calls.Call.TheVariants as calls
 use Rattle.monitor_core.specs.Wants.{IsRefusedByNeed}
 use Rattle.hart_trace.specs.declared.event.Event.{Event}
 use Rattle.hart_trace.specs.declared.event.Event.TheVariants as events
-use Rattle.machine_replies.specs.declared.reply.Reply.{Reply}
-use Rattle.machine_replies.specs.declared.reply.Reply.TheVariants as replies
+use Rattle.hart_trace.specs.declared.reply.Reply.{Reply}
+use Rattle.hart_trace.specs.declared.reply.Reply.TheVariants as replies
 use Rattle.hart_sim.specs.States.{MachineState, core_of}
 use Rattle.hart_sim.specs.Changes.{calling}
 use Rattle.hart_sim.specs.Steps.{Serves}
-use Rattle.machine_memory.specs.Memory.{bytes_at}
+use Rattle.hart_sim.specs.Memory.{bytes_at}
 
 -- a call was answered with this refusal
 abbrev pub IsAnsweredBy : Reply → Refusal → Type 0

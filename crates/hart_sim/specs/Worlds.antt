@@ -3,7 +3,7 @@ use Rattle.std.specs.Prelude.{ℕ, List}
 use Rattle.platforms.specs.Platform.{PlatformLayout}
 use Rattle.monitor_core.specs.Worlds.{ArePlaced}
 use Rattle.hart_trace.specs.declared.event.Event.{Event}
-use Rattle.machine_replies.specs.declared.reply.Reply.{Reply}
+use Rattle.hart_trace.specs.declared.reply.Reply.{Reply}
 use Rattle.hart_sim.specs.States.{MachineState, core_of, opening_state}
 use Rattle.hart_sim.specs.Steps.{Run}
 

@@ -4,8 +4,8 @@ ghost use Rattle.std.specs.Prelude.{◌≡◌, ◌%◌};
 ghost use Rattle.hart_sim.specs.Effects.{ReachesMemory};
 
 use crate::parts::Parts;
-use machine_memory::Memory;
-use machine_replies::Reply;
+use crate::Memory;
+use hart_trace::Reply;
 use pmp_match::{Access, Kind, judge};
 use std::alloc::Global;
 

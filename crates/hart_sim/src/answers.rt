@@ -1,7 +1,7 @@
 //! The answers of calls and interrupts: the world after them, and how many entries its view needs.
 
 use crate::parts::Parts;
-use machine_replies::Reply;
+use hart_trace::Reply;
 use monitor_core::{Answer, World};
 
 impl Parts {
@@ -9,7 +9,7 @@ impl Parts {
     ghost use Rattle.monitor_core.specs.Answers.{world_number};
     ghost use Rattle.hart_sim.specs.Parts.{state_in};
     ghost use Rattle.hart_sim.specs.Replies.{RepliesWith};
-    ghost use Rattle.machine_replies.specs.declared.reply.Reply.TheVariants as replies;
+    ghost use Rattle.hart_trace.specs.declared.reply.Reply.TheVariants as replies;
 
     /// The number of the world on a hart.
     fn world_number(&self, hart: u8) -> u64

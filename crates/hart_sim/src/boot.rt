@@ -2,7 +2,7 @@
 
 use crate::hart_bank::HartBank;
 use crate::parts::Parts;
-use machine_memory::Memory;
+use crate::Memory;
 use monitor_core::{BootFault, Monitor, Platform};
 use pmp_encoding::Bank;
 use std::alloc::{AllocError, Global};

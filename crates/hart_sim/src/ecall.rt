@@ -3,7 +3,7 @@
 use crate::call_registers::put_call;
 use crate::parts::Parts;
 use arrayvec::ArrayVec;
-use machine_replies::Reply;
+use hart_trace::Reply;
 use monitor_core::{Answer, PageRange};
 
 impl Parts {
@@ -12,7 +12,7 @@ impl Parts {
     ghost use Rattle.monitor_core.specs.Changes.{with_running};
     ghost use Rattle.monitor_core.specs.States.{MonitorState};
     ghost use Rattle.monitor_core.specs.Steps.{DoesCall};
-    ghost use Rattle.page_views.specs.declared.pages.PageRange.{PageRange};
+    ghost use Rattle.pmp_encoding.specs.declared.pages.PageRange.{PageRange};
     ghost use Rattle.hart_trace.specs.declared.event.Event.{Event};
     ghost use Rattle.hart_sim.specs.Banks.{AreBanksRight};
     ghost use Rattle.hart_sim.specs.Changes.{calling, zeroing};
@@ -20,7 +20,7 @@ impl Parts {
     ghost use Rattle.hart_sim.specs.Parts.{state_in, bank_in};
     ghost use Rattle.hart_sim.specs.States.{core_of, with_core};
     ghost use Rattle.hart_sim.specs.Steps.{Serves, DoesEvent, Step};
-    ghost use Rattle.machine_memory.specs.Memory.{bytes_at};
+    ghost use Rattle.hart_sim.specs.Memory.{bytes_at};
 
     /// Makes every byte of some pages zero, where there are any.
     fn zero(&mut self, pages: Option<PageRange>)

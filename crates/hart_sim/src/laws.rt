@@ -3,7 +3,7 @@
 ghost use Rattle.std.specs.Prelude.{◌≡◌, ℕ, List};
 ghost use Rattle.enclave_table.specs.Tables.{IsTable};
 ghost use Rattle.hart_trace.specs.declared.event.Event.{Event};
-ghost use Rattle.machine_replies.specs.declared.reply.Reply.{Reply};
+ghost use Rattle.hart_trace.specs.declared.reply.Reply.{Reply};
 ghost use Rattle.platforms.specs.Platform.{PlatformLayout};
 ghost use Rattle.hart_sim.specs.declared.machine.Machine.{Machine};
 ghost use Rattle.hart_sim.specs.After.{After};

@@ -21,6 +21,18 @@
 //! ```
 //!
 //! The streams and the events of traces are handed on from the crates below.
+//!
+//! The memory of a modelled machine: a byte at each address of the physical address space, kept by pages.
+//!
+//! A page that was not written has no bytes of its own and reads as zero. A load and a store stay within one page, as an
+//! aligned access does. Only a store to a page that was not written takes memory.
+//!
+//! ```text
+//! let mut memory = Memory::new(rt.alloc());
+//! memory.store(rt.alloc(), 0x8000_0000, 8, 42)?;
+//! assert!(memory.load(0x8000_0000, 8) == 42);
+//! memory.forget(0x80000, 1);
+//! ```
 #![tactic(auto)]
 
 mod access;
@@ -32,6 +44,10 @@ mod ecall;
 mod hart_bank;
 mod laws;
 mod machine;
+mod memory;
+mod page_bytes;
+mod page_group;
+mod page_span;
 mod parts;
 mod step;
 mod trace_run;
@@ -43,6 +59,7 @@ pub use laws::{
     report_law, step_law, worlds_law,
 };
 pub use machine::Machine;
-pub use machine_replies::{Reply, push_reply};
+pub use hart_trace::{Reply, push_reply};
 pub use text_lines::{NotUnderstood, RunFault};
 pub use trace_run::run;
+pub use memory::Memory;

@@ -6,7 +6,7 @@ ghost use Rattle.hart_sim.specs.Parts.{AreBanks};
 use crate::parts::Parts;
 use arrayvec::ArrayVec;
 use hart_trace::Event;
-use machine_replies::Reply;
+use hart_trace::Reply;
 use monitor_core::{BootFault, Platform, Table, World};
 use pmp_encoding::Bank;
 use sbi_decode::Registers;
@@ -31,7 +31,7 @@ impl Machine {
     ghost use Rattle.platforms.specs.Platform.{PlatformLayout, IsLayout};
     ghost use Rattle.enclave_table.specs.Views.{host_view};
     ghost use Rattle.hart_trace.specs.declared.event.Event.{Event};
-    ghost use Rattle.machine_replies.specs.declared.reply.Reply.{Reply};
+    ghost use Rattle.hart_trace.specs.declared.reply.Reply.{Reply};
     ghost use Rattle.hart_sim.specs.Machines.{state_of, kept_of, bank_on, DoesByList, IsJudged, KeepsBanksRight};
     ghost use Rattle.hart_sim.specs.Banks.{MeetsList};
     ghost use Rattle.hart_sim.specs.Privacy.{KeepsPrivate, DeniesOthers, ZeroesDestroyed};
@@ -40,7 +40,7 @@ impl Machine {
     ghost use Rattle.hart_sim.specs.Wants.{RefusesByNeed};
     ghost use Rattle.hart_sim.specs.States.{opening_state};
     ghost use Rattle.hart_sim.specs.Steps.{IsEvent, Step};
-    ghost use Rattle.worlds.specs.Runners.{IsWorld, runner_of};
+    ghost use Rattle.sbi_decode.specs.Runners.{IsWorld, runner_of};
 
     /// The PMP registers that are loaded on a hart.
     pub fn bank(&self, hart: u8) -> &Bank

@@ -1,7 +1,7 @@
 //! The parts of the machine: the monitor, memory, and the banks that are loaded.
 
 use crate::hart_bank::HartBank;
-use machine_memory::Memory;
+use crate::Memory;
 use monitor_core::Monitor;
 use std::alloc::Global;
 

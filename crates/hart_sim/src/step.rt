@@ -2,7 +2,7 @@
 
 use crate::parts::Parts;
 use hart_trace::Event;
-use machine_replies::Reply;
+use hart_trace::Reply;
 
 impl Parts {
     ghost use Rattle.std.specs.Prelude.{◌≡◌, ℕ, ◌<◌, ◌↔◌, List, false, Err, Some};

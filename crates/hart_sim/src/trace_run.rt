@@ -4,7 +4,7 @@ ghost use Rattle.std.specs.Prelude.{◌≡◌, ℕ, ◌-◌, ◌^◌, ◌<◌, L
 ghost use Rattle.text_lines.specs.LineLoop.{DoesAll, StopsAt, StopsTooLong, StopsReading, StopsWriting, StopsForMemory, CountsReads, CountsWrites};
 ghost use Rattle.platforms.specs.Platform.{PlatformLayout};
 ghost use Rattle.hart_trace.specs.declared.event.Event.{Event};
-ghost use Rattle.machine_replies.specs.declared.reply.Reply.{Reply};
+ghost use Rattle.hart_trace.specs.declared.reply.Reply.{Reply};
 ghost use Rattle.hart_sim.specs.Machines.{KeepsBanksRight};
 ghost use Rattle.hart_sim.specs.After.{After};
 ghost use Rattle.hart_sim.specs.Reports.{DoesLine, RefusesLine, StarvesLine, GoesOn};
@@ -13,16 +13,16 @@ use crate::machine::Machine;
 use arrayvec::ArrayVec;
 use byte_streams::{Sink, Source};
 use hart_trace::{Event, access_ahead, call_ahead, interrupt_ahead, parse_line, setting_ahead};
-use machine_replies::push_reply;
+use hart_trace::push_reply;
 use text_lines::{Interpreter, Line, NotUnderstood, Refusal, RunFault, interpret_lines};
 
 impl Machine {
     ghost use Rattle.std.specs.Prelude.{◌≡◌, ◌≢◌, ◌<◌, [], ◌++◌, true, IfOk, IfErr, IfSome, ℕ, decimal};
     ghost use Rattle.std.specs.Result.{result_ok};
     ghost use Rattle.hart_trace.specs.Events.{meaning_of};
-    ghost use Rattle.machine_replies.specs.declared.reply.Reply.{Reply};
-    ghost use Rattle.machine_replies.specs.declared.reply.Reply.TheVariants.{NoMemory};
-    ghost use Rattle.machine_replies.specs.Texts.{reply_text};
+    ghost use Rattle.hart_trace.specs.declared.reply.Reply.{Reply};
+    ghost use Rattle.hart_trace.specs.declared.reply.Reply.TheVariants.{NoMemory};
+    ghost use Rattle.hart_trace.specs.Texts.{reply_text};
     ghost use Rattle.hart_sim.specs.After.{Happens};
     ghost use Rattle.hart_sim.specs.Machines.{state_of, KeepsBanksRight};
     ghost use Rattle.hart_sim.specs.Steps.{IsEvent};

@@ -4,3 +4,7 @@ mod Calls
 mod PlainEvents
 mod PlainFronts
 mod SpacedLines
+pub mod Judged
+mod OneDigit
+mod FaultTexts
+mod ReplyTexts

@@ -1,2 +1,4 @@
 pub mod Events
 pub mod Plain
+pub mod Answers
+pub mod Texts

@@ -10,12 +10,35 @@
 //!     _ => {}
 //! }
 //! ```
+//!
+//! The accesses of a trace, judged line by line.
+//!
+//! For the layer above: [`judge_lines`] answers each access of a trace by what an [`AccessJudge`] says of it, in a line that is
+//! written before the next is read, and tells the first line that is not understood and each fault of a device.
+//! [`judge_trace`] does so by the list that a bank's registers mean. Nothing here takes memory.
+//!
+//! ```text
+//! let bank = Bank::of(plan.entries(), Limit::Sixteen);
+//! judge_trace(&bank, &mut source, &mut sink)?;
+//! ```
+//!
+//! What the events of a modelled machine are answered with, and the line of each reply in a report.
+//!
+//! ```text
+//! let mut line = Line::new();
+//! push_reply(&mut line, &Reply::Done);
+//! ```
 #![tactic(auto)]
 
+mod access_judge;
 mod ahead;
+mod answers;
 mod event;
+mod judge;
+mod lines;
 mod plain;
 mod plain_events;
+mod reply;
 mod spaced;
 mod trace;
 
@@ -23,3 +46,8 @@ pub use ahead::{access_ahead, call_ahead, interrupt_ahead, setting_ahead};
 pub use event::Event;
 pub use spaced::{is_wordless, spaced_access};
 pub use trace::{parse_by_words, parse_line};
+pub use access_judge::AccessJudge;
+pub use answers::push_answer;
+pub use judge::{LineJudge, judge_lines, judge_trace};
+pub use lines::push_reply;
+pub use reply::Reply;

@@ -1,6 +1,6 @@
 -- An enclave that the host has entered runs.
 use Rattle.std.proofs.Common.{◌≡◌, ◌∙◌, ℕ, Some, refl, ap}
-use Rattle.worlds.specs.declared.world.World.TheVariants.{Host, Enclave as InEnclave}
+use Rattle.sbi_decode.specs.declared.world.World.TheVariants.{Host, Enclave as InEnclave}
 use Rattle.enclave_table.specs.Enclaves.{EnclaveTable, enclave_at}
 use Rattle.enclave_table.specs.Tables.{IsCurrent}
 use Rattle.enclave_table.specs.Lives.{Enters}

@@ -7,7 +7,7 @@ ghost use Rattle.hart_trace.specs.declared.event.Event.{Event};
 ghost use Rattle.hart_sim.specs.After.{After};
 ghost use Rattle.hart_sim.specs.Headline.{Headline};
 ghost use Rattle.hart_sim.specs.Machines.{state_of};
-ghost use Rattle.machine_replies.specs.declared.reply.Reply.{Reply};
+ghost use Rattle.hart_trace.specs.declared.reply.Reply.{Reply};
 ghost use Rattle.machine_tests.specs.Life.{life_of};
 
 use arrayvec::ArrayVec;

@@ -4,7 +4,7 @@ use context_switch::{Contexts, Hart, switch};
 use pmp_encoding::{Bank, Entry, Limit, Perm, Region};
 use sbi_decode::Registers;
 use std::process::Abort;
-use worlds::World;
+use sbi_decode::World;
 
 const A0: usize = 10;
 

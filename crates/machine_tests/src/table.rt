@@ -10,7 +10,7 @@ mod refusals;
 mod scattered;
 mod views;
 
-use enclave_requests::{Create, Pages};
+use measurement::{Create, Pages};
 use enclave_table::{CreateNeeds, Owner, Refusal, Table, World};
 use platforms::Platform;
 use pmp_encoding::{Bank, Entry, Perm};

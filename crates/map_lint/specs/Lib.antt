@@ -4,3 +4,4 @@ pub mod Mends
 pub mod Numbers
 pub mod Reasons
 pub mod Settings
+pub mod Costs

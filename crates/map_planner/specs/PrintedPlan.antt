@@ -12,7 +12,7 @@ use Rattle.entry_planner.specs.Choice.{AreChosen}
 use Rattle.entry_planner.specs.Order.{AreInOrder}
 use Rattle.map_text.specs.MapFile.{FaultAt, Makes}
 use Rattle.printed_lines.specs.Plans.{IsPlanText}
-use Rattle.register_width.specs.declared.xlen.Xlen.TheVariants.{Rv64}
+use Rattle.pmp_encoding.specs.declared.xlen.Xlen.TheVariants.{Rv64}
 
 -- the plan of the map that the bytes of a map file make: of the lists of fewest entries the one that is chosen, in its order; a
 -- hart of sixteen entries has room for it

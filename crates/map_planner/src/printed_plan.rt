@@ -12,7 +12,7 @@ use map_text::{MAP_BYTES, MapFileFault, map_of};
 use pmp_encoding::Limit;
 use printed_lines::print_plan;
 use program_files::read_whole;
-use register_width::Xlen;
+use pmp_encoding::Xlen;
 use std::alloc::Global;
 
 /// Why a plan is not printed whole.

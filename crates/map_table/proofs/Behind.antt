@@ -4,9 +4,9 @@ use Rattle.std.proofs.lemmas.List.{drop_all, drop_more}
 use Rattle.std.proofs.lemmas.Bool.Decides.{nat_tests}
 use Rattle.std.proofs.lemmas.Grind.{common_steps}
 use Rattle.pmp_encoding.specs.declared.extent.Extent.{Extent}
-use Rattle.pmp_registers.specs.Tor.{nowhere}
-use Rattle.stretches.specs.Meetings.{IsNextMeeting, MissesAll}
-use Rattle.stretches.specs.declared.stretch.Stretch.{Stretch}
+use Rattle.pmp_match.specs.Tor.{nowhere}
+use Rattle.map_table.specs.Meetings.{IsNextMeeting, MissesAll}
+use Rattle.map_table.specs.declared.stretch.Stretch.{Stretch}
 use Rattle.map_table.specs.Rows.{meets, overridden_from}
 
 one_met : (extents : List Extent) (i : ℕ) (s : Stretch) → i < length extents → meets (get_or extents i nowhere) s ≡ true → overridden_from i (drop i extents) s ≡ i ∷ overridden_from (i + 1) (drop (i + 1) extents) s

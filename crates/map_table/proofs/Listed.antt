@@ -4,10 +4,10 @@ use Rattle.std.specs.List.{AllByRecursion}
 use Rattle.std.proofs.lemmas.List.Elements.{All-from_recursion}
 use Rattle.std.proofs.lemmas.Option.{same_Some}
 use Rattle.pmp_encoding.specs.declared.extent.Extent.{Extent}
-use Rattle.page_views.specs.Views.{View}
-use Rattle.pmp_registers.specs.Bytes.{has_byte}
-use Rattle.stretches.specs.declared.stretch.Stretch.{Stretch}
-use Rattle.stretches.specs.Stretches.{AreStretches, IsStretch, decider, decider_from}
+use Rattle.pmp_encoding.specs.Views.{View}
+use Rattle.pmp_match.specs.RegisterBytes.{has_byte}
+use Rattle.map_table.specs.declared.stretch.Stretch.{Stretch}
+use Rattle.map_table.specs.Stretches.{AreStretches, IsStretch, decider, decider_from}
 use Rattle.map_table.specs.Rows.{IsRow, as_given, before_text}
 
 -- what two and more say is what the first three say

@@ -4,7 +4,7 @@ use Rattle.pmp_encoding.specs.declared.limit.Limit.{Limit}
 use Rattle.pmp_encoding.specs.declared.extent.Extent.{Extent}
 use Rattle.pmp_encoding.specs.Limits.{limit_number}
 use Rattle.text_lines.specs.Written.{hex}
-use Rattle.stretches.specs.declared.stretch.Stretch.{Stretch}
+use Rattle.map_table.specs.declared.stretch.Stretch.{Stretch}
 use Rattle.printed_lines.specs.Fields.{letters_of}
 use Rattle.map_table.specs.Fields.{column, column_size}
 

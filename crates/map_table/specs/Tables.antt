@@ -3,11 +3,11 @@ use Rattle.std.specs.Prelude.{◌≡◌, ℕ, ◌^◌, List, [], ◌++◌, codes
 use Rattle.pmp_encoding.specs.declared.extent.Extent.{Extent}
 use Rattle.pmp_encoding.specs.declared.limit.Limit.{Limit}
 use Rattle.pmp_encoding.specs.declared.region.Entry.{Entry}
-use Rattle.page_views.specs.Views.{View}
+use Rattle.pmp_encoding.specs.Views.{View}
 use Rattle.permission_map.specs.Runs.{view_of_runs}
-use Rattle.pmp_registers.specs.Lists.{matched_by}
-use Rattle.stretches.specs.declared.stretch.Stretch.{Stretch}
-use Rattle.stretches.specs.Stretches.{AreStretches}
+use Rattle.pmp_match.specs.Lists.{matched_by}
+use Rattle.map_table.specs.declared.stretch.Stretch.{Stretch}
+use Rattle.map_table.specs.Stretches.{AreStretches}
 use Rattle.map_table.specs.Rows.{as_given, count_text, on_text, rest_of, rows_text}
 
 -- the names of the columns

@@ -11,12 +11,49 @@
 //! all else                                       ---  no entry
 //! 3 entries: fewest possible; fits 16
 //! ```
+//!
+//! The space of bytes as a map and a list of extents cut it: stretches of one permission and one deciding entry.
+//!
+//! A [`Stretch`] is a maximal piece of the space on which the map has one permission and one entry, or
+//! none, is the first that has each byte. [`stretches`] answers all of them in order; they leave no byte
+//! out and have none twice. [`stretches_by_entries`] does so for a list of NA4 and NAPOT entries, and [`extents_of`]
+//! answers what each of them matches. [`ExtentTree`] finds the next extent of a list that has a byte of a stretch
+//! without a look at each.
+//!
+//! ```rust
+//! for stretch in &stretches_by_entries(alloc, &map, plan.entries())? {
+//!     // stretch.wanted is the map's permission, stretch.given that of the entry stretch.entry
+//! }
+//! ```
+//!
+//! The table of a map as one JSON object for programs, and as a picture for people.
+//!
+//! For the layer above: [`json_table`] and [`picture`] answer the stretches of a map by its fewest entries, each with the
+//! entry that decides it and those that this one overrides there, and how many entries there are. The picture is an SVG: a band
+//! for each stretch that an entry decides, coloured by its permission, and a gap of one height for each other stretch.
+//!
+//! ```rust
+//! let text = picture(rt.alloc(), &map, plan.entries(), Limit::Sixteen)?;
+//! ```
 #![tactic(auto)]
 
+mod covering;
+mod drawing;
+mod extent_tree;
 mod fields;
+mod hull_tree;
+mod json;
 mod overridden;
+mod overridden_entries;
 mod rows;
+mod shapes;
+mod standing;
+mod stretch;
 mod table;
+mod tables;
 
 pub use rows::{count_line, number_line};
 pub use table::{extent_table, table_of};
+pub use extent_tree::ExtentTree;
+pub use stretch::{Stretch, extents_of, stretches, stretches_by_entries};
+pub use tables::{json_table, picture};

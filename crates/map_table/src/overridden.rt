@@ -4,7 +4,7 @@ ghost use Rattle.std.specs.Prelude.{◌≡◌, ◌+◌, ◌<◌, drop, length, t
 ghost use Rattle.map_table.specs.Rows.{overridden_from};
 
 use arrayvec::ArrayVec;
-use stretches::{ExtentTree, Stretch};
+use crate::{ExtentTree, Stretch};
 
 /// The first extents after number i that have a byte of the stretch, at most three, by their numbers.
 pub(crate) fn overridden(extents: &ExtentTree, i: usize, stretch: &Stretch) -> ArrayVec<usize, 3>

@@ -8,7 +8,7 @@ use crate::overridden::overridden;
 use permission_map::Memory;
 use pmp_encoding::Limit;
 use printed_lines::letters;
-use stretches::{ExtentTree, Stretch};
+use crate::{ExtentTree, Stretch};
 use text_lines::{Line, push_decimal, push_hex, push_text};
 
 const REST: &[u8] = b"all else                                       ---  no entry\n";

@@ -2,16 +2,16 @@
 
 ghost use Rattle.std.specs.Prelude.{◌≡◌, ◌-◌, ◌^◌, ◌<◌, ◌≤◌, All, IfOk, length, map};
 ghost use Rattle.permission_map.specs.Runs.{view_of_runs};
-ghost use Rattle.pmp_registers.specs.Decision.{IsWords};
+ghost use Rattle.pmp_match.specs.RegisterDecision.{IsWords};
 ghost use Rattle.map_table.specs.Rows.{as_given};
 ghost use Rattle.map_table.specs.Tables.{IsExtentTable, IsTable};
 
 use crate::rows::{count_line, on_line, push_rest, push_rows};
 use permission_map::{Memory, PermissionMap};
 use pmp_encoding::{Entry, Limit};
-use pmp_registers::Extent;
+use pmp_match::Extent;
 use std::alloc::Global;
-use stretches::{ExtentTree, Stretch, extents_of, stretches, stretches_by_entries};
+use crate::{ExtentTree, Stretch, extents_of, stretches, stretches_by_entries};
 
 const HEAD: &[u8] = b"from               to                 size    perm by\n";
 

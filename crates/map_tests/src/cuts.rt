@@ -4,7 +4,7 @@ use crate::plans::map_of;
 use pmp_encoding::{Entry, Perm, Region, SPACE_SIZE};
 use std::alloc::Global;
 use std::process::Abort;
-use stretches::{ExtentTree, Stretch, extents_of, stretches_by_entries};
+use map_table::{ExtentTree, Stretch, extents_of, stretches_by_entries};
 
 /// The entry of that block.
 fn entry(rt: &impl Abort, base: u64, log2: u32, perm: Perm) -> Entry {

@@ -1,6 +1,6 @@
 //! Pages and ranges of pages.
 
-use page_views::{PAGE_SIZE, PageRange, SPACE_PAGES, SPACE_SIZE, pages_of};
+use pmp_encoding::{PAGE_SIZE, PageRange, SPACE_PAGES, SPACE_SIZE, pages_of};
 
 #[test]
 fn pages_and_ranges(rt: HostRuntime) {

@@ -4,7 +4,7 @@ ghost use Rattle.std.specs.Prelude.{◌≡◌, ◌+◌, ◌^◌, ◌≤◌, [], 
 ghost use Rattle.std.specs.Result.{result_ok};
 ghost use Rattle.map_text.specs.MapFile.{line_says, pages_in, pages_of, raw_says, setting_of, setting_on};
 
-use page_views::{PAGE_SIZE, SPACE_PAGES};
+use pmp_encoding::{PAGE_SIZE, SPACE_PAGES};
 use permission_map::Run;
 use pmp_encoding::Perm;
 use text_lines::{

@@ -1,2 +1,4 @@
 pub mod Measured
 pub mod Progress
+pub mod Requests
+pub mod Digests

@@ -3,7 +3,7 @@ use Rattle.std.proofs.Common.{◌≡◌, refl, ℕ, List, Option, Result, Ok, Er
 use Rattle.std.specs.Option.{option_or}
 use Rattle.byte_streams.specs.Writings.{Prints, Writing}
 use Rattle.program_files.specs.declared.reason.Reason.{Reason}
-use Rattle.program_troubles.specs.ReasonHints.{hint_text}
+use Rattle.command_inputs.specs.ReasonHints.{hint_text}
 use Rattle.monitor_cli.specs.OnFiles.{failure_of, SaysWhy, told, cut}
 
 pub says :

@@ -1,5 +1,10 @@
-pub use Rattle.trace_judge.specs.Answers
+pub use Rattle.hart_trace.specs.Answers
 pub mod HeldOutput
 pub mod OnFiles
 pub mod Programs
 pub mod Words
+pub mod Measurements
+pub mod Runs
+pub mod Hints
+pub mod Needs
+pub mod Sizes

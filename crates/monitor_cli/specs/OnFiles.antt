@@ -13,16 +13,16 @@ use Rattle.program_files.specs.declared.reason.Reason.{Reason}
 use Rattle.program_files.specs.Inputs.{remaining_of}
 use Rattle.program_tasks.specs.declared.request.Request.{Request}
 use Rattle.program_tasks.specs.declared.task.Task.{Task}
-use Rattle.program_troubles.specs.declared.trouble.Trouble.TheVariants as troubles
-use Rattle.program_troubles.specs.ReasonHints.{hint_text}
+use Rattle.command_inputs.specs.declared.trouble.Trouble.TheVariants as troubles
+use Rattle.command_inputs.specs.ReasonHints.{hint_text}
 use Rattle.command_inputs.specs.Inputs.{reading, Reading}
-use Rattle.map_commands.specs.CertifiedPlan.{placing, Placing}
-use Rattle.input_hints.specs.Hints.{TellsHints}
-use Rattle.task_files.specs.Hinted.{may_be_hinted}
-use Rattle.task_files.specs.Inputs.{reader_in, reason_in, AreInputs, AreInputsAgain, Input}
-use Rattle.task_files.specs.Names.{IsUnderNames}
-use Rattle.task_files.specs.Words.{IsTextOf}
-use Rattle.task_files.specs.declared.names.ShownNames.{ShownNames}
+use Rattle.commands.specs.CertifiedPlan.{placing, Placing}
+use Rattle.monitor_cli.specs.Hints.{TellsHints}
+use Rattle.program_tasks.specs.Hinted.{may_be_hinted}
+use Rattle.program_tasks.specs.Inputs.{reader_in, reason_in, AreInputs, AreInputsAgain, Input}
+use Rattle.program_tasks.specs.Names.{IsUnderNames}
+use Rattle.program_tasks.specs.Words.{IsTextOf}
+use Rattle.program_tasks.specs.declared.names.ShownNames.{ShownNames}
 use Rattle.monitor_cli.specs.HeldOutput.{IsClosed}
 use Rattle.monitor_cli.specs.Programs.{Ends, Tells}
 

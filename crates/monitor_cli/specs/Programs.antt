@@ -3,26 +3,26 @@ use Rattle.std.specs.Prelude.{◌≡◌, ℕ, List, Option, Result, Ok, Err, opt
 use Rattle.std.specs.Borrow.{Bor}
 use Rattle.std.specs.Io.KnownBytes.{Appends}
 use Rattle.byte_streams.specs.Writings.{Breaks, IsUnwritten, Writing}
-use Rattle.register_width.specs.declared.xlen.Xlen.{Xlen}
+use Rattle.pmp_encoding.specs.declared.xlen.Xlen.{Xlen}
 use Rattle.program_tasks.specs.declared.options.LintKind.{LintKind}
 use Rattle.program_tasks.specs.declared.options.LintKind.TheVariants as kinds
 use Rattle.program_tasks.specs.declared.options.Options.{Options}
 use Rattle.program_tasks.specs.declared.request.Request.{Request}
 use Rattle.program_tasks.specs.declared.task.Task.{Task}
 use Rattle.program_tasks.specs.declared.task.Task.TheVariants as tasks
-use Rattle.program_troubles.specs.declared.trouble.Trouble.{Trouble}
-use Rattle.program_troubles.specs.Troubles.{status_of, trouble_text}
-use Rattle.map_commands.specs.Audit.{Audits}
-use Rattle.map_commands.specs.CertifiedPlan.{IsUntouched, Placing}
-use Rattle.map_commands.specs.Check.{Checks}
+use Rattle.command_inputs.specs.declared.trouble.Trouble.{Trouble}
+use Rattle.command_inputs.specs.Troubles.{status_of, trouble_text}
+use Rattle.commands.specs.Audit.{Audits}
+use Rattle.commands.specs.CertifiedPlan.{IsUntouched, Placing}
+use Rattle.commands.specs.Check.{Checks}
 use Rattle.command_inputs.specs.Inputs.{IsUnread, Reading}
-use Rattle.map_commands.specs.Judge.{JudgesAs}
-use Rattle.lint_commands.specs.Lint.{Lints, LintsListing}
-use Rattle.map_commands.specs.Map.{Maps}
-use Rattle.map_commands.specs.Plan.{Plans}
-use Rattle.map_commands.specs.Show.{ShowsAs}
-use Rattle.run_command.specs.Runs.{Runs}
-use Rattle.lint_commands.specs.Traces.{LintsTrace}
+use Rattle.commands.specs.Judge.{JudgesAs}
+use Rattle.commands.specs.Lint.{Lints, LintsListing}
+use Rattle.commands.specs.Map.{Maps}
+use Rattle.commands.specs.Plan.{Plans}
+use Rattle.commands.specs.Show.{ShowsAs}
+use Rattle.monitor_cli.specs.Runs.{Runs}
+use Rattle.commands.specs.Traces.{LintsTrace}
 
 -- `lint`, by what the file should be; the width is that of the registers of a listing, and the platform is that of a trace
 abbrev pub LintsAs : {R W : Type 0} → LintKind → Xlen → Bor (List ℕ) → Option (Bor (List ℕ)) → Reading R → Reading R → Writing W → Result ℕ Trouble → Type 0

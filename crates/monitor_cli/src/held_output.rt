@@ -5,16 +5,16 @@ ghost use Rattle.byte_streams.specs.HeldSink.{contents_of, failed_writes, held_i
 ghost use Rattle.monitor_cli.specs.HeldOutput.{IsClosed};
 ghost use Rattle.byte_streams.specs.declared.held_sink.HeldSink.{HeldSink};
 ghost use Rattle.byte_streams.specs.Writings.{writing};
-ghost use Rattle.map_commands.specs.CertifiedPlan.{placing};
+ghost use Rattle.commands.specs.CertifiedPlan.{placing};
 ghost use Rattle.command_inputs.specs.Inputs.{reading};
 ghost use Rattle.monitor_cli.specs.Programs.{Ends, Tells};
-ghost use Rattle.program_troubles.specs.declared.trouble.Trouble.TheVariants.{Output};
+ghost use Rattle.command_inputs.specs.declared.trouble.Trouble.TheVariants.{Output};
 
 use crate::program::perform_request;
 use byte_streams::{HeldSink, Sink, Source};
 use program_files::WholeSink;
 use program_tasks::Request;
-use program_troubles::Trouble;
+use command_inputs::Trouble;
 use std::alloc::Global;
 use std::io::Write;
 

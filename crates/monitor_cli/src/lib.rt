@@ -12,11 +12,37 @@
 //! let task = command_of(rt.alloc(), &["pmpmon", "plan", "map.txt"])?;
 //! let status = perform(rt.alloc(), &task, &mut first, &mut second, &mut cert, &mut out, &mut err);
 //! ```
+//!
+//! The command that runs a trace on a machine.
+//!
+//! For the layer above: [`do_run_as`] boots the platform of a file, runs a trace on its machine, and prints the measurements where
+//! they are asked for. Its clause has a rule for each way in which it ends, with what was read and written in which order.
+//!
+//! No way to run is inlined: each has its buffers on the stack only while it runs.
+//!
+//! ```text
+//! let status = do_run_as(alloc, answers, "board.toml", "a.trace", measure, &mut platform, &mut trace, &mut out)?;
+//! ```
+//!
+//! Hints: what is wrong with the inputs of a task that ended for bad input, behind its one line of trouble.
+//!
+//! For the layer above: [`tell_hints`] reads the inputs of a task anew, in their order, and says on standard error of the first that is
+//! not what it should be each line of its lint, that it is too large, or how many entries it needs. Nothing else is written.
+//!
+//! ```rust
+//! tell_hints(rt.alloc(), &task, &mut first, &mut second, &mut err);
+//! ```
 #![tactic(auto)]
 
+mod forms;
 mod held_output;
+mod hints;
+mod measurements;
+mod needs;
 mod on_files;
 mod program;
+mod run;
+mod sizes;
 mod words;
 
 pub use held_output::{closed, perform_and_close};
@@ -25,5 +51,7 @@ pub use platform_file::{TextFault, platform_of};
 pub use printed_lines::digest_text;
 pub use program::{perform, perform_request};
 pub use program_tasks::{Options, Request, Task};
-pub use trace_judge::judge_trace;
+pub use hart_trace::judge_trace;
 pub use words::command_of;
+pub use run::do_run_as;
+pub use hints::tell_hints;

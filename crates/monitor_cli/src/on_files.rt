@@ -8,14 +8,14 @@ ghost use Rattle.monitor_cli.specs.OnFiles.{failure_of, input_over, EndsOnFiles,
 
 use crate::held_output::perform_and_close;
 use byte_streams::{HeldSink, Sink};
-use input_hints::tell_hints;
+use crate::tell_hints;
 use program_files::{CertificateFile, Explained, Reason, RetryInterrupted};
 use program_tasks::{Request, Task};
-use program_troubles::print_reason;
+use command_inputs::print_reason;
 use std::alloc::{AllocError, Global};
 use std::io::{Read, Write};
 use std::rt::Files;
-use task_files::{NO_FILE, ShownNames, cert_of, inputs, inputs_again, may_be_hinted, with_names};
+use program_tasks::{NO_FILE, ShownNames, cert_of, inputs, inputs_again, may_be_hinted, with_names};
 
 /// The status of a task that ended since a device failed.
 const DEVICE_FAILED: u8 = 3;

@@ -2,22 +2,22 @@
 
 ghost use Rattle.std.specs.Prelude.{◌≡◌, false};
 ghost use Rattle.byte_streams.specs.Writings.{writing};
-ghost use Rattle.map_commands.specs.CertifiedPlan.{placing};
+ghost use Rattle.commands.specs.CertifiedPlan.{placing};
 ghost use Rattle.command_inputs.specs.Inputs.{reading};
 ghost use Rattle.monitor_cli.specs.Programs.{Ends, LintsAs, Performs, Tells};
 ghost use Rattle.program_tasks.specs.Requests.{alone};
-ghost use Rattle.program_troubles.specs.Troubles.{status_of};
+ghost use Rattle.command_inputs.specs.Troubles.{status_of};
 
 use byte_streams::{Sink, Source};
-use lint_commands::{do_lint, do_lint_listing, do_lint_trace};
-use map_commands::{
+use commands::{do_lint, do_lint_listing, do_lint_trace};
+use commands::{
     Asked, CertificateSink, Straight, Table, Whole, do_audit, do_check, do_judge_as, do_map,
     do_plan, do_show_as,
 };
 use program_files::WholeSink;
 use program_tasks::{LintKind, Options, Request, Task};
-use program_troubles::Trouble;
-use run_command::do_run_as;
+use command_inputs::Trouble;
+use crate::do_run_as;
 use std::alloc::Global;
 
 /// Reports the trouble of a task on standard error, and answers its status.

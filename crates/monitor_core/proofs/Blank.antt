@@ -1,8 +1,8 @@
 -- The parts at boot.
 use Rattle.std.proofs.Common.{◌≡◌, ◌∙◌, ℕ, zero, suc, List, false, replicate, slice_index_or, refl, ap}
 use Rattle.sbi_decode.specs.Registers.{RegisterFile, zeros}
-use Rattle.worlds.specs.Runners.{Runner, HostOf, EnclaveOf}
-use Rattle.worlds.specs.declared.world.World.TheVariants.{Host}
+use Rattle.sbi_decode.specs.Runners.{Runner, HostOf, EnclaveOf}
+use Rattle.sbi_decode.specs.declared.world.World.TheVariants.{Host}
 use Rattle.monitor_core.specs.Parts.{mark_in, world_in}
 use Rattle.monitor_core.specs.RegisterSets.{set_of}
 

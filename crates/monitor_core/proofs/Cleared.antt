@@ -1,9 +1,9 @@
 -- The pages that are to be made zero are memory, and none is the monitor's.
 use Rattle.std.proofs.Common.{◌≡◌, inl, inr, ℕ, ◌||◌, Bool, true, List, Option, IfSome, ap, sym, subst, arith}
-use Rattle.page_views.specs.declared.pages.PageRange.{PageRange}
+use Rattle.pmp_encoding.specs.declared.pages.PageRange.{PageRange}
 use Rattle.enclave_table.specs.Enclaves.{EnclaveTable, Live}
 use Rattle.enclave_table.specs.declared.enclave.Enclave.{Enclave}
-use Rattle.enclave_requests.specs.Requests.{is_private, is_shared}
+use Rattle.measurement.specs.Requests.{is_private, is_shared}
 use Rattle.enclave_table.specs.Tables.{IsTable}
 use Rattle.sbi_decode.specs.declared.calls.Call.{Call}
 use Rattle.monitor_core.specs.declared.answer.Answer.{Answer}

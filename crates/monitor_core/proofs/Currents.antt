@@ -6,8 +6,8 @@ use Rattle.enclave_table.specs.Tables.{IsCurrent}
 use Rattle.enclave_table.specs.declared.enclave.Enclave.{Enclave}
 use Rattle.enclave_table.specs.declared.enclave.Stage.{Stage}
 use Rattle.enclave_table.specs.declared.enclave.Stage.TheVariants.{Fresh, Running, Stopped, Exited}
-use Rattle.worlds.specs.declared.world.World.{World}
-use Rattle.worlds.specs.declared.world.World.TheVariants.{Host, Enclave as InEnclave}
+use Rattle.sbi_decode.specs.declared.world.World.{World}
+use Rattle.sbi_decode.specs.declared.world.World.TheVariants.{Host, Enclave as InEnclave}
 use Rattle.enclave_table.proofs.Places.{live_place, set_other}
 use Rattle.monitor_core.specs.States.{opening_monitor}
 use Rattle.monitor_core.specs.Changes.{is_host}

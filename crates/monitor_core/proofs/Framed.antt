@@ -3,7 +3,7 @@ use Rattle.std.proofs.Common.{◌≡◌, ◌∙◌, ℕ, Bool, List, Option, ref
 use Rattle.enclave_table.specs.Enclaves.{with_enclave}
 use Rattle.enclave_table.specs.Tables.{Kept}
 use Rattle.enclave_table.specs.declared.enclave.Enclave.{Enclave}
-use Rattle.worlds.specs.declared.world.World.{World}
+use Rattle.sbi_decode.specs.declared.world.World.{World}
 use Rattle.monitor_core.specs.declared.parts.Parts.{Parts}
 use Rattle.monitor_core.specs.Frames.{KeepsFrame}
 use Rattle.monitor_core.specs.Parts.{HoldsTogether}

@@ -5,8 +5,8 @@ use Rattle.enclave_table.specs.Enclaves.{EnclaveTable, Live, enclave_at, with_en
 use Rattle.enclave_table.specs.declared.enclave.Enclave.{Enclave}
 use Rattle.enclave_table.specs.declared.enclave.Stage.TheVariants.{Running}
 use Rattle.enclave_table.proofs.Places.{live_place, set_other}
-use Rattle.worlds.specs.declared.world.World.{World}
-use Rattle.worlds.specs.declared.world.World.TheVariants.{Host, Enclave as InEnclave}
+use Rattle.sbi_decode.specs.declared.world.World.{World}
+use Rattle.sbi_decode.specs.declared.world.World.TheVariants.{Host, Enclave as InEnclave}
 use Rattle.monitor_core.specs.Parts.{is_of, is_held}
 use Rattle.monitor_core.specs.Worlds.{AreHeld}
 use Rattle.monitor_core.proofs.Cases.{both}

@@ -1,7 +1,7 @@
 -- The marks after each other hart in the host's world was marked.
 use Rattle.std.proofs.Common.{◌≡◌, Bool, true, false, not, ◌&&◌, ◌||◌, if◌then◌else◌, refl}
-use Rattle.worlds.specs.declared.world.World.{World}
-use Rattle.worlds.specs.declared.world.World.TheVariants.{Host, Enclave as InEnclave}
+use Rattle.sbi_decode.specs.declared.world.World.{World}
+use Rattle.sbi_decode.specs.declared.world.World.TheVariants.{Host, Enclave as InEnclave}
 use Rattle.monitor_core.specs.Changes.{is_host}
 
 pub mark_is : (a b c m : Bool) → (if a && not b && c then true else m) ≡ (if b then m else (a && c || m))

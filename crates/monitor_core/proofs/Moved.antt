@@ -16,10 +16,10 @@ use Rattle.enclave_table.specs.Checks.{state_before}
 use Rattle.enclave_table.specs.Lives.{Enters, Leaves, Turns, state_after}
 use Rattle.enclave_table.specs.Create.{measured_as}
 use Rattle.enclave_table.specs.Destroy.{Destroys}
-use Rattle.enclave_requests.specs.declared.request.Create.{Create}
-use Rattle.page_views.specs.declared.pages.PageRange.{PageRange}
-use Rattle.worlds.specs.declared.world.World.{World}
-use Rattle.worlds.specs.declared.world.World.TheVariants.{Host, Enclave as InEnclave}
+use Rattle.measurement.specs.declared.request.Create.{Create}
+use Rattle.pmp_encoding.specs.declared.pages.PageRange.{PageRange}
+use Rattle.sbi_decode.specs.declared.world.World.{World}
+use Rattle.sbi_decode.specs.declared.world.World.TheVariants.{Host, Enclave as InEnclave}
 use Rattle.enclave_table.proofs.Places.{live_above, live_inside, set_same}
 use Rattle.enclave_table.proofs.ShortNames.{view_in}
 use Rattle.monitor_core.specs.States.{view_of}

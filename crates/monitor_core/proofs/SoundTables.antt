@@ -2,23 +2,23 @@
 use Rattle.std.proofs.Common.{◌≡◌, inl, inr, ℕ, List, Option, Some, None, refl, sym, subst, ap}
 use Rattle.platforms.specs.Platform.{PlatformLayout, IsLayout}
 use Rattle.enclave_table.specs.Enclaves.{EnclaveTable, with_enclave}
-use Rattle.enclave_requests.specs.Requests.{parts_of}
+use Rattle.measurement.specs.Requests.{parts_of}
 use Rattle.enclave_table.specs.Tables.{IsTable}
 use Rattle.enclave_table.specs.Create.{Creates, fresh}
 use Rattle.enclave_table.specs.Destroy.{Destroys}
 use Rattle.enclave_table.specs.Lives.{Turns}
-use Rattle.enclave_requests.specs.declared.request.Create.{Create}
+use Rattle.measurement.specs.declared.request.Create.{Create}
 use Rattle.enclave_table.specs.declared.enclave.Stage.{Stage}
-use Rattle.page_views.specs.declared.pages.PageRange.{PageRange}
+use Rattle.pmp_encoding.specs.declared.pages.PageRange.{PageRange}
 use Rattle.enclave_table.proofs.Created.{sound_from, apart_from}
 use Rattle.enclave_table.proofs.Placed.{free_place, added_table, removed_table}
 use Rattle.enclave_table.proofs.Places.{live_above, live_inside}
 use Rattle.enclave_table.proofs.Turned.{turned_table}
-use Rattle.worlds.specs.declared.world.World.{World}
-use Rattle.worlds.specs.declared.world.World.TheVariants.{Host, Enclave as InEnclave}
+use Rattle.sbi_decode.specs.declared.world.World.{World}
+use Rattle.sbi_decode.specs.declared.world.World.TheVariants.{Host, Enclave as InEnclave}
 use Rattle.sbi_decode.specs.declared.calls.Call.{Call}
 use Rattle.sbi_decode.specs.declared.calls.Call.TheVariants as calls
-use Rattle.page_views.specs.declared.pages.PageRange.{PageRange}
+use Rattle.pmp_encoding.specs.declared.pages.PageRange.{PageRange}
 use Rattle.monitor_core.specs.declared.answer.Answer.{Answer}
 use Rattle.monitor_core.specs.States.{MonitorState, opening_monitor}
 use Rattle.monitor_core.specs.Steps.{DoesCall, Interrupts}

@@ -8,13 +8,13 @@ use Rattle.enclave_table.specs.declared.enclave.Enclave.{Enclave}
 use Rattle.enclave_table.specs.declared.enclave.Stage.{Stage}
 use Rattle.enclave_table.specs.declared.enclave.Stage.TheVariants.{Fresh, Running, Stopped, Exited}
 use Rattle.enclave_table.proofs.Places.{live_above, live_inside, set_same, set_other}
-use Rattle.page_views.specs.declared.pages.PageRange.{PageRange}
+use Rattle.pmp_encoding.specs.declared.pages.PageRange.{PageRange}
 use Rattle.sbi_decode.specs.Registers.{RegisterFile, with_x, zeros}
 use Rattle.sbi_decode.specs.declared.calls.Call.{Call}
 use Rattle.sbi_decode.specs.declared.calls.Call.TheVariants as calls
-use Rattle.worlds.specs.declared.world.World.{World}
-use Rattle.worlds.specs.declared.world.World.TheVariants.{Host, Enclave as InEnclave}
-use Rattle.worlds.specs.Runners.{Runner, HostOf, EnclaveOf, runner_of}
+use Rattle.sbi_decode.specs.declared.world.World.{World}
+use Rattle.sbi_decode.specs.declared.world.World.TheVariants.{Host, Enclave as InEnclave}
+use Rattle.sbi_decode.specs.Runners.{Runner, HostOf, EnclaveOf, runner_of}
 use Rattle.monitor_core.specs.declared.answer.Answer.{Answer}
 use Rattle.monitor_core.specs.Changes.{first_registers, is_same, in_world, with_registers, with_running, answering, marking_others, back_to_host}
 use Rattle.monitor_core.specs.States.{MonitorState}

@@ -7,8 +7,8 @@ use Rattle.enclave_table.specs.declared.enclave.Stage.{Stage}
 use Rattle.enclave_table.proofs.Places.{live_above, set_other}
 use Rattle.enclave_table.proofs.ShortNames.{view_in}
 use Rattle.enclave_table.proofs.Turned.{same_host_view}
-use Rattle.worlds.specs.declared.world.World.{World}
-use Rattle.worlds.specs.declared.world.World.TheVariants.{Host, Enclave as InEnclave}
+use Rattle.sbi_decode.specs.declared.world.World.{World}
+use Rattle.sbi_decode.specs.declared.world.World.TheVariants.{Host, Enclave as InEnclave}
 use Rattle.monitor_core.specs.States.{view_of}
 use Rattle.monitor_core.specs.Changes.{is_host}
 

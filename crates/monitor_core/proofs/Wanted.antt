@@ -3,9 +3,9 @@ use Rattle.std.proofs.Common.{◌≡◌, ◌⊎◌, ◌∙◌, inl, inr, ℕ, Li
 use Rattle.pmp_encoding.specs.declared.limit.Limit.{Limit}
 use Rattle.pmp_match.specs.Meaning.{View}
 use Rattle.pmp_match.proofs.Meant.{needs_one}
-use Rattle.page_views.specs.declared.pages.PageRange.{PageRange}
+use Rattle.pmp_encoding.specs.declared.pages.PageRange.{PageRange}
 use Rattle.enclave_table.specs.Enclaves.{EnclaveTable, with_enclave}
-use Rattle.enclave_requests.specs.Requests.{parts_of, is_private}
+use Rattle.measurement.specs.Requests.{parts_of, is_private}
 use Rattle.enclave_table.specs.Views.{host_view, enclave_view}
 use Rattle.platforms.specs.CheckLists.{AllPass, FailsFirst}
 use Rattle.enclave_table.specs.Refusals.{refusal_number, RefusesBy}
@@ -13,7 +13,7 @@ use Rattle.enclave_table.specs.Checks.{create_checks, host_checks, MayDestroy, l
 use Rattle.enclave_table.specs.Fewest.{FitsIn, NeedsMore}
 use Rattle.enclave_table.specs.Create.{OutgrowsByCreate, fresh}
 use Rattle.enclave_table.specs.Enclaves.{IsNextId}
-use Rattle.enclave_requests.specs.declared.request.Create.{Create}
+use Rattle.measurement.specs.declared.request.Create.{Create}
 use Rattle.enclave_table.specs.declared.refusal.Refusal.{Refusal}
 use Rattle.enclave_table.specs.declared.refusal.Refusal.TheVariants.{NotHost, NotEnclave, BadCount, BadAddress, BadEntry, NotRam, Overlap, TableFull, NoEntries, NoMemory, BadId, BadState, BadWord}
 use Rattle.enclave_table.specs.Tables.{IsTable}
@@ -21,7 +21,7 @@ use Rattle.enclave_table.specs.declared.enclave.Stage.TheVariants.{Fresh, Stoppe
 use Rattle.enclave_table.proofs.Placed.{free_place, host_added}
 use Rattle.enclave_table.proofs.SameViews.{more_same}
 use Rattle.permission_map.specs.Views.{SameView}
-use Rattle.worlds.specs.declared.world.World.{World}
+use Rattle.sbi_decode.specs.declared.world.World.{World}
 use Rattle.sbi_decode.specs.declared.calls.Call.{Call}
 use Rattle.sbi_decode.specs.declared.calls.Call.TheVariants as calls
 use Rattle.monitor_core.specs.declared.answer.Answer.{Answer}

@@ -1,7 +1,7 @@
 -- What a call is answered with.
 use Rattle.std.specs.Prelude.{ℕ, ◌-◌, ℤ, negsuc}
-use Rattle.worlds.specs.declared.world.World.{World}
-use Rattle.worlds.specs.declared.world.World.TheVariants.{Host, Enclave as InEnclave}
+use Rattle.sbi_decode.specs.declared.world.World.{World}
+use Rattle.sbi_decode.specs.declared.world.World.TheVariants.{Host, Enclave as InEnclave}
 
 -- the number of a world: 0 is the host
 abbrev pub world_number : World → ℕ

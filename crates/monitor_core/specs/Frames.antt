@@ -1,7 +1,7 @@
 -- What each part of a call on a hart may rely on, and what it keeps.
 use Rattle.std.specs.Prelude.{◌≡◌, ◌≢◌, ℕ, ◌+◌, ◌^◌, ◌<◌, ◌≤◌, Bool, true, false}
-use Rattle.page_views.specs.Views.{in_range, SameView}
-use Rattle.page_views.specs.declared.pages.PageRange.{PageRange}
+use Rattle.pmp_encoding.specs.Views.{in_range, SameView}
+use Rattle.pmp_encoding.specs.declared.pages.PageRange.{PageRange}
 use Rattle.platforms.specs.Platform.{PlatformLayout, is_ram}
 use Rattle.monitor_core.specs.declared.parts.Parts.{Parts}
 use Rattle.monitor_core.specs.Parts.{HoldsTogether}

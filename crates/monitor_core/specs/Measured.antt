@@ -1,12 +1,12 @@
 -- Creations whose pages were measured before.
 use Rattle.std.specs.Prelude.{◌≡◌, ℕ, List, Option, None, Some}
 use Rattle.enclave_table.specs.Enclaves.{EnclaveTable}
-use Rattle.enclave_requests.specs.Requests.{parts_of}
+use Rattle.measurement.specs.Requests.{parts_of}
 use Rattle.platforms.specs.CheckLists.{AllPass}
 use Rattle.enclave_table.specs.Checks.{create_checks}
 use Rattle.enclave_table.specs.Create.{IsMeasured}
-use Rattle.enclave_requests.specs.declared.request.Create.{Create}
-use Rattle.worlds.specs.declared.world.World.{World}
+use Rattle.measurement.specs.declared.request.Create.{Create}
+use Rattle.sbi_decode.specs.declared.world.World.{World}
 use Rattle.sbi_decode.specs.declared.calls.Call.{Call}
 use Rattle.sbi_decode.specs.declared.calls.Call.TheVariants as calls
 use Rattle.sbi_decode.specs.Calls.{call_of}

@@ -2,8 +2,8 @@
 use Rattle.std.specs.Prelude.{List}
 use Rattle.pmp_encoding.specs.declared.region.Entry.{Entry}
 use Rattle.enclave_table.specs.Tables.{Kept, list_at}
-use Rattle.worlds.specs.declared.world.World.{World}
-use Rattle.worlds.specs.declared.world.World.TheVariants.{Host, Enclave as InEnclave}
+use Rattle.sbi_decode.specs.declared.world.World.{World}
+use Rattle.sbi_decode.specs.declared.world.World.TheVariants.{Host, Enclave as InEnclave}
 use Rattle.monitor_core.specs.declared.monitor.Monitor.{Monitor}
 use Rattle.monitor_core.specs.Parts.{state_in}
 use Rattle.monitor_core.specs.States.{MonitorState}

@@ -1,7 +1,7 @@
 -- The register set of each host and each enclave.
 use Rattle.std.specs.Prelude.{zero, suc, List, slice_index_or}
 use Rattle.sbi_decode.specs.Registers.{RegisterFile, zeros}
-use Rattle.worlds.specs.Runners.{Runner, HostOf, EnclaveOf}
+use Rattle.sbi_decode.specs.Runners.{Runner, HostOf, EnclaveOf}
 use Rattle.monitor_core.specs.declared.register_sets.RegisterSets.{RegisterSets}
 
 -- the one that is a host's or an enclave's, of lists of both; enclaves are numbered from 1. One that has no set has zeros

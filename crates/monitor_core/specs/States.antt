@@ -5,10 +5,10 @@ use Rattle.platforms.specs.Platform.{PlatformLayout}
 use Rattle.enclave_table.specs.Enclaves.{EnclaveTable}
 use Rattle.enclave_table.specs.Boot.{opening_table}
 pub use Rattle.enclave_table.specs.Views.{current_view as view_of}
-use Rattle.worlds.specs.declared.world.World.{World}
-use Rattle.worlds.specs.declared.world.World.TheVariants.{Host}
+use Rattle.sbi_decode.specs.declared.world.World.{World}
+use Rattle.sbi_decode.specs.declared.world.World.TheVariants.{Host}
 use Rattle.sbi_decode.specs.Registers.{RegisterFile, zeros}
-use Rattle.worlds.specs.Runners.{Runner, runner_of}
+use Rattle.sbi_decode.specs.Runners.{Runner, runner_of}
 
 -- the enclaves, the world that runs on each hart, the registers of each host and enclave, and the harts that are marked: each of
 -- these is to load the host's entries before it goes on. A hart that there is not stays in the host's world, its registers zero,

@@ -8,23 +8,23 @@ use Rattle.enclave_table.specs.Destroy.{Destroys}
 use Rattle.enclave_table.specs.Lives.{Enters, Leaves}
 use Rattle.enclave_table.specs.Checks.{host_checks, leave_checks, word_checks, create_checks, MayDestroy, state_before}
 use Rattle.enclave_table.specs.Digests.{AnswersWord}
-use Rattle.enclave_requests.specs.declared.request.Create.{Create}
+use Rattle.measurement.specs.declared.request.Create.{Create}
 use Rattle.enclave_table.specs.declared.enclave.Enclave.{Enclave}
 use Rattle.enclave_table.specs.declared.life.Entering.{Entering}
 use Rattle.enclave_table.specs.declared.life.Entering.TheVariants as ways
 use Rattle.enclave_table.specs.declared.enclave.Stage.TheVariants.{Fresh, Stopped, Exited}
 use Rattle.enclave_table.specs.declared.refusal.Refusal.{Refusal}
-use Rattle.page_views.specs.declared.pages.PageRange.{PageRange}
-use Rattle.worlds.specs.declared.world.World.{World}
-use Rattle.worlds.specs.declared.world.World.TheVariants.{Host, Enclave as InEnclave}
+use Rattle.pmp_encoding.specs.declared.pages.PageRange.{PageRange}
+use Rattle.sbi_decode.specs.declared.world.World.{World}
+use Rattle.sbi_decode.specs.declared.world.World.TheVariants.{Host, Enclave as InEnclave}
 use Rattle.sbi_decode.specs.declared.calls.Call.{Call}
 use Rattle.sbi_decode.specs.declared.calls.Call.TheVariants as calls
-use Rattle.worlds.specs.Runners.{EnclaveOf}
+use Rattle.sbi_decode.specs.Runners.{EnclaveOf}
 use Rattle.monitor_core.specs.States.{MonitorState}
 use Rattle.monitor_core.specs.Changes.{first_registers, in_world, with_registers, answering, marking_others, back_to_host}
 use Rattle.monitor_core.specs.Answers.{below_zero}
 use Rattle.monitor_core.specs.declared.answer.Answer.{Answer}
-use Rattle.enclave_requests.specs.Requests.{parts_of}
+use Rattle.measurement.specs.Requests.{parts_of}
 use Rattle.enclave_table.specs.Fewest.{NeedsMore}
 use Rattle.enclave_table.specs.Views.{host_view}
 use Rattle.sbi_decode.specs.Registers.{zeros}

@@ -4,8 +4,8 @@ use Rattle.enclave_table.specs.Enclaves.{Live, enclave_at}
 use Rattle.enclave_table.specs.declared.enclave.Enclave.{Enclave}
 use Rattle.enclave_table.specs.declared.enclave.Stage.TheVariants.{Fresh, Stopped, Exited}
 use Rattle.sbi_decode.specs.Registers.{RegisterFile, with_x, zeros}
-use Rattle.worlds.specs.declared.world.World.TheVariants.{Host, Enclave as InEnclave}
-use Rattle.worlds.specs.Runners.{Runner, HostOf, EnclaveOf, runner_of}
+use Rattle.sbi_decode.specs.declared.world.World.TheVariants.{Host, Enclave as InEnclave}
+use Rattle.sbi_decode.specs.Runners.{Runner, HostOf, EnclaveOf, runner_of}
 use Rattle.monitor_core.specs.Changes.{first_registers}
 use Rattle.monitor_core.specs.States.{MonitorState}
 

@@ -1,7 +1,7 @@
 -- When a creation or a destruction is refused for want of entries.
 use Rattle.std.specs.Prelude.{◌⊎◌, Option, None, Some, cond}
 use Rattle.pmp_encoding.specs.declared.perm.Perm.TheVariants.{NoAccess}
-use Rattle.enclave_requests.specs.Requests.{parts_of, is_private}
+use Rattle.measurement.specs.Requests.{parts_of, is_private}
 use Rattle.enclave_table.specs.Enclaves.{EnclaveTable, with_enclave}
 use Rattle.enclave_table.specs.Views.{host_view, enclave_view}
 use Rattle.platforms.specs.CheckLists.{AllPass}
@@ -9,7 +9,7 @@ use Rattle.enclave_table.specs.Checks.{create_checks, host_checks, MayDestroy}
 use Rattle.enclave_table.specs.Fewest.{NeedsMore}
 use Rattle.enclave_table.specs.declared.refusal.Refusal.TheVariants.{NoEntries, NoMemory}
 use Rattle.enclave_table.specs.declared.refusal.Refusal.{Refusal}
-use Rattle.worlds.specs.declared.world.World.{World}
+use Rattle.sbi_decode.specs.declared.world.World.{World}
 use Rattle.sbi_decode.specs.declared.calls.Call.{Call}
 use Rattle.sbi_decode.specs.declared.calls.Call.TheVariants as calls
 

@@ -3,7 +3,7 @@
 ghost use Rattle.std.specs.Prelude.{◌≡◌, ◌≤◌, ◌-◌, ◌^◌, pos};
 ghost use Rattle.monitor_core.specs.Answers.{below_zero};
 
-use page_views::PageRange;
+use pmp_encoding::PageRange;
 use sbi_decode::Registers;
 
 /// The answer of a call, which its caller finds in a0 and a1 when it goes on.

@@ -3,7 +3,7 @@
 use crate::answer::{Onward, Served};
 use crate::outcome::Outcome;
 use crate::parts::Parts;
-use enclave_requests::{Create, Pages};
+use measurement::{Create, Pages};
 use enclave_table::Entering;
 use sbi_decode::{Call, Registers, decode};
 

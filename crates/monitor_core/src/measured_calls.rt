@@ -3,7 +3,7 @@
 use crate::answer::{Answer, Served};
 use crate::outcome::Outcome;
 use crate::parts::Parts;
-use enclave_requests::Create;
+use measurement::Create;
 use enclave_table::Entering;
 use sbi_decode::{Call, Registers, decode};
 

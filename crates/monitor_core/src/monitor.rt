@@ -5,7 +5,7 @@ ghost use Rattle.monitor_core.specs.Parts.{HoldsTogether};
 use crate::answer::{Onward, Served};
 use crate::outcome::Outcome;
 use crate::parts::Parts;
-use enclave_requests::{Create, Pages};
+use measurement::{Create, Pages};
 use enclave_table::{Table, World};
 use platforms::{BootFault, Platform};
 use pmp_encoding::Entry;
@@ -21,8 +21,8 @@ pub struct Monitor {
 
 impl Monitor {
     ghost use Rattle.std.specs.Prelude.{◌≡◌, ◌<◌, ◌≤◌, ℕ, List, false, length, IfOk, IfErr, IfSome, IfNone};
-    ghost use Rattle.enclave_requests.specs.Requests.{HasCounts, HasPlaces};
-    ghost use Rattle.enclave_requests.specs.declared.request.Create.{Create as CreateParts};
+    ghost use Rattle.measurement.specs.Requests.{HasCounts, HasPlaces};
+    ghost use Rattle.measurement.specs.declared.request.Create.{Create as CreateParts};
     ghost use Rattle.monitor_core.specs.Measured.{IsMeasuredFor, IsOfPages, Measures, asked_in};
     ghost use Rattle.pmp_encoding.specs.Limits.{limit_number};
     ghost use Rattle.pmp_match.specs.Meaning.{IsFewest, Needs};
@@ -41,7 +41,7 @@ impl Monitor {
     ghost use Rattle.monitor_core.specs.Wants.{IsRefusedByNeed};
     ghost use Rattle.monitor_core.specs.Answers.{below_zero};
     ghost use Rattle.enclave_table.specs.Refusals.{refusal_number};
-    ghost use Rattle.worlds.specs.Runners.{IsWorld, runner_of};
+    ghost use Rattle.sbi_decode.specs.Runners.{IsWorld, runner_of};
 
     /// The monitor of a platform: no enclave, each hart in the host's world, all registers zero, no hart marked. It is
     /// refused where the host's view needs more entries than the platform has, and where memory is.

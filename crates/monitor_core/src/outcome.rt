@@ -1,7 +1,7 @@
 //! What a call leaves, before the registers that go on are looked up.
 
 use crate::answer::Answer;
-use page_views::PageRange;
+use pmp_encoding::PageRange;
 
 /// How a call was served whose registers stand in the monitor: those that go on stand there too.
 #[derive(Clone, Copy)]

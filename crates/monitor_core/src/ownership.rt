@@ -3,7 +3,7 @@
 use crate::answer::Answer;
 use crate::outcome::Outcome;
 use crate::parts::Parts;
-use enclave_requests::{Create, Pages};
+use measurement::{Create, Pages};
 
 impl Parts {
     ghost use Rattle.std.specs.Prelude.{◌≡◌, ◌<◌, Some, []};

@@ -15,7 +15,7 @@ pub(crate) struct Parts {
 
 impl Parts {
     ghost use Rattle.std.specs.Prelude.{◌≡◌, ◌≤◌, ◌<◌, ℕ, false, slice_set};
-    ghost use Rattle.worlds.specs.Runners.{EnclaveOf};
+    ghost use Rattle.sbi_decode.specs.Runners.{EnclaveOf};
     ghost use Rattle.monitor_core.specs.Changes.{in_world, is_host, with_registers, with_running, with_x, answering, past_call, without_mark, marking_others};
     ghost use Rattle.monitor_core.specs.Frames.{IsOn};
     ghost use Rattle.monitor_core.specs.Parts.{HoldsTogether, mark_in, state_in, world_in};

@@ -6,7 +6,7 @@ ghost use Rattle.sbi_decode.specs.Registers.{zeros};
 use crate::call_registers::{go_past_call, put_answer};
 use sbi_decode::Registers;
 use std::alloc::{AllocError, Global};
-use worlds::World;
+use sbi_decode::World;
 
 /// One set for the host of each of four harts, and one for each enclave, by its id from 1 to 64. An enclave's set is the
 /// same for every hart.
@@ -31,7 +31,7 @@ fn enclave_sets(alloc: Global) -> Result<Vec<Registers>, AllocError>
 
 impl RegisterSets {
     ghost use Rattle.std.specs.Prelude.{◌<◌, if◌then◌else◌};
-    ghost use Rattle.worlds.specs.Runners.{Runner, runner_of, IsWorld};
+    ghost use Rattle.sbi_decode.specs.Runners.{Runner, runner_of, IsWorld};
     ghost use Rattle.monitor_core.specs.Changes.{is_same, past_call, with_x};
     ghost use Rattle.monitor_core.specs.RegisterSets.{registers_in};
 

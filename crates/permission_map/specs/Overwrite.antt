@@ -6,7 +6,7 @@ use Rattle.permission_map.specs.declared.runs.Run.{Run}
 use Rattle.permission_map.specs.declared.fault.MapFault.{MapFault}
 use Rattle.permission_map.specs.declared.fault.MapFault.TheVariants.{PastEnd, TooManyRanges, Memory}
 use Rattle.permission_map.specs.Runs.{end_of, AreRunsAfter, AreRuns, view_of_runs}
-use Rattle.page_views.specs.Views.{overwritten, SameView}
+use Rattle.pmp_encoding.specs.Views.{overwritten, SameView}
 
 -- the maximal runs of the view of `old` with the permission in the `count` pages from `first` on
 pub record AreOverwritten (old : List Run) (first count : ℕ) (perm : Perm) (runs : List Run) : Type 0 where

@@ -2,7 +2,7 @@
 use Rattle.std.specs.Prelude.{◌≡◌, ◌≢◌, ℕ, ◌+◌, ◌^◌, ◌<◌, ◌≤◌, cond, List, [], ◌∷◌, ⊤}
 use Rattle.pmp_encoding.specs.declared.perm.Perm.{Perm}
 use Rattle.pmp_encoding.specs.declared.perm.Perm.TheVariants.{NoAccess}
-pub use Rattle.page_views.specs.Views.{in_range}
+pub use Rattle.pmp_encoding.specs.Views.{in_range}
 use Rattle.permission_map.specs.declared.runs.Run.{Run}
 
 -- the first page after a run

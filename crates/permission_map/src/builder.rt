@@ -12,7 +12,7 @@ use crate::map::{Memory, PermissionMap};
 use crate::overwrite::MOST_RUNS;
 use crate::points::{Point, before, begun_at, begun_between, standing_behind, stop, turn, up_to};
 use crate::runs::Run;
-use page_views::SPACE_PAGES;
+use pmp_encoding::SPACE_PAGES;
 use pmp_encoding::Perm;
 use std::alloc::{AllocError, Global};
 use std::marker::Model;

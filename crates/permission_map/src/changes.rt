@@ -5,7 +5,7 @@ ghost use Rattle.pmp_encoding.specs.declared.perm.Perm.TheVariants.{NoAccess};
 ghost use Rattle.permission_map.specs.Points.{IsChanged, IsCut, IsStop, IsTurn, Rise, standing, turns, with_perm};
 
 use crate::points::{Point, standing_behind};
-use page_views::SPACE_PAGES;
+use pmp_encoding::SPACE_PAGES;
 use pmp_encoding::Perm;
 
 /// As many points may be idle: at them the permission does not change.

@@ -4,7 +4,7 @@ ghost use Rattle.std.specs.Prelude.{◌≡◌, ◌≤◌, ◌+◌, ℕ, List, le
 ghost use Rattle.pmp_encoding.specs.declared.perm.Perm.{Perm};
 ghost use Rattle.permission_map.specs.declared.runs.Run.{Run};
 ghost use Rattle.permission_map.specs.Runs.{AreRuns, view_of_runs};
-ghost use Rattle.page_views.specs.Views.{SameView, overwritten};
+ghost use Rattle.pmp_encoding.specs.Views.{SameView, overwritten};
 
 /// The runs are determined by the view: maps of the same view have the same runs.
 pub fn same_runs_law()

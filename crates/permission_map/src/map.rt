@@ -3,7 +3,7 @@
 ghost use Rattle.std.specs.Prelude.{◌≡◌, ◌≤◌, ◌<◌, ◌+◌, ◌%◌, ◌^◌, ◌↔◌, ℕ, List, [], length, Err, OnOk, OnErr, IfOk, IfSome, IfNone, MatchOption};
 ghost use Rattle.pmp_encoding.specs.declared.perm.Perm.{Perm};
 ghost use Rattle.pmp_encoding.specs.declared.perm.Perm.TheVariants.{NoAccess};
-ghost use Rattle.page_views.specs.Views.{IsUniform};
+ghost use Rattle.pmp_encoding.specs.Views.{IsUniform};
 ghost use Rattle.permission_map.specs.declared.runs.Run.{Run};
 ghost use Rattle.permission_map.specs.declared.fault.MapFault as MapFault;
 ghost use Rattle.permission_map.specs.Runs.{AreRuns, view_of_runs};
@@ -14,7 +14,7 @@ use crate::fault::MapFault;
 use crate::overwrite::overwrite;
 use crate::runs::Run;
 use crate::search::next;
-use page_views::{SPACE_PAGES, pages_of};
+use pmp_encoding::{SPACE_PAGES, pages_of};
 use pmp_encoding::Perm;
 use std::alloc::{AllocError, Global};
 use std::marker::Model;

@@ -5,7 +5,7 @@ ghost use Rattle.permission_map.specs.declared.points.Point.{Point};
 ghost use Rattle.pmp_encoding.specs.declared.perm.Perm.TheVariants.{NoAccess};
 ghost use Rattle.permission_map.specs.Points.{IsStop, IsTurn, Rise, allows, page_of, perm_of, standing, turn_at, turns, turns_after, with_perm};
 
-use page_views::SPACE_PAGES;
+use pmp_encoding::SPACE_PAGES;
 use pmp_encoding::Perm;
 
 /// The permission with each three bits. Read from a table, since the compiler makes a jump of a `match` and guesses it wrong.

@@ -8,7 +8,7 @@ ghost use Rattle.planner_for_c.specs.declared.settings.SettingFault.{SettingFaul
 ghost use Rattle.planner_for_c.specs.Settings.{FaultIn, IsRefusedFor, LeadTo, Sets};
 ghost use Rattle.planner_for_c.specs.Codes.{fault_code, place_of, refusal_code};
 
-use page_views::PAGE_SIZE;
+use pmp_encoding::PAGE_SIZE;
 use permission_map::{MapFault, PermissionMap};
 use pmp_encoding::Perm;
 use std::alloc::Global;

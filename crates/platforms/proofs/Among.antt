@@ -1,7 +1,7 @@
 -- The ranges that have a page.
 use Rattle.std.proofs.Common.{◌≡◌, ℕ, zero, suc, ◌+◌, ◌/◌, ◌<◌, ◌≤◌, List, [], ◌∷◌, length, get_or, true, false, ◌||◌, Bool, arith, refl}
 use Rattle.std.proofs.lemmas.Bool.Decides.{nat_tests}
-use Rattle.page_views.specs.Views.{in_range}
+use Rattle.pmp_encoding.specs.Views.{in_range}
 use Rattle.platforms.proofs.Apart.{inside}
 use Rattle.platforms.specs.Ranges.{has_page}
 use Rattle.platforms.proofs.ShortNames.{is_among}

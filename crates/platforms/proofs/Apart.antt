@@ -9,7 +9,7 @@ use Rattle.std.proofs.lemmas.Grind.{common_steps}
 use Rattle.std.proofs.lemmas.List.Elements.{All-append, All-map, All-from_recursion, recursion_from_All}
 use Rattle.std.proofs.lemmas.List.{get_or_default, get_or-map, length-map}
 use Rattle.pmp_encoding.specs.declared.perm.Perm.{Perm}
-use Rattle.page_views.specs.Views.{in_range}
+use Rattle.pmp_encoding.specs.Views.{in_range}
 use Rattle.platforms.specs.Ranges.{AreRangesApart, EachApart, device_range}
 
 pub inside : (first count page : ℕ) → first ≤ page → page < first + count → in_range first count page ≡ true

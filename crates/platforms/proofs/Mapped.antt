@@ -2,9 +2,9 @@
 use Rattle.std.proofs.Common.{ℕ, suc, ◌≡◌, ◌+◌, ◌/◌, ◌<◌, ◌∙◌, sym, ap, cond, List, ◌∷◌, length, get_or, drop, drop-cons, add-one}
 use Rattle.pmp_encoding.specs.declared.perm.Perm.{Perm}
 use Rattle.pmp_encoding.specs.declared.perm.Perm.TheVariants.{NoAccess, ReadWriteExecute}
-use Rattle.page_views.specs.Views.{in_range}
-use Rattle.page_views.specs.Views.{View, SameView, overwritten}
-use Rattle.page_views.specs.declared.pages.PageRange.{PageRange}
+use Rattle.pmp_encoding.specs.Views.{in_range}
+use Rattle.pmp_encoding.specs.Views.{View, SameView, overwritten}
+use Rattle.pmp_encoding.specs.declared.pages.PageRange.{PageRange}
 use Rattle.platforms.specs.Platform.{PlatformLayout, device_perm, platform_perm}
 use Rattle.platforms.specs.Ranges.{has_page}
 use Rattle.platforms.proofs.ShortNames.{is_among}

@@ -2,7 +2,7 @@
 use Rattle.std.specs.Prelude.{◌≡◌, ℕ, ◌+◌, ◌/◌, ◌%◌, ◌^◌, ◌<◌, ◌≤◌, Bool, true, List, [], ◌∷◌, ⊤}
 use Rattle.std.specs.List.{All, list_any}
 use Rattle.pmp_encoding.specs.declared.perm.Perm.{Perm}
-use Rattle.page_views.specs.Views.{in_range}
+use Rattle.pmp_encoding.specs.Views.{in_range}
 
 -- whole pages, at least one, all below 2 ^ 56
 pub record IsRange (range : ℕ × ℕ) : Type 0 where

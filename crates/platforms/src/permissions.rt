@@ -4,12 +4,12 @@ ghost use Rattle.std.specs.Prelude.{◌≡◌, ◌+◌, ◌^◌, ◌≤◌, [], 
 ghost use Rattle.std.specs.List.{All, list_any};
 ghost use Rattle.pmp_encoding.specs.declared.perm.Perm.TheVariants.{NoAccess, ReadWriteExecute};
 ghost use Rattle.permission_map.specs.Runs.{view_of_runs};
-ghost use Rattle.page_views.specs.Views.{SameView, overwritten};
+ghost use Rattle.pmp_encoding.specs.Views.{SameView, overwritten};
 ghost use Rattle.platforms.specs.Platform.{device_perm, platform_perm};
 ghost use Rattle.platforms.specs.Ranges.{IsRange, has_page, device_range};
 
 use crate::platform::Platform;
-use page_views::PageRange;
+use pmp_encoding::PageRange;
 use permission_map::{MapFault, Memory, PermissionMap};
 use pmp_encoding::Perm;
 use std::alloc::{AllocError, Global};

@@ -10,7 +10,7 @@ ghost use Rattle.platforms.specs.Ranges.{AreAmong, IsRange, device_range};
 
 use crate::ranges::{all_ranges, are_among, devices_on_ranges, each_apart, is_range};
 use arrayvec::ArrayVec;
-use page_views::{PAGE_SIZE, PageRange};
+use pmp_encoding::{PAGE_SIZE, PageRange};
 use pmp_encoding::{Limit, Perm};
 use std::marker::Model;
 

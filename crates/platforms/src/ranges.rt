@@ -4,7 +4,7 @@ ghost use Rattle.std.specs.Prelude.{◌≡◌, ◌+◌, ◌^◌, ◌<◌, ◌≤
 ghost use Rattle.std.specs.List.{All, list_any};
 ghost use Rattle.platforms.specs.Ranges.{IsRange, AreRangesApart, EachApart, AreAmong, has_page, device_range};
 
-use page_views::{PAGE_SIZE, PageRange, SPACE_SIZE};
+use pmp_encoding::{PAGE_SIZE, PageRange, SPACE_SIZE};
 use pmp_encoding::Perm;
 
 /// Whether the range is of whole pages, at least one, below 2^56. A range is its base and its size, in bytes.

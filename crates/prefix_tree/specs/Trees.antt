@@ -1,7 +1,7 @@
 -- Trees of blocks of one permission, and the views that they give.
 use Rattle.std.specs.Prelude.{◌≡◌, ◌≢◌, ℕ, zero, suc, ◌+◌, ◌-◌, ◌^◌, ◌<◌, cond, ltb}
 use Rattle.pmp_encoding.specs.declared.perm.Perm.{Perm}
-use Rattle.page_views.specs.Views.{IsUniform}
+use Rattle.pmp_encoding.specs.Views.{IsUniform}
 
 -- a block of one permission, or one split into a lower and an upper half
 pub data PermTree : Type 0 where

@@ -7,7 +7,7 @@ ghost use Rattle.prefix_tree.specs.Joined.{one_perm};
 ghost use Rattle.prefix_tree.specs.Slices.{AreBlockRuns};
 ghost use Rattle.prefix_tree.specs.TreeOf.{tree_at};
 
-use page_views::pages_of;
+use pmp_encoding::pages_of;
 use permission_map::Run;
 use pmp_encoding::Perm;
 

@@ -10,7 +10,7 @@ ghost use Rattle.prefix_tree.specs.TreeOf.{tree_at, tree_of};
 
 use crate::chains::{Chain, edges_of, part_around};
 use crate::halving::Halving;
-use page_views::pages_of;
+use pmp_encoding::pages_of;
 use permission_map::{PermissionMap, Run};
 use pmp_encoding::Perm;
 use std::marker::Model;

@@ -2,7 +2,7 @@
 
 ghost use Rattle.std.specs.Prelude.{◌≡◌, ◌+◌, ◌^◌, ◌≤◌, ◌<◌, ℕ, IfOk};
 ghost use Rattle.pmp_encoding.specs.declared.perm.Perm.{Perm};
-ghost use Rattle.page_views.specs.Views.{overwritten};
+ghost use Rattle.pmp_encoding.specs.Views.{overwritten};
 ghost use Rattle.prefix_tree.specs.Trees.{TreeMeansAt, Fits, IsCanonical};
 ghost use Rattle.prefix_tree.specs.Overlaps.{IsOverlap};
 ghost use Rattle.prefix_tree.specs.Joined.{lower_half, upper_half};
@@ -10,7 +10,7 @@ ghost use Rattle.prefix_tree.specs.Shapes.{shape_of, IsSummed};
 
 use crate::blocks::Block;
 use crate::join::join;
-use page_views::pages_of;
+use pmp_encoding::pages_of;
 use permission_map::Run;
 use std::alloc::{AllocError, Global};
 

@@ -4,7 +4,7 @@ ghost use Rattle.std.specs.Prelude.{◌≡◌, ◌<◌, ◌≤◌, ◌*◌, ◌+
 ghost use Rattle.permission_map.specs.declared.fault.MapFault as MapFault;
 ghost use Rattle.permission_map.specs.declared.runs.Run.{Run};
 ghost use Rattle.permission_map.specs.Runs.{view_of_runs};
-ghost use Rattle.page_views.specs.Views.{overwritten};
+ghost use Rattle.pmp_encoding.specs.Views.{overwritten};
 ghost use Rattle.prefix_tree.specs.Trees.{TreeMeans, view_of_tree, Fits, IsCanonical};
 ghost use Rattle.prefix_tree.specs.TreeOf.{tree_of};
 ghost use Rattle.prefix_tree.specs.RunsOf.{AreRunsOf};
@@ -16,7 +16,7 @@ use crate::join::run_count;
 use crate::map_blocks::MapBlock;
 use crate::map_tree::build_block;
 use crate::overwrite::overwritten_block;
-use page_views::SPACE_PAGES;
+use pmp_encoding::SPACE_PAGES;
 use permission_map::{MapFault, Memory, PermissionMap, Run};
 use pmp_encoding::Perm;
 use std::alloc::Global;

@@ -2,8 +2,8 @@
 use Rattle.std.proofs.Common.{ℕ, List, ◌∷◌, ◌++◌, ◌≡◌, ◌∙◌, ◌+◌, ◌-◌, ◌<◌, suc, length, drop, get_or, ap, sym, arith, add-one, drop-cons, append_assoc}
 use Rattle.pmp_encoding.specs.declared.region.Entry.{Entry}
 use Rattle.pmp_encoding.specs.Encoding.{address_of, cfg_of}
-use Rattle.register_width.specs.declared.xlen.Xlen.{Xlen}
-use Rattle.register_width.specs.Widths.{word_number}
+use Rattle.pmp_encoding.specs.declared.xlen.Xlen.{Xlen}
+use Rattle.pmp_encoding.specs.Widths.{word_number}
 use Rattle.printed_lines.specs.Placed.{word_from}
 use Rattle.printed_lines.specs.Texts.{entry_text, word_text}
 use Rattle.printed_lines.specs.Plans.{entries_text, words_text}

@@ -3,9 +3,9 @@ use Rattle.std.specs.Prelude.{ℕ, ◌+◌, ◌-◌, ◌*◌, nat_lt, if◌then�
 use Rattle.std.specs.Int.{Width, from_le_bytes, w32, w64}
 use Rattle.pmp_encoding.specs.declared.region.Entry.{Entry}
 use Rattle.pmp_encoding.specs.Encoding.{cfg_of}
-use Rattle.register_width.specs.declared.xlen.Xlen.{Xlen}
-use Rattle.register_width.specs.declared.xlen.Xlen.TheVariants.{Rv32, Rv64}
-use Rattle.register_width.specs.Widths.{word_entries}
+use Rattle.pmp_encoding.specs.declared.xlen.Xlen.{Xlen}
+use Rattle.pmp_encoding.specs.declared.xlen.Xlen.TheVariants.{Rv32, Rv64}
+use Rattle.pmp_encoding.specs.Widths.{word_entries}
 
 -- what stands at entry i of the hart: nothing below the first, and after the last
 abbrev pub entry_from : ℕ → List Entry → ℕ → Option Entry

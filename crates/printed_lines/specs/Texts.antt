@@ -2,8 +2,8 @@
 use Rattle.std.specs.Prelude.{ℕ, List, ◌++◌, codes, decimal}
 use Rattle.hex.specs.Hex.{encode_lower}
 use Rattle.text_lines.specs.Written.{hex}
-use Rattle.register_width.specs.declared.xlen.Xlen.{Xlen}
-use Rattle.register_width.specs.Widths.{register_digits}
+use Rattle.pmp_encoding.specs.declared.xlen.Xlen.{Xlen}
+use Rattle.pmp_encoding.specs.Widths.{register_digits}
 
 -- `entries N`
 abbrev pub count_text : ℕ → List ℕ

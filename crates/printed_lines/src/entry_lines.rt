@@ -8,7 +8,7 @@ ghost use Rattle.printed_lines.specs.Plans.{entries_text};
 ghost use Rattle.printed_lines.specs.Texts.{entry_text, register_text};
 
 use pmp_encoding::PackedEntry;
-use register_width::Xlen;
+use pmp_encoding::Xlen;
 use text_lines::{Counter, hex_digit, hex_digits};
 
 /// The most bytes that are put for an entry: what stands behind a short number is put too, and written over.

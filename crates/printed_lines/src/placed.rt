@@ -6,7 +6,7 @@ ghost use Rattle.pmp_encoding.specs.Limits.{limit_number};
 ghost use Rattle.printed_lines.specs.Placed.{cfg_from, entry_from, places_in_word, word_from};
 
 use pmp_encoding::{Entry, Limit, PackedEntry};
-use register_width::Xlen;
+use pmp_encoding::Xlen;
 
 /// What stands at entry i of the hart.
 pub fn entry_from(entries: &[PackedEntry], first: u8, i: usize) -> Option<Entry>

@@ -2,7 +2,7 @@
 
 ghost use Rattle.std.specs.Prelude.{◌+◌, ◌-◌, ◌<◌, ◌≤◌, ◌^◌, length};
 ghost use Rattle.byte_streams.specs.Writings.{writing, Prints, PrintsOne};
-ghost use Rattle.register_width.specs.Widths.{whole_word, AreReached};
+ghost use Rattle.pmp_encoding.specs.Widths.{whole_word, AreReached};
 ghost use Rattle.printed_lines.specs.Plans.{IsPlanText, entries_text, list_text, words_text};
 
 use crate::entry_lines::{MOST, put_entries};
@@ -10,7 +10,7 @@ use crate::placed::{room_from, word_from};
 use crate::texts::{count_line, word_line};
 use byte_streams::{DeviceFault, Sink, write_whole};
 use pmp_encoding::{Limit, PackedEntry};
-use register_width::Xlen;
+use pmp_encoding::Xlen;
 
 /// How many entries' lines are put together before they go to the sink: more bytes than a `HeldSink` holds, which then
 /// hands them on without a copy.

@@ -3,7 +3,7 @@
 ghost use Rattle.std.specs.Prelude.{◌≡◌, ◌+◌, ◌≤◌, ◌++◌, length};
 ghost use Rattle.printed_lines.specs.Texts.{accepted_of_text, accepted_text, count_text, refused_text, register_text, word_text};
 
-use register_width::Xlen;
+use pmp_encoding::Xlen;
 use text_lines::{Line, push_decimal, push_hex, push_text};
 
 /// `entries N`.

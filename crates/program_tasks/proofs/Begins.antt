@@ -2,7 +2,7 @@
 use Rattle.std.proofs.Common.{ℕ, ◌≡◌, ◌≢◌, ◌∙◌, Option, Some, IfSome, codes, sym, inl, inr, true, option_map}
 use Rattle.std.specs.Borrow.{Bor}
 use Rattle.pmp_encoding.specs.declared.limit.Limit.{Limit}
-use Rattle.register_width.specs.declared.xlen.Xlen.{Xlen}
+use Rattle.pmp_encoding.specs.declared.xlen.Xlen.{Xlen}
 use Rattle.program_tasks.specs.declared.fault.Fault.{Fault}
 use Rattle.program_tasks.specs.declared.subcommand.Subcommand.TheVariants as subcommands
 use Rattle.program_tasks.specs.declared.options.Format.{Format}

@@ -2,7 +2,7 @@
 use Rattle.std.specs.Prelude.{List, [], ◌∷◌, ℕ, ◌<◌, Option, Some, None, ◌++◌, ◌≡◌, ◌≢◌, ◌⊎◌, codes, true}
 use Rattle.pmp_encoding.specs.declared.limit.Limit.{Limit}
 use Rattle.pmp_encoding.specs.Limits.{limit_number}
-use Rattle.register_width.specs.declared.xlen.Xlen.{Xlen}
+use Rattle.pmp_encoding.specs.declared.xlen.Xlen.{Xlen}
 use Rattle.program_tasks.specs.declared.fault.Fault.{Fault}
 use Rattle.program_tasks.specs.declared.fault.Fault.TheVariants as faults
 use Rattle.program_tasks.specs.declared.options.Format.{Format}

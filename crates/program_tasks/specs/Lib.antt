@@ -4,3 +4,9 @@ pub mod Options
 pub mod Requests
 pub mod Subcommands
 pub mod Tasks
+pub mod Files
+pub mod Hinted
+pub mod Inputs
+pub mod Names
+pub mod Places
+pub mod Words

@@ -1,6 +1,6 @@
 -- How a task is done where nothing is said of it.
 use Rattle.std.specs.Prelude.{false, None}
-use Rattle.register_width.specs.declared.xlen.Xlen.TheVariants.{Rv64}
+use Rattle.pmp_encoding.specs.declared.xlen.Xlen.TheVariants.{Rv64}
 use Rattle.program_tasks.specs.declared.hints.Hints.TheVariants.{Auto}
 use Rattle.program_tasks.specs.declared.options.Answers.TheVariants.{Plain}
 use Rattle.program_tasks.specs.declared.options.Format.TheVariants as formats

@@ -4,7 +4,7 @@ ghost use Rattle.std.specs.Prelude.{◌≡◌, ◌≢◌, ◌<◌, ℕ, [], ◌�
 ghost use Rattle.std.specs.List.{list_all};
 ghost use Rattle.pmp_encoding.specs.declared.limit.Limit.{Limit};
 ghost use Rattle.pmp_encoding.specs.Limits.{limit_number};
-ghost use Rattle.register_width.specs.declared.xlen.Xlen.{Xlen};
+ghost use Rattle.pmp_encoding.specs.declared.xlen.Xlen.{Xlen};
 ghost use Rattle.text_lines.specs.Numbers.{number_of};
 ghost use Rattle.program_tasks.specs.declared.options.Format.{Format};
 ghost use Rattle.program_tasks.specs.declared.options.TableFormat.{TableFormat};
@@ -16,7 +16,7 @@ use crate::fault::Fault;
 use crate::given::Values;
 use crate::options::{Format, TableFormat};
 use pmp_encoding::Limit;
-use register_width::Xlen;
+use pmp_encoding::Xlen;
 use text_lines::number;
 
 /// The limit that a word names.

@@ -4,7 +4,7 @@ ghost use Rattle.std.specs.Prelude.{◌≡◌};
 ghost use Rattle.program_tasks.specs.Options.{default_options};
 
 use crate::hints::Hints;
-use register_width::Xlen;
+use pmp_encoding::Xlen;
 
 /// How a plan is printed.
 #[derive(Clone, Copy, PartialEq, Eq)]

@@ -4,10 +4,10 @@ use Rattle.std.specs.List.{AllByRecursion}
 use Rattle.std.proofs.lemmas.Bool.{cases_lt}
 use Rattle.std.proofs.lemmas.List.Elements.{recursion_from_All}
 use Rattle.pmp_encoding.specs.declared.extent.Extent.{Extent}
-use Rattle.page_views.specs.Views.{View}
-use Rattle.pmp_registers.specs.Bytes.{perm_at}
-use Rattle.stretches.specs.declared.stretch.Stretch.{Stretch}
-use Rattle.stretches.specs.Stretches.{AreStretches, IsStretch}
+use Rattle.pmp_encoding.specs.Views.{View}
+use Rattle.pmp_match.specs.RegisterBytes.{perm_at}
+use Rattle.map_table.specs.declared.stretch.Stretch.{Stretch}
+use Rattle.map_table.specs.Stretches.{AreStretches, IsStretch}
 use Rattle.register_audit.specs.Findings.{IsFirstDifference, IsFirstOdd, agrees}
 
 agreed_by :

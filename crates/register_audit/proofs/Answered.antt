@@ -1,13 +1,13 @@
 -- What a verdict says of the registers.
 use Rattle.std.proofs.Common.{ℕ, ◌≡◌, ◌≢◌, ◌∙◌, ◌⊎◌, ◌&&◌, inl, inr, List, Bool, true, false, sym, subst, arith}
 use Rattle.pmp_encoding.specs.declared.extent.Extent.{Extent}
-use Rattle.page_views.specs.Views.{View}
-use Rattle.pmp_registers.specs.declared.registers.Registers.{Registers}
-use Rattle.pmp_registers.specs.Decision.{ExtentsMean, RegistersMean}
-use Rattle.pmp_registers.specs.Matching.{AreExtents}
-use Rattle.pmp_registers.proofs.EachByte.{each_byte}
-use Rattle.pmp_registers.proofs.Matched.{all_defined, each_words, one_list}
-use Rattle.stretches.specs.declared.stretch.Stretch.{Stretch}
+use Rattle.pmp_encoding.specs.Views.{View}
+use Rattle.pmp_match.specs.declared.registers.Registers.{Registers}
+use Rattle.pmp_match.specs.RegisterDecision.{ExtentsMean, RegistersMean}
+use Rattle.pmp_match.specs.RegisterMatching.{AreExtents}
+use Rattle.pmp_match.proofs.RegistersEachByte.{each_byte}
+use Rattle.pmp_match.proofs.Matched.{all_defined, each_words, one_list}
+use Rattle.map_table.specs.declared.stretch.Stretch.{Stretch}
 use Rattle.register_audit.specs.declared.verdict.Verdict.{Verdict}
 use Rattle.register_audit.specs.declared.verdict.Verdict.TheVariants as verdicts
 use Rattle.register_audit.specs.Findings.{IsFirstDifference}

@@ -8,17 +8,17 @@ use Rattle.std.proofs.lemmas.Option.{get_or_from_slice_get, slice_get-get_or, sl
 use Rattle.pmp_encoding.specs.declared.extent.Extent.{Extent}
 use Rattle.pmp_encoding.specs.declared.perm.Perm.{Perm}
 use Rattle.pmp_encoding.specs.declared.perm.Perm.TheVariants.{NoAccess, Read, ReadWrite, Execute, ReadExecute, ReadWriteExecute}
-use Rattle.page_views.specs.Views.{View}
+use Rattle.pmp_encoding.specs.Views.{View}
 use Rattle.pmp_match.specs.declared.access.Access.{Access}
 use Rattle.pmp_match.specs.declared.access.Kind.{Kind}
 use Rattle.pmp_match.specs.declared.access.Kind.TheVariants.{Fetch, Load, Store}
 use Rattle.pmp_match.specs.Accesses.{IsAligned}
 use Rattle.pmp_match.specs.Kinds.{has_size, holds}
-use Rattle.pmp_registers.specs.Decision.{ContainsAll, ExtentsMean, IsFirstMatch, IsNeverCut, IsWords, Meets, NoneMeets}
-use Rattle.pmp_registers.specs.Tor.{nowhere}
-use Rattle.pmp_registers.proofs.Decided.{contains_from_ends, ends_from_contains}
-use Rattle.pmp_registers.proofs.EachByte.{IsSmall, small_contained}
-use Rattle.pmp_registers.proofs.Uncut.{one_match}
+use Rattle.pmp_match.specs.RegisterDecision.{ContainsAll, ExtentsMean, IsFirstMatch, IsNeverCut, IsWords, Meets, NoneMeets}
+use Rattle.pmp_match.specs.Tor.{nowhere}
+use Rattle.pmp_match.proofs.RegistersDecided.{contains_from_ends, ends_from_contains}
+use Rattle.pmp_match.proofs.RegistersEachByte.{IsSmall, small_contained}
+use Rattle.pmp_match.proofs.RegistersUncut.{one_match}
 use Rattle.register_audit.specs.Findings.{IsCut, IsFirstOf, IsLowestCut, IsUncut, load_of_eight}
 use Rattle.register_audit.proofs.Each.{split_at}
 

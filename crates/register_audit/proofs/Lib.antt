@@ -3,3 +3,9 @@ pub mod Each
 pub mod Cut
 pub mod Agreed
 pub mod Odd
+pub mod Places
+pub mod Lists
+pub mod Same
+pub mod EachPage
+pub mod NoMap
+pub mod Meant

@@ -1,8 +1,8 @@
 -- An audit of a listing.
 use Rattle.std.specs.Prelude.{◌≡◌, ◌≢◌, ℕ, List, ◌++◌, ◌&&◌, Bool, true, false, Some}
-use Rattle.page_views.specs.Views.{View}
-use Rattle.pmp_registers.specs.declared.registers.Registers.{Registers}
-use Rattle.register_width.specs.declared.xlen.Xlen.{Xlen}
+use Rattle.pmp_encoding.specs.Views.{View}
+use Rattle.pmp_match.specs.declared.registers.Registers.{Registers}
+use Rattle.pmp_encoding.specs.declared.xlen.Xlen.{Xlen}
 use Rattle.register_text.specs.declared.listing.Listing.{Listing}
 use Rattle.register_text.specs.Listings.{listed}
 use Rattle.register_audit.specs.declared.verdict.Verdict.{Verdict}

@@ -1,11 +1,11 @@
 -- Each stretch on which registers give another permission than a view, with its line.
 use Rattle.std.specs.Prelude.{◌≡◌, ◌≢◌, ℕ, ◌^◌, List, [], ◌∷◌, ◌++◌}
 use Rattle.pmp_encoding.specs.declared.extent.Extent.{Extent}
-use Rattle.page_views.specs.Views.{View}
-use Rattle.pmp_registers.specs.declared.registers.Registers.{Registers}
-use Rattle.pmp_registers.specs.Matching.{AreExtents}
-use Rattle.stretches.specs.declared.stretch.Stretch.{Stretch}
-use Rattle.stretches.specs.Stretches.{AreStretches}
+use Rattle.pmp_encoding.specs.Views.{View}
+use Rattle.pmp_match.specs.declared.registers.Registers.{Registers}
+use Rattle.pmp_match.specs.RegisterMatching.{AreExtents}
+use Rattle.map_table.specs.declared.stretch.Stretch.{Stretch}
+use Rattle.map_table.specs.Stretches.{AreStretches}
 use Rattle.register_audit.specs.Findings.{agrees}
 use Rattle.register_audit.specs.Texts.{stretch_text}
 

@@ -1,14 +1,14 @@
 -- Where extents do not mean a view.
 use Rattle.std.specs.Prelude.{◌≡◌, ◌≢◌, ℕ, ◌/◌, ◌%◌, ◌^◌, ◌<◌, ◌≤◌, true, refl, All, List, ◌∷◌, ◌++◌, Some, slice_get, take}
 use Rattle.pmp_encoding.specs.declared.extent.Extent.{Extent}
-use Rattle.page_views.specs.Views.{View}
+use Rattle.pmp_encoding.specs.Views.{View}
 use Rattle.pmp_match.specs.declared.access.Access.{Access}
 use Rattle.pmp_match.specs.declared.access.Mode.TheVariants.{User}
 use Rattle.pmp_match.specs.declared.access.Kind.TheVariants.{Load}
-use Rattle.pmp_registers.specs.Bytes.{IsGiven, perm_at}
-use Rattle.pmp_registers.specs.Decision.{ContainsAll, ExtentsMean, Meets, NoneMeets}
-use Rattle.stretches.specs.declared.stretch.Stretch.{Stretch}
-use Rattle.stretches.specs.Stretches.{IsStretch}
+use Rattle.pmp_match.specs.RegisterBytes.{IsGiven, perm_at}
+use Rattle.pmp_match.specs.RegisterDecision.{ContainsAll, ExtentsMean, Meets, NoneMeets}
+use Rattle.map_table.specs.declared.stretch.Stretch.{Stretch}
+use Rattle.map_table.specs.Stretches.{IsStretch}
 use Rattle.register_audit.specs.declared.finding.Finding.{Finding}
 use Rattle.register_audit.specs.declared.finding.Finding.TheVariants as findings
 use Rattle.pmp_match.specs.Kinds.{holds}

@@ -4,3 +4,12 @@ pub mod Verdicts
 pub mod Texts
 pub mod Differences
 pub mod Audits
+pub mod Tables
+pub mod Decision
+pub mod Judgement
+pub mod Answers
+pub mod Listings
+pub mod Deciders
+pub mod Pages
+pub mod MapTexts
+pub mod Maps

@@ -2,8 +2,8 @@
 use Rattle.std.specs.Prelude.{ℕ, ◌+◌, ◌-◌, ◌==◌, if◌then◌else◌, List, ◌++◌, codes, decimal, Option, Some, None}
 use Rattle.text_lines.specs.Written.{hex}
 use Rattle.printed_lines.specs.Fields.{letters_of}
-use Rattle.pmp_registers.specs.declared.registers.Registers.{Registers}
-use Rattle.stretches.specs.declared.stretch.Stretch.{Stretch}
+use Rattle.pmp_match.specs.declared.registers.Registers.{Registers}
+use Rattle.map_table.specs.declared.stretch.Stretch.{Stretch}
 use Rattle.register_text.specs.Texts.{reserved_text}
 use Rattle.register_audit.specs.declared.verdict.Verdict.{Verdict}
 use Rattle.register_audit.specs.declared.verdict.Verdict.TheVariants as verdicts

@@ -1,11 +1,11 @@
 -- What registers say of a view.
 use Rattle.std.specs.Prelude.{◌≡◌, ◌+◌, ◌^◌, ◌<◌, ⊤, List, Bool, true, false}
 use Rattle.pmp_encoding.specs.declared.extent.Extent.{Extent}
-use Rattle.page_views.specs.Views.{View}
-use Rattle.pmp_registers.specs.declared.registers.Registers.{Registers}
-use Rattle.pmp_registers.specs.Decision.{RegistersMean}
-use Rattle.pmp_registers.specs.Matching.{AreExtents}
-use Rattle.pmp_registers.specs.Reserved.{IsFirstReserved}
+use Rattle.pmp_encoding.specs.Views.{View}
+use Rattle.pmp_match.specs.declared.registers.Registers.{Registers}
+use Rattle.pmp_match.specs.RegisterDecision.{RegistersMean}
+use Rattle.pmp_match.specs.RegisterMatching.{AreExtents}
+use Rattle.pmp_match.specs.Reserved.{IsFirstReserved}
 use Rattle.register_audit.specs.declared.verdict.Verdict.{Verdict}
 use Rattle.register_audit.specs.declared.verdict.Verdict.TheVariants as verdicts
 use Rattle.register_audit.specs.Registers.{count_on}

@@ -3,15 +3,15 @@
 ghost use Rattle.std.specs.Prelude.{◌≡◌, ℕ, ◌+◌, ◌^◌, ◌<◌, ◌≤◌, ◌⊎◌, ◌↔◌, All, IfNone, IfSome, IsTrue, MatchOption, Some, length, slice_get};
 ghost use Rattle.permission_map.specs.Runs.{view_of_runs};
 ghost use Rattle.pmp_encoding.specs.declared.extent.Extent.{Extent};
-ghost use Rattle.pmp_registers.specs.Decision.{IsWords, Meets};
+ghost use Rattle.pmp_match.specs.RegisterDecision.{IsWords, Meets};
 ghost use Rattle.register_audit.specs.Findings.{IsCut, IsFirstCut, IsFirstOf, IsLowestCut, IsUncut, load_of_eight};
 ghost use Rattle.pmp_match.specs.Kinds.{holds};
 ghost use Rattle.pmp_match.specs.declared.access.Kind.TheVariants.{Load};
 
-use page_views::PAGE_SIZE;
+use pmp_encoding::PAGE_SIZE;
 use permission_map::PermissionMap;
 use pmp_encoding::Perm;
-use pmp_registers::Extent;
+use pmp_match::Extent;
 
 /// Eight bytes that an entry cuts.
 #[derive(Clone, Copy)]

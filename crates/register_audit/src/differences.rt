@@ -3,17 +3,17 @@
 ghost use Rattle.std.specs.Prelude.{◌≡◌, ◌≢◌, ◌<◌, ◌++◌, ℕ, All, IfOk, List, false, true};
 ghost use Rattle.permission_map.specs.Runs.{view_of_runs};
 ghost use Rattle.pmp_encoding.specs.declared.extent.Extent.{Extent};
-ghost use Rattle.pmp_registers.specs.Matching.{AreExtents};
-ghost use Rattle.stretches.specs.declared.stretch.Stretch.{Stretch};
+ghost use Rattle.pmp_match.specs.RegisterMatching.{AreExtents};
+ghost use Rattle.map_table.specs.declared.stretch.Stretch.{Stretch};
 ghost use Rattle.register_audit.specs.Differences.{AreDifferences, AreOdd, differences_text};
 ghost use Rattle.register_audit.specs.Findings.{agrees};
 
 use crate::finding::is_odd;
 use crate::texts::stretch_line;
 use permission_map::{Memory, PermissionMap};
-use pmp_registers::{Registers, extents_of};
+use pmp_match::{Registers, extents_of};
 use std::alloc::Global;
-use stretches::{Stretch, stretches};
+use map_table::{Stretch, stretches};
 
 /// Appends the line of each of these stretches on which a map and registers differ.
 fn push_odd(text: &mut Vec<u8>, all: &[Stretch]) -> Result<(), Memory>

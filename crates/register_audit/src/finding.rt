@@ -2,14 +2,14 @@
 
 ghost use Rattle.std.specs.Prelude.{◌≡◌, ◌≢◌, All, IfOk, MatchOption, false, true};
 ghost use Rattle.permission_map.specs.Runs.{view_of_runs};
-ghost use Rattle.pmp_registers.specs.Decision.{IsWords};
+ghost use Rattle.pmp_match.specs.RegisterDecision.{IsWords};
 ghost use Rattle.register_audit.specs.Findings.{IsFinding, IsFirstOdd, agrees};
 
 use crate::cut_access::first_cut;
 use permission_map::{Memory, PermissionMap};
-use pmp_registers::Extent;
+use pmp_match::Extent;
 use std::alloc::Global;
-use stretches::{Stretch, stretches};
+use map_table::{Stretch, stretches};
 
 /// Whether extents mean a map, and where they do not.
 #[derive(Clone, Copy)]

@@ -3,7 +3,7 @@
 ghost use Rattle.std.specs.Prelude.{◌≡◌, ◌≢◌, ◌⊎◌, ◌-◌, ◌^◌, ◌<◌, ◌++◌, ◌&&◌, ℕ, Bool, Err, Ok, Some, List, IfOk, length, true, false};
 ghost use Rattle.byte_streams.specs.Writings.{writing, Breaks, TakesAll};
 ghost use Rattle.permission_map.specs.Runs.{view_of_runs};
-ghost use Rattle.pmp_registers.specs.Decision.{RegistersMean};
+ghost use Rattle.pmp_match.specs.RegisterDecision.{RegistersMean};
 ghost use Rattle.register_text.specs.declared.listing.Listing.{Listing};
 ghost use Rattle.register_text.specs.Listings.{IsFirstUnknown, listed};
 ghost use Rattle.register_audit.specs.declared.listing_audit.AuditFault as AuditFault;
@@ -16,9 +16,9 @@ use crate::texts::verdict_line;
 use crate::verdict::{Verdict, verdict_of};
 use byte_streams::{Sink, write_whole};
 use permission_map::{Memory, PermissionMap};
-use pmp_registers::Registers;
+use pmp_match::Registers;
 use register_text::{Listing, listing_of, passed_line, smepmp_line, text_of_line};
-use register_width::Xlen;
+use pmp_encoding::Xlen;
 use std::alloc::Global;
 
 /// Why a listing was not audited.

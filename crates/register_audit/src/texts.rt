@@ -1,16 +1,16 @@
 //! The line of a verdict.
 
 ghost use Rattle.std.specs.Prelude.{◌≡◌, ℕ, ◌+◌, ◌^◌, ◌++◌, ◌<◌, ◌≤◌, length};
-ghost use Rattle.pmp_registers.specs.declared.registers.Registers.{Registers};
+ghost use Rattle.pmp_match.specs.declared.registers.Registers.{Registers};
 ghost use Rattle.register_audit.specs.declared.verdict.Verdict as Verdict;
 ghost use Rattle.register_audit.specs.Texts.{differs_text, enough, entries_named, sayer, stretch_text, verdict_text};
 ghost use Rattle.register_audit.specs.Verdicts.{IsWritable};
 
 use crate::verdict::Verdict;
-use pmp_registers::Registers;
+use pmp_match::Registers;
 use printed_lines::letters;
 use register_text::reserved_line;
-use stretches::Stretch;
+use map_table::Stretch;
 use text_lines::{Line, push_decimal, push_hex, push_text};
 
 fn entries_named(n: u64) -> &'static str

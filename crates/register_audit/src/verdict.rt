@@ -7,9 +7,9 @@ ghost use Rattle.register_audit.specs.Verdicts.{IsVerdict};
 
 use crate::finding::{Finding, compared};
 use permission_map::{Memory, PermissionMap};
-use pmp_registers::{Registers, ReservedAt, extents_of};
+use pmp_match::{Registers, ReservedAt, extents_of};
 use std::alloc::Global;
-use stretches::Stretch;
+use map_table::Stretch;
 
 /// Whether registers mean a map, and where they do not.
 #[derive(Clone, Copy)]

@@ -3,9 +3,9 @@ use Rattle.std.specs.Prelude.{◌≡◌, ℕ, ◌+◌, ◌-◌, ◌/◌, ◌==�
 use Rattle.std.specs.List.{concat}
 use Rattle.pmp_encoding.specs.declared.limit.Limit.{Limit}
 use Rattle.pmp_encoding.specs.declared.region.Entry.{Entry}
-use Rattle.register_width.specs.declared.xlen.Xlen.{Xlen}
-use Rattle.register_width.specs.declared.xlen.Xlen.TheVariants.{Rv32, Rv64}
-use Rattle.register_width.specs.Widths.{whole_word, word_count, word_entries, word_number}
+use Rattle.pmp_encoding.specs.declared.xlen.Xlen.{Xlen}
+use Rattle.pmp_encoding.specs.declared.xlen.Xlen.TheVariants.{Rv32, Rv64}
+use Rattle.pmp_encoding.specs.Widths.{whole_word, word_count, word_entries, word_number}
 use Rattle.printed_lines.specs.Placed.{word_from}
 use Rattle.printed_lines.specs.Texts.{register_text}
 use Rattle.register_formats.specs.Names.{address_or_zero, note_text}

@@ -5,9 +5,9 @@ use Rattle.pmp_encoding.specs.declared.limit.Limit.{Limit}
 use Rattle.pmp_encoding.specs.declared.limit.Limit.TheVariants.{Sixteen, SixtyFour}
 use Rattle.pmp_encoding.specs.declared.region.Entry.{Entry}
 use Rattle.pmp_encoding.specs.Limits.{limit_number}
-use Rattle.register_width.specs.declared.xlen.Xlen.{Xlen}
-use Rattle.register_width.specs.declared.xlen.Xlen.TheVariants.{Rv32, Rv64}
-use Rattle.register_width.specs.Widths.{whole_word, word_count, word_entries, word_number}
+use Rattle.pmp_encoding.specs.declared.xlen.Xlen.{Xlen}
+use Rattle.pmp_encoding.specs.declared.xlen.Xlen.TheVariants.{Rv32, Rv64}
+use Rattle.pmp_encoding.specs.Widths.{whole_word, word_count, word_entries, word_number}
 use Rattle.printed_lines.specs.Placed.{entry_from, word_from}
 use Rattle.printed_lines.specs.Texts.{register_text}
 use Rattle.register_formats.specs.Names.{address_or_zero, array_link, place_text, prefix_of}

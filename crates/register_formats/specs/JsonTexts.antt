@@ -5,9 +5,9 @@ use Rattle.pmp_encoding.specs.declared.limit.Limit.TheVariants.{Sixteen, SixtyFo
 use Rattle.pmp_encoding.specs.declared.region.Entry.{Entry}
 use Rattle.pmp_encoding.specs.Encoding.{address_of, cfg_of}
 use Rattle.pmp_encoding.specs.Limits.{limit_number}
-use Rattle.register_width.specs.declared.xlen.Xlen.{Xlen}
-use Rattle.register_width.specs.declared.xlen.Xlen.TheVariants.{Rv32, Rv64}
-use Rattle.register_width.specs.Widths.{word_count}
+use Rattle.pmp_encoding.specs.declared.xlen.Xlen.{Xlen}
+use Rattle.pmp_encoding.specs.declared.xlen.Xlen.TheVariants.{Rv32, Rv64}
+use Rattle.pmp_encoding.specs.Widths.{word_count}
 use Rattle.printed_lines.specs.Placed.{word_from}
 use Rattle.printed_lines.specs.Texts.{register_text}
 use Rattle.text_lines.specs.Written.{hex}

@@ -2,8 +2,8 @@
 use Rattle.std.specs.Prelude.{ℕ, ◌-◌, ◌*◌, ◌%◌, ◌^◌, ◌==◌, ◌&&◌, not, nat_lt, if◌then◌else◌}
 use Rattle.pmp_encoding.specs.declared.limit.Limit.{Limit}
 use Rattle.pmp_encoding.specs.Limits.{limit_number}
-use Rattle.register_width.specs.declared.xlen.Xlen.{Xlen}
-use Rattle.register_width.specs.Widths.{word_entries}
+use Rattle.pmp_encoding.specs.declared.xlen.Xlen.{Xlen}
+use Rattle.pmp_encoding.specs.Widths.{word_entries}
 
 -- how many words are shared: one, where the list begins inside a word of the hart
 abbrev pub shared_words : Xlen → Limit → ℕ → ℕ

@@ -8,7 +8,7 @@ use crate::rows::{Row, Rows};
 use crate::shared::{kept_bits, shared_words};
 use pmp_encoding::{Limit, PackedEntry};
 use printed_lines::{push_register, word_from};
-use register_width::Xlen;
+use pmp_encoding::Xlen;
 use text_lines::{Line, push_decimal, push_text};
 
 /// The last instruction, and after it the end of a routine, where it has a name.
@@ -168,7 +168,7 @@ pub(crate) struct Words<'a> {
 
 impl Rows for Words<'_> {
     ghost use Rattle.std.specs.Prelude.{◌-◌};
-    ghost use Rattle.register_width.specs.Widths.{whole_word};
+    ghost use Rattle.pmp_encoding.specs.Widths.{whole_word};
     ghost use Rattle.register_formats.specs.AsmTexts.{asm_word_row};
 
     ghost row_text = { λ rows. asm_word_row rows.xlen rows.first rows.entries.now };

@@ -7,7 +7,7 @@ use crate::names::{address_or_zero, push_place};
 use crate::rows::{Row, Rows};
 use pmp_encoding::{Limit, PackedEntry};
 use printed_lines::{entry_from, push_register, word_from};
-use register_width::Xlen;
+use pmp_encoding::Xlen;
 use text_lines::{Line, push_decimal, push_text};
 
 /// What stands before the arrays, with a guard that a compiler for the other width refuses.

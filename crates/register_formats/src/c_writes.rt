@@ -6,7 +6,7 @@ ghost use Rattle.register_formats.specs.CTexts.{c_joined, c_kept, c_kept_begin};
 use crate::rows::{Row, Rows};
 use crate::shared::kept_bits;
 use printed_lines::push_register;
-use register_width::Xlen;
+use pmp_encoding::Xlen;
 use text_lines::{Line, push_decimal, push_text};
 
 /// An instruction for each address register from the first on.
@@ -107,7 +107,7 @@ pub(crate) struct WordWrites {
 
 impl Rows for WordWrites {
     ghost use Rattle.std.specs.Prelude.{◌-◌};
-    ghost use Rattle.register_width.specs.Widths.{whole_word};
+    ghost use Rattle.pmp_encoding.specs.Widths.{whole_word};
     ghost use Rattle.register_formats.specs.CTexts.{c_word_write};
 
     ghost row_text = { λ rows. c_word_write rows.xlen rows.first };

@@ -3,7 +3,7 @@
 ghost use Rattle.std.specs.Prelude.{◌≡◌};
 ghost use Rattle.register_formats.specs.Heads.{head_begin, head_below, head_end, head_rules, head_width};
 
-use register_width::Xlen;
+use pmp_encoding::Xlen;
 
 /// What must hold where the registers are written.
 pub(crate) fn head_begin<'a>() -> &'a [u8]

@@ -7,7 +7,7 @@ use crate::names::{entry_at, power_of_two};
 use crate::rows::{Row, Rows};
 use pmp_encoding::{Entry, Limit, PackedEntry};
 use printed_lines::{push_register, word_from};
-use register_width::Xlen;
+use pmp_encoding::Xlen;
 use text_lines::{Line, push_decimal, push_hex, push_text};
 
 /// The limit.

@@ -3,7 +3,7 @@
 ghost use Rattle.std.specs.Prelude.{◌≡◌, ◌+◌, ◌-◌, ◌^◌, ◌/◌, ◌<◌, ◌≤◌, Some, length, option_map};
 ghost use Rattle.byte_streams.specs.Writings.{writing, Prints, PrintsOne};
 ghost use Rattle.pmp_encoding.specs.Limits.{limit_number};
-ghost use Rattle.register_width.specs.Widths.{whole_word, word_count, AreReached};
+ghost use Rattle.pmp_encoding.specs.Widths.{whole_word, word_count, AreReached};
 ghost use Rattle.register_formats.specs.AsmTexts.{IsAsmText, asm_head, asm_words};
 ghost use Rattle.register_formats.specs.CTexts.{IsCText, c_arrays, c_loader, c_loader_begin, c_word_writes};
 ghost use Rattle.register_formats.specs.Heads.{head_begin, head_below, head_end, head_rules, head_width};
@@ -18,7 +18,7 @@ use crate::{asm_rows, c_rows, c_writes, json_rows};
 use byte_streams::{DeviceFault, Sink, write_whole};
 use pmp_encoding::{Limit, PackedEntry};
 use printed_lines::room_from;
-use register_width::Xlen;
+use pmp_encoding::Xlen;
 
 /// Writes the arrays of a hart's registers in C.
 fn print_arrays<W: Sink>(

@@ -4,7 +4,7 @@ ghost use Rattle.std.specs.Prelude.{◌≡◌, ◌≤◌};
 ghost use Rattle.register_formats.specs.Shared.{kept_bits, shared_words};
 
 use pmp_encoding::Limit;
-use register_width::Xlen;
+use pmp_encoding::Xlen;
 
 /// How many words are shared.
 pub(crate) fn shared_words(xlen: Xlen, limit: Limit, first: u8) -> usize

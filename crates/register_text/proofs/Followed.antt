@@ -4,7 +4,7 @@ use Rattle.std.proofs.lemmas.Bool.{le-leb}
 use Rattle.std.proofs.lemmas.Option.{same_Some}
 use Rattle.std.specs.Option.{option_and_then}
 use Rattle.text_lines.specs.Lines.{IsShortLine, without_return}
-use Rattle.register_width.specs.declared.xlen.Xlen.{Xlen}
+use Rattle.pmp_encoding.specs.declared.xlen.Xlen.{Xlen}
 use Rattle.register_text.specs.declared.listing.Listing.{Listing}
 use Rattle.register_text.specs.declared.setting.Setting.{Setting}
 use Rattle.register_text.specs.declared.setting.Setting.TheVariants as settings

@@ -1,3 +1,6 @@
 pub mod Lines
 pub mod Listings
 pub mod Texts
+pub mod Blocks
+pub mod Letters
+pub mod LogLines

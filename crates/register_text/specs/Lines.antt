@@ -3,15 +3,15 @@ use Rattle.std.specs.Prelude.{ℕ, ◌+◌, ◌*◌, ◌%◌, ◌/◌, ◌-◌, 
 use Rattle.std.specs.List.{list_all, position_or_len}
 use Rattle.std.specs.Option.{option_and_then}
 use Rattle.std.specs.Str.{str_eq_ignore_ascii_case}
-use Rattle.register_width.specs.declared.xlen.Xlen.{Xlen}
-use Rattle.register_width.specs.declared.xlen.Xlen.TheVariants.{Rv32, Rv64}
-use Rattle.register_width.specs.Widths.{fits, word_entries, xlen_bits}
+use Rattle.pmp_encoding.specs.declared.xlen.Xlen.{Xlen}
+use Rattle.pmp_encoding.specs.declared.xlen.Xlen.TheVariants.{Rv32, Rv64}
+use Rattle.pmp_encoding.specs.Widths.{fits, word_entries, xlen_bits}
 use Rattle.text_lines.specs.Words.{words_of}
 use Rattle.text_lines.specs.Numbers.{numeral_of, number_of}
 use Rattle.text_lines.specs.Lines.{without_return}
-use Rattle.boot_log.specs.declared.entry.RegionEntry.{RegionEntry}
-pub use Rattle.boot_log.specs.Letters.{begins_with}
-use Rattle.boot_log.specs.Lines.{log_says}
+use Rattle.register_text.specs.declared.entry.RegionEntry.{RegionEntry}
+pub use Rattle.register_text.specs.Letters.{begins_with}
+use Rattle.register_text.specs.LogLines.{log_says}
 use Rattle.register_text.specs.declared.setting.Setting.{Setting}
 use Rattle.register_text.specs.declared.setting.Setting.TheVariants as settings
 

@@ -1,14 +1,14 @@
 -- What a listing leaves.
 use Rattle.std.specs.Prelude.{◌≡◌, if◌then◌else◌, ℕ, zero, suc, ◌+◌, ◌/◌, ◌%◌, List, [], ◌∷◌, ◌++◌, length, replicate, slice_set, Option, Some, None}
 use Rattle.std.specs.Option.{option_and_then}
-use Rattle.register_width.specs.declared.xlen.Xlen.{Xlen}
-use Rattle.register_width.specs.Widths.{word_entries}
-use Rattle.pmp_registers.specs.declared.registers.Registers.{Registers}
+use Rattle.pmp_encoding.specs.declared.xlen.Xlen.{Xlen}
+use Rattle.pmp_encoding.specs.Widths.{word_entries}
+use Rattle.pmp_match.specs.declared.registers.Registers.{Registers}
 use Rattle.register_text.specs.declared.listing.Listing.{Listing}
 use Rattle.register_text.specs.declared.setting.Setting.{Setting}
 use Rattle.register_text.specs.declared.setting.Setting.TheVariants as settings
 use Rattle.text_lines.specs.Lines.{raw_lines}
-use Rattle.boot_log.specs.Lines.{is_boot_log}
+use Rattle.register_text.specs.LogLines.{is_boot_log}
 use Rattle.register_text.specs.Lines.{log_sets, raw_sets}
 
 -- registers of that width that are all zero, and no line that is passed over

@@ -1,13 +1,13 @@
 -- What is said of what a listing leaves.
 use Rattle.std.specs.Prelude.{◌≡◌, ◌≢◌, ℕ, List, [], ◌++◌, codes, decimal, Option, Some, None}
 use Rattle.text_lines.specs.Written.{hex}
-use Rattle.register_width.specs.Widths.{register_digits}
-use Rattle.pmp_registers.specs.declared.registers.Registers.{Registers}
-use Rattle.pmp_registers.specs.declared.reserved.Reserved.{Reserved}
-use Rattle.pmp_registers.specs.declared.reserved.ReservedAt.{ReservedAt}
-use Rattle.pmp_registers.specs.declared.reserved.Reserved.TheVariants.{Permission, Bits}
-use Rattle.pmp_registers.specs.Registers.{address_at, cfg_at}
-use Rattle.pmp_registers.specs.Reserved.{IsFirstReserved}
+use Rattle.pmp_encoding.specs.Widths.{register_digits}
+use Rattle.pmp_match.specs.declared.registers.Registers.{Registers}
+use Rattle.pmp_match.specs.declared.reserved.Reserved.{Reserved}
+use Rattle.pmp_match.specs.declared.reserved.ReservedAt.{ReservedAt}
+use Rattle.pmp_match.specs.declared.reserved.Reserved.TheVariants.{Permission, Bits}
+use Rattle.pmp_match.specs.Registers.{address_at, cfg_at}
+use Rattle.pmp_match.specs.Reserved.{IsFirstReserved}
 use Rattle.register_text.specs.declared.listing.Listing.{Listing}
 
 -- the reserved value of a pair

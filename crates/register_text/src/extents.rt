@@ -1,12 +1,12 @@
 //! What the entries of a listing match.
 
 ghost use Rattle.std.specs.Prelude.{◌≡◌, IfErr, IfOk};
-ghost use Rattle.pmp_registers.specs.Matching.{AreExtents};
+ghost use Rattle.pmp_match.specs.RegisterMatching.{AreExtents};
 ghost use Rattle.register_text.specs.Texts.{IsRefusal};
 
 use crate::listing::Listing;
 use crate::texts::{reserved_line, smepmp_line};
-use pmp_registers::{Extent, extents_of};
+use pmp_match::{Extent, extents_of};
 use text_lines::Line;
 
 /// What each entry of what a listing leaves matches, or the line that says why it means nothing.

@@ -8,10 +8,10 @@ ghost use Rattle.register_text.specs.Listings.{IsFirstUnknown, IsFirstUnknownBy,
 use crate::log::log_listing;
 use crate::register_lines::line_sets;
 use crate::setting::nothing_set;
-use boot_log::is_boot_log;
+use crate::is_boot_log;
 use map_text::{AT_ONCE, next_line};
-use pmp_registers::Registers;
-use register_width::Xlen;
+use pmp_match::Registers;
+use pmp_encoding::Xlen;
 use text_lines::LineReader;
 
 /// What the lines of a listing leave.

@@ -7,9 +7,9 @@ ghost use Rattle.register_text.specs.Listings.{IsFirstUnknownBy, listed_by};
 
 use crate::listing::Listing;
 use crate::setting::{Setting, nothing_set};
-use boot_log::log_says;
+use crate::log_says;
 use lint_texts::split_line;
-use register_width::Xlen;
+use pmp_encoding::Xlen;
 use text_lines::NotUnderstood;
 
 /// What a line of a boot log sets, where it is understood.

@@ -2,8 +2,8 @@
 
 ghost use Rattle.std.specs.Prelude.{◌≡◌, ◌+◌, ◌*◌, ◌/◌, ◌%◌, ◌≤◌, ◌==◌, ◌&&◌, true, nat_lt, [], ◌∷◌, length, IfOk, IfSome, bytes_eq, option_map};
 ghost use Rattle.std.specs.Result.{result_ok};
-ghost use Rattle.register_width.specs.declared.xlen.Xlen.{Xlen};
-ghost use Rattle.register_width.specs.Widths.{word_entries, xlen_bits};
+ghost use Rattle.pmp_encoding.specs.declared.xlen.Xlen.{Xlen};
+ghost use Rattle.pmp_encoding.specs.Widths.{word_entries, xlen_bits};
 ghost use Rattle.text_lines.specs.Words.{split_words};
 ghost use Rattle.text_lines.specs.Numbers.{number_of};
 ghost use Rattle.std.specs.List.{list_all};
@@ -12,8 +12,8 @@ ghost use Rattle.std.specs.Str.{str_eq_ignore_ascii_case};
 ghost use Rattle.register_text.specs.Lines.{IsInside, address_setting, begins_with, begins_with_letter, behind, equals_at, has_leading_zero, index_of, is_between, is_foreign, is_letter, is_no_name, is_other, line_sets, named_setting, other_setting, pair_by_words, pair_setting, plain_setting, register_setting, set_by_many, set_by_words, value_word, width_sign, without_colon, word_setting};
 
 use crate::setting::Setting;
-use boot_log::begins_with;
-use register_width::Xlen;
+use crate::begins_with;
+use pmp_encoding::Xlen;
 use text_lines::{NotUnderstood, Words, number, numeral};
 
 fn is_text(word: &[u8], text: &[u8]) -> bool

@@ -1,13 +1,13 @@
 //! What a line of a listing sets, and what the listing says after it.
 
 ghost use Rattle.std.specs.Prelude.{◌≡◌, ◌≤◌, ◌+◌};
-ghost use Rattle.register_width.specs.Widths.{word_entries};
+ghost use Rattle.pmp_encoding.specs.Widths.{word_entries};
 ghost use Rattle.register_text.specs.Lines.{IsInside};
 ghost use Rattle.register_text.specs.Listings.{first_of, nothing_set, registers_by, set_by, set_bytes};
 
 use crate::listing::Listing;
-use pmp_registers::Registers;
-use register_width::Xlen;
+use pmp_match::Registers;
+use pmp_encoding::Xlen;
 
 /// What a line sets. Places are below 64.
 #[derive(Clone, Copy, Debug, PartialEq, Eq)]

@@ -3,7 +3,7 @@
 ghost use Rattle.std.specs.Prelude.{◌≡◌, ◌<◌, ◌≤◌, IfOk, length};
 ghost use Rattle.register_text.specs.Texts.{passed_text, reserved_name, reserved_text, smepmp_text};
 
-use pmp_registers::{Registers, Reserved, ReservedAt};
+use pmp_match::{Registers, Reserved, ReservedAt};
 use std::alloc::{AllocError, Global};
 use text_lines::{Line, push_decimal, push_hex, push_text};
 

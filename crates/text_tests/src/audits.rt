@@ -3,7 +3,7 @@
 use byte_streams::fakes::PieceSink;
 use map_text::map_of;
 use register_audit::{AuditFault, audit};
-use register_width::Xlen;
+use pmp_encoding::Xlen;
 use std::alloc::Global;
 use std::process::Abort;
 

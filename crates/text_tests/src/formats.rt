@@ -4,7 +4,7 @@ use byte_streams::fakes::PieceSink;
 use pmp_encoding::{Entry, Limit, PackedEntry, Perm, Region};
 use printed_lines::{print_plan, room_from};
 use register_formats::{print_asm, print_c, print_json};
-use register_width::Xlen;
+use pmp_encoding::Xlen;
 use std::alloc::Global;
 use std::process::Abort;
 

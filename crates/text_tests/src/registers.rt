@@ -2,11 +2,11 @@
 
 use byte_streams::fakes::{PieceSink, PieceSource};
 use pmp_match::{Access, Cause, Kind, Mode};
-use register_judge::{Registers, Reserved, ReservedAt, Ruled, Rules, rules_in};
-use register_width::Xlen;
+use register_audit::{Registers, Reserved, ReservedAt, Ruled, Rules, rules_in};
+use pmp_encoding::Xlen;
 use std::alloc::Global;
 use std::process::Abort;
-use trace_judge::judge_lines;
+use hart_trace::judge_lines;
 
 /// A page at 0x80000000, as an address register of NAPOT.
 const PAGE: u64 = 0x2000_01ff;

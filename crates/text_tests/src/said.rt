@@ -2,13 +2,13 @@
 
 use byte_streams::fakes::PieceSink;
 use map_lint::lint;
-use platform_lint::lint_platform;
-use register_map::print_map_of;
-use register_table::print_registers;
-use register_width::Xlen;
+use file_lints::lint_platform;
+use register_audit::print_map_of;
+use register_audit::print_registers;
+use pmp_encoding::Xlen;
 use std::alloc::Global;
 use std::process::Abort;
-use trace_lint::{Taker, lint_trace};
+use file_lints::{Taker, lint_trace};
 
 /// What reads a text and writes what it says of it.
 #[derive(Clone, Copy)]

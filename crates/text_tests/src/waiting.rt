@@ -6,7 +6,7 @@ use byte_streams::fakes::{PieceSink, PieceSource};
 use byte_streams::{DeviceFault, Sink};
 use pmp_encoding::{Bank, Limit};
 use text_lines::RunFault;
-use trace_judge::judge_trace;
+use hart_trace::judge_trace;
 
 /// A sink that holds all that it takes until it is to hand it on.
 #[derive(Drop)]

@@ -1,7 +1,7 @@
 -- What is kept of the hosts' control words over a run.
 use Rattle.std.proofs.Common.{◌≡◌, ◌∙◌, ℕ, List, ap, refl}
-use Rattle.control_words.specs.declared.words.ControlWords.{ControlWords}
-use Rattle.control_words.specs.Given.{keeping}
+use Rattle.trap_server.specs.declared.words.ControlWords.{ControlWords}
+use Rattle.trap_server.specs.Given.{keeping}
 use Rattle.monitor_core.specs.States.{MonitorState}
 use Rattle.trap_server.specs.Runs.{Serves, came_last}
 use Rattle.trap_server.specs.Runs.{next_trap, no_trap}

@@ -3,3 +3,11 @@ mod Served
 mod Looped
 mod Came
 mod ServedFrom
+mod Own
+mod Lists
+mod Lengths
+mod Appended
+mod Filling
+mod Read
+mod Traps
+mod WordsBack

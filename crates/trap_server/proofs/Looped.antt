@@ -5,18 +5,18 @@ use Rattle.std.proofs.KnownBytes.{Appends-trans, Consumes-trans}
 use Rattle.platforms.specs.Platform.{PlatformLayout}
 use Rattle.monitor_core.specs.declared.monitor.Monitor.{Monitor}
 use Rattle.monitor_core.specs.States.{MonitorState, opening_monitor}
-use Rattle.control_words.specs.declared.words.ControlWords.{ControlWords}
-use Rattle.trap_frames.specs.declared.trap.Trap.{Trap}
-use Rattle.trap_frames.specs.declared.fault.FrameFault.{FrameFault}
-use Rattle.trap_frames.specs.declared.fault.FrameFault.TheVariants as frames
-use Rattle.trap_frames.specs.declared.end.Refusal.{Refusal}
-use Rattle.trap_frames.specs.declared.end.Refusal.TheVariants as refusals
+use Rattle.trap_server.specs.declared.words.ControlWords.{ControlWords}
+use Rattle.trap_server.specs.declared.trap.Trap.{Trap}
+use Rattle.trap_server.specs.declared.frame_fault.FrameFault.{FrameFault}
+use Rattle.trap_server.specs.declared.frame_fault.FrameFault.TheVariants as frames
+use Rattle.trap_server.specs.declared.end.Refusal.{Refusal}
+use Rattle.trap_server.specs.declared.end.Refusal.TheVariants as refusals
 use Rattle.trap_server.specs.declared.fault.ServeFault.{ServeFault}
 use Rattle.trap_server.specs.declared.fault.ServeFault.TheVariants as faults
 use Rattle.trap_server.specs.Ends.{EndsAs, Refuses}
 use Rattle.trap_server.specs.Boot.{Boots, BootsOn, EndsAtFirst, IsFirstAnswer, RefusesFirst, StopsAtFirst, others}
-use Rattle.trap_frames.specs.Platforms.{IsNoPlatform, IsPlatformFrame, ReadsPlatform}
-use Rattle.trap_frames.specs.Traps.{IsNoTrap, IsTrapFrame, ReadsTrap}
+use Rattle.trap_server.specs.Platforms.{IsNoPlatform, IsPlatformFrame, ReadsPlatform}
+use Rattle.trap_server.specs.Traps.{IsNoTrap, IsTrapFrame, ReadsTrap}
 use Rattle.trap_server.specs.Answered.{AreAwake, IsAnswer, given_on, no_answer}
 use Rattle.trap_server.specs.Runs.{EndsEarly, Ran, RefusesNext, StopsBetween, StopsInside, first_words, trap_count}
 use Rattle.trap_server.specs.Runs.{Serves as Served}

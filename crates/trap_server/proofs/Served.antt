@@ -5,32 +5,32 @@ use Rattle.std.proofs.lemmas.Bool.{true≢false}
 use Rattle.std.specs.Prelude.{get_or, slice_index_or}
 use Rattle.std.specs.Io.KnownBytes.{Appends, Consumes}
 use Rattle.std.proofs.KnownBytes.{Appends-trans}
-use Rattle.enclave_requests.specs.Digests.{measured, pages_from}
+use Rattle.measurement.specs.Digests.{measured, pages_from}
 use Rattle.enclave_table.specs.Enclaves.{EnclaveTable}
-use Rattle.enclave_requests.specs.Requests.{parts_of}
-use Rattle.enclave_requests.specs.declared.request.Create.{Create}
-use Rattle.worlds.specs.declared.world.World.{World}
-use Rattle.worlds.specs.declared.world.World.TheVariants.{Host}
+use Rattle.measurement.specs.Requests.{parts_of}
+use Rattle.measurement.specs.declared.request.Create.{Create}
+use Rattle.sbi_decode.specs.declared.world.World.{World}
+use Rattle.sbi_decode.specs.declared.world.World.TheVariants.{Host}
 use Rattle.monitor_core.specs.Measured.{IsMeasuredFor, Measures, asked_in}
-use Rattle.trap_frames.specs.PageDigest.{ArePages, Asks, question_of}
-use Rattle.trap_frames.specs.Ends.{end_bytes}
-use Rattle.trap_frames.specs.declared.end.Refusal.{Refusal}
-use Rattle.trap_frames.specs.declared.end.Refusal.TheVariants as refusals
-use Rattle.trap_frames.specs.PageDigest.{Measures as MeasuresPages}
-use Rattle.trap_frames.specs.declared.fault.FrameFault.{FrameFault}
-use Rattle.trap_frames.specs.declared.fault.FrameFault.TheVariants as frames
-use Rattle.trap_frames.specs.declared.trap.Event.TheVariants.{Call}
+use Rattle.trap_server.specs.PageDigest.{ArePages, Asks, question_of}
+use Rattle.trap_server.specs.EndFrames.{end_bytes}
+use Rattle.trap_server.specs.declared.end.Refusal.{Refusal}
+use Rattle.trap_server.specs.declared.end.Refusal.TheVariants as refusals
+use Rattle.trap_server.specs.PageDigest.{Measures as MeasuresPages}
+use Rattle.trap_server.specs.declared.frame_fault.FrameFault.{FrameFault}
+use Rattle.trap_server.specs.declared.frame_fault.FrameFault.TheVariants as frames
+use Rattle.trap_server.specs.declared.trap.Event.TheVariants.{Call}
 use Rattle.sbi_decode.specs.Calls.{call_of}
 use Rattle.trap_server.specs.declared.fault.ServeFault.TheVariants as faults
 use Rattle.trap_server.specs.Ends.{CountsRead, CountsReads, CountsWrite, CountsWrites, BreaksOff, EndsAs, FrameRead, FrameWrite, IsPart, Refuses}
-use Rattle.trap_frames.specs.Traps.{ReadsTrap}
-use Rattle.trap_frames.specs.Traps.{CountsRead as CountsFrame}
-use Rattle.trap_frames.specs.Traps.{CountsWrite as CountsFrameWrite}
-use Rattle.trap_frames.specs.Platforms.{ReadsPlatform}
-use Rattle.trap_frames.specs.PageDigest.{next_page, no_page}
+use Rattle.trap_server.specs.Traps.{ReadsTrap}
+use Rattle.trap_server.specs.Traps.{CountsRead as CountsFrame}
+use Rattle.trap_server.specs.Traps.{CountsWrite as CountsFrameWrite}
+use Rattle.trap_server.specs.Platforms.{ReadsPlatform}
+use Rattle.trap_server.specs.PageDigest.{next_page, no_page}
 use Rattle.monitor_core.specs.States.{MonitorState}
-use Rattle.control_words.specs.declared.words.ControlWords.{ControlWords}
-use Rattle.trap_frames.specs.declared.trap.Trap.{Trap}
+use Rattle.trap_server.specs.declared.words.ControlWords.{ControlWords}
+use Rattle.trap_server.specs.declared.trap.Trap.{Trap}
 use Rattle.trap_server.specs.declared.fault.ServeFault.{ServeFault}
 use Rattle.trap_server.specs.Answered.{AreAwake, marks_of, unmarked}
 use Rattle.trap_server.specs.Service.{ServesTrap}

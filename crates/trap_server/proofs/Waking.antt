@@ -1,8 +1,8 @@
 -- Where another hart is marked after a call, the host goes on on the hart that made it.
 use Rattle.std.proofs.Common.{◌≡◌, ◌∙◌, inl, inr, ℕ, List, true, false, Option, Some, None, ap, sym, refl}
 use Rattle.std.proofs.lemmas.Bool.{true≢false}
-use Rattle.page_views.specs.declared.pages.PageRange.{PageRange}
-use Rattle.worlds.specs.declared.world.World.TheVariants.{Host}
+use Rattle.pmp_encoding.specs.declared.pages.PageRange.{PageRange}
+use Rattle.sbi_decode.specs.declared.world.World.TheVariants.{Host}
 use Rattle.sbi_decode.specs.declared.calls.Call.{Call}
 use Rattle.sbi_decode.specs.declared.calls.Call.TheVariants as calls
 use Rattle.monitor_core.specs.declared.answer.Answer.{Answer}

@@ -1,15 +1,15 @@
 -- With what harts go on.
 use Rattle.std.specs.Prelude.{◌≡◌, ◌<◌, ◌+◌, ◌-◌, ◌^◌, ℕ, ℤ, negsuc, zero, suc, Bool, true, false, List, [], ◌∷◌, slice_index_or, Option, pos}
-use Rattle.page_views.specs.declared.pages.PageRange.{PageRange}
+use Rattle.pmp_encoding.specs.declared.pages.PageRange.{PageRange}
 use Rattle.pmp_encoding.specs.declared.region.Entry.{Entry}
 use Rattle.pmp_match.specs.Meaning.{IsFewest}
 use Rattle.monitor_core.specs.declared.answer.Answer.{Answer}
 use Rattle.monitor_core.specs.States.{MonitorState, running_registers}
 use Rattle.monitor_core.specs.Changes.{without_mark}
-use Rattle.control_words.specs.declared.words.ControlWords.{ControlWords}
-use Rattle.control_words.specs.Given.{words_in}
-use Rattle.trap_frames.specs.declared.answer.Head.{Head}
-use Rattle.trap_frames.specs.Answers.{answer_bytes}
+use Rattle.trap_server.specs.declared.words.ControlWords.{ControlWords}
+use Rattle.trap_server.specs.Given.{words_in}
+use Rattle.trap_server.specs.declared.answer.Head.{Head}
+use Rattle.trap_server.specs.Answers.{answer_bytes}
 use Rattle.enclave_table.specs.Views.{current_view}
 
 -- the marks of the harts below n taken away

@@ -7,13 +7,13 @@ use Rattle.monitor_core.specs.Monitors.{state_by}
 use Rattle.monitor_core.specs.States.{opening_monitor}
 use Rattle.enclave_table.specs.Boot.{IsBootFault}
 use Rattle.platforms.specs.declared.boot_fault.BootFault.TheVariants.{NeedsMoreEntries}
-use Rattle.trap_frames.specs.Platforms.{IsNoPlatform, IsPlatformFrame}
-use Rattle.trap_frames.specs.declared.end.Refusal.{Refusal}
-use Rattle.trap_frames.specs.declared.end.Refusal.TheVariants.{NotUnderstood, Platform, NeedsEntries, Memory}
+use Rattle.trap_server.specs.Platforms.{IsNoPlatform, IsPlatformFrame}
+use Rattle.trap_server.specs.declared.end.Refusal.{Refusal}
+use Rattle.trap_server.specs.declared.end.Refusal.TheVariants.{NotUnderstood, Platform, NeedsEntries, Memory}
 use Rattle.trap_server.specs.declared.fault.ServeFault.{ServeFault}
 use Rattle.trap_server.specs.declared.fault.ServeFault.TheVariants as faults
-use Rattle.control_words.specs.Tables.{first_host_words}
-use Rattle.trap_frames.specs.Ends.{end_bytes}
+use Rattle.trap_server.specs.Tables.{first_host_words}
+use Rattle.trap_server.specs.EndFrames.{end_bytes}
 use Rattle.trap_server.specs.Answered.{IsAnswer, no_answer}
 use Rattle.trap_server.specs.Ends.{IsPart}
 

@@ -3,11 +3,11 @@ use Rattle.std.specs.Prelude.{◌≡◌, ◌⊎◌, ◌<◌, ℕ, List, [], ◌+
 use Rattle.std.specs.Io.KnownBytes.{Appends}
 use Rattle.byte_streams.specs.Streams.{WriteFails, one_failure_more}
 use Rattle.byte_streams.specs.Writings.{TakesPart}
-use Rattle.trap_frames.specs.Ends.{end_bytes}
-use Rattle.trap_frames.specs.declared.end.Refusal.{Refusal}
-use Rattle.trap_frames.specs.declared.end.Refusal.TheVariants as refusals
-use Rattle.trap_frames.specs.declared.fault.FrameFault.{FrameFault}
-use Rattle.trap_frames.specs.declared.fault.FrameFault.TheVariants as frames
+use Rattle.trap_server.specs.EndFrames.{end_bytes}
+use Rattle.trap_server.specs.declared.end.Refusal.{Refusal}
+use Rattle.trap_server.specs.declared.end.Refusal.TheVariants as refusals
+use Rattle.trap_server.specs.declared.frame_fault.FrameFault.{FrameFault}
+use Rattle.trap_server.specs.declared.frame_fault.FrameFault.TheVariants as frames
 use Rattle.trap_server.specs.declared.fault.ServeFault.{ServeFault}
 use Rattle.trap_server.specs.declared.fault.ServeFault.TheVariants as faults
 

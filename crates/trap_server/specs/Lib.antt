@@ -6,3 +6,14 @@ pub mod Boot
 pub mod Runs
 pub mod Numbers
 pub mod Served
+pub mod Tables
+pub mod Given
+pub mod Laws
+pub mod Words
+pub mod FrameBytes
+pub mod Traps
+pub mod Platforms
+pub mod PageDigest
+pub mod Answers
+pub mod EndFrames
+pub mod RoundTrip

@@ -3,16 +3,16 @@ use Rattle.std.specs.Prelude.{◌≡◌, ◌⊎◌, ℕ, ◌+◌, ◌-◌, ◌^�
 use Rattle.std.specs.Io.KnownBytes.{Appends, Consumes}
 use Rattle.platforms.specs.Platform.{PlatformLayout}
 use Rattle.monitor_core.specs.States.{MonitorState, opening_monitor}
-use Rattle.control_words.specs.declared.words.ControlWords.{ControlWords}
-use Rattle.control_words.specs.Given.{keeping}
-use Rattle.control_words.specs.Tables.{first_host_words}
-use Rattle.trap_frames.specs.declared.trap.Trap.{Trap}
-use Rattle.trap_frames.specs.Platforms.{IsPlatformFrame}
-use Rattle.trap_frames.specs.Traps.{IsNoTrap, IsTrapFrame}
+use Rattle.trap_server.specs.declared.words.ControlWords.{ControlWords}
+use Rattle.trap_server.specs.Given.{keeping}
+use Rattle.trap_server.specs.Tables.{first_host_words}
+use Rattle.trap_server.specs.declared.trap.Trap.{Trap}
+use Rattle.trap_server.specs.Platforms.{IsPlatformFrame}
+use Rattle.trap_server.specs.Traps.{IsNoTrap, IsTrapFrame}
 use Rattle.trap_server.specs.declared.fault.ServeFault.{ServeFault}
 use Rattle.trap_server.specs.declared.fault.ServeFault.TheVariants as faults
-use Rattle.trap_frames.specs.declared.end.Refusal.TheVariants.{NotUnderstood}
-use Rattle.trap_frames.specs.Ends.{end_bytes}
+use Rattle.trap_server.specs.declared.end.Refusal.TheVariants.{NotUnderstood}
+use Rattle.trap_server.specs.EndFrames.{end_bytes}
 use Rattle.trap_server.specs.Ends.{IsPart}
 use Rattle.trap_server.specs.Boot.{EndsAtFirst, IsFirstAnswer}
 use Rattle.trap_server.specs.Steps.{StopsTrap}

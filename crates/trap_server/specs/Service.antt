@@ -1,20 +1,20 @@
 -- How a trap is served.
 use Rattle.std.specs.Prelude.{◌≡◌, ◌⊎◌, ℕ, ◌+◌, ◌/◌, List, [], Option, None}
-use Rattle.page_views.specs.declared.pages.PageRange.{PageRange}
-use Rattle.enclave_requests.specs.Digests.{pages_from}
-use Rattle.enclave_requests.specs.declared.request.Create.{Create}
+use Rattle.pmp_encoding.specs.declared.pages.PageRange.{PageRange}
+use Rattle.measurement.specs.Digests.{pages_from}
+use Rattle.measurement.specs.declared.request.Create.{Create}
 use Rattle.sbi_decode.specs.Calls.{call_of}
 use Rattle.monitor_core.specs.declared.answer.Answer.{Answer}
 use Rattle.monitor_core.specs.States.{MonitorState}
 use Rattle.monitor_core.specs.Changes.{past_call, with_running}
 use Rattle.monitor_core.specs.Measured.{Measures, asked_in}
 use Rattle.monitor_core.specs.Steps.{DoesCall, Interrupts}
-use Rattle.control_words.specs.declared.words.ControlWords.{ControlWords}
-use Rattle.control_words.specs.Given.{GivesWords}
-use Rattle.trap_frames.specs.declared.trap.Event.{Event}
-use Rattle.trap_frames.specs.declared.trap.Event.TheVariants.{Call, Stop}
-use Rattle.trap_frames.specs.declared.trap.Trap.{Trap}
-use Rattle.trap_frames.specs.PageDigest.{ArePages, question_of}
+use Rattle.trap_server.specs.declared.words.ControlWords.{ControlWords}
+use Rattle.trap_server.specs.Given.{GivesWords}
+use Rattle.trap_server.specs.declared.trap.Event.{Event}
+use Rattle.trap_server.specs.declared.trap.Event.TheVariants.{Call, Stop}
+use Rattle.trap_server.specs.declared.trap.Trap.{Trap}
+use Rattle.trap_server.specs.PageDigest.{ArePages, question_of}
 use Rattle.trap_server.specs.Answered.{IsAnswer, marks_of, no_answer, unmarked}
 
 -- a creation that passes its checks has its private pages asked for, and read once, by rising number; nothing else is asked for or read

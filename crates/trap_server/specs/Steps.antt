@@ -2,19 +2,19 @@
 use Rattle.std.specs.Prelude.{◌≡◌, ◌⊎◌, ℕ, ◌<◌, Bool, true, false, List, [], ◌++◌, Option, Result, Ok, Err, slice_index_or}
 use Rattle.std.specs.Io.KnownBytes.{Appends, Consumes}
 use Rattle.byte_streams.specs.Writings.{TakesPart}
-use Rattle.worlds.specs.declared.world.World.TheVariants.{Host}
+use Rattle.sbi_decode.specs.declared.world.World.TheVariants.{Host}
 use Rattle.monitor_core.specs.States.{MonitorState}
-use Rattle.control_words.specs.declared.words.ControlWords.{ControlWords}
-use Rattle.trap_frames.specs.declared.trap.Trap.{Trap}
-use Rattle.trap_frames.specs.Ends.{end_bytes}
+use Rattle.trap_server.specs.declared.words.ControlWords.{ControlWords}
+use Rattle.trap_server.specs.declared.trap.Trap.{Trap}
+use Rattle.trap_server.specs.EndFrames.{end_bytes}
 use Rattle.trap_server.specs.declared.fault.ServeFault.{ServeFault}
 use Rattle.trap_server.specs.Answered.{AreAwake}
 use Rattle.trap_server.specs.declared.fault.ServeFault.TheVariants as faults
 use Rattle.trap_server.specs.Ends.{BreaksOff, IsPart}
-use Rattle.enclave_requests.specs.declared.request.Create.{Create}
-use Rattle.trap_frames.specs.PageDigest.{BreaksAtPage, StopsAtPage, question_of}
-use Rattle.trap_frames.specs.declared.trap.Event.TheVariants.{Call}
-use Rattle.trap_frames.specs.declared.end.Refusal.TheVariants.{NotUnderstood}
+use Rattle.measurement.specs.declared.request.Create.{Create}
+use Rattle.trap_server.specs.PageDigest.{BreaksAtPage, StopsAtPage, question_of}
+use Rattle.trap_server.specs.declared.trap.Event.TheVariants.{Call}
+use Rattle.trap_server.specs.declared.end.Refusal.TheVariants.{NotUnderstood}
 use Rattle.sbi_decode.specs.Calls.{call_of}
 use Rattle.monitor_core.specs.Measured.{IsMeasuredFor, Measures, asked_in}
 use Rattle.trap_server.specs.Service.{AsksFor, ServesTrap}

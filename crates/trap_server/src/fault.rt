@@ -4,7 +4,7 @@ ghost use Rattle.std.specs.Prelude.{ℕ};
 ghost use Rattle.trap_server.specs.Ends.{CountsRead, CountsWrite, EndsAs, FrameRead, FrameWrite, Refuses};
 
 use byte_streams::{Sink, write_whole};
-use trap_frames::{FrameFault, Refusal, end_frame};
+use crate::{FrameFault, Refusal, end_frame};
 
 /// Why the loop ended before its input did.
 #[derive(Clone, Copy, Debug, PartialEq, Eq)]

@@ -14,18 +14,66 @@
 //! ```text
 //! let served = serve_traps(alloc, &mut source, &mut sink);
 //! ```
+//!
+//! The control registers of a hart, by the world that runs on it.
+//!
+//! Beside the PMP entries these registers decide what a world can do: whether its addresses go through a table of pages,
+//! how wide its registers are, whose handler has its traps, which interrupts reach it. A host writes them as it likes; an
+//! enclave runs in user mode and can write none. So the words of the host of each hart are kept while an enclave runs there
+//! ([`HostWords`]), and an enclave has those of a table, [`ControlWords::of_enclave`].
+//!
+//! For the layer above: at a trap the words that came are kept, and with those that are given the world goes on
+//! ([`giving_law`]). A host goes on with the words with which it came last on its hart, so also after a call that was
+//! refused; no word of one world is given to another. Nothing here takes memory.
+//!
+//! ```
+//! host_words.keep(hart, before, &came);
+//! let words = host_words.given(hart, after);
+//! ```
+//!
+//! The frames between the harts of a board and the monitor.
+//!
+//! A frame is words of 64 bits, the lowest byte first. Its first word is a tag, which says what the others are;
+//! `docs/FORMATS.md` has the layouts, under "Frames". Read are the platform ([`read_platform`]), then the traps of its harts
+//! ([`read_trap`]), and the pages that are asked for ([`digest_of`]). Written are answers ([`put_answer`]), questions for
+//! pages, and why the end has come ([`end_frame`]).
+//!
+//! For the layer above: what is read is consumed whole, and what is no frame is told from a device that failed. Nothing here
+//! takes memory.
 #![tactic(auto)]
 
+mod answer;
+mod control_laws;
+mod end;
 mod fault;
+mod frame;
+mod frame_bytes;
+mod frame_fault;
+mod frame_laws;
+mod host_words;
 mod laws;
 mod numbers;
+mod page_digest;
+mod platform_frame;
 mod service;
 mod serving;
+mod trap;
 mod trap_loop;
+mod words;
 
 pub use fault::ServeFault;
 pub use laws::words_law;
 pub use numbers::{served_number, served_status};
 pub use serving::{replay_on, serve_on};
-pub use trap_frames::Refusal;
 pub use trap_loop::serve_traps;
+pub use host_words::HostWords;
+pub use control_laws::giving_law;
+pub use words::ControlWords;
+pub use answer::{Head, put_answer};
+pub use end::{Refusal, end_frame};
+pub use frame_fault::FrameFault;
+pub use frame::{AnswerBytes, ShortBytes};
+pub use frame_laws::control_law;
+pub use page_digest::digest_of;
+pub use platform_frame::read_platform;
+pub use trap::{Event, Trap, read_trap};

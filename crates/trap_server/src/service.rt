@@ -3,17 +3,17 @@
 ghost use Rattle.std.specs.Prelude.{◌≡◌, ◌<◌, ℕ, List, Option};
 ghost use Rattle.monitor_core.specs.Monitors.{state_by};
 ghost use Rattle.monitor_core.specs.Changes.{without_mark};
-ghost use Rattle.control_words.specs.Given.{host_words, keeping};
+ghost use Rattle.trap_server.specs.Given.{host_words, keeping};
 ghost use Rattle.trap_server.specs.Answered.{AreAwake, IsAnswer, given_on, marks_of, status_word, unmarked};
 ghost use Rattle.trap_server.specs.Ends.{CountsReads, CountsWrites};
 ghost use Rattle.trap_server.specs.Steps.{MayWake, Serves, TakesDigest, Writes};
 
 use crate::fault::{ServeFault, end};
 use byte_streams::{Sink, Source, write_whole};
-use control_words::HostWords;
+use crate::HostWords;
 use monitor_core::{Answer, Monitor};
-use page_views::PageRange;
-use trap_frames::{AnswerBytes, Event, Head, Trap, digest_of, put_answer};
+use pmp_encoding::PageRange;
+use crate::{AnswerBytes, Event, Head, Trap, digest_of, put_answer};
 
 /// What stands for the answer where there was no call.
 pub(crate) const NOTHING: Answer = Answer {

@@ -3,7 +3,7 @@
 use crate::command_lines::tasks::{PLAIN, Row, are_tasks};
 use command_line::{Format, Options, Task};
 use pmp_encoding::Limit;
-use register_width::Xlen;
+use pmp_encoding::Xlen;
 
 const PLANS: &[Row<'static>] = &[
     (

@@ -4,7 +4,7 @@ use command_line::{
     Answers, Format, Hints, LintKind, Options, TableFormat, Task, request_of_words,
 };
 use pmp_encoding::Limit;
-use register_width::Xlen;
+use pmp_encoding::Xlen;
 use std::alloc::Global;
 use std::process::Abort;
 

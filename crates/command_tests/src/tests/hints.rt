@@ -3,7 +3,7 @@
 use byte_streams::Counted;
 use byte_streams::fakes::PieceSource;
 use command_line::request_of_words;
-use input_hints::tell_hints;
+use monitor_cli::tell_hints;
 use std::alloc::Global;
 use std::process::Abort;
 

@@ -1,6 +1,6 @@
 //! Names as messages show them.
 
-use program_troubles::shown;
+use command_inputs::shown;
 use std::alloc::Global;
 use std::process::Abort;
 

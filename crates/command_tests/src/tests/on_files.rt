@@ -7,7 +7,7 @@ use program_tasks::Request;
 use std::alloc::Global;
 use std::process::Abort;
 use std::rt::Files;
-use task_files::ShownNames;
+use program_tasks::ShownNames;
 
 /// Does what is asked for, where standard error is no terminal, and answers the status, what was printed and what was said.
 fn done(

@@ -3,7 +3,7 @@ use denote.Enum.Bare.{differs_true, differs_false}
 use Rattle.pmp_encoding.specs.contracts.perm.Perm.{the_type}
 use Rattle.pmp_match.specs.Bounds.{Leaf}
 use Rattle.permission_map.specs.Runs.{view_of_runs}
-use Rattle.page_views.specs.Views.{IsUniform}
+use Rattle.pmp_encoding.specs.Views.{IsUniform}
 use Rattle.certificate_check.specs.Nodes.{IsNodeRead, NodeFault, in_perm, not_uniform, another}
 use Rattle.certificate_check.proofs.Walked.{one_permission, two_permissions}
 use Rattle.certificate_check.proofs.Windows.{reads_as, refused_match}

@@ -3,9 +3,9 @@ use Rattle.std.specs.Borrow.{Bor}
 use Rattle.platforms.specs.Platform.{PlatformLayout}
 use Rattle.platform_file.specs.declared.fault.TextFault.{TextFault}
 use Rattle.platform_file.specs.declared.fault.TextFault.TheVariants as texts
-use Rattle.program_troubles.specs.declared.trouble.Trouble.TheVariants.{NotAPlatform, Memory}
+use Rattle.command_inputs.specs.declared.trouble.Trouble.TheVariants.{NotAPlatform, Memory}
 use Rattle.platform_file.specs.Document.{IsPlatformFile}
-use Rattle.program_troubles.specs.Troubles.{text_trouble}
+use Rattle.command_inputs.specs.Troubles.{text_trouble}
 use Rattle.command_inputs.proofs.platform_inputs.platform_in.Goals as goal
 
 by_fault : (fault : TextFault) (file : Bor (List ℕ)) (P : Type 0) → (fault ≡ texts.NotAPlatform → P) → (text_trouble file fault ≡ Memory) ⊎ ((text_trouble file fault ≡ NotAPlatform file) × P)

@@ -1,6 +1,6 @@
 use Rattle.std.proofs.Common.{◌^◌}
 use Rattle.permission_map.specs.Runs.{view_of_runs}
-use Rattle.pmp_registers.specs.Lists.{matched_by}
+use Rattle.pmp_match.specs.Lists.{matched_by}
 use Rattle.map_table.proofs.Listed.{rows_of}
 use Rattle.map_table.proofs.table.table_of.Goals as goal
 

@@ -2,10 +2,10 @@ use Rattle.std.proofs.Common.{ℕ, ◌≡◌, ◌+◌, ◌-◌, ◌/◌, ◌<◌
 use Rattle.std.proofs.lemmas.List.{get_or_default}
 use Rattle.pmp_encoding.specs.declared.perm.Perm.TheVariants.{NoAccess}
 use Rattle.permission_map.specs.Runs.{view_of_runs}
-use Rattle.page_views.specs.Views.{SameView, overwritten}
+use Rattle.pmp_encoding.specs.Views.{SameView, overwritten}
 use Rattle.platforms.specs.Platform.{device_perm}
 use Rattle.pmp_encoding.specs.declared.perm.Perm.{Perm}
-use Rattle.page_views.specs.declared.pages.PageRange.{PageRange}
+use Rattle.pmp_encoding.specs.declared.pages.PageRange.{PageRange}
 use Rattle.platforms.proofs.Mapped.{device_set}
 use Rattle.platforms.proofs.permissions.put_devices.Goals as goal
 

@@ -1,6 +1,6 @@
 use Rattle.std.proofs.Common.{◌≤◌, ◌+◌, ◌*◌, length, drop}
 use Rattle.permission_map.specs.Runs.{view_of_runs}
-use Rattle.page_views.specs.Views.{SameView}
+use Rattle.pmp_encoding.specs.Views.{SameView}
 use Rattle.platforms.specs.Platform.{device_perm}
 use Rattle.platforms.proofs.permissions.put_devices.Given as goal
 

@@ -1,7 +1,7 @@
 use Rattle.std.proofs.Common.{◌≤◌, ◌+◌, ◌*◌, length, drop, cond}
 use Rattle.pmp_encoding.specs.declared.perm.Perm.TheVariants.{ReadWriteExecute}
 use Rattle.permission_map.specs.Runs.{view_of_runs}
-use Rattle.page_views.specs.Views.{SameView}
+use Rattle.pmp_encoding.specs.Views.{SameView}
 use Rattle.platforms.proofs.ShortNames.{is_among}
 use Rattle.platforms.proofs.permissions.put_memory.Given as goal
 

@@ -5,8 +5,8 @@ use Rattle.pmp_encoding.specs.declared.limit.Limit.{Limit}
 use Rattle.pmp_encoding.specs.declared.region.Entry.{Entry}
 use Rattle.pmp_encoding.specs.Limits.{limit_number}
 use Rattle.byte_streams.proofs.Writings.{breaks_after, breaks_before, takes_then}
-use Rattle.register_width.specs.declared.xlen.Xlen.{Xlen}
-use Rattle.register_width.specs.Widths.{whole_word, word_count}
+use Rattle.pmp_encoding.specs.declared.xlen.Xlen.{Xlen}
+use Rattle.pmp_encoding.specs.Widths.{whole_word, word_count}
 use Rattle.printed_lines.specs.Plans.{IsPlanText, list_text, words_text}
 use Rattle.printed_lines.proofs.plan.print_plan.Goals as goal
 

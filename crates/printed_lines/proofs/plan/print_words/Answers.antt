@@ -1,7 +1,7 @@
 use Rattle.std.proofs.Common.{◌+◌, ◌-◌, ◌≡◌, ◌∙◌, ◌++◌, [], ap, ap₂, sym, refl, append_assoc}
 use Rattle.std.proofs.lemmas.Result.{err_from_is_err_and}
 use Rattle.byte_streams.proofs.Writings.{breaks_within, takes_none, takes_then}
-use Rattle.register_width.specs.Widths.{word_number}
+use Rattle.pmp_encoding.specs.Widths.{word_number}
 use Rattle.printed_lines.specs.Placed.{word_from}
 use Rattle.printed_lines.specs.Texts.{word_text}
 use Rattle.printed_lines.specs.Plans.{words_text}

@@ -1,8 +1,8 @@
 -- The extents one after another.
 use Rattle.std.proofs.Common.{refl, arith}
 use Rattle.std.proofs.lemmas.Bool.{both_ways}
-use Rattle.pmp_registers.specs.Decision.{Meets}
-use Rattle.pmp_registers.specs.Tor.{nowhere}
+use Rattle.pmp_match.specs.RegisterDecision.{Meets}
+use Rattle.pmp_match.specs.Tor.{nowhere}
 use Rattle.register_audit.specs.Findings.{load_of_eight}
 use Rattle.register_audit.proofs.Cut.{some_meets}
 use Rattle.register_audit.proofs.Each.{all_more, all_whole}

@@ -1,6 +1,6 @@
 -- The extents so far have none of the bytes.
 use Rattle.std.proofs.Common.{All, take}
-use Rattle.pmp_registers.specs.Decision.{Meets}
+use Rattle.pmp_match.specs.RegisterDecision.{Meets}
 use Rattle.register_audit.specs.Findings.{load_of_eight}
 use Rattle.register_audit.proofs.cut_access.all_miss.Given as goal
 

@@ -1,8 +1,8 @@
 -- No entry before has one of the bytes, and this one has.
 use Rattle.std.proofs.Common.{sym, subst}
 use Rattle.std.proofs.lemmas.Option.{get_or_from_slice_get}
-use Rattle.pmp_registers.specs.Decision.{Meets}
-use Rattle.pmp_registers.specs.Tor.{nowhere}
+use Rattle.pmp_match.specs.RegisterDecision.{Meets}
+use Rattle.pmp_match.specs.Tor.{nowhere}
 use Rattle.register_audit.specs.Findings.{load_of_eight}
 use Rattle.register_audit.proofs.cut_access.is_first.Goals as goal
 

@@ -1,7 +1,7 @@
 -- The registers have extents, so that none of their values is reserved.
 use Rattle.std.proofs.Common.{◌^◌}
 use Rattle.permission_map.specs.Runs.{view_of_runs}
-use Rattle.pmp_registers.proofs.Matched.{all_defined, all_words}
+use Rattle.pmp_match.proofs.Matched.{all_defined, all_words}
 use Rattle.register_audit.proofs.Odd.{ends}
 use Rattle.register_audit.proofs.differences.differences_of.Goals as goal
 

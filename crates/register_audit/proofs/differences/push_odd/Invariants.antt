@@ -1,6 +1,6 @@
 -- What the stretches that are left still bring comes after what was appended.
 use Rattle.std.proofs.Common.{List, ◌≡◌, ◌++◌, drop}
-use Rattle.stretches.specs.declared.stretch.Stretch.{Stretch}
+use Rattle.map_table.specs.declared.stretch.Stretch.{Stretch}
 use Rattle.register_audit.specs.Differences.{AreOdd, differences_text}
 use Rattle.register_audit.proofs.differences.push_odd.Given as goal
 

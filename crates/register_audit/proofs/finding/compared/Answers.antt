@@ -2,8 +2,8 @@
 use Rattle.std.proofs.Common.{◌^◌, arith}
 use Rattle.std.proofs.lemmas.List.Elements.{recursion_from_All}
 use Rattle.permission_map.specs.Runs.{view_of_runs}
-use Rattle.pmp_registers.specs.Decision.{IsWords}
-use Rattle.pmp_registers.proofs.Uncut.{means_from_bytes}
+use Rattle.pmp_match.specs.RegisterDecision.{IsWords}
+use Rattle.pmp_match.proofs.RegistersUncut.{means_from_bytes}
 use Rattle.register_audit.proofs.Agreed.{agreed, difference}
 use Rattle.register_audit.proofs.Cut.{never_cut}
 use Rattle.register_audit.proofs.finding.compared.Goals as goal

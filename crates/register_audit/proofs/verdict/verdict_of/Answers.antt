@@ -1,6 +1,6 @@
 -- The extents of the registers are of whole words; what is found of them is so of the registers.
 use Rattle.std.proofs.Common.{sym}
-use Rattle.pmp_registers.proofs.Matched.{all_words}
+use Rattle.pmp_match.proofs.Matched.{all_words}
 use Rattle.register_audit.proofs.verdict.verdict_of.Goals as goal
 
 pub compared-requires : goal.compared-requires

@@ -1,7 +1,7 @@
 -- The pieces come one after the other.
 use Rattle.std.proofs.Common.{◌∙◌, ◌++◌, ap, ap₂, codes, decimal}
 use Rattle.printed_lines.specs.Texts.{register_text}
-use Rattle.register_width.specs.Widths.{word_number}
+use Rattle.pmp_encoding.specs.Widths.{word_number}
 use Rattle.register_formats.proofs.c_writes.kept.Goals as goal
 
 pub returns : goal.returns

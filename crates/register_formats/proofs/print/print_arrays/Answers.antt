@@ -2,7 +2,7 @@ use Rattle.std.proofs.Common.{◌++◌, [], ◌∷◌}
 use Rattle.std.proofs.lemmas.Result.{err_from_is_err_and}
 use Rattle.std.specs.List.{concat}
 use Rattle.pmp_encoding.specs.Limits.{limit_number}
-use Rattle.register_width.specs.Widths.{word_count}
+use Rattle.pmp_encoding.specs.Widths.{word_count}
 use Rattle.byte_streams.specs.Writings.{Breaks, TakesAll, writing}
 use Rattle.byte_streams.proofs.Writings.{breaks_after, breaks_before, takes_then}
 use Rattle.register_formats.specs.Heads.{head_begin, head_below, head_end, head_rules, head_width}

@@ -4,8 +4,8 @@ use Rattle.measurement.specs.Measured.{digest_of}
 use Rattle.sbi_decode.specs.Calls.{call_of}
 use Rattle.monitor_core.specs.Monitors.{state_by}
 use Rattle.monitor_core.specs.Measured.{asked_in}
-use Rattle.enclave_requests.specs.Digests.{layout_of}
-use Rattle.trap_frames.specs.PageDigest.{ArePages, question_of}
+use Rattle.measurement.specs.Digests.{layout_of}
+use Rattle.trap_server.specs.PageDigest.{ArePages, question_of}
 use Rattle.trap_server.proofs.Served.{frame_reads, frame_writes, measure_stops, measured_for, numbered, numbered_all, pages_length, unmeasured}
 use Rattle.trap_server.proofs.service.measured.Goals as goal
 

@@ -1,12 +1,12 @@
 use Rattle.std.proofs.Common.{◌∙◌, ℕ, ap, sym, subst}
 use Rattle.pmp_match.specs.Meaning.{IsFewest}
-use Rattle.worlds.specs.declared.world.World.{World}
+use Rattle.sbi_decode.specs.declared.world.World.{World}
 use Rattle.sbi_decode.specs.Registers.{RegisterFile}
 use Rattle.monitor_core.specs.Monitors.{state_by}
 use Rattle.monitor_core.specs.States.{running_registers, view_of}
-use Rattle.control_words.specs.declared.words.ControlWords.{ControlWords}
-use Rattle.control_words.specs.Given.{host_words, words_in}
-use Rattle.trap_frames.specs.Answers.{answer_bytes}
+use Rattle.trap_server.specs.declared.words.ControlWords.{ControlWords}
+use Rattle.trap_server.specs.Given.{host_words, words_in}
+use Rattle.trap_server.specs.Answers.{answer_bytes}
 use Rattle.trap_server.specs.Answered.{head_of}
 use Rattle.trap_server.proofs.service.put_frame.Goals as goal
 

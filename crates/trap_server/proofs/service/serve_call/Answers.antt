@@ -3,8 +3,8 @@ use Rattle.sbi_decode.specs.Calls.{call_of}
 use Rattle.monitor_core.specs.Changes.{past_call, with_running}
 use Rattle.monitor_core.specs.Monitors.{state_by}
 use Rattle.monitor_core.specs.States.{MonitorState}
-use Rattle.control_words.specs.Given.{host_words}
-use Rattle.trap_frames.specs.declared.trap.Event.{Event}
+use Rattle.trap_server.specs.Given.{host_words}
+use Rattle.trap_server.specs.declared.trap.Event.{Event}
 use Rattle.trap_server.specs.Answered.{IsAnswer, given_on}
 use Rattle.trap_server.specs.Service.{ServesAs}
 use Rattle.trap_server.proofs.Served.{may_wake, quiet, reads_then, serves, writes_then}

@@ -2,8 +2,8 @@ use Rattle.std.proofs.Common.{◌∙◌, ◌≤◌, List, [], Bool, None, refl, 
 use Rattle.std.proofs.KnownBytes.{Appends-nil, Consumes-nil}
 use Rattle.monitor_core.specs.Monitors.{state_by}
 use Rattle.monitor_core.specs.States.{MonitorState}
-use Rattle.control_words.specs.Given.{host_words}
-use Rattle.trap_frames.specs.declared.trap.Event.{Event}
+use Rattle.trap_server.specs.Given.{host_words}
+use Rattle.trap_server.specs.declared.trap.Event.{Event}
 use Rattle.trap_server.specs.Answered.{IsAnswer, given_on, no_answer}
 use Rattle.trap_server.specs.Service.{ServesAs}
 use Rattle.trap_server.proofs.Served.{quiet, serves}

@@ -1,10 +1,10 @@
 use Rattle.std.proofs.Common.{Ok, Result, refl, subst, sym}
-use Rattle.trap_frames.specs.Platforms.{IsPlatformFrame, ReadsPlatform}
+use Rattle.trap_server.specs.Platforms.{IsPlatformFrame, ReadsPlatform}
 use Rattle.trap_server.proofs.Looped.{first_refused, first_stops, refuses_first}
 use Rattle.trap_server.proofs.Served.{first_writes, frame_reads, read_at}
 use Rattle.platforms.specs.Platform.{PlatformLayout}
-use Rattle.trap_frames.specs.declared.end.Refusal.{Refusal}
-use Rattle.trap_frames.specs.declared.end.Refusal.TheVariants as refusals
+use Rattle.trap_server.specs.declared.end.Refusal.{Refusal}
+use Rattle.trap_server.specs.declared.end.Refusal.TheVariants as refusals
 use Rattle.trap_server.proofs.trap_loop.platform_in.Goals as goal
 
 pub returns-in-Err-clause-first : goal.returns-in-Err-clause-first

@@ -1,11 +1,11 @@
 use Rattle.std.proofs.Common.{◌≡◌, ◌<◌, ◌∙◌, Option, ◌^◌, ◌-◌, arith, inl, inr, [], Ok, ap, sym, subst, refl}
 use Rattle.std.proofs.KnownBytes.{Appends-nil, Consumes-nil}
 use Rattle.monitor_core.specs.Monitors.{state_by}
-use Rattle.control_words.specs.Given.{host_words}
-use Rattle.trap_frames.specs.Traps.{ReadsTrap}
+use Rattle.trap_server.specs.Given.{host_words}
+use Rattle.trap_server.specs.Traps.{ReadsTrap}
 use Rattle.trap_server.proofs.Looped.{answer_stops, begins, goes_on, next_refused, ran, read_stops, trap_stops}
 use Rattle.trap_server.proofs.Served.{frame_after, frame_reads, read_after, read_at, trap_writes, write_after}
-use Rattle.trap_frames.specs.declared.trap.Trap.{Trap}
+use Rattle.trap_server.specs.declared.trap.Trap.{Trap}
 use Rattle.trap_server.proofs.trap_loop.serve_traps.Goals as goal
 
 pub returns-in-Err-clause-early : goal.returns-in-Err-clause-early

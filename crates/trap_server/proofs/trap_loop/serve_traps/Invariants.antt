@@ -1,6 +1,6 @@
 use Rattle.std.proofs.Common.{◌≡◌}
 use Rattle.monitor_core.specs.Monitors.{state_by}
-use Rattle.control_words.specs.Given.{host_words}
+use Rattle.trap_server.specs.Given.{host_words}
 use Rattle.trap_server.proofs.Looped.{Progress}
 use Rattle.trap_server.proofs.trap_loop.serve_traps.Given as goal
 

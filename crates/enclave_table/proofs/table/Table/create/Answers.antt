@@ -7,10 +7,10 @@ use Rattle.enclave_table.specs.Views.{host_view, enclave_view}
 use Rattle.enclave_table.specs.Tables.{Kept}
 use Rattle.enclave_table.specs.Fewest.{IsListOf}
 use Rattle.enclave_table.specs.Create.{fresh, OutgrowsByCreate}
-use Rattle.enclave_requests.specs.declared.request.Create.{Create}
+use Rattle.measurement.specs.declared.request.Create.{Create}
 use Rattle.enclave_table.specs.declared.enclave.Enclave.{Enclave}
 use Rattle.enclave_table.specs.declared.enclave.Stage.TheVariants.{Fresh}
-use Rattle.page_views.specs.declared.pages.PageRange.{PageRange}
+use Rattle.pmp_encoding.specs.declared.pages.PageRange.{PageRange}
 use Rattle.enclave_table.proofs.Placed.{free_place, host_added, added_kept}
 use Rattle.enclave_table.proofs.SameViews.{list_same, tree_same, fits_same}
 use Rattle.enclave_table.proofs.Created.{along, fits_from, sound_from, apart_from, host_want, enclave_want, creates}
@@ -18,7 +18,7 @@ use Rattle.enclave_table.proofs.Refused.{handed_on}
 use Rattle.enclave_table.proofs.table.Table.create.Goals as goal
 use Rattle.enclave_table.specs.Refusals.{RefusesBy}
 use Rattle.enclave_table.specs.Checks.{create_checks}
-use Rattle.enclave_requests.specs.Requests.{parts_of}
+use Rattle.measurement.specs.Requests.{parts_of}
 
 abbrev private_range : Create → PageRange
 private_range parts = record { first = parts.base / 4096; count = parts.text_pages + parts.data_pages }

@@ -7,7 +7,7 @@ use Rattle.enclave_table.specs.Views.{host_view}
 use Rattle.enclave_table.specs.Tables.{Kept}
 use Rattle.enclave_table.specs.Fewest.{FitsIn, NeedsMore}
 use Rattle.enclave_table.specs.declared.enclave.Enclave.{Enclave}
-use Rattle.page_views.specs.declared.pages.PageRange.{PageRange}
+use Rattle.pmp_encoding.specs.declared.pages.PageRange.{PageRange}
 use Rattle.enclave_table.proofs.Places.{live_inside}
 use Rattle.enclave_table.proofs.Placed.{host_removed, removed_kept}
 use Rattle.enclave_table.proofs.Refused.{destroy_want, handed_on}

@@ -1,6 +1,6 @@
 use Rattle.std.proofs.Common.{ℕ, ◌<◌}
 use Rattle.enclave_table.specs.Enclaves.{Live}
-use Rattle.enclave_requests.specs.Requests.{ArePartsApart}
+use Rattle.measurement.specs.Requests.{ArePartsApart}
 use Rattle.enclave_table.specs.declared.enclave.Enclave.{Enclave}
 use Rattle.enclave_table.proofs.table.Table.is_clear_of_enclaves.Given as goal
 

@@ -4,8 +4,8 @@ use Rattle.pmp_match.specs.Meaning.{Needs}
 use Rattle.permission_map.specs.Views.{SameView, overwritten}
 use Rattle.enclave_table.specs.Enclaves.{EnclaveTable, with_enclave}
 use Rattle.enclave_table.specs.Views.{host_view, enclave_view}
-use Rattle.enclave_requests.specs.declared.request.Create.{Create}
-use Rattle.page_views.specs.declared.pages.PageRange.{PageRange}
+use Rattle.measurement.specs.declared.request.Create.{Create}
+use Rattle.pmp_encoding.specs.declared.pages.PageRange.{PageRange}
 use Rattle.enclave_table.proofs.Placed.{free_place, host_added}
 use Rattle.enclave_table.proofs.SameViews.{needs_of, needs_same}
 use Rattle.enclave_table.proofs.Created.{along}

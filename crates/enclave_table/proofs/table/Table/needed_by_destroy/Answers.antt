@@ -4,7 +4,7 @@ use Rattle.permission_map.specs.Views.{SameView, overwritten}
 use Rattle.enclave_table.specs.Enclaves.{EnclaveTable, with_enclave}
 use Rattle.enclave_table.specs.Views.{host_view}
 use Rattle.enclave_table.specs.declared.enclave.Enclave.{Enclave}
-use Rattle.page_views.specs.declared.pages.PageRange.{PageRange}
+use Rattle.pmp_encoding.specs.declared.pages.PageRange.{PageRange}
 use Rattle.enclave_table.proofs.Placed.{host_removed}
 use Rattle.enclave_table.proofs.SameViews.{needs_of, needs_same}
 use Rattle.enclave_table.proofs.Created.{along}

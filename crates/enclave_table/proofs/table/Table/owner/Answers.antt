@@ -3,9 +3,9 @@ use Rattle.std.proofs.lemmas.Bool.{cases_eq, or_from}
 use Rattle.std.proofs.lemmas.Option.{same_Some}
 use Rattle.permission_map.specs.Runs.{in_range}
 use Rattle.enclave_table.specs.Enclaves.{enclave_at}
-use Rattle.enclave_requests.specs.Requests.{is_private, is_shared, is_part}
+use Rattle.measurement.specs.Requests.{is_private, is_shared, is_part}
 use Rattle.enclave_table.specs.declared.enclave.Enclave.{Enclave}
-use Rattle.page_views.specs.declared.pages.PageRange.{PageRange}
+use Rattle.pmp_encoding.specs.declared.pages.PageRange.{PageRange}
 use Rattle.enclave_table.proofs.table.Table.owner.Goals as goal
 
 pub loop-id-preserved : goal.loop-id-preserved

@@ -1,7 +1,7 @@
 use Rattle.std.proofs.Common.{◌≡◌, ◌≢◌, ◌∙◌, ◌+◌, ◌++◌, decimal, Some, ap, refl, subst, sym}
 use Rattle.hart_sim.specs.After.{Happens}
-use Rattle.machine_replies.specs.declared.reply.Reply.TheVariants.{NoMemory}
-use Rattle.machine_replies.specs.Texts.{reply_text}
+use Rattle.hart_trace.specs.declared.reply.Reply.TheVariants.{NoMemory}
+use Rattle.hart_trace.specs.Texts.{reply_text}
 use Rattle.explained_runs.proofs.Accounted.{explained_next}
 use Rattle.explained_runs.proofs.explained_run.ExplainingMachineInterpreter.interpret.Goals as goal
 

@@ -1,6 +1,6 @@
 use Rattle.std.proofs.Common.{◌≡◌, ◌≢◌, subst}
 use Rattle.hart_sim.specs.After.{Happens}
-use Rattle.machine_replies.specs.declared.reply.Reply.TheVariants.{NoMemory}
+use Rattle.hart_trace.specs.declared.reply.Reply.TheVariants.{NoMemory}
 use Rattle.hart_sim.proofs.machine.Machine.answer.Goals as goal
 
 -- the event has happened

@@ -1,7 +1,7 @@
 use Rattle.std.proofs.Common.{◌≡◌, ◌≢◌, subst}
 use Rattle.hart_trace.specs.declared.event.Event.TheVariants as events
 use Rattle.hart_sim.specs.After.{Happens}
-use Rattle.machine_replies.specs.declared.reply.Reply.TheVariants.{NoMemory}
+use Rattle.hart_trace.specs.declared.reply.Reply.TheVariants.{NoMemory}
 use Rattle.hart_sim.proofs.machine.Machine.answer_call.Goals as goal
 
 -- the call has happened

@@ -11,7 +11,7 @@ use Rattle.hart_sim.specs.States.{MachineState, core_of}
 use Rattle.hart_sim.specs.Steps.{Serves, DoesEvent, DoesBy}
 use Rattle.hart_sim.specs.declared.parts.Parts.{Parts}
 use Rattle.hart_sim.proofs.parts.Parts.happen.Goals as goal
-use Rattle.machine_memory.specs.Memory.{bytes_at}
+use Rattle.hart_sim.specs.Memory.{bytes_at}
 
 pub returns-in-Ecall-clause-step : goal.returns-in-Ecall-clause-step
 returns-in-Ecall-clause-step c = λ right.

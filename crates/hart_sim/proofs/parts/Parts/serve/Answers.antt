@@ -1,6 +1,6 @@
 use Rattle.std.proofs.Common.{◌≡◌, ◌∙◌, ◌+◌, ◌^◌, ◌≤◌, ◌<◌, Option, None, Some, slice_get, ap, ap₂, sym, subst, ◌∷◌, [], ◌*◌}
 use Rattle.std.specs.Prelude.{IfSome}
-use Rattle.page_views.specs.declared.pages.PageRange.{PageRange}
+use Rattle.pmp_encoding.specs.declared.pages.PageRange.{PageRange}
 use Rattle.platforms.specs.Platform.{PlatformLayout}
 use Rattle.monitor_core.specs.Monitors.{state_by, kept_by}
 use Rattle.monitor_core.specs.States.{running_registers}
@@ -12,7 +12,7 @@ use Rattle.hart_sim.specs.States.{view_on}
 use Rattle.hart_sim.proofs.Framed.{frame_served}
 use Rattle.hart_sim.proofs.Running.{call_there, others_put, loads_put}
 use Rattle.hart_sim.proofs.parts.Parts.serve.Goals as goal
-use Rattle.machine_memory.specs.Memory.{bytes_at}
+use Rattle.hart_sim.specs.Memory.{bytes_at}
 
 -- pages that are to be zero are in the space
 in_space : (layout : PlatformLayout) (pages : Option PageRange) → IfSome pages (λ (range : PageRange). ClearsMemory layout range) → IfSome pages (λ (range : PageRange). range.first + range.count ≤ 2 ^ 44)

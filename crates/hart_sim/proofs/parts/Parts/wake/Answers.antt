@@ -1,6 +1,6 @@
 use Rattle.std.proofs.Common.{◌≡◌, ◌∙◌, false, Bool, if◌then◌else◌, ap, sym, subst}
 use Rattle.std.proofs.lemmas.Bool.{ne_eqb}
-use Rattle.worlds.specs.declared.world.World.TheVariants.{Host}
+use Rattle.sbi_decode.specs.declared.world.World.TheVariants.{Host}
 use Rattle.pmp_encoding.specs.Banks.{HasList}
 use Rattle.monitor_core.specs.Monitors.{state_by, kept_by, list_of}
 use Rattle.hart_sim.proofs.Framed.{frame_woken}

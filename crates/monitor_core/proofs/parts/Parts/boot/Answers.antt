@@ -1,6 +1,6 @@
 use Rattle.std.proofs.Common.{◌≡◌, ◌∙◌, ◌≤◌, ap, sym, subst, arith}
 use Rattle.enclave_table.specs.Enclaves.{Live}
-use Rattle.worlds.specs.declared.world.World.TheVariants.{Host, Enclave as InEnclave}
+use Rattle.sbi_decode.specs.declared.world.World.TheVariants.{Host, Enclave as InEnclave}
 use Rattle.monitor_core.specs.Changes.{is_host}
 use Rattle.monitor_core.specs.Parts.{is_current}
 use Rattle.monitor_core.proofs.Blank.{at_host, no_mark}

@@ -8,7 +8,7 @@ use Rattle.monitor_core.proofs.Moved.{free_runs_nowhere, made_rests, whole_place
 use Rattle.monitor_core.proofs.Stayed.{not_added}
 use Rattle.monitor_core.proofs.parts.Parts.create.Goals as goal
 use Rattle.enclave_table.specs.Checks.{create_checks}
-use Rattle.enclave_requests.specs.Requests.{parts_of}
+use Rattle.measurement.specs.Requests.{parts_of}
 
 pub answer_and_mark-requires : goal.answer_and_mark-requires
 answer_and_mark-requires g c =

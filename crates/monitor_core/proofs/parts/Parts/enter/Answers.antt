@@ -3,7 +3,7 @@ use Rattle.enclave_table.specs.Checks.{host_checks, state_before}
 use Rattle.enclave_table.specs.Lives.{Enters}
 use Rattle.platforms.specs.CheckLists.{FailsFirst}
 use Rattle.enclave_table.specs.Refusals.{refusal_number}
-use Rattle.worlds.specs.declared.world.World.TheVariants.{Enclave as InEnclave}
+use Rattle.sbi_decode.specs.declared.world.World.TheVariants.{Enclave as InEnclave}
 use Rattle.monitor_core.specs.Changes.{in_world}
 use Rattle.monitor_core.specs.Parts.{state_in, world_in}
 use Rattle.monitor_core.specs.Steps.{Refuses}

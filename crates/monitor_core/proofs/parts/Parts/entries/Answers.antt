@@ -1,5 +1,5 @@
 use Rattle.std.proofs.Common.{◌≡◌, ◌∙◌, sym, subst}
-use Rattle.worlds.specs.declared.world.World.TheVariants.{Host, Enclave as InEnclave}
+use Rattle.sbi_decode.specs.declared.world.World.TheVariants.{Host, Enclave as InEnclave}
 use Rattle.enclave_table.specs.Fewest.{IsListOf}
 use Rattle.monitor_core.specs.Parts.{world_in}
 use Rattle.monitor_core.specs.States.{view_of}

@@ -2,8 +2,8 @@ use Rattle.std.proofs.Common.{◌≡◌, ◌∙◌, inl, inr, refl, ap, sym, sub
 use Rattle.enclave_table.specs.Lives.{Leaves}
 use Rattle.enclave_table.specs.declared.refusal.Refusal.TheVariants.{NotEnclave}
 use Rattle.enclave_table.specs.declared.enclave.Stage.TheVariants.{Exited}
-use Rattle.worlds.specs.declared.world.World.TheVariants.{Host, Enclave as InEnclave}
-use Rattle.worlds.specs.Runners.{EnclaveOf}
+use Rattle.sbi_decode.specs.declared.world.World.TheVariants.{Host, Enclave as InEnclave}
+use Rattle.sbi_decode.specs.Runners.{EnclaveOf}
 use Rattle.sbi_decode.specs.Registers.{zeros}
 use Rattle.monitor_core.specs.Changes.{back_to_host, with_registers}
 use Rattle.monitor_core.specs.Parts.{state_in, world_in}

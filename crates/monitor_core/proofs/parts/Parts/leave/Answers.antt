@@ -1,6 +1,6 @@
 use Rattle.std.proofs.Common.{◌≡◌, ◌∙◌, ℕ, refl, ap, sym, subst}
 use Rattle.enclave_table.specs.Lives.{Leaves, state_after}
-use Rattle.worlds.specs.declared.world.World.TheVariants.{Host}
+use Rattle.sbi_decode.specs.declared.world.World.TheVariants.{Host}
 use Rattle.monitor_core.specs.Changes.{answering, back_to_host}
 use Rattle.monitor_core.specs.Parts.{state_in, world_in}
 use Rattle.monitor_core.proofs.Framed.{frame_turned, whole_same}

@@ -1,6 +1,6 @@
 use Rattle.std.proofs.Common.{◌≡◌, ◌∙◌, refl, sym, subst}
 use Rattle.enclave_table.specs.Lives.{Leaves}
-use Rattle.worlds.specs.declared.world.World.TheVariants.{Host}
+use Rattle.sbi_decode.specs.declared.world.World.TheVariants.{Host}
 use Rattle.monitor_core.specs.Parts.{state_in, world_in}
 use Rattle.monitor_core.specs.Steps.{Interrupts}
 use Rattle.monitor_core.proofs.parts.Parts.pause.Goals as goal

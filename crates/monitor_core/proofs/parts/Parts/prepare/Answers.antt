@@ -1,5 +1,5 @@
 use Rattle.std.proofs.Common.{◌∙◌, ap, sym, rules}
-use Rattle.worlds.specs.Runners.{EnclaveOf}
+use Rattle.sbi_decode.specs.Runners.{EnclaveOf}
 use Rattle.monitor_core.specs.Changes.{with_registers}
 use Rattle.monitor_core.specs.Parts.{state_in}
 use Rattle.monitor_core.specs.Steps.{entering_with}

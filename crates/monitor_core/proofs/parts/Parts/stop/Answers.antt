@@ -1,7 +1,7 @@
 use Rattle.std.proofs.Common.{◌≡◌, ◌∙◌, inl, inr, refl, ap, sym, subst}
 use Rattle.enclave_table.specs.Lives.{Leaves}
 use Rattle.enclave_table.specs.declared.refusal.Refusal.TheVariants.{NotEnclave}
-use Rattle.worlds.specs.declared.world.World.TheVariants.{Host, Enclave as InEnclave}
+use Rattle.sbi_decode.specs.declared.world.World.TheVariants.{Host, Enclave as InEnclave}
 use Rattle.monitor_core.specs.Changes.{back_to_host}
 use Rattle.monitor_core.specs.Parts.{world_in}
 use Rattle.monitor_core.proofs.parts.Parts.stop.Goals as goal

@@ -1,3 +1,0 @@
-pub mod Blocks
-pub mod Letters
-pub mod Lines

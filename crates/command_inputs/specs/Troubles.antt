@@ -1,0 +1,85 @@
+-- What the program says on standard error, and the status that it ends with.
+use Rattle.std.specs.Prelude.{ℕ, List, [], ◌∷◌, ◌++◌, codes, decimal, Result, Ok, Err}
+use Rattle.std.specs.Borrow.{Bor}
+use Rattle.text_lines.specs.declared.fault.RunFault.{RunFault}
+use Rattle.text_lines.specs.declared.fault.RunFault.TheVariants as runs
+use Rattle.map_text.specs.declared.map_file.MapFileFault.{MapFileFault}
+use Rattle.map_text.specs.declared.map_file.MapFileFault.TheVariants as maps
+use Rattle.platform_file.specs.declared.fault.TextFault.{TextFault}
+use Rattle.platform_file.specs.declared.fault.TextFault.TheVariants as texts
+use Rattle.platforms.specs.declared.boot_fault.BootFault.{BootFault}
+use Rattle.platforms.specs.declared.boot_fault.BootFault.TheVariants as boots
+use Rattle.byte_streams.specs.declared.fault.SourceFault.{SourceFault}
+use Rattle.byte_streams.specs.declared.fault.SourceFault.TheVariants as whole
+use Rattle.command_inputs.specs.declared.trouble.Trouble.{Trouble}
+use Rattle.command_inputs.specs.declared.trouble.Trouble.TheVariants.{NotUnderstood, TooManyRanges, TooLarge, NotAPlatform, TooFar, NeedsEntries, CannotRead, CannotWrite, Output, Memory}
+
+-- texts one after another
+abbrev pub joined : List (List ℕ) → List ℕ
+joined [] = []
+joined (text ∷ texts) = text ++ joined texts
+
+-- what is said of a file
+abbrev pub file_text : List ℕ → List ℕ → List ℕ
+file_text file said = codes "pmpmon: " ++ file ++ said
+
+-- the line for each trouble
+abbrev pub trouble_text : Trouble → List ℕ
+trouble_text (NotUnderstood file line) = file_text file.now (codes ": line " ++ decimal line ++ codes " is not understood\n")
+trouble_text (TooManyRanges file) = file_text file.now (codes ": too many ranges\n")
+trouble_text (TooLarge file) = file_text file.now (codes ": too large\n")
+trouble_text (NotAPlatform file) = file_text file.now (codes ": not a platform\n")
+trouble_text (TooFar file) = file_text file.now (codes ": too far: 34 bits\n")
+trouble_text (NeedsEntries needed) = codes "pmpmon: needs " ++ decimal needed ++ codes " entries\n"
+trouble_text (CannotRead file) = file_text file.now (codes ": cannot read\n")
+trouble_text (CannotWrite file) = file_text file.now (codes ": cannot write\n")
+trouble_text Output = codes "pmpmon: standard output: cannot write\n"
+trouble_text Memory = codes "pmpmon: out of memory\n"
+
+-- 2 for bad input, 3 for a device, 4 for memory
+abbrev pub trouble_status : Trouble → ℕ
+trouble_status (NotUnderstood file line) = 2
+trouble_status (TooManyRanges file) = 2
+trouble_status (TooLarge file) = 2
+trouble_status (NotAPlatform file) = 2
+trouble_status (TooFar file) = 2
+trouble_status (NeedsEntries needed) = 2
+trouble_status (CannotRead file) = 3
+trouble_status (CannotWrite file) = 3
+trouble_status Output = 3
+trouble_status Memory = 4
+
+-- a fault of reading a file to its end
+abbrev pub source_trouble : Bor (List ℕ) → SourceFault → Trouble
+source_trouble file whole.TooLarge = TooLarge file
+source_trouble file whole.Read = CannotRead file
+source_trouble file whole.Memory = Memory
+
+-- a fault of a map file
+abbrev pub map_trouble : Bor (List ℕ) → MapFileFault → Trouble
+map_trouble file (maps.Line n) = NotUnderstood file n
+map_trouble file maps.TooManyRanges = TooManyRanges file
+map_trouble file maps.Memory = Memory
+
+-- a fault of a run over a trace
+abbrev pub run_trouble : Bor (List ℕ) → RunFault → Trouble
+run_trouble file (runs.Line n) = NotUnderstood file n
+run_trouble file runs.TooLong = TooLarge file
+run_trouble file runs.Read = CannotRead file
+run_trouble file runs.Write = Output
+run_trouble file runs.Memory = Memory
+
+-- a fault of a platform's text
+abbrev pub text_trouble : Bor (List ℕ) → TextFault → Trouble
+text_trouble file texts.NotAPlatform = NotAPlatform file
+text_trouble file texts.Memory = Memory
+
+-- a refusal to boot
+abbrev pub boot_trouble : BootFault → Trouble
+boot_trouble (boots.NeedsMoreEntries n) = NeedsEntries n
+boot_trouble boots.Memory = Memory
+
+-- the status of a task
+abbrev pub status_of : Result ℕ Trouble → ℕ
+status_of (Ok status) = status
+status_of (Err trouble) = trouble_status trouble

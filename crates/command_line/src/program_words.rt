@@ -1,0 +1,111 @@
+//! The words of the command line, and what they ask for.
+
+ghost use Rattle.std.specs.Prelude.{◌≡◌, ◌⊎◌, IfOk, IfErr, map, string_bytes};
+ghost use Rattle.std.specs.Process.{exit_status};
+ghost use Rattle.clap.specs.Words.{subcommand_of};
+ghost use Rattle.command_line.specs.CommandLine.{program_app, IsRequest};
+ghost use Rattle.command_line.specs.Ends.{IsRefused};
+
+use crate::faults::refuse;
+use crate::troubles::stopped;
+use crate::request_of_words;
+use program_tasks::Request;
+use command_inputs::Trouble;
+use std::alloc::AllocError;
+use std::env::{self, FillError};
+use std::io;
+use std::process::ExitCode;
+use std::rt::Env;
+use std::str::from_utf8;
+use program_tasks::quoted;
+
+/// The words of the command line, the program's own first.
+fn read_words(rt: &HostRuntime) -> io::Result<Vec<String>> {
+    let mut words = Vec::new(rt.alloc());
+    for word in env::args(rt)? {
+        words.push(word)?;
+    }
+    Ok(words)
+}
+
+/// The words of the command line, the program's own first. Where one is no text, or memory for them is refused, that is
+/// reported, and the status is answered with which the program ends.
+pub fn words_in(rt: &HostRuntime) -> Result<Vec<String>, ExitCode>
+    ensures { IfErr result (λ code. exit_status code ≡ 2 ⊎ exit_status code ≡ 4) }
+{
+    match read_words(rt) {
+        Ok(words) => Ok(words),
+        Err(error) if error.kind() == io::ErrorKind::OutOfMemory => {
+            Err(stopped(rt, Trouble::Memory))
+        }
+        Err(_) => {
+            say_which(rt);
+            Err(ExitCode::from(2))
+        }
+    }
+}
+
+/// The words as texts. Where memory for them is refused, that is reported, and the status is answered.
+pub fn texts_in<'a>(rt: &HostRuntime, words: &'a [String]) -> Result<Vec<&'a str>, ExitCode>
+    ensures texts { IfOk result (λ texts.
+        map (λ text. text.now) texts.items ≡ map string_bytes words.entry.now) }
+    ensures memory { IfErr result (λ code. exit_status code ≡ 4) }
+{
+    let mut texts = Vec::new(rt.alloc());
+    for word in words {
+        let Ok(()) = texts.push(word.as_str()) else {
+            return Err(stopped(rt, Trouble::Memory));
+        };
+    }
+    Ok(texts)
+}
+
+/// What the words ask for; the first is the program's own. Where that is help or the version it is printed. Where they ask for
+/// nothing that can be done, why is reported. Then the status is answered with which the program ends.
+pub fn request_in<'a>(rt: &HostRuntime, words: &'a [&'a str]) -> Result<Request<'a>, ExitCode>
+    ensures request { IfOk result (IsRequest (subcommand_of program_app
+        (map (λ s. s.now) words.entry.now))) }
+    ensures refused { IfErr result (IsRefused (map (λ s. s.now) words.entry.now)) }
+{
+    match request_of_words(rt.alloc(), words) {
+        Ok(request) => Ok(request),
+        Err(error) => Err(refuse(rt, words, &error)),
+    }
+}
+
+/// How many bytes of a word are looked at.
+const LONGEST: usize = 4096;
+
+/// Says that a word is no text, and where it stops to be one.
+fn say_word(rt: &HostRuntime, number: usize, word: &[u8], at: usize) {
+    match quoted(rt.alloc(), word) {
+        Ok(text) => {
+            let text = from_utf8(text.as_slice()).unwrap_or("");
+            let _ = eprintln!(rt;
+                "error: the command line: word {number} is no UTF-8 from its byte {at} on: '{text}'"
+            );
+        }
+        Err(AllocError) => {
+            let _ = eprintln!(rt; "error: the command line: word {number} is no UTF-8");
+        }
+    }
+}
+
+/// Says which word of the command line is the first that is no text. Words are counted behind the program's own.
+fn say_which(rt: &HostRuntime) {
+    let mut buf = [0; LONGEST];
+    for number in 1..usize::MAX {
+        match rt.arg(number, &mut buf) {
+            Ok(len) => {
+                let word = &buf[..len];
+                if let Err(error) = from_utf8(word) {
+                    say_word(rt, number, word, error.valid_up_to().saturating_add(1));
+                    return;
+                }
+            }
+            Err(FillError::TooLong) => {}
+            Err(FillError::NotPresent) => break,
+        }
+    }
+    let _ = eprintln!(rt; "error: the command line: a word is no UTF-8");
+}

@@ -1,0 +1,49 @@
+-- How runs over lines and plans end.
+use Rattle.std.proofs.Common.{ℕ, ◌-◌, ◌≡◌, ◌≤◌, ◌⊎◌, inl, inr, List, Option, Some, None, Result, Ok, Err, IfErr, arith, refl}
+use Rattle.std.specs.Borrow.{Bor}
+use Rattle.text_lines.specs.declared.fault.RunFault.{RunFault}
+use Rattle.text_lines.specs.declared.fault.RunFault.TheVariants as runs
+use Rattle.text_lines.specs.LineLoop.{Meaning, StopsAt, StopsForMemory, StopsReading, StopsTooLong, StopsWriting}
+use Rattle.command_inputs.specs.declared.trouble.Trouble.{Trouble}
+use Rattle.pmp_encoding.specs.declared.limit.Limit.{Limit}
+use Rattle.pmp_encoding.specs.Limits.{limit_number}
+use Rattle.pmp_match.specs.Meaning.{View}
+use Rattle.pmp_encoding.specs.declared.xlen.Xlen.{Xlen}
+use Rattle.program_tasks.specs.declared.options.Format.TheVariants as formats
+use Rattle.command_inputs.specs.declared.trouble.Trouble.TheVariants.{Memory}
+use Rattle.commands.specs.CertifiedPlan.{Placing, IsTooFar, IsUnplanned, IsUntouched, IsWithin, NeedsMore, beyond, starved, unreached}
+use Rattle.commands.specs.Plan.{most_entries}
+use Rattle.commands.specs.Stops.{Stops}
+
+pub stops :
+    {S : Type 0} (does : Meaning S) (refuses : S → List ℕ → Type 0) (starves : S → List ℕ → S → Type 0) (old new : S) (before after held holds : Option (List ℕ)) (fault : RunFault)
+    → ((n : ℕ) → fault ≡ runs.Line n → StopsAt n does refuses old new before after held holds)
+    → (fault ≡ runs.TooLong → StopsTooLong does old new before after held holds)
+    → (fault ≡ runs.Read → StopsReading does old new before after held holds)
+    → (fault ≡ runs.Write → StopsWriting does old new before after held holds)
+    → (fault ≡ runs.Memory → StopsForMemory does starves old new before after held holds)
+    → Stops does refuses starves old new before after held holds fault
+stops does refuses starves old new before after held holds (runs.Line n) line long read write memory = line n refl
+stops does refuses starves old new before after held holds runs.TooLong line long read write memory = long refl
+stops does refuses starves old new before after held holds runs.Read line long read write memory = read refl
+stops does refuses starves old new before after held holds runs.Write line long read write memory = write refl
+stops does refuses starves old new before after held holds runs.Memory line long read write memory = memory refl
+
+-- no plan, where there is none within the bound
+pub unplanned :
+    {C X : Type 0} (view : View) (xlen : Xlen) (limit : Limit) (most : Option ℕ) (map : Bor (List ℕ)) (file : Option (Bor (List ℕ))) (cert : Placing C) (result : Result X Trouble) → IsUntouched cert
+    → IfErr result (λ trouble. (trouble ≡ Memory) ⊎ (NeedsMore view most trouble ⊎ IsTooFar view xlen most map trouble))
+    → IfErr result (λ trouble. IsUnplanned view xlen limit most map file cert trouble)
+unplanned view xlen limit most map file cert (Ok x) quiet refused = tt
+unplanned view xlen limit most map file cert (Err trouble) quiet (inl e) = starved e quiet
+unplanned view xlen limit most map file cert (Err trouble) quiet (inr (inl more)) = beyond more quiet
+unplanned view xlen limit most map file cert (Err trouble) quiet (inr (inr far)) = unreached far quiet
+
+-- what is within the bound of C and of assembly fits the hart
+pub fits_c : (limit : Limit) (first : ℕ) (at_most : Option ℕ) (n : ℕ) → IsWithin (most_entries limit first at_most formats.C) n → n ≤ limit_number limit - first
+fits_c limit first None n h = h
+fits_c limit first (Some most) n h = omega (arith, h)
+
+pub fits_asm : (limit : Limit) (first : ℕ) (at_most : Option ℕ) (n : ℕ) → IsWithin (most_entries limit first at_most formats.Asm) n → n ≤ limit_number limit - first
+fits_asm limit first None n h = h
+fits_asm limit first (Some most) n h = omega (arith, h)

@@ -1,0 +1,30 @@
+use Rattle.std.proofs.Common.{refl}
+use Rattle.permission_map.specs.Runs.{view_of_runs}
+use Rattle.std.proofs.lemmas.Result.{err_from_is_err_and}
+use Rattle.commands.specs.Check.{checked}
+use Rattle.commands.specs.Check as checks
+use Rattle.commands.proofs.on_maps.check.do_check.Goals as goal
+
+pub returns-in_err-map : goal.returns-in_err-map
+returns-in_err-map g c =
+    let p = err_from_is_err_and c.from_residual.result c.from_residual.ensures.1 in
+    rw (p.1, p.2) (checks.Checks.no_map _ c.in_err-map.ensures.refused refl refl)
+
+pub returns-in_err-found : goal.returns-in_err-found
+returns-in_err-found g c =
+    let p = err_from_is_err_and c.from_residual-in_err-found.result c.from_residual-in_err-found.ensures.1 in
+    rw (p.1, p.2) (checks.Checks.no_certificate _ _ c.in_ok-map.ensures.made c.in_err-found.ensures.refused refl)
+
+pub returns-in-Ok : goal.returns-in-Ok
+returns-in-Ok g c =
+    let found = c.in_ok-found.ensures.whole in
+    let verdict = c.verdict-line.ensures.verdict (view_of_runs c.in_ok-map.map) found.0 found.2 in
+    let taken = rw c.as_slice.ensures.value at c.in-Ok.ensures in
+    checked _ _ _ _ c.in_ok-map.ensures.made found.1 verdict taken
+
+pub returns : goal.returns
+returns g c =
+    let found = c.in_ok-found.ensures.whole in
+    let verdict = c.verdict-line.ensures.verdict (view_of_runs c.in_ok-map.map) found.0 found.2 in
+    let broken = rw c.as_slice.ensures.value at c.in-Err.ensures in
+    checks.Checks.no_output _ _ _ _ c.in_ok-map.ensures.made found.1 verdict broken

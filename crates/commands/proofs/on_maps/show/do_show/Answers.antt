@@ -1,0 +1,57 @@
+use Rattle.std.proofs.Common.{◌∙◌, ap, inl, inr, refl}
+use Rattle.std.proofs.lemmas.Result.{err_from_is_err_and}
+use Rattle.entry_planner.specs.Plans.{Planned}
+use Rattle.commands.specs.Show.{shown}
+use Rattle.command_inputs.specs.Inputs as inputs
+use Rattle.commands.specs.Show as shows
+use Rattle.command_inputs.proofs.Refusals.{map_read, no_map_of}
+use Rattle.commands.proofs.on_maps.show.do_show.Goals as goal
+
+pub returns-in_err-bytes : goal.returns-in_err-bytes
+returns-in_err-bytes g c =
+    let p = err_from_is_err_and c.from_residual.result c.from_residual.ensures.1 in
+    rw (p.1, p.2) (shows.Shows.no_map _ (inputs.HasNoMap.no_bytes _ c.in_err-bytes.ensures.refused) refl)
+
+pub returns-in_err-map : goal.returns-in_err-map
+returns-in_err-map g c =
+    let p = err_from_is_err_and c.from_residual-in_err-map.result c.from_residual-in_err-map.ensures.1 in
+    rw (p.1, p.2) (shows.Shows.no_map _ (no_map_of c.args.file _ c.in_ok-bytes.bytes.items _ c.in_ok-bytes.ensures.whole (rw c.as_slice.ensures.value at c.in_err-map.ensures.refused)) refl)
+
+pub returns-in_err-packed : goal.returns-in_err-packed
+returns-in_err-packed g c =
+    let p = err_from_is_err_and c.from_residual-in_err-packed.result c.from_residual-in_err-packed.ensures.1 in
+    let made = rw c.as_slice.ensures.value at c.in_ok-map.ensures.made in
+    let has = map_read _ c.in_ok-bytes.bytes.items _ c.in_ok-bytes.ensures.whole made in
+    rw (p.1, p.2) (elim c.in_err-packed.ensures.refused [
+      | inl e ↦ rw e (shows.Shows.no_memory _ has refl)
+      | inr w ↦ elim w [
+        | inl more ↦ shows.Shows.too_many _ _ has more refl
+        | inr far ↦ shows.Shows.too_far _ _ has far refl
+      ]
+    ])
+
+pub returns-in_err-plan : goal.returns-in_err-plan
+returns-in_err-plan g c =
+    let p = err_from_is_err_and c.from_residual-in_err-plan.result c.from_residual-in_err-plan.ensures.1 in
+    let made = rw c.as_slice.ensures.value at c.in_ok-map.ensures.made in
+    let has = map_read _ c.in_ok-bytes.bytes.items _ c.in_ok-bytes.ensures.whole made in
+    rw (p.1, p.2) (shows.Shows.no_memory _ has refl)
+
+pub returns-in_err-text : goal.returns-in_err-text
+returns-in_err-text g c =
+    let p = err_from_is_err_and c.from_residual-in_err-text.result c.from_residual-in_err-text.ensures.1 in
+    let made = rw c.as_slice.ensures.value at c.in_ok-map.ensures.made in
+    let has = map_read _ c.in_ok-bytes.bytes.items _ c.in_ok-bytes.ensures.whole made in
+    rw (p.1, p.2) (shows.Shows.no_memory _ has refl)
+
+pub returns-in-Ok : goal.returns-in-Ok
+returns-in-Ok g c =
+    let made = rw c.as_slice.ensures.value at c.in_ok-map.ensures.made in
+    let text = rw (c.entries.ensures ∙ ap (λ (p : Planned). p.entries) c.in_ok-plan.ensures, c.as_slice-2.ensures.value) at c.in_ok-text.ensures in
+    shown _ _ _ _ c.in_ok-bytes.ensures.whole made c.in_ok-packed.ensures.planned c.in_ok-packed.ensures.reached text (rw c.as_slice-3.ensures.value at c.in-Ok.ensures)
+
+pub returns : goal.returns
+returns g c =
+    let made = rw c.as_slice.ensures.value at c.in_ok-map.ensures.made in
+    let text = rw (c.entries.ensures ∙ ap (λ (p : Planned). p.entries) c.in_ok-plan.ensures, c.as_slice-2.ensures.value) at c.in_ok-text.ensures in
+    shows.Shows.no_output _ _ _ _ c.in_ok-bytes.ensures.whole made c.in_ok-packed.ensures.planned c.in_ok-packed.ensures.reached text (rw c.as_slice-3.ensures.value at c.in-Err.ensures)

@@ -1,0 +1,12 @@
+pub mod Lint
+pub mod Traces
+pub mod Audit
+pub mod CertifiedPlan
+pub mod Check
+pub mod Expected
+pub mod Judge
+pub mod Map
+pub mod Plan
+pub mod Show
+pub mod Stops
+pub mod Verdicts

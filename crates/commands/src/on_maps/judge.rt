@@ -1,0 +1,186 @@
+//! `judge`: the accesses of a trace, by the entries of a map, or by registers as they stand.
+
+ghost use Rattle.std.specs.Prelude.{◌-◌, ◌^◌, ◌<◌};
+ghost use Rattle.byte_streams.specs.Writings.{writing};
+ghost use Rattle.hart_trace.specs.Answers.{answered_by};
+ghost use Rattle.trace_answers.specs.Explained.{explaining};
+ghost use Rattle.trace_answers.specs.Reasons.{on_access};
+ghost use Rattle.command_inputs.specs.Inputs.{reading};
+ghost use Rattle.commands.specs.Judge.{Judges, JudgesAs, JudgesByRegisters, JudgesExpecting, JudgesTrace, JudgesTraceAs};
+
+use crate::certified_plan::bank_in;
+use crate::expected::tell_first;
+use byte_streams::{DeviceFault, Sink, Source, write_whole};
+use command_inputs::{REGISTER_BYTES, bytes_in, map_in};
+use trace_answers::compare_judged;
+use trace_answers::{Deciders, explain_judged};
+use pmp_encoding::Limit;
+use pmp_match::Segments;
+use program_tasks::Answers;
+use command_inputs::Trouble;
+use register_audit::{Ruled, RulesFault, rules_in};
+use pmp_encoding::Xlen;
+use std::alloc::Global;
+use hart_trace::{AccessJudge, judge_lines};
+
+/// Judges a trace.
+#[inline(never)]
+fn judge_plainly<'a, J: AccessJudge, R: Source, W: Sink>(
+    by: &J,
+    trace: &'a str,
+    second: &mut R,
+    out: &mut W,
+) -> Result<u8, Trouble<'a>>
+    ensures { JudgesTrace (answered_by (J.outcomes by.now)) trace.entry
+        (reading R.remaining R.failures second.old second.new)
+        (writing W.contents W.failures W.stalls out.old out.new) result }
+{
+    match judge_lines(by, second, out) {
+        Ok(()) => Ok(0),
+        Err(fault) => Err(Trouble::of_run(trace, fault)),
+    }
+}
+
+/// Judges a trace, and says behind each answer which entry decided it.
+#[inline(never)]
+fn judge_explaining<'a, J: AccessJudge, D: Deciders, R: Source, W: Sink>(
+    by: &J,
+    deciders: &D,
+    trace: &'a str,
+    second: &mut R,
+    out: &mut W,
+) -> Result<u8, Trouble<'a>>
+    ensures { JudgesTrace
+        (explaining (answered_by (J.outcomes by.now)) (on_access (D.decides deciders.now)))
+        trace.entry (reading R.remaining R.failures second.old second.new)
+        (writing W.contents W.failures W.stalls out.old out.new) result }
+{
+    match explain_judged(by, deciders, second, out) {
+        Ok(()) => Ok(0),
+        Err(fault) => Err(Trouble::of_run(trace, fault)),
+    }
+}
+
+/// Judges a trace, and compares the answers with those that its comments say.
+#[inline(never)]
+fn judge_expecting<'a, J: AccessJudge, R: Source, W: Sink>(
+    by: &J,
+    trace: &'a str,
+    second: &mut R,
+    out: &mut W,
+) -> Result<u8, Trouble<'a>>
+    ensures { JudgesExpecting (answered_by (J.outcomes by.now)) trace.entry
+        (reading R.remaining R.failures second.old second.new)
+        (writing W.contents W.failures W.stalls out.old out.new) result }
+{
+    let (first, end) = compare_judged(by, second, out);
+    match end {
+        Ok(()) => {}
+        Err(fault) => return Err(Trouble::of_run(trace, fault)),
+    }
+    match tell_first(&first, out) {
+        Ok(status) => Ok(status),
+        Err(DeviceFault) => Err(Trouble::Output),
+    }
+}
+
+/// Judges a trace, and writes of the answers what is asked for.
+fn judge_by<'a, J: AccessJudge, D: Deciders, R: Source, W: Sink>(
+    by: &J,
+    deciders: &D,
+    answers: Answers,
+    trace: &'a str,
+    second: &mut R,
+    out: &mut W,
+) -> Result<u8, Trouble<'a>>
+    ensures { JudgesTraceAs answers (J.outcomes by.now) (D.decides deciders.now) trace.entry
+        (reading R.remaining R.failures second.old second.new)
+        (writing W.contents W.failures W.stalls out.old out.new) result }
+{
+    match answers {
+        Answers::Plain => judge_plainly(by, trace, second, out),
+        Answers::Explained => judge_explaining(by, deciders, trace, second, out),
+        Answers::Compared => judge_expecting(by, trace, second, out),
+    }
+}
+
+/// Loads the entries of a map and judges a trace by them.
+#[inline(never)]
+fn do_judge<'a, R: Source, W: Sink>(
+    alloc: Global,
+    answers: Answers,
+    map: &'a str,
+    trace: &'a str,
+    xlen: Xlen,
+    limit: Limit,
+    first: &mut R,
+    second: &mut R,
+    out: &mut W,
+) -> Result<u8, Trouble<'a>>
+    ensures { let source = reading R.remaining R.failures in
+        Judges answers map.entry trace.entry xlen limit (source first.old first.new)
+        (source second.old second.new) (writing W.contents W.failures W.stalls out.old out.new)
+        result }
+{
+    let file = map;
+    let map = map_in(alloc, file, first)?;
+    let bank = bank_in(alloc, file, &map, xlen, limit)?;
+    let segments = Segments::of(&bank);
+    judge_by(&segments, &bank, answers, trace, second, out)
+}
+
+/// Takes registers as they stand and judges a trace by them. The status is 1 where they judge nothing.
+#[inline(never)]
+fn do_judge_registers<'a, R: Source, W: Sink>(
+    alloc: Global,
+    answers: Answers,
+    registers: &'a str,
+    trace: &'a str,
+    xlen: Xlen,
+    first: &mut R,
+    second: &mut R,
+    out: &mut W,
+) -> Result<u8, Trouble<'a>>
+    ensures { let source = reading R.remaining R.failures in
+        JudgesByRegisters answers registers.entry trace.entry xlen (source first.old first.new)
+        (source second.old second.new) (writing W.contents W.failures W.stalls out.old out.new)
+        result }
+{
+    let listing = bytes_in(alloc, registers, first, REGISTER_BYTES)?;
+    match rules_in(alloc, xlen, listing.as_slice()) {
+        Ok(Ruled::Rules(rules)) => judge_by(&rules, &rules, answers, trace, second, out),
+        Ok(Ruled::Refused(text)) => match write_whole(out, text.as_slice()) {
+            Ok(()) => Ok(1),
+            Err(DeviceFault) => Err(Trouble::Output),
+        },
+        Err(RulesFault::Line(line)) => Err(Trouble::NotUnderstood {
+            file: registers,
+            line,
+        }),
+        Err(RulesFault::Memory) => Err(Trouble::Memory),
+    }
+}
+
+/// Judges a trace by the entries of a map, or by registers as they stand, and writes of the answers what is asked for.
+pub fn do_judge_as<'a, R: Source, W: Sink>(
+    alloc: Global,
+    registers: bool,
+    answers: Answers,
+    file: &'a str,
+    trace: &'a str,
+    xlen: Xlen,
+    limit: Limit,
+    first: &mut R,
+    second: &mut R,
+    out: &mut W,
+) -> Result<u8, Trouble<'a>>
+    ensures { let source = reading R.remaining R.failures in
+        JudgesAs registers answers file.entry trace.entry xlen limit (source first.old first.new)
+        (source second.old second.new) (writing W.contents W.failures W.stalls out.old out.new)
+        result }
+{
+    if registers {
+        return do_judge_registers(alloc, answers, file, trace, xlen, first, second, out);
+    }
+    do_judge(alloc, answers, file, trace, xlen, limit, first, second, out)
+}

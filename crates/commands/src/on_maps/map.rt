@@ -1,0 +1,38 @@
+//! `map`: the map that registers mean.
+
+ghost use Rattle.std.specs.Prelude.{◌-◌, ◌^◌, ◌<◌};
+ghost use Rattle.byte_streams.specs.Writings.{writing};
+ghost use Rattle.command_inputs.specs.Inputs.{reading};
+ghost use Rattle.commands.specs.Map.{Maps};
+
+use byte_streams::{Sink, Source};
+use command_inputs::{REGISTER_BYTES, answer_status, bytes_in};
+use command_inputs::Trouble;
+use register_audit::{MapOfFault, print_map_of};
+use pmp_encoding::Xlen;
+use std::alloc::Global;
+
+/// Prints the map that registers mean, and answers the status 0, or 1 where there is none.
+#[inline(never)]
+pub fn do_map<'a, R: Source, W: Sink>(
+    alloc: Global,
+    registers: &'a str,
+    xlen: Xlen,
+    first: &mut R,
+    out: &mut W,
+) -> Result<u8, Trouble<'a>>
+    ensures { Maps registers.entry xlen (reading R.remaining R.failures first.old first.new)
+        (writing W.contents W.failures W.stalls out.old out.new) result }
+{
+    let listing = bytes_in(alloc, registers, first, REGISTER_BYTES)?;
+    match print_map_of(alloc, xlen, listing.as_slice(), out) {
+        Ok(is_map) => Ok(answer_status(is_map)),
+        Err(MapOfFault::Line(line)) => Err(Trouble::NotUnderstood {
+            file: registers,
+            line,
+        }),
+        Err(MapOfFault::TooManyRanges) => Err(Trouble::TooManyRanges { file: registers }),
+        Err(MapOfFault::Memory) => Err(Trouble::Memory),
+        Err(MapOfFault::Device) => Err(Trouble::Output),
+    }
+}

@@ -1,2 +1,0 @@
-mod Own
-mod Lists

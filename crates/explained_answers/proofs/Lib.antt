@@ -1,4 +1,0 @@
-pub mod FirstFound
-mod Addresses
-pub mod Judged
-mod Behind

@@ -1,8 +1,0 @@
-use Rattle.std.proofs.Common.{subst, sym, ◌∙◌, ap}
-use Rattle.explained_answers.specs.Deciders.{DecidesIn, found_from}
-use Rattle.explained_answers.proofs.FirstFound.{first_found}
-use Rattle.explained_answers.proofs.deciders.BankDeciders.decider.Goals as goal
-
-pub returns : goal.returns
-returns c = λ entries list.
-    subst (λ found. DecidesIn entries c.args.access.now found) (sym (c.first_of.ensures ∙ ap (λ extents. found_from 0 extents c.args.access.now) (c.extents.ensures entries list))) (first_found entries c.args.access.now)

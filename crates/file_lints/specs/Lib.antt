@@ -1,0 +1,12 @@
+pub mod Breaches
+pub mod PlatformLints
+pub mod Order
+pub mod Overlaps
+pub mod PlatformTexts
+pub mod Findings
+pub mod Forms
+pub mod Keywords
+pub mod TraceLints
+pub mod Registers
+pub mod Takers
+pub mod TraceTexts

@@ -1,0 +1,157 @@
+//! The line that says what a platform file breaks.
+
+ghost use Rattle.std.specs.Prelude.{◌≡◌, ◌++◌, OnOk, codes, decimal};
+ghost use Rattle.file_lints.specs.PlatformTexts.{about, breach_text, keys_text, place_text, range_text, rule_text, table_text};
+
+use crate::breach::{Breach, Place, PlacedRange};
+use lint_texts::{push, push_address, push_number};
+use platforms::PlatformFault;
+use std::alloc::AllocError;
+
+/// What is asked of a range.
+const PAGES: &str =
+    "base and size are multiples of 4096, size is above 0, and the end is at most 2^56";
+
+/// What is asked of a permission.
+const PERMS: &str =
+    "perm is no permission; write \"none\", \"r\", \"rw\", \"x\", \"rx\" or \"rwx\"";
+
+/// What is asked of the ranges of memory, and of the devices.
+const ARRAY: &str = " is no array of tables; write its name in double brackets";
+
+/// Appends a name and a number, as `ram 1: `.
+fn push_numbered(text: &mut Vec<u8>, name: &str, number: u64) -> Result<(), AllocError>
+    ensures { OnOk result (text.new.items
+        ≡ text.old.items ++ (name.now ++ (decimal number ++ codes ": "))) }
+{
+    push(text, name)?;
+    push_number(text, number)?;
+    push(text, ": ")
+}
+
+/// Appends the table that is spoken of: nothing for the file's own.
+fn push_place(text: &mut Vec<u8>, place: Place) -> Result<(), AllocError>
+    ensures { OnOk result (text.new.items ≡ text.old.items ++ place_text place) }
+{
+    match place {
+        Place::File => Ok(()),
+        Place::Monitor => push(text, "monitor: "),
+        Place::Ram(n) => push_numbered(text, "ram ", n),
+        Place::Device(n) => push_numbered(text, "device ", n),
+    }
+}
+
+/// What is said after a key that a table may not have: those that it may have.
+fn keys_text(place: Place) -> &'static str
+    ensures { result.now ≡ keys_text place }
+{
+    match place {
+        Place::File => "'; the keys are monitor, ram, device, harts and entries",
+        Place::Monitor | Place::Ram(_) => "'; the keys are base and size",
+        Place::Device(_) => "'; the keys are base, size and perm",
+    }
+}
+
+/// What is said of a value that is no table.
+fn table_text(place: Place) -> &'static str
+    ensures { result.now ≡ table_text place }
+{
+    match place {
+        Place::File | Place::Monitor | Place::Ram(_) => "this is no table of base and size",
+        Place::Device(_) => "this is no table of base, size and perm",
+    }
+}
+
+/// What a rule on platforms asks.
+fn rule_text(fault: PlatformFault) -> &'static str
+    ensures { result.now ≡ rule_text fault }
+{
+    match fault {
+        PlatformFault::BadRange => "a range is not of whole pages below 2^56",
+        PlatformFault::Overlap => "two of the ranges of memory and devices have a page in common",
+        PlatformFault::MonitorNotRam => "a page of the monitor is not in a range of memory",
+        PlatformFault::BadNumber =>
+            "there are at most 32 ranges of memory, at least one, and at most 32 devices",
+        PlatformFault::BadHarts => "harts is 1, 2, 3 or 4",
+        PlatformFault::BadEntries => "entries is 16 or 64",
+    }
+}
+
+/// Appends the table that is spoken of, and what is said of it.
+fn push_said(text: &mut Vec<u8>, place: Place, said: &str) -> Result<(), AllocError>
+    ensures { OnOk result (text.new.items
+        ≡ text.old.items ++ (place_text place ++ said.now)) }
+{
+    push_place(text, place)?;
+    push(text, said)
+}
+
+/// Appends the table that is spoken of, and what is said of one of its keys.
+fn push_about(
+    text: &mut Vec<u8>,
+    place: Place,
+    before: &str,
+    key: &str,
+    after: &str,
+) -> Result<(), AllocError>
+    ensures { OnOk result (text.new.items
+        ≡ text.old.items ++ about place before.now key.now after.now) }
+{
+    push_place(text, place)?;
+    push(text, before)?;
+    push(text, key)?;
+    push(text, after)
+}
+
+/// Appends a range: its table, its base and its size.
+fn push_range(text: &mut Vec<u8>, range: PlacedRange) -> Result<(), AllocError>
+    ensures { OnOk result (text.new.items ≡ text.old.items ++ range_text range) }
+{
+    push_place(text, range.place)?;
+    push(text, "base ")?;
+    push_address(text, range.bounds.0)?;
+    push(text, ", size ")?;
+    push_address(text, range.bounds.1)
+}
+
+/// Appends that a range has a page in common with another.
+fn push_overlap(text: &mut Vec<u8>, one: PlacedRange, other: PlacedRange) -> Result<(), AllocError>
+    ensures { OnOk result (text.new.items ≡ text.old.items
+        ++ (range_text one ++ (codes " has a page in common with " ++ range_text other))) }
+{
+    push_range(text, one)?;
+    push(text, " has a page in common with ")?;
+    push_range(text, other)
+}
+
+/// Appends what a platform file breaks.
+pub(crate) fn push_breach(text: &mut Vec<u8>, breach: Breach<'_>) -> Result<(), AllocError>
+    ensures { OnOk result (text.new.items
+        ≡ text.old.items ++ breach_text breach.entry) }
+{
+    match breach {
+        Breach::Unknown(place, key) => {
+            push_about(text, place, "unknown key '", key, keys_text(place))
+        }
+        Breach::Missing(place, key) => push_about(
+            text,
+            place,
+            "the key ",
+            key.name(),
+            " is missing",
+        ),
+        Breach::NoNumber(place, key) => push_about(
+            text,
+            place,
+            "the value of ",
+            key.name(),
+            " is no whole number from 0",
+        ),
+        Breach::NoPages(place) => push_said(text, place, PAGES),
+        Breach::NoPerm(place) => push_said(text, place, PERMS),
+        Breach::NoTable(place) => push_said(text, place, table_text(place)),
+        Breach::NoTables(key) => push_about(text, Place::File, "", key.name(), ARRAY),
+        Breach::Overlap(one, other) => push_overlap(text, one, other),
+        Breach::Rule(fault) => push(text, rule_text(fault)),
+    }
+}

@@ -1,0 +1,153 @@
+//! The accesses of a trace, judged line by line.
+
+ghost use Rattle.std.specs.Prelude.{◌≡◌, ℕ, ◌+◌, ◌-◌, ◌^◌, ◌<◌, Some, Err, IfOk, IfSome};
+ghost use Rattle.std.specs.Result.{result_ok};
+ghost use Rattle.text_lines.specs.LineLoop.{CountsReads, CountsWrites, DoesAll, StopsAt, StopsReading, StopsTooLong, StopsWriting};
+ghost use Rattle.hart_trace.specs.Answers.{access_on, answered_by, is_no_access, judged_by};
+
+use crate::access_judge::AccessJudge;
+use crate::answers::push_answer;
+use byte_streams::{Sink, Source};
+use crate::{Event, access_ahead, is_wordless, parse_by_words, spaced_access};
+use pmp_encoding::Bank;
+use pmp_match::{Access, Segments};
+use text_lines::{Interpreter, Line, NotUnderstood, Refusal, RunFault, interpret_lines};
+
+/// The same access, field by field. As a whole it would be read in one piece while its fields, written just before, are on
+/// their way to memory, and the processor would wait for them.
+#[inline(always)]
+fn taken_apart(access: Access) -> Access
+    ensures { result ≡ access }
+{
+    Access {
+        mode: access.mode,
+        kind: access.kind,
+        size: access.size,
+        address: access.address,
+    }
+}
+
+/// The access of a line, and none where it has no words.
+#[inline(never)]
+fn access_in(line: &[u8]) -> Result<Option<Access>, NotUnderstood>
+    ensures { result_ok result ≡ access_on line.now }
+{
+    if let Some((access, _)) = spaced_access(line) {
+        return Ok(Some(access));
+    }
+    if is_wordless(line) {
+        return Ok(None);
+    }
+    match parse_by_words(line, 0) {
+        Ok(None) => Ok(None),
+        Ok(Some((_, Event::Access(access, _)))) => Ok(Some(access)),
+        _ => Err(NotUnderstood),
+    }
+}
+
+/// What answers the access of each line.
+#[derive(Drop)]
+pub struct LineJudge<'a, J> {
+    /// What accesses are judged by.
+    pub by: &'a J,
+}
+
+impl<J: AccessJudge> Interpreter for LineJudge<'_, J> {
+    ghost use Rattle.std.specs.Prelude.{◌≡◌};
+    ghost use Rattle.hart_trace.specs.Answers.{answered_by, is_no_access};
+
+    ghost does = { λ old n line answer new.
+        answered_by (J.outcomes old.by.now) tt n line answer tt × (new ≡ old) };
+
+    ghost refuses = { λ now line. is_no_access tt line };
+
+    ghost starves = { λ old line new. ⊥ };
+
+    ghost keeps = { λ now. Unit {0} };
+
+    fn interpret(&mut self, line: &[u8], count: u64, answer: &mut Line) -> Result<bool, Refusal> {
+        let Ok(found) = access_in(line) else {
+            return Err(Refusal::NotUnderstood);
+        };
+        let Some(access) = found else {
+            return Ok(false);
+        };
+        push_answer(answer, self.by.outcome(&access));
+        Ok(true)
+    }
+
+    #[inline(always)]
+    fn interpret_ahead(
+        &mut self,
+        ahead: &[u8],
+        count: u64,
+        answer: &mut Line,
+    ) -> Option<(usize, Result<bool, Refusal>)> {
+        let (_, found, _, len) = access_ahead(ahead, 0)?;
+        let access = taken_apart(found);
+        push_answer(answer, self.by.outcome(&access));
+        Some((len, Ok(true)))
+    }
+}
+
+/// Judges the accesses of a trace: the first three forms of trace lines alone, without `@H`. A store changes nothing. The
+/// answer to each line is written before the next line is read. It takes no memory.
+pub fn judge_lines<J: AccessJudge, R: Source, W: Sink>(
+    by: &J,
+    source: &mut R,
+    sink: &mut W,
+) -> Result<(), RunFault>
+    ensures all { IfOk result (λ _.
+        DoesAll (answered_by (J.outcomes by.now)) tt tt (R.remaining source.old)
+        (R.remaining source.new) (W.contents sink.old) (W.contents sink.new)) }
+    ensures line { (n : ℕ) → result ≡ Err (RunFault.Line n)
+        → StopsAt n (answered_by (J.outcomes by.now)) is_no_access tt tt
+        (R.remaining source.old) (R.remaining source.new) (W.contents sink.old)
+        (W.contents sink.new) }
+    ensures too_long { result ≡ Err RunFault.TooLong
+        → StopsTooLong (answered_by (J.outcomes by.now)) tt tt (R.remaining source.old)
+        (R.remaining source.new) (W.contents sink.old) (W.contents sink.new) }
+    ensures read { result ≡ Err RunFault.Read
+        → StopsReading (answered_by (J.outcomes by.now)) tt tt (R.remaining source.old)
+        (R.remaining source.new) (W.contents sink.old) (W.contents sink.new) }
+    ensures write { result ≡ Err RunFault.Write
+        → StopsWriting (answered_by (J.outcomes by.now)) tt tt (R.remaining source.old)
+        (R.remaining source.new) (W.contents sink.old) (W.contents sink.new) }
+    ensures no_memory { result ≡ Err RunFault.Memory → ⊥ }
+    ensures reads { CountsReads result (R.failures source.old) (R.failures source.new) }
+    ensures writes { CountsWrites result (W.failures sink.old)
+        (W.failures sink.new) (W.stalls sink.old) (W.stalls sink.new) }
+{
+    let mut lines = LineJudge { by };
+    interpret_lines(&mut lines, source, sink)
+}
+
+/// Judges the accesses of a trace by a bank, as [`judge_lines`] does.
+pub fn judge_trace<R: Source, W: Sink>(
+    bank: &Bank,
+    source: &mut R,
+    sink: &mut W,
+) -> Result<(), RunFault>
+    ensures all { IfOk result (λ _.
+        DoesAll (judged_by bank.now) tt tt (R.remaining source.old)
+        (R.remaining source.new) (W.contents sink.old) (W.contents sink.new)) }
+    ensures line { (n : ℕ) → result ≡ Err (RunFault.Line n)
+        → StopsAt n (judged_by bank.now) is_no_access tt tt (R.remaining source.old)
+        (R.remaining source.new) (W.contents sink.old) (W.contents sink.new) }
+    ensures too_long { result ≡ Err RunFault.TooLong
+        → StopsTooLong (judged_by bank.now) tt tt (R.remaining source.old)
+        (R.remaining source.new) (W.contents sink.old) (W.contents sink.new) }
+    ensures read { result ≡ Err RunFault.Read
+        → StopsReading (judged_by bank.now) tt tt (R.remaining source.old)
+        (R.remaining source.new) (W.contents sink.old) (W.contents sink.new) }
+    ensures write { result ≡ Err RunFault.Write
+        → StopsWriting (judged_by bank.now) tt tt (R.remaining source.old)
+        (R.remaining source.new) (W.contents sink.old) (W.contents sink.new) }
+    ensures no_memory { result ≡ Err RunFault.Memory → ⊥ }
+    ensures reads { CountsReads result (R.failures source.old) (R.failures source.new) }
+    ensures writes { CountsWrites result (W.failures sink.old)
+        (W.failures sink.new) (W.stalls sink.old) (W.stalls sink.new) }
+{
+    let segments = Segments::of(bank);
+    judge_lines(&segments, source, sink)
+}

@@ -1,2 +1,0 @@
-pub mod HintTexts
-pub mod Refusals

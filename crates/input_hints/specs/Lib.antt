@@ -1,3 +1,0 @@
-pub mod Hints
-pub mod Needs
-pub mod Sizes

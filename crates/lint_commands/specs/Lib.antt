@@ -1,2 +1,0 @@
-pub mod Lint
-pub mod Traces

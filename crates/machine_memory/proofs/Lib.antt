@@ -1,5 +1,0 @@
-pub mod Bytes
-mod Groups
-mod Lowest
-mod Stored
-mod Written

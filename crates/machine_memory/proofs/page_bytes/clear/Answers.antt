@@ -1,6 +1,0 @@
-use Rattle.std.proofs.Common.{sym}
-use Rattle.machine_memory.proofs.Bytes.{zeros_are}
-use Rattle.machine_memory.proofs.page_bytes.clear.Goals as goal
-
-pub returns : goal.returns
-returns c = sym (zeros_are 0 4096)

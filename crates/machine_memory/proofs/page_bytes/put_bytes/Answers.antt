@@ -1,6 +1,0 @@
--- What the prover finds by itself, written down for the edits that break it (docs/DECISIONS.md, 268).
-use Rattle.std.proofs.Common.{rules}
-use Rattle.machine_memory.proofs.page_bytes.put_bytes.Goals as goal
-
-pub loop-i-preserved : goal.loop-i-preserved
-loop-i-preserved c = search rules

@@ -1,2 +1,0 @@
-mod FaultTexts
-mod ReplyTexts

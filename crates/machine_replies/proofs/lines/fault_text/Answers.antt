@@ -1,5 +1,0 @@
-use Rattle.machine_replies.proofs.FaultTexts.{each_fault}
-use Rattle.machine_replies.proofs.lines.fault_text.Goals as goal
-
-pub returns : goal.returns
-returns c = rw (c.from.ensures, c.number.ensures) (each_fault _ c.args.cause)

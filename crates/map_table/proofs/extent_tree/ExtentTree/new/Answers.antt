@@ -1,0 +1,9 @@
+-- What the prover finds by itself, written down for the edits that break it (docs/DECISIONS.md, 268).
+use Rattle.std.proofs.Common.{rules}
+use Rattle.map_table.proofs.extent_tree.ExtentTree.new.Goals as goal
+
+pub invariant_of-result : goal.invariant_of-result
+invariant_of-result c = search rules
+
+pub returns : goal.returns
+returns c = search rules

@@ -1,0 +1,43 @@
+//! What a map says of the pages from one on.
+
+ghost use Rattle.std.specs.Prelude.{◌≡◌, ◌≢◌, ℕ, ◌+◌, ◌^◌, ◌<◌, ◌≤◌};
+ghost use Rattle.pmp_encoding.specs.declared.perm.Perm.TheVariants.{NoAccess};
+ghost use Rattle.permission_map.specs.Runs.{view_of_runs};
+
+use pmp_encoding::SPACE_PAGES;
+use permission_map::PermissionMap;
+use pmp_encoding::Perm;
+
+/// The permission of each page from some page to before `end`.
+#[derive(Clone, Copy)]
+pub(crate) struct Standing {
+    pub(crate) end: u64,
+    pub(crate) wanted: Perm,
+}
+
+/// What the map says from the page on, as far as it stays the same.
+pub(crate) fn standing_from(map: &PermissionMap, page: u64) -> Standing
+    requires { page < 2 ^ 44 }
+    ensures some { page < result.end }
+    ensures inside { result.end ≤ 2 ^ 44 }
+    ensures wanted { (q : ℕ) → page ≤ q → q < result.end
+        → view_of_runs map.now q ≡ result.wanted }
+    ensures changes { result.end < 2 ^ 44 → view_of_runs map.now result.end ≢ result.wanted }
+{
+    let Some(run) = map.next_run(page) else {
+        return Standing {
+            end: SPACE_PAGES,
+            wanted: Perm::NoAccess,
+        };
+    };
+    if page < run.first {
+        return Standing {
+            end: run.first,
+            wanted: Perm::NoAccess,
+        };
+    }
+    Standing {
+        end: run.first + run.count,
+        wanted: run.perm,
+    }
+}

@@ -1,0 +1,6 @@
+-- What the prover finds by itself, written down for the edits that break it (docs/DECISIONS.md, 268).
+use Rattle.std.proofs.Common.{rules}
+use Rattle.measurement.proofs.request.Create.layout.Goals as goal
+
+pub returns : goal.returns
+returns c = search rules

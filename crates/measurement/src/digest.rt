@@ -1,0 +1,101 @@
+//! The measurement of an enclave's private pages.
+
+ghost use Rattle.std.specs.Prelude.{◌≡◌, ℕ, ◌+◌, ◌<◌, ◌≤◌, ◌==◌, ◌^◌, List, true};
+ghost use Rattle.std.specs.List.{list_all};
+ghost use Rattle.measurement.specs.Measured.{digest_of};
+ghost use Rattle.measurement.specs.Requests.{HasCounts, HasPlaces};
+ghost use Rattle.measurement.specs.Digests.{blank_page, layout_of, measured, pages_from};
+
+use crate::request::Create;
+use crate::{Layout, Measure};
+
+/// What tells the bytes of its pages.
+pub trait Pages {
+    /// The bytes of each page, by its number.
+    ghost bytes_of: { Self → ℕ → List ℕ };
+
+    /// Copies the 4096 bytes of a page, by its number below 2^44.
+    fn copy_page(&self, page: u64, into: &mut [u8; 4096])
+        requires { page < 2 ^ 44 }
+        ensures { into.new ≡ bytes_of self.now page };
+}
+
+/// Whether each byte of a page is zero. Each is looked at in any case, so that many can be at once.
+fn is_blank(page: &[u8; 4096]) -> bool
+    ensures { result ≡ list_all (λ b. b == 0) page.now }
+{
+    let mut all = true;
+    for b in page {
+        all = all & (*b == 0);
+    }
+    all
+}
+
+/// Whether so many pages from one on have no byte but zeros.
+fn are_blank<P: Pages>(pages: &P, first: u64, count: u64) -> bool
+    requires { first + count ≤ 2 ^ 44 }
+    ensures { result ≡ true → (i : ℕ) → i < count
+        → P.bytes_of pages.now (first + i) ≡ blank_page }
+{
+    let mut bytes = [0; 4096];
+    for i in 0..count {
+        pages.copy_page(first + i, &mut bytes);
+        if !is_blank(&bytes) {
+            return false;
+        }
+    }
+    true
+}
+
+/// The digest over pages of zeros alone, with its layout. Most enclaves are made of pages that were never written, and many
+/// with one layout.
+#[derive(Drop)]
+pub struct BlankDigest {
+    layout: Layout,
+    digest: [u8; 32],
+    ghost taken: { digest ≡ digest_of layout (pages_from
+        (λ page. blank_page) 0 (layout.text_pages + layout.data_pages)) },
+}
+
+/// The digest of an enclave with these parts, over its private pages as they are.
+fn taken<P: Pages>(pages: &P, parts: &Create) -> [u8; 32]
+    requires counts { HasCounts parts.now }
+    requires places { HasPlaces parts.now }
+    ensures { result ≡ measured (P.bytes_of pages.now) parts.now }
+{
+    let layout = parts.layout();
+    let range = parts.private_pages();
+    let mut measure = Measure::begin(&layout);
+    let mut bytes = [0; 4096];
+    for i in 0..range.count {
+        pages.copy_page(range.first + i, &mut bytes);
+        measure.page(&bytes);
+    }
+    measure.finish()
+}
+
+/// The digest of an enclave with these parts, over its private pages as they are. Where they are blank, it is the last one
+/// of such pages if that had the same layout, and otherwise it is kept.
+pub fn enclave_digest<P: Pages>(
+    last: &mut Option<BlankDigest>,
+    pages: &P,
+    parts: &Create,
+) -> [u8; 32]
+    requires counts { HasCounts parts.now }
+    requires places { HasPlaces parts.now }
+    ensures { result ≡ measured (P.bytes_of pages.now) parts.now }
+{
+    let range = parts.private_pages();
+    if !are_blank(pages, range.first, range.count) {
+        return taken(pages, parts);
+    }
+    let layout = parts.layout();
+    if let Some(blank) = last {
+        if blank.layout == layout {
+            return blank.digest;
+        }
+    }
+    let digest = taken(pages, parts);
+    *last = Some(BlankDigest { layout, digest });
+    digest
+}

@@ -1,0 +1,151 @@
+//! `run`: a trace on a machine that boots on a platform.
+
+ghost use Rattle.std.specs.Prelude.{◌-◌, ◌^◌, ◌<◌};
+ghost use Rattle.byte_streams.specs.Writings.{writing};
+ghost use Rattle.hart_sim.specs.Machines.{KeepsBanksRight};
+ghost use Rattle.hart_sim.specs.Reports.{DoesLine};
+ghost use Rattle.command_inputs.specs.Inputs.{reading};
+ghost use Rattle.monitor_cli.specs.Runs.{Runs, RunsExpecting, RunsExplaining, RunsTrace, RunsTraceAs};
+
+use crate::measurements::{booted, measure_where};
+use byte_streams::{DeviceFault, Sink, Source};
+use command_inputs::read_platform;
+use trace_answers::{Compared, compare_lines};
+use explained_runs::{Ran, explain_run, print_summary};
+use hart_sim::{Machine, run};
+use commands::tell_first;
+use program_tasks::Answers;
+use command_inputs::Trouble;
+use std::alloc::Global;
+
+/// Runs a trace on a machine, and prints the measurements where they are asked for.
+#[inline(never)]
+fn run_plainly<'a, R: Source, W: Sink>(
+    machine: &mut Machine,
+    trace: &'a str,
+    measure: bool,
+    second: &mut R,
+    out: &mut W,
+) -> Result<u8, Trouble<'a>>
+    requires kept { KeepsBanksRight machine.old }
+    ensures { RunsTrace DoesLine machine.old trace.entry measure
+        (reading R.remaining R.failures second.old second.new)
+        (writing W.contents W.failures W.stalls out.old out.new) result }
+{
+    match run(machine, second, out) {
+        Ok(()) => {}
+        Err(fault) => return Err(Trouble::of_run(trace, fault)),
+    }
+    match measure_where(machine, measure, out) {
+        Ok(()) => Ok(0),
+        Err(DeviceFault) => Err(Trouble::Output),
+    }
+}
+
+/// Runs a trace on a machine, says behind each answer what happened, prints the measurements where they are asked for, and last
+/// the summary.
+#[inline(never)]
+fn run_explaining<'a, R: Source, W: Sink>(
+    machine: Machine,
+    trace: &'a str,
+    measure: bool,
+    second: &mut R,
+    out: &mut W,
+) -> Result<u8, Trouble<'a>>
+    requires kept { KeepsBanksRight machine }
+    ensures { RunsExplaining machine trace.entry measure
+        (reading R.remaining R.failures second.old second.new)
+        (writing W.contents W.failures W.stalls out.old out.new) result }
+{
+    let Ran {
+        machine,
+        tally,
+        end,
+    } = explain_run(machine, second, out);
+    match end {
+        Ok(()) => {}
+        Err(fault) => return Err(Trouble::of_run(trace, fault)),
+    }
+    match measure_where(&machine, measure, out) {
+        Ok(()) => {}
+        Err(DeviceFault) => return Err(Trouble::Output),
+    }
+    match print_summary(&tally, &machine, out) {
+        Ok(()) => Ok(0),
+        Err(DeviceFault) => Err(Trouble::Output),
+    }
+}
+
+/// Runs a trace on a machine, compares its answers, and prints the measurements where they are asked for.
+#[inline(never)]
+fn run_expecting<'a, R: Source, W: Sink>(
+    machine: Machine,
+    trace: &'a str,
+    measure: bool,
+    second: &mut R,
+    out: &mut W,
+) -> Result<u8, Trouble<'a>>
+    requires kept { KeepsBanksRight machine }
+    ensures { RunsExpecting DoesLine machine trace.entry measure
+        (reading R.remaining R.failures second.old second.new)
+        (writing W.contents W.failures W.stalls out.old out.new) result }
+{
+    let Compared { lines, first, end } = compare_lines(machine, second, out);
+    match end {
+        Ok(()) => {}
+        Err(fault) => return Err(Trouble::of_run(trace, fault)),
+    }
+    match measure_where(&lines, measure, out) {
+        Ok(()) => {}
+        Err(DeviceFault) => return Err(Trouble::Output),
+    }
+    match tell_first(&first, out) {
+        Ok(status) => Ok(status),
+        Err(DeviceFault) => Err(Trouble::Output),
+    }
+}
+
+/// Runs a trace on a machine, and writes of the answers what is asked for.
+fn run_on<'a, R: Source, W: Sink>(
+    machine: Machine,
+    answers: Answers,
+    trace: &'a str,
+    measure: bool,
+    second: &mut R,
+    out: &mut W,
+) -> Result<u8, Trouble<'a>>
+    requires kept { KeepsBanksRight machine }
+    ensures { RunsTraceAs answers machine trace.entry measure
+        (reading R.remaining R.failures second.old second.new)
+        (writing W.contents W.failures W.stalls out.old out.new) result }
+{
+    match answers {
+        Answers::Plain => {
+            let mut running = machine;
+            run_plainly(&mut running, trace, measure, second, out)
+        }
+        Answers::Explained => run_explaining(machine, trace, measure, second, out),
+        Answers::Compared => run_expecting(machine, trace, measure, second, out),
+    }
+}
+
+/// Boots a platform, runs a trace on it, and writes of the answers what is asked for.
+pub fn do_run_as<'a, R: Source, W: Sink>(
+    alloc: Global,
+    answers: Answers,
+    platform: &'a str,
+    trace: &'a str,
+    measure: bool,
+    first: &mut R,
+    second: &mut R,
+    out: &mut W,
+) -> Result<u8, Trouble<'a>>
+    ensures { let source = reading R.remaining R.failures in
+        Runs answers platform.entry trace.entry measure (source first.old first.new)
+        (source second.old second.new) (writing W.contents W.failures W.stalls out.old out.new)
+        result }
+{
+    let platform = read_platform(alloc, platform, first)?;
+    let machine = booted(alloc, platform)?;
+    run_on(machine, answers, trace, measure, second, out)
+}

@@ -1,8 +1,0 @@
--- Ranges of pages.
-use Rattle.std.specs.Prelude.{◌≡◌, ℕ, true}
-use Rattle.page_views.specs.declared.pages.PageRange.{PageRange}
-use Rattle.page_views.specs.Views.{in_range}
-
--- two ranges have no page in common
-abbrev pub AreApart : PageRange → PageRange → Type 0
-AreApart range other = (page : ℕ) → in_range range.first range.count page ≡ true → in_range other.first other.count page ≡ true → ⊥

@@ -1,5 +1,0 @@
-pub mod Items
-pub mod Found
-mod Overlaps
-pub mod Steps
-pub mod Parts

@@ -1,5 +1,0 @@
-use Rattle.toml.specs.View.{table_view}
-use Rattle.platform_lint.proofs.lint.finding.Goals as goal
-
-pub push_document-requires : goal.push_document-requires
-push_document-requires c = λ platform tells. c.requires platform (record { document = table_view c.in-Ok.document; parsed = c.in-Ok.ensures.ok; told = tells })

@@ -1,5 +1,0 @@
-pub mod Breaches
-pub mod Lints
-pub mod Order
-pub mod Overlaps
-pub mod Texts

@@ -1,0 +1,6 @@
+-- What the prover finds by itself, written down for the edits that break it (docs/DECISIONS.md, 268).
+use Rattle.std.proofs.Common.{rules}
+use Rattle.pmp_encoding.proofs.pages.PageRange.ends_by.Goals as goal
+
+pub returns-then-self-page : goal.returns-then-self-page
+returns-then-self-page c = search rules

@@ -1,0 +1,6 @@
+-- What the prover finds by itself, written down for the edits that break it (docs/DECISIONS.md, 268).
+use Rattle.std.proofs.Common.{rules}
+use Rattle.pmp_encoding.proofs.pages.pages_of.Goals as goal
+
+pub returns : goal.returns
+returns c = search rules

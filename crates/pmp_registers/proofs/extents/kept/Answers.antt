@@ -1,9 +1,0 @@
--- What the prover finds by itself, written down for the edits that break it (docs/DECISIONS.md, 268).
-use Rattle.std.proofs.Common.{rules}
-use Rattle.pmp_registers.proofs.extents.kept.Goals as goal
-
-pub returns-in-Rv64-clause-value : goal.returns-in-Rv64-clause-value
-returns-in-Rv64-clause-value c = search rules
-
-pub returns-in-Rv64-clause-small : goal.returns-in-Rv64-clause-small
-returns-in-Rv64-clause-small c = search rules

@@ -1,0 +1,16 @@
+-- The table of a task's files.
+use Rattle.std.specs.Prelude.{Some, None}
+use Rattle.program_tasks.specs.declared.task.Task.{Task}
+use Rattle.program_tasks.specs.declared.task.Task.TheVariants as tasks
+use Rattle.program_tasks.specs.declared.files.TaskFiles.{TaskFiles}
+
+-- what each task reads first and after that, and the certificate that it writes
+abbrev pub files_of : Task → TaskFiles
+files_of (tasks.Run platform trace measure) = record { first = platform; second = Some trace; cert = None }
+files_of (tasks.Plan map cert limit) = record { first = map; second = None; cert = cert }
+files_of (tasks.Judge map trace limit) = record { first = map; second = Some trace; cert = None }
+files_of (tasks.Check map cert) = record { first = map; second = Some cert; cert = None }
+files_of (tasks.Audit map registers) = record { first = map; second = Some registers; cert = None }
+files_of (tasks.Map registers) = record { first = registers; second = None; cert = None }
+files_of (tasks.Lint file platform) = record { first = file; second = platform; cert = None }
+files_of (tasks.Show map limit) = record { first = map; second = None; cert = None }

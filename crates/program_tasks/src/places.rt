@@ -1,0 +1,73 @@
+//! What a task reads and writes, by name.
+
+ghost use Rattle.std.specs.Prelude.{◌≡◌, ◌↔◌, true};
+ghost use Rattle.program_tasks.specs.Places.{again, cert_of, first_of, place_of, second_of, ReadsTwice};
+
+use crate::files::files_of;
+use crate::Task;
+
+/// The word that standard input stands for.
+const STANDARD_INPUT: &str = "-";
+
+/// Where an input comes from.
+#[derive(Clone, Copy)]
+pub enum Place<'a> {
+    /// Standard input.
+    StandardInput,
+    /// The file of that name.
+    File(&'a str),
+}
+
+/// The file of that name, or standard input under its word.
+fn place_of(name: &str) -> Place<'_>
+    ensures { result ≡ place_of name.entry }
+{
+    if name == STANDARD_INPUT {
+        return Place::StandardInput;
+    }
+    Place::File(name)
+}
+
+/// What a task reads first.
+pub fn first_of<'a>(task: &Task<'a>) -> Place<'a>
+    ensures { result ≡ first_of task.now }
+{
+    place_of(files_of(task).first)
+}
+
+/// What a task reads after that, where it does.
+pub fn second_of<'a>(task: &Task<'a>) -> Option<Place<'a>>
+    ensures { result ≡ second_of task.now }
+{
+    match files_of(task).second {
+        Some(name) => Some(place_of(name)),
+        None => None,
+    }
+}
+
+/// Whether a task would read standard input twice.
+pub fn reads_twice(task: &Task<'_>) -> bool
+    ensures { (result ≡ true) ↔ ReadsTwice task.now }
+{
+    matches!(
+        (first_of(task), second_of(task)),
+        (Place::StandardInput, Some(Place::StandardInput))
+    )
+}
+
+/// A place that is read a second time: a file is opened anew, and standard input is not there again.
+pub fn again(place: Option<Place<'_>>) -> Option<Place<'_>>
+    ensures { result ≡ again place.entry }
+{
+    match place {
+        Some(Place::File(name)) => Some(Place::File(name)),
+        Some(Place::StandardInput) | None => None,
+    }
+}
+
+/// The file of the certificate that a task writes, where it writes one.
+pub fn cert_of<'a>(task: &Task<'a>) -> Option<&'a str>
+    ensures { result ≡ cert_of task.now }
+{
+    files_of(task).cert
+}

@@ -1,3 +1,0 @@
-pub mod ReasonHints
-pub mod Shown
-pub mod Troubles

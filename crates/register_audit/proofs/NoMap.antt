@@ -1,0 +1,63 @@
+-- Extents that mean no view.
+use Rattle.std.proofs.Common.{◌≡◌, ◌≢◌, ◌∙◌, ℕ, ◌*◌, ◌/◌, ◌%◌, ◌==◌, ◌^◌, ◌<◌, ◌⊎◌, inl, inr, List, Bool, false, ap, sym, subst, arith}
+use Rattle.std.specs.List.{AllByRecursion}
+use Rattle.pmp_encoding.specs.declared.extent.Extent.{Extent}
+use Rattle.pmp_encoding.specs.Views.{View}
+use Rattle.pmp_match.specs.RegisterDecision.{ExtentsMean, IsWords, RegistersMean}
+use Rattle.pmp_match.proofs.RegistersEachByte.{each_byte}
+use Rattle.pmp_match.proofs.Matched.{all_defined, each_words, one_list}
+use Rattle.map_table.specs.declared.stretch.Stretch.{Stretch}
+use Rattle.register_text.specs.declared.listing.Listing.{Listing}
+use Rattle.register_text.specs.Texts.{IsRefusal, reserved, unmodelled}
+use Rattle.register_audit.specs.Findings.{CutsAlone, IsCut, IsFirstDifference}
+use Rattle.register_audit.proofs.Cut.{cut_not}
+use Rattle.register_audit.specs.Pages.{HasFirstBytes}
+use Rattle.register_audit.specs.Maps.{IsMapOf, IsMapOfExtents, below, cut, mapped, refused, told}
+use Rattle.pmp_encoding.specs.Perms.{bits_of}
+
+-- a view that extents mean is what they give the first byte of each page
+same_view : (xs : List Extent) (view other : View) → AllByRecursion IsWords xs → HasFirstBytes xs view → ExtentsMean xs other → (page : ℕ) → page < 2 ^ 44 → view page ≡ other page
+same_view xs view other words first means page small =
+    let back : 4096 * page / 4096 ≡ page = omega arith in
+    first page small ∙ each_byte xs other words means (4096 * page) (omega (arith, small)) ∙ ap other back
+
+below_none : (xs : List Extent) (view other : View) (s : Stretch) → AllByRecursion IsWords xs → HasFirstBytes xs view → IsFirstDifference view xs s → ¬ ExtentsMean xs other
+below_none xs view other s words first d means =
+    let stretch = d.stretch in
+    let inside : s.first < 2 ^ 56 = omega (arith, stretch.some, stretch.inside) in
+    d.differs
+    (sym (stretch.wanted s.first (omega arith) stretch.some) ∙ same_view xs view other words first means (s.first / 4096) (omega (arith, inside))
+    ∙ sym (each_byte xs other words means s.first inside) ∙ stretch.given s.first (omega arith) stretch.some)
+
+cut_none : (xs : List Extent) (view other : View) (i at : ℕ) → AllByRecursion IsWords xs → HasFirstBytes xs view → CutsAlone view xs i at → ¬ ExtentsMean xs other
+cut_none xs view other i at words first c means =
+    let found = c.first.cut.cut in
+    let same = same_view xs view other words first means (at / 4096) (omega (arith, found.inside)) in
+    let moved : IsCut other xs i at = record {
+      aligned = found.aligned;
+      inside = found.inside;
+      may = ap (λ perm. bits_of perm % 2 == 1) (sym same) ∙ found.may;
+      extent = found.extent;
+      first = found.first;
+      partly = found.partly;
+    } in
+    cut_not other xs i at moved means
+
+extents_none : (xs : List Extent) (text : List ℕ) (is_map : Bool) (other : View) → AllByRecursion IsWords xs → IsMapOfExtents xs text is_map → is_map ≡ false → ¬ ExtentsMean xs other
+extents_none xs text is_map other words (mapped runs are means) no_map = absurd cc
+extents_none xs text is_map other words (below view first s d) no_map = below_none xs view other s words first d
+extents_none xs text is_map other words (cut view first i at c) no_map = cut_none xs view other i at words first c
+
+-- what a listing leaves that means nothing means no view
+none_refused : (listing : Listing) (line : List ℕ) → IsRefusal listing line → (listing.mseccfg ≢ 0) ⊎ ((view : View) → ¬ RegistersMean listing.registers view)
+none_refused listing line (reserved none found is) =
+    inr (λ view m. all_defined listing.registers m.extents m.are_extents found.place is.inside found.value is.value.has)
+none_refused listing line (unmodelled other) = inl other
+
+-- where no map is printed there is none
+pub none_meant : (listing : Listing) (text : List ℕ) (is_map : Bool) → IsMapOf listing text is_map → is_map ≡ false
+    → (listing.mseccfg ≢ 0) ⊎ ((view : View) → ¬ RegistersMean listing.registers view)
+none_meant listing text is_map (told none xs are said it of) no_map =
+    inr (λ view m. extents_none xs text is_map view (each_words listing.registers xs are) of no_map
+    (subst (λ (ys : List Extent). ExtentsMean ys view) (one_list listing.registers m.extents xs m.are_extents are) m.means))
+none_meant listing text is_map (refused line is) no_map = none_refused listing line is

@@ -1,0 +1,13 @@
+-- The extents of the registers are of whole words.
+use Rattle.pmp_match.proofs.Matched.{all_words}
+use Rattle.register_audit.specs.Maps.{refused, told}
+use Rattle.register_audit.proofs.map.said_of.Goals as goal
+
+pub said_of_extents-requires : goal.said_of_extents-requires
+said_of_extents-requires c = rw c.as_slice.ensures (all_words c.args.listing.now.registers c.in-Ok.extents c.in-Ok.ensures.extents)
+
+pub returns-in-Err-clause-said : goal.returns-in-Err-clause-said
+returns-in-Err-clause-said c = rw c.in_ok-text-in-Err.ensures (refused _ c.in-Err.ensures.refused)
+
+pub returns-clause-said : goal.returns-clause-said
+returns-clause-said c = told c.in-Ok.ensures.modelled c.in-Ok.extents c.in-Ok.ensures.extents _ _ (rw c.as_slice.ensures at c.in_ok-said.ensures.said)

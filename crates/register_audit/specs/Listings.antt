@@ -1,0 +1,33 @@
+-- The registers that a listing leaves, or why they judge nothing.
+use Rattle.std.specs.Prelude.{◌≡◌, List, ℕ, ◌++◌, Some}
+use Rattle.pmp_encoding.specs.declared.extent.Extent.{Extent}
+use Rattle.pmp_match.specs.declared.registers.Registers.{Registers}
+use Rattle.pmp_match.specs.RegisterMatching.{AreExtents}
+use Rattle.pmp_encoding.specs.declared.xlen.Xlen.{Xlen}
+use Rattle.register_text.specs.declared.listing.Listing.{Listing}
+use Rattle.register_text.specs.Listings.{listed}
+use Rattle.register_text.specs.Texts.{IsRefusal, passed_text}
+use Rattle.register_audit.specs.declared.listing_rules.Ruled.{Ruled}
+use Rattle.register_audit.specs.declared.listing_rules.Ruled.TheVariants as ruled
+
+-- a listing of registers of that width leaves these, without a reserved value and with an mseccfg of zero
+pub record HasRules (xlen : Xlen) (listing : List ℕ) (registers : Registers) : Type 0 where
+  pub leaves : Listing
+  pub listed_as : listed xlen listing ≡ Some leaves
+  pub modelled : leaves.mseccfg ≡ 0
+  pub registers_are : registers ≡ leaves.registers
+  pub extents : List Extent
+  pub are_extents : AreExtents leaves.registers extents
+
+-- the text is the line that says why what a listing leaves judges nothing, and after it a comment on lines that are passed over
+pub record IsRefused (xlen : Xlen) (listing text : List ℕ) : Type 0 where
+  pub leaves : Listing
+  pub listed_as : listed xlen listing ≡ Some leaves
+  pub line : List ℕ
+  pub is_line : IsRefusal leaves line
+  pub lines : text ≡ line ++ passed_text leaves.passed
+
+-- what a listing has
+abbrev pub IsRuled : Xlen → List ℕ → Ruled → Type 0
+IsRuled xlen listing (ruled.Rules registers) = HasRules xlen listing registers
+IsRuled xlen listing (ruled.Refused text) = IsRefused xlen listing text.items

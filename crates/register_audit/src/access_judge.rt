@@ -1,0 +1,26 @@
+//! Rules as what the accesses of a trace are judged by.
+
+use crate::rules::Rules;
+use trace_answers::{Decider, Deciders};
+use pmp_match::{Access, Cause};
+use hart_trace::AccessJudge;
+
+impl AccessJudge for Rules {
+    ghost use Rattle.register_audit.specs.Answers.{by_registers};
+
+    ghost outcomes = { by_registers };
+
+    fn outcome(&self, access: &Access) -> Result<(), Cause> {
+        self.judge(access)
+    }
+}
+
+impl Deciders for Rules {
+    ghost use Rattle.register_audit.specs.Deciders.{by_entry};
+
+    ghost decides = { by_entry };
+
+    fn decider(&self, access: &Access) -> Option<Decider> {
+        self.first_met(access)
+    }
+}

@@ -1,0 +1,36 @@
+//! Why there is no map of a listing.
+
+use std::alloc::AllocError;
+
+/// Why there is no map of a listing.
+#[derive(Clone, Copy, Debug)]
+pub enum MapOfFault {
+    /// The line of this number, from 1, is not understood.
+    Line(u64),
+    /// The map would have more than 4096 ranges.
+    TooManyRanges,
+    /// Memory was refused.
+    Memory,
+    /// The device failed, or took none of some bytes.
+    Device,
+}
+
+/// Why there is no map of registers.
+#[derive(Clone, Copy)]
+pub(crate) enum Refusal {
+    /// The map would have more than 4096 ranges.
+    TooManyRanges,
+    /// Memory was refused.
+    Memory,
+}
+
+impl From<AllocError> for Refusal {
+    ghost use Rattle.std.specs.Prelude.{◌≡◌};
+    ghost use Rattle.register_audit.specs.declared.fault.Refusal.TheVariants.{Memory};
+
+    ghost from_gives = { λ error refusal. refusal ≡ Memory };
+
+    fn from(_: AllocError) -> Refusal {
+        Refusal::Memory
+    }
+}

@@ -1,0 +1,33 @@
+//! What registers say, against lists and against extents.
+
+ghost use Rattle.std.specs.Prelude.{◌≡◌, ◌≢◌, ◌↔◌, List, Result};
+ghost use Rattle.pmp_encoding.specs.declared.extent.Extent.{Extent};
+ghost use Rattle.pmp_encoding.specs.declared.region.Entry.{Entry};
+ghost use Rattle.pmp_encoding.specs.Lists.{MeansList};
+ghost use Rattle.pmp_encoding.specs.Widths.{AreReached};
+ghost use Rattle.pmp_match.specs.declared.access.Access.{Access};
+ghost use Rattle.pmp_match.specs.declared.access.Mode.TheVariants.{Machine};
+ghost use Rattle.pmp_match.specs.declared.cause.Cause.{Cause};
+ghost use Rattle.pmp_match.specs.Judgement.{Judges};
+ghost use Rattle.pmp_match.specs.declared.registers.Registers.{Registers};
+ghost use Rattle.pmp_match.specs.RegisterDecision.{Permits};
+ghost use Rattle.pmp_match.specs.RegisterMatching.{AreExtents};
+ghost use Rattle.pmp_match.specs.Registers.{pairs_of};
+ghost use Rattle.register_audit.specs.Decision.{RegistersAllow};
+ghost use Rattle.register_audit.specs.Judgement.{RegistersJudge};
+
+/// Registers that hold a list of NA4 and NAPOT entries judge each access, of any mode, as the list does, where the hart's address registers reach it. Such a list has no locked
+/// entry.
+pub fn list_law()
+    ensures { (registers : Registers) (entries : List Entry)
+        → MeansList (pairs_of registers) entries → AreReached registers.xlen entries
+        → (a : Access) (answer : Result (Unit {0}) Cause)
+        → RegistersJudge registers a answer ↔ Judges entries a answer }
+{}
+
+/// Supervisor and user mode may do what the extents of the registers let them do.
+pub fn permits_law()
+    ensures { (registers : Registers) (xs : List Extent) → AreExtents registers xs
+        → (a : Access) → a.mode ≢ Machine
+        → RegistersAllow registers a ↔ Permits xs a }
+{}

@@ -1,0 +1,74 @@
+//! The rules of a listing.
+
+ghost use Rattle.std.specs.Prelude.{◌≡◌, ℕ, ◌-◌, ◌^◌, ◌<◌, ◌++◌, Err, IfOk, List, Some, length};
+ghost use Rattle.register_text.specs.Listings.{IsFirstUnknown, listed};
+ghost use Rattle.register_text.specs.Texts.{passed_text};
+ghost use Rattle.pmp_encoding.specs.declared.xlen.Xlen.{Xlen};
+ghost use Rattle.register_audit.specs.declared.listing_rules.RulesFault as RulesFault;
+ghost use Rattle.register_audit.specs.Listings.{IsRuled};
+
+use crate::rules::Rules;
+use register_text::{Listing, extents_in, listing_of, passed_line, text_of_line};
+use pmp_encoding::Xlen;
+use std::alloc::{AllocError, Global};
+use text_lines::Line;
+
+/// Why a listing was not read.
+#[derive(Clone, Copy, PartialEq, Eq, Debug)]
+pub enum RulesFault {
+    /// The line of this number, from 1, is not understood.
+    Line(u64),
+    /// Memory was refused.
+    Memory,
+}
+
+/// What a listing has.
+#[derive(Drop)]
+pub enum Ruled {
+    /// Registers that judge accesses.
+    Rules(Rules),
+    /// Others, and the text that says why they judge none.
+    Refused(Vec<u8>),
+}
+
+/// A line, and the comment on lines that are passed over. The only error is out of memory.
+fn text_of(alloc: Global, line: &Line, passed: Option<u64>) -> Result<Vec<u8>, AllocError>
+    ensures { IfOk result (λ text. text.items ≡ line.now ++ passed_text passed) }
+{
+    let mut text = text_of_line(alloc, line)?;
+    let comment = passed_line(passed);
+    text.extend_from_slice(comment.as_slice())?;
+    Ok(text)
+}
+
+/// The rules of what a listing leaves. The only error is out of memory.
+fn ruled_by(alloc: Global, listing: &Listing) -> Result<Ruled, AllocError>
+    ensures { (xlen : Xlen) (bytes : List ℕ) → listed xlen bytes ≡ Some listing.now
+        → IfOk result (IsRuled xlen bytes) }
+{
+    match extents_in(listing) {
+        Ok(extents) => Ok(Ruled::Rules(Rules::by(&listing.registers, extents))),
+        Err(line) => {
+            let text = text_of(alloc, &line, listing.passed)?;
+            Ok(Ruled::Refused(text))
+        }
+    }
+}
+
+/// The rules of the registers of that width that a listing leaves, or the text that says why they judge nothing: an entry with a reserved
+/// value, or Smepmp.
+pub fn rules_in(alloc: Global, xlen: Xlen, listing: &[u8]) -> Result<Ruled, RulesFault>
+    requires { length listing.now < 2 ^ 64 - 1 }
+    ensures ruled { IfOk result (IsRuled xlen listing.now) }
+    ensures line { (n : ℕ) → result ≡ Err (RulesFault.Line n)
+        → IsFirstUnknown xlen listing.now n }
+{
+    let leaves = match listing_of(xlen, listing) {
+        Ok(leaves) => leaves,
+        Err(number) => return Err(RulesFault::Line(number)),
+    };
+    match ruled_by(alloc, &leaves) {
+        Ok(ruled) => Ok(ruled),
+        Err(_) => Err(RulesFault::Memory),
+    }
+}

@@ -1,0 +1,142 @@
+//! The map of a listing.
+
+ghost use Rattle.std.specs.Prelude.{◌≡◌, ◌≢◌, ◌⊎◌, ◌-◌, ◌^◌, ◌<◌, ◌++◌, ℕ, All, Bool, Err, IfOk, List, Ok, Some, false, length, true};
+ghost use Rattle.byte_streams.specs.Writings.{writing, Breaks, TakesAll};
+ghost use Rattle.pmp_encoding.specs.Views.{View};
+ghost use Rattle.permission_map.specs.declared.runs.Run.{Run};
+ghost use Rattle.permission_map.specs.Runs.{AreRuns, view_of_runs};
+ghost use Rattle.pmp_match.specs.RegisterDecision.{IsWords, RegistersMean};
+ghost use Rattle.register_text.specs.declared.listing.Listing.{Listing};
+ghost use Rattle.register_text.specs.Listings.{IsFirstUnknown, listed};
+ghost use Rattle.register_text.specs.Texts.{passed_text};
+ghost use Rattle.register_audit.specs.declared.fault.MapOfFault as MapOfFault;
+ghost use Rattle.register_audit.specs.declared.fault.Refusal as Refusal;
+ghost use Rattle.register_audit.specs.Maps.{AreTooFine, IsMapFile, IsMapOf, IsMapOfExtents};
+ghost use Rattle.register_audit.specs.Pages.{IsTooFine};
+ghost use Rattle.register_audit.specs.MapTexts.{map_text};
+
+use crate::fault::{MapOfFault, Refusal};
+use crate::pages::first_bytes;
+use crate::map_texts::{below_line, cut_line, map_text};
+use byte_streams::{Sink, write_whole};
+use permission_map::Memory;
+use pmp_match::Extent;
+use crate::{Finding, compared};
+use register_text::{Listing, extents_in, listing_of, passed_line, text_of_line};
+use pmp_encoding::Xlen;
+use std::alloc::Global;
+
+/// What is said of registers, and whether it is a map.
+#[derive(Drop)]
+struct Said {
+    text: Vec<u8>,
+    is_map: bool,
+}
+
+/// What is said of extents.
+fn said_of_extents(alloc: Global, extents: &[Extent]) -> Result<Said, Refusal>
+    requires { All IsWords extents.now }
+    ensures said { IfOk result (λ said.
+        IsMapOfExtents extents.now said.text.items said.is_map) }
+    ensures many { result ≡ Err Refusal.TooManyRanges → IsTooFine extents.now }
+{
+    let map = first_bytes(alloc, extents)?;
+    match compared(alloc, &map, extents)? {
+        Finding::Means => {
+            let text = map_text(alloc, &map)?;
+            Ok(Said { text, is_map: true })
+        }
+        Finding::Differs(stretch) => {
+            let text = text_of_line(alloc, &below_line(&stretch))?;
+            Ok(Said {
+                text,
+                is_map: false,
+            })
+        }
+        Finding::Cuts { entry, at } => {
+            let text = text_of_line(alloc, &cut_line(entry, at))?;
+            Ok(Said {
+                text,
+                is_map: false,
+            })
+        }
+    }
+}
+
+/// What is said of what a listing leaves.
+fn said_of(alloc: Global, listing: &Listing) -> Result<Said, Refusal>
+    ensures said { IfOk result (λ said. IsMapOf listing.now said.text.items said.is_map) }
+    ensures many { result ≡ Err Refusal.TooManyRanges → AreTooFine listing.now }
+{
+    let extents = match extents_in(listing) {
+        Ok(extents) => extents,
+        Err(line) => {
+            let text = text_of_line(alloc, &line)?;
+            return Ok(Said {
+                text,
+                is_map: false,
+            });
+        }
+    };
+    let said = said_of_extents(alloc, extents.as_slice())?;
+    Ok(said)
+}
+
+/// The same with the comment on lines that are passed over.
+fn commented(alloc: Global, listing: &Listing) -> Result<Said, Refusal>
+    ensures said { IfOk result (λ all. (text : List ℕ) × IsMapOf listing.now text all.is_map
+        × (all.text.items ≡ text ++ passed_text listing.now.passed)) }
+    ensures many { result ≡ Err Refusal.TooManyRanges → AreTooFine listing.now }
+{
+    let mut all = said_of(alloc, listing)?;
+    let comment = passed_line(listing.passed);
+    all.text.extend_from_slice(comment.as_slice())?;
+    Ok(all)
+}
+
+/// Reads a listing of registers of that width, and writes the map that they mean, as the lines of a map file; or one line that says why no map
+/// of whole pages is what supervisor and user mode may do under them. After it stands a comment where lines of other registers
+/// are passed over. The answer is whether there is a map. Where a line is not understood, there are too many ranges or memory is
+/// refused, nothing is written; where the device failed, or took none of some bytes, a beginning of the text was written.
+pub fn print_map_of<W: Sink>(
+    alloc: Global,
+    xlen: Xlen,
+    listing: &[u8],
+    out: &mut W,
+) -> Result<bool, MapOfFault>
+    requires { length listing.now < 2 ^ 64 - 1 }
+    ensures written { IfOk result (λ is_map. (text : List ℕ)
+        × IsMapFile xlen listing.now text is_map
+        × TakesAll text (writing W.contents W.failures W.stalls out.old out.new)) }
+    ensures means { result ≡ Ok true → (leaves : Listing)
+        × (listed xlen listing.now ≡ Some leaves) × (leaves.mseccfg ≡ 0) × (runs : List Run)
+        × AreRuns runs × RegistersMean leaves.registers (view_of_runs runs)
+        × TakesAll (map_text runs ++ passed_text leaves.passed)
+        (writing W.contents W.failures W.stalls out.old out.new) }
+    ensures none { result ≡ Ok false → (leaves : Listing)
+        × (listed xlen listing.now ≡ Some leaves)
+        × (leaves.mseccfg ≢ 0 ⊎ ((view : View) → ¬ RegistersMean leaves.registers view)) }
+    ensures line { (n : ℕ) → result ≡ Err (MapOfFault.Line n)
+        → IsFirstUnknown xlen listing.now n × (out.new ≡ out.old) }
+    ensures many { result ≡ Err MapOfFault.TooManyRanges
+        → (leaves : Listing) × (listed xlen listing.now ≡ Some leaves) × AreTooFine leaves
+        × (out.new ≡ out.old) }
+    ensures untouched { result ≡ Err MapOfFault.Memory → out.new ≡ out.old }
+    ensures broken { result ≡ Err MapOfFault.Device → (text : List ℕ) × (is_map : Bool)
+        × IsMapFile xlen listing.now text is_map
+        × Breaks text (writing W.contents W.failures W.stalls out.old out.new) }
+{
+    let listing = match listing_of(xlen, listing) {
+        Ok(listing) => listing,
+        Err(number) => return Err(MapOfFault::Line(number)),
+    };
+    let all = match commented(alloc, &listing) {
+        Ok(all) => all,
+        Err(Refusal::TooManyRanges) => return Err(MapOfFault::TooManyRanges),
+        Err(Refusal::Memory) => return Err(MapOfFault::Memory),
+    };
+    let Ok(()) = write_whole(out, all.text.as_slice()) else {
+        return Err(MapOfFault::Device);
+    };
+    Ok(all.is_map)
+}

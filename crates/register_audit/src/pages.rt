@@ -1,0 +1,43 @@
+//! The map of what extents give the first byte of each page.
+
+ghost use Rattle.std.specs.Prelude.{◌≡◌, ◌+◌, ◌*◌, ◌^◌, ◌<◌, ◌≤◌, All, Err, IfOk};
+ghost use Rattle.permission_map.specs.Runs.{view_of_runs};
+ghost use Rattle.pmp_match.specs.RegisterDecision.{IsWords};
+ghost use Rattle.register_audit.specs.declared.fault.Refusal as Refusal;
+ghost use Rattle.register_audit.specs.Pages.{HasFirstBytes, IsTooFine};
+
+use crate::fault::Refusal;
+use pmp_encoding::PAGE_SIZE;
+use permission_map::{MapFault, PermissionMap};
+use pmp_match::Extent;
+use std::alloc::Global;
+use map_table::stretches;
+
+/// The first page that does not begin before the byte.
+fn page_from(byte: u64) -> u64
+    requires { byte ≤ 2 ^ 56 }
+    ensures from { byte ≤ 4096 * result }
+    ensures first { 4096 * result < byte + 4096 }
+{
+    (byte + PAGE_SIZE - 1) / PAGE_SIZE
+}
+
+/// The map that gives each page what the extents give its first byte.
+pub(crate) fn first_bytes(alloc: Global, extents: &[Extent]) -> Result<PermissionMap, Refusal>
+    requires { All IsWords extents.now }
+    ensures map { IfOk result (λ map. HasFirstBytes extents.now (view_of_runs map)) }
+    ensures many { result ≡ Err Refusal.TooManyRanges → IsTooFine extents.now }
+{
+    let mut map = PermissionMap::new(alloc);
+    let all = stretches(alloc, &map, extents)?;
+    for stretch in &all {
+        let from = page_from(stretch.first);
+        let to = page_from(stretch.end);
+        match map.set_range(from, to - from, stretch.given) {
+            Ok(()) => {}
+            Err(MapFault::TooManyRanges) => return Err(Refusal::TooManyRanges),
+            Err(MapFault::PastEnd | MapFault::Memory) => return Err(Refusal::Memory),
+        }
+    }
+    Ok(map)
+}

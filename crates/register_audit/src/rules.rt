@@ -1,0 +1,83 @@
+//! What registers say of accesses.
+
+ghost use Rattle.std.specs.Prelude.{◌≡◌, ◌^◌, ◌<◌, IfErr, IfOk, List};
+ghost use Rattle.pmp_encoding.specs.declared.extent.Extent.{Extent};
+ghost use Rattle.pmp_match.specs.RegisterMatching.{AreExtents};
+ghost use Rattle.pmp_match.specs.Reserved.{IsFirstReserved};
+ghost use Rattle.register_audit.specs.Deciders.{by_entry};
+ghost use Rattle.register_audit.specs.Judgement.{RegistersJudge};
+
+use crate::decision::{allow, first_met};
+use trace_answers::Decider;
+use pmp_encoding::SPACE_SIZE;
+use pmp_match::{Access, Cause, access_fault, is_aligned, misaligned};
+use pmp_match::{Extent, Registers, ReservedAt, extents_of};
+use std::marker::Model;
+
+/// Registers without a reserved value, and what each entry matches.
+#[derive(Drop)]
+pub struct Rules {
+    registers: Registers,
+    extents: [Extent; 64],
+}
+
+impl Model for Rules {
+    ghost use Rattle.pmp_match.specs.declared.registers.Registers.{Registers};
+    ghost use Rattle.pmp_match.specs.RegisterMatching.{AreExtents};
+
+    ghost Value = { Registers };
+
+    ghost view = { λ r. r.registers };
+
+    ghost invariant = { λ r. AreExtents r.registers r.extents };
+}
+
+impl Rules {
+    /// The rules of registers whose entries match this.
+    pub(crate) fn by(registers: &Registers, extents: [Extent; 64]) -> Rules
+        requires { AreExtents registers.now extents }
+        ensures { result ≡ registers.now }
+    {
+        Rules {
+            registers: *registers,
+            extents,
+        }
+    }
+
+    /// The rules of registers, or the first entry that has a reserved value, by which they say nothing.
+    pub fn of(registers: &Registers) -> Result<Rules, ReservedAt>
+        ensures registers { IfOk result (λ rules. rules ≡ registers.now) }
+        ensures extents { IfOk result (λ _.
+            (extents : List Extent) × AreExtents registers.now extents) }
+        ensures reserved { IfErr result (IsFirstReserved registers.now) }
+    {
+        match extents_of(registers) {
+            Ok(extents) => Ok(Rules::by(registers, extents)),
+            Err(found) => Err(found),
+        }
+    }
+
+    /// The outcome of the access under the registers. It looks at nothing else, and takes no memory.
+    pub fn judge(&self, access: &Access) -> Result<(), Cause>
+        ensures { RegistersJudge self.now access.now result }
+    {
+        if !is_aligned(access) {
+            return Err(misaligned(access.kind));
+        }
+        if access.address >= SPACE_SIZE {
+            return Err(access_fault(access.kind));
+        }
+        if !allow(&self.registers, &self.extents, access) {
+            return Err(access_fault(access.kind));
+        }
+        Ok(())
+    }
+
+    /// The entry that decides the access, where one does.
+    pub fn first_met(&self, access: &Access) -> Option<Decider>
+        requires { access.now.address < 2 ^ 56 }
+        ensures { by_entry self.now access.now result }
+    {
+        first_met(&self.registers, &self.extents, access)
+    }
+}

@@ -1,0 +1,95 @@
+//! The table of a listing.
+
+ghost use Rattle.std.specs.Prelude.{◌≡◌, ◌-◌, ◌^◌, ◌<◌, ◌++◌, ℕ, Bool, Err, IfOk, List, length};
+ghost use Rattle.byte_streams.specs.Writings.{writing, Breaks, TakesAll};
+ghost use Rattle.register_text.specs.Listings.{IsFirstUnknown};
+ghost use Rattle.register_text.specs.Texts.{passed_text};
+ghost use Rattle.register_audit.specs.declared.table.ListingFault as ListingFault;
+ghost use Rattle.register_audit.specs.Tables.{IsRegisterTable, IsShown};
+
+use byte_streams::{Sink, write_whole};
+use map_table::extent_table;
+use permission_map::Memory;
+use crate::count_on;
+use register_text::{Listing, extents_in, listing_of, passed_line, text_of_line};
+use pmp_encoding::Xlen;
+use std::alloc::Global;
+
+/// Why a listing was not shown.
+#[derive(Clone, Copy, PartialEq, Eq, Debug)]
+pub enum ListingFault {
+    /// The line of this number, from 1, is not understood.
+    Line(u64),
+    /// Memory was refused.
+    Memory,
+    /// The device failed, or took none of some bytes.
+    Device,
+}
+
+/// What is said of registers, and whether they mean something.
+#[derive(Drop)]
+struct Shown {
+    text: Vec<u8>,
+    meant: bool,
+}
+
+/// What is said of what a listing leaves. The only error is out of memory.
+fn said_of(alloc: Global, listing: &Listing) -> Result<Shown, Memory>
+    ensures { IfOk result (λ shown. IsShown listing.now shown.text.items shown.meant) }
+{
+    let extents = match extents_in(listing) {
+        Ok(extents) => extents,
+        Err(line) => {
+            let text = text_of_line(alloc, &line)?;
+            return Ok(Shown { text, meant: false });
+        }
+    };
+    let on = count_on(&listing.registers);
+    let text = extent_table(alloc, extents.as_slice(), on)?;
+    Ok(Shown { text, meant: true })
+}
+
+/// The same with the comment on lines that are passed over. The only error is out of memory.
+fn commented(alloc: Global, listing: &Listing) -> Result<Shown, Memory>
+    ensures { IfOk result (λ all. (text : List ℕ) × IsShown listing.now text all.meant
+        × (all.text.items ≡ text ++ passed_text listing.now.passed)) }
+{
+    let mut all = said_of(alloc, listing)?;
+    let comment = passed_line(listing.passed);
+    all.text.extend_from_slice(comment.as_slice())?;
+    Ok(all)
+}
+
+/// Reads a listing of registers of that width, and writes the table of what they give to supervisor and user mode, or the line that says why
+/// they mean nothing; and after it a comment where lines of other registers are passed over. The answer is whether they mean
+/// something. Where a line is not understood or memory is refused, nothing is written; where the device failed, or took none of
+/// some bytes, a beginning of the text was written, not all of it.
+pub fn print_registers<W: Sink>(
+    alloc: Global,
+    xlen: Xlen,
+    listing: &[u8],
+    out: &mut W,
+) -> Result<bool, ListingFault>
+    requires { length listing.now < 2 ^ 64 - 1 }
+    ensures written { IfOk result (λ meant. (text : List ℕ)
+        × IsRegisterTable xlen listing.now text meant
+        × TakesAll text (writing W.contents W.failures W.stalls out.old out.new)) }
+    ensures line { (n : ℕ) → result ≡ Err (ListingFault.Line n)
+        → IsFirstUnknown xlen listing.now n × (out.new ≡ out.old) }
+    ensures untouched { result ≡ Err ListingFault.Memory → out.new ≡ out.old }
+    ensures broken { result ≡ Err ListingFault.Device → (text : List ℕ) × (meant : Bool)
+        × IsRegisterTable xlen listing.now text meant
+        × Breaks text (writing W.contents W.failures W.stalls out.old out.new) }
+{
+    let listing = match listing_of(xlen, listing) {
+        Ok(listing) => listing,
+        Err(number) => return Err(ListingFault::Line(number)),
+    };
+    let Ok(all) = commented(alloc, &listing) else {
+        return Err(ListingFault::Memory);
+    };
+    let Ok(()) = write_whole(out, all.text.as_slice()) else {
+        return Err(ListingFault::Device);
+    };
+    Ok(all.meant)
+}

@@ -1,6 +1,0 @@
--- The law is the lemma.
-use Rattle.register_judge.proofs.Same.{judged_as}
-use Rattle.register_judge.proofs.laws.list_law.Goals as goal
-
-pub returns : goal.returns
-returns c = judged_as

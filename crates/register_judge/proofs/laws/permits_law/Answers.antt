@@ -1,6 +1,0 @@
--- The law is the lemma.
-use Rattle.register_judge.proofs.Same.{permits}
-use Rattle.register_judge.proofs.laws.permits_law.Goals as goal
-
-pub returns : goal.returns
-returns c = permits

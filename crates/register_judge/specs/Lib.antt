@@ -1,5 +1,0 @@
-pub mod Decision
-pub mod Judgement
-pub mod Answers
-pub mod Listings
-pub mod Deciders

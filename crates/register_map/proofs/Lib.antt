@@ -1,3 +1,0 @@
-pub mod EachPage
-pub mod NoMap
-pub mod Meant

@@ -1,0 +1,174 @@
+//! What the lines of a boot log say.
+
+ghost use Rattle.std.specs.Prelude.{◌≡◌, ◌<◌, IfOk, IfSome, option_map, not};
+ghost use Rattle.std.specs.Option.{is_some, option_and_then};
+ghost use Rattle.std.specs.Result.{result_ok};
+ghost use Rattle.text_lines.specs.Words.{split_words};
+ghost use Rattle.register_text.specs.Letters.{perm_of};
+ghost use Rattle.register_text.specs.LogLines.{block_in, entry_by, entry_in, is_boot_log, is_region, is_region_line, is_register, letters_in, log_says, number_in, said_by, words_in};
+
+use crate::block::block_from;
+use crate::entry::RegionEntry;
+use crate::letters::{begins_with, behind, is_text, perm_of};
+use lint_texts::{len_before, split_line};
+use pmp_encoding::{Entry, Perm, Region};
+use pmp_encoding::Xlen;
+use text_lines::{NotUnderstood, Words, number, numeral, without_return};
+
+/// The words of a line, and none where a byte outside its comment may not stand there.
+fn words_in(raw: &[u8]) -> Words<'_>
+    ensures { split_words result.rest.now ≡ words_in raw.now }
+{
+    match Words::of(without_return(raw)) {
+        Ok(words) => words,
+        Err(_) => Words { rest: &[] },
+    }
+}
+
+/// Whether words are on a region of the first domain.
+fn is_region(mut words: Words<'_>) -> bool
+    ensures { result ≡ is_region (split_words words.entry.rest.now) }
+{
+    let Some(domain) = words.next_word() else {
+        return false;
+    };
+    let Some(region) = words.next_word() else {
+        return false;
+    };
+    is_text(domain, b"Domain0") && behind(region, b"Region").is_some()
+}
+
+/// Whether words are on a register of the protection.
+fn is_register(mut words: Words<'_>) -> bool
+    ensures { result ≡ is_register (split_words words.entry.rest.now) }
+{
+    match words.next_word() {
+        Some(name) => begins_with(name, b"pmp") || begins_with(name, b"mseccfg"),
+        None => false,
+    }
+}
+
+/// The number of a region.
+fn number_in(region: &[u8]) -> Option<u64>
+    ensures { result ≡ number_in region.now }
+{
+    let digits = behind(region, b"Region")?;
+    numeral(digits, 10)
+}
+
+/// The block from the first to the last address of a region.
+fn block_in(xlen: Xlen, word: &[u8]) -> Option<Region>
+    ensures { option_map (λ r. (r.base, r.log2)) result ≡ block_in xlen word.now }
+{
+    let dash = len_before(b'-', word);
+    if dash >= word.len() {
+        return None;
+    }
+    let first = number(&word[..dash])?;
+    let last = number(&word[dash + 1..])?;
+    block_from(xlen, first, last)
+}
+
+/// The letters of supervisor and user mode.
+fn letters_in(mut words: Words<'_>) -> Option<&[u8]>
+    ensures { option_map (λ letters. letters.now) result
+        ≡ letters_in (split_words words.entry.rest.now) }
+{
+    let first = words.next_word()?;
+    let Some(_) = words.next_word() else {
+        return Some(first);
+    };
+    let user = words.next_word()?;
+    let letters = words.next_word()?;
+    if let Some(_) = words.next_word() {
+        return None;
+    }
+    if is_text(first, b"M:") && is_text(user, b"S/U:") {
+        Some(letters)
+    } else {
+        None
+    }
+}
+
+/// The permission of supervisor and user mode.
+fn perm_in(words: Words<'_>) -> Option<Perm>
+    ensures { result ≡ option_and_then perm_of (letters_in (split_words words.entry.rest.now)) }
+{
+    let letters = letters_in(words)?;
+    perm_of(letters)
+}
+
+/// The entry of a region by its parts.
+fn entry_by(number: Option<u64>, region: Option<Region>, perm: Option<Perm>) -> Option<RegionEntry>
+    ensures value { result ≡ entry_by number (option_map (λ r. (r.base, r.log2)) region) perm }
+    ensures inside { IfSome result (λ entry. entry.place < 64) }
+{
+    let place = number?;
+    let region = region?;
+    let perm = perm?;
+    if place >= 64 {
+        return None;
+    }
+    let (cfg, address) = Entry { region, perm }.encode();
+    Some(RegionEntry {
+        place: place as usize,
+        cfg,
+        address,
+    })
+}
+
+/// What words on a region set.
+fn entry_in(xlen: Xlen, mut words: Words<'_>) -> Option<RegionEntry>
+    ensures value { result ≡ entry_in xlen (split_words words.entry.rest.now) }
+    ensures inside { IfSome result (λ entry. entry.place < 64) }
+{
+    let _ = words.next_word()?;
+    let region = words.next_word()?;
+    let colon = words.next_word()?;
+    let block = words.next_word()?;
+    if !is_text(colon, b":") {
+        return None;
+    }
+    entry_by(number_in(region), block_in(xlen, block), perm_in(words))
+}
+
+/// What words say.
+fn said_by(xlen: Xlen, words: Words<'_>) -> Result<Option<RegionEntry>, NotUnderstood>
+    ensures value { result_ok result ≡ said_by xlen (split_words words.entry.rest.now) }
+    ensures inside { IfOk result (λ said. IfSome said (λ entry. entry.place < 64)) }
+{
+    if is_region(words) {
+        return match entry_in(xlen, words) {
+            Some(entry) => Ok(Some(entry)),
+            None => Err(NotUnderstood),
+        };
+    }
+    if is_register(words) {
+        Err(NotUnderstood)
+    } else {
+        Ok(None)
+    }
+}
+
+/// What a line of the boot log of a hart of that width says: the entry of a region, or nothing.
+pub fn log_says(xlen: Xlen, raw: &[u8]) -> Result<Option<RegionEntry>, NotUnderstood>
+    ensures value { result_ok result ≡ log_says xlen raw.now }
+    ensures inside { IfOk result (λ said. IfSome said (λ entry. entry.place < 64)) }
+{
+    said_by(xlen, words_in(raw))
+}
+
+/// Whether a text is a boot log: whether some line of it is on a region.
+pub fn is_boot_log(bytes: &[u8]) -> bool
+    ensures { result ≡ is_boot_log bytes.now }
+{
+    let mut rest = bytes;
+    while !rest.is_empty() {
+        let (raw, behind) = split_line(rest);
+        if is_region(words_in(raw)) {
+            return true;
+        }
+        rest = behind;
+    }
+    false
+}

@@ -1,6 +1,0 @@
--- What the prover finds by itself, written down for the edits that break it (docs/DECISIONS.md, 268).
-use Rattle.std.proofs.Common.{rules}
-use Rattle.register_width.proofs.xlen.Xlen.fits.Goals as goal
-
-pub returns-in-Rv32 : goal.returns-in-Rv32
-returns-in-Rv32 c = search rules

@@ -1,6 +1,0 @@
--- What the prover finds by itself, written down for the edits that break it (docs/DECISIONS.md, 268).
-use Rattle.std.proofs.Common.{rules}
-use Rattle.register_width.proofs.xlen.Xlen.word_number.Goals as goal
-
-pub returns-in-Rv64 : goal.returns-in-Rv64
-returns-in-Rv64 c = search rules

@@ -1,6 +1,0 @@
--- What the prover finds by itself, written down for the edits that break it (docs/DECISIONS.md, 268).
-use Rattle.std.proofs.Common.{rules}
-use Rattle.register_width.proofs.xlen.Xlen.word_of.Goals as goal
-
-pub returns-in-Rv32-clause-value : goal.returns-in-Rv32-clause-value
-returns-in-Rv32-clause-value c = search rules

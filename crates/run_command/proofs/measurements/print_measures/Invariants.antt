@@ -1,9 +1,0 @@
-use Rattle.std.proofs.Common.{ℕ, List}
-use Rattle.byte_streams.specs.Writings.{TakesAll, writing}
-use Rattle.run_command.specs.Measurements.{AreMeasures}
-use Rattle.run_command.proofs.measurements.print_measures.Given as goal
-
-abbrev pub invariant-loop-i : goal.invariant-loop-i
-invariant-loop-i g l =
-    (text : List ℕ) × AreMeasures l.table.table l.i text
-    × TakesAll text (writing g.W.Sink.contents g.W.Sink.failures g.W.Sink.stalls l.initial.out l.out)

@@ -1,2 +1,0 @@
-pub mod Measurements
-pub mod Runs

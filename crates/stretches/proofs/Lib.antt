@@ -1,4 +1,0 @@
-pub mod Covered
-pub mod Joined
-pub mod Leaves
-pub mod Nested

@@ -1,7 +1,0 @@
--- The extents so far, with their numbers.
-use Rattle.std.proofs.Common.{◌≡◌, ◌++◌, drop}
-use Rattle.stretches.specs.Hulls.{numbered}
-use Rattle.stretches.proofs.extent_tree.numbered.Given as goal
-
-abbrev pub invariant-loop-i : goal.invariant-loop-i
-invariant-loop-i l = l.all.items ++ numbered l.i (drop l.i l.extents) ≡ numbered 0 l.extents

@@ -1,9 +1,0 @@
--- What the prover finds by itself, written down for the edits that break it (docs/DECISIONS.md, 268).
-use Rattle.std.proofs.Common.{rules}
-use Rattle.stretches.proofs.hull_tree.join.Goals as goal
-
-pub returns-clause-first : goal.returns-clause-first
-returns-clause-first c = search rules
-
-pub returns-clause-second : goal.returns-clause-second
-returns-clause-second c = search rules

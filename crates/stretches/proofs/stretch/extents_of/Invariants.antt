@@ -1,7 +1,0 @@
--- The extents of the entries so far.
-use Rattle.std.proofs.Common.{◌≡◌, take}
-use Rattle.pmp_registers.specs.Lists.{matched_by}
-use Rattle.stretches.proofs.stretch.extents_of.Given as goal
-
-abbrev pub invariant-loop-entry : goal.invariant-loop-entry
-invariant-loop-entry l = l.all.items ≡ matched_by (take l.entry-index l.entries)

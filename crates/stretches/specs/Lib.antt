@@ -1,3 +1,0 @@
-pub mod Hulls
-pub mod Meetings
-pub mod Stretches

@@ -1,6 +1,0 @@
-use Rattle.std.proofs.Common.{◌≡◌, ◌++◌, drop}
-use Rattle.table_formats.specs.JsonTables.{numbers_more}
-use Rattle.table_formats.proofs.json.push_numbers_more.Given as goal
-
-abbrev pub invariant-loop-number : goal.invariant-loop-number
-invariant-loop-number l = l.text.items ++ numbers_more (drop l.number-index l.numbers) ≡ l.initial.text.items ++ numbers_more l.numbers

@@ -1,3 +1,0 @@
-pub mod JsonTables
-pub mod Pictures
-pub mod Tables

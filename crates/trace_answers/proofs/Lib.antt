@@ -1,0 +1,5 @@
+pub mod FirstDifference
+pub mod FirstFound
+mod Addresses
+pub mod Judged
+mod Behind

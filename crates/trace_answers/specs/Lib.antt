@@ -1,0 +1,5 @@
+pub mod Comments
+pub mod Comparisons
+pub mod Explained
+pub mod Deciders
+pub mod Reasons

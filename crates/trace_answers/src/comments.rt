@@ -1,0 +1,130 @@
+//! The answer that the comment of a line says.
+
+ghost use Rattle.std.specs.Prelude.{◌≡◌, ◌≤◌, length, bytes_eq};
+ghost use Rattle.std.specs.List.{prefix_len};
+ghost use Rattle.text_lines.specs.Words.{split_words};
+ghost use Rattle.trace_answers.specs.Comments.{answer_agrees, begins, comment_of, is_digit, is_kind, is_numbered, is_spoken, says_answer, says_it, spoken, spoken_words, remark_of};
+
+use lint_texts::len_before;
+use text_lines::Words;
+
+fn is_digit(byte: u8) -> bool
+    ensures { result ≡ is_digit byte }
+{
+    byte >= b'0' && byte <= b'9'
+}
+
+/// Whether a byte may stand in a word of an answer.
+fn is_spoken(byte: u8) -> bool
+    ensures { result ≡ is_spoken byte }
+{
+    is_digit(byte) || (byte >= b'a' && byte <= b'z') || byte == b'-'
+}
+
+/// How many such bytes a word begins with.
+fn spoken_len(word: &[u8]) -> usize
+    ensures within { result ≤ length word.now }
+    ensures len { result ≡ prefix_len is_spoken word.now }
+{
+    for (i, byte) in word.iter().enumerate() {
+        if !is_spoken(*byte) {
+            return i;
+        }
+    }
+    word.len()
+}
+
+/// A word up to its first other byte.
+fn spoken(word: &[u8]) -> &[u8]
+    ensures { result.now ≡ spoken word.now }
+{
+    &word[..spoken_len(word)]
+}
+
+/// Whether two words are the same up to their first other byte.
+fn are_alike(word: &[u8], other: &[u8]) -> bool
+    ensures { result ≡ bytes_eq (spoken word.now) (spoken other.now) }
+{
+    spoken(word) == spoken(other)
+}
+
+/// Whether a word begins with a digit.
+fn is_numbered(word: &[u8]) -> bool
+    ensures { result ≡ is_numbered word.now }
+{
+    match word {
+        [first, ..] => is_digit(*first),
+        [] => false,
+    }
+}
+
+/// Whether a word is the first of an answer, behind its number.
+fn is_kind(word: &[u8]) -> bool
+    ensures { result ≡ is_kind (spoken word.now) }
+{
+    matches!(spoken(word), b"ok" | b"fault" | b"call" | b"irq")
+}
+
+/// Whether words are those of an answer.
+fn says_answer(mut words: Words<'_>) -> bool
+    ensures { result ≡ says_answer (spoken_words words.entry.rest.now) }
+{
+    let Some(first) = words.next_word() else {
+        return false;
+    };
+    let Some(second) = words.next_word() else {
+        return is_kind(first);
+    };
+    is_kind(first) || (is_numbered(spoken(first)) && is_kind(second))
+}
+
+/// Whether words begin with those of an answer.
+fn begins(mut said: Words<'_>, mut answer: Words<'_>) -> bool
+    ensures { result ≡ begins (spoken_words said.entry.rest.now)
+        (spoken_words answer.entry.rest.now) }
+{
+    let Some(word) = answer.next_word() else {
+        return true;
+    };
+    let Some(other) = said.next_word() else {
+        return false;
+    };
+    are_alike(other, word) && begins(said, answer)
+}
+
+/// Whether words begin with those of an answer, with its number or without.
+fn says_it(said: Words<'_>, answer: Words<'_>) -> bool
+    ensures { result ≡ says_it (spoken_words said.entry.rest.now)
+        (spoken_words answer.entry.rest.now) }
+{
+    let mut rest = answer;
+    let _ = rest.next_word();
+    begins(said, answer) || begins(said, rest)
+}
+
+/// The comment of a line, from its `#` on.
+pub(crate) fn comment_of(line: &[u8]) -> &[u8]
+    ensures { result.now ≡ comment_of line.now }
+{
+    &line[len_before(b'#', line)..]
+}
+
+/// What stands behind the `#`.
+fn remark_of(line: &[u8]) -> &[u8]
+    ensures { result.now ≡ remark_of line.now }
+{
+    match comment_of(line) {
+        [_, rest @ ..] => rest,
+        [] => &[],
+    }
+}
+
+/// Whether the comment of a line says no answer, or this one.
+pub(crate) fn agrees(line: &[u8], answer: &[u8]) -> bool
+    ensures { result ≡ answer_agrees line.now answer.now }
+{
+    let said = Words {
+        rest: remark_of(line),
+    };
+    !says_answer(said) || says_it(said, Words { rest: answer })
+}

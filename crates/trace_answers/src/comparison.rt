@@ -1,0 +1,133 @@
+//! The lines of an input, each with its answer compared with the one that its comment says.
+
+ghost use Rattle.std.specs.Prelude.{◌≡◌, ℕ, ◌+◌, ◌-◌, ◌^◌, ◌<◌, Some, Err, IfOk, None, min, option_map};
+ghost use Rattle.text_lines.specs.LineLoop.{text_of, CountsReads, CountsWrites, StopsAt, StopsForMemory, StopsReading, StopsTooLong, StopsWriting};
+ghost use Rattle.trace_answers.specs.Comparisons.{first_with, ComparesAll};
+
+use crate::comments::agrees;
+use crate::difference::{Difference, difference, numbered};
+use byte_streams::{Sink, Source};
+use text_lines::{Interpreter, Line, Refusal, RunFault, interpret_lines};
+
+/// What interprets the lines, how many they were, and the first difference.
+#[derive(Drop)]
+struct Comparing<I> {
+    lines: I,
+    number: u64,
+    first: Option<Difference>,
+}
+
+/// Notes the first difference, with one more line: what stands behind the number of its answer, after `count` others.
+fn note(
+    first: &mut Option<Difference>,
+    number: u64,
+    line: &[u8],
+    answered: bool,
+    count: u64,
+    behind: &Line,
+)
+    requires { count < 2 ^ 64 - 1 }
+    ensures { option_map (λ d. d.items) first.new
+        ≡ first_with (option_map (λ d. d.items) first.old) number line.now
+        (text_of answered count behind.now) }
+{
+    if first.is_some() || !answered {
+        return;
+    }
+    let answer = numbered(count + 1, behind);
+    if !agrees(line, answer.as_slice()) {
+        *first = Some(difference(number, line, answer.as_slice()));
+    }
+}
+
+impl<I: Interpreter> Interpreter for Comparing<I> {
+    ghost use Rattle.std.specs.Prelude.{◌≡◌, ◌+◌, ◌-◌, ◌^◌, min, option_map};
+    ghost use Rattle.trace_answers.specs.Comparisons.{first_with};
+
+    ghost does = { λ old n line said new. I.does old.lines n line said new.lines
+        × (new.number ≡ min (old.number + 1) (2 ^ 64 - 1))
+        × (option_map (λ d. d.items) new.first
+        ≡ first_with (option_map (λ d. d.items) old.first) new.number line said) };
+
+    ghost refuses = { λ now line. I.refuses now.lines line };
+
+    ghost starves = { λ old line new. I.starves old.lines line new.lines };
+
+    ghost keeps = { λ now. I.keeps now.lines };
+
+    fn interpret(&mut self, line: &[u8], count: u64, answer: &mut Line) -> Result<bool, Refusal> {
+        let answered = match self.lines.interpret(line, count, answer) {
+            Ok(answered) => answered,
+            Err(refusal) => return Err(refusal),
+        };
+        self.number = self.number.saturating_add(1);
+        note(&mut self.first, self.number, line, answered, count, answer);
+        Ok(answered)
+    }
+}
+
+impl<I> Comparing<I> {
+    ghost use Rattle.std.specs.Prelude.{◌≡◌};
+
+    /// What came of them, where they ended so.
+    fn ended(self, end: Result<(), RunFault>) -> Compared<I>
+        ensures lines { result.lines ≡ self.lines }
+        ensures first { result.first ≡ self.first }
+        ensures end { result.end ≡ end }
+    {
+        let Comparing { lines, first, .. } = self;
+        Compared { lines, first, end }
+    }
+}
+
+/// What came of lines whose answers were compared.
+#[derive(Drop)]
+pub struct Compared<I> {
+    /// What interpreted them.
+    pub lines: I,
+    /// What is said of the first that differs.
+    pub first: Option<Difference>,
+    /// How they ended.
+    pub end: Result<(), RunFault>,
+}
+
+/// Interprets the lines of an input as `interpret_lines` does, and compares the answer of each with the one that its comment says.
+pub fn compare_lines<I: Interpreter, R: Source, W: Sink>(
+    lines: I,
+    source: &mut R,
+    sink: &mut W,
+) -> Compared<I>
+    ensures all { I.keeps lines
+        → IfOk result.end (λ _.
+        ComparesAll I.does lines result.lines (R.remaining source.old)
+        (R.remaining source.new) (W.contents sink.old) (W.contents sink.new)
+        (option_map (λ d. d.items) result.first)) }
+    ensures line { I.keeps lines → (n : ℕ) → result.end ≡ Err (RunFault.Line n)
+        → StopsAt n I.does I.refuses lines result.lines (R.remaining source.old)
+        (R.remaining source.new) (W.contents sink.old) (W.contents sink.new) }
+    ensures too_long { I.keeps lines → result.end ≡ Err RunFault.TooLong
+        → StopsTooLong I.does lines result.lines (R.remaining source.old)
+        (R.remaining source.new) (W.contents sink.old) (W.contents sink.new) }
+    ensures read { I.keeps lines → result.end ≡ Err RunFault.Read
+        → StopsReading I.does lines result.lines (R.remaining source.old)
+        (R.remaining source.new) (W.contents sink.old) (W.contents sink.new) }
+    ensures write { I.keeps lines → result.end ≡ Err RunFault.Write
+        → StopsWriting I.does lines result.lines (R.remaining source.old)
+        (R.remaining source.new) (W.contents sink.old) (W.contents sink.new) }
+    ensures memory { I.keeps lines → result.end ≡ Err RunFault.Memory
+        → StopsForMemory I.does I.starves lines result.lines
+        (R.remaining source.old) (R.remaining source.new) (W.contents sink.old)
+        (W.contents sink.new) }
+    ensures keeps { I.keeps lines → I.keeps result.lines }
+    ensures reads { CountsReads result.end (R.failures source.old) (R.failures source.new) }
+    ensures writes { CountsWrites result.end (W.failures sink.old)
+        (W.failures sink.new) (W.stalls sink.old) (W.stalls sink.new) }
+{
+    let mut comparing = Comparing {
+        lines,
+        number: 0,
+        first: None,
+    };
+    let end = interpret_lines(&mut comparing, source, sink);
+    comparing.ended(end)
+}

@@ -1,5 +1,0 @@
-mod Accesses
-mod Complete
-mod EventWords
-mod Found
-mod SilentWords

@@ -1,6 +1,0 @@
-mod Lengths
-mod Appended
-mod Filling
-mod Read
-mod Traps
-mod WordsBack

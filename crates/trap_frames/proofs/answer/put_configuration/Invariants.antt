@@ -1,6 +1,0 @@
-use Rattle.std.proofs.Common.{◌≡◌, ◌+◌, ◌++◌, take}
-use Rattle.trap_frames.specs.Answers.{cfg_bytes}
-use Rattle.trap_frames.proofs.answer.put_configuration.Given as goal
-
-abbrev pub invariant-loop-i : goal.invariant-loop-i
-invariant-loop-i l = take (328 + l.i) l.frame ≡ take 328 l.fn.frame ++ cfg_bytes l.entries l.i

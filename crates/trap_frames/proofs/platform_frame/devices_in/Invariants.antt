@@ -1,6 +1,0 @@
-use Rattle.std.proofs.Common.{◌≡◌}
-use Rattle.trap_frames.specs.Platforms.{device_words, words_of}
-use Rattle.trap_frames.proofs.platform_frame.devices_in.Given as goal
-
-abbrev pub invariant-loop-i : goal.invariant-loop-i
-invariant-loop-i l = words_of l.devices.items ≡ device_words l.bytes l.i

@@ -1,6 +1,0 @@
-use Rattle.std.proofs.Common.{◌≡◌}
-use Rattle.trap_frames.specs.Platforms.{ram_in}
-use Rattle.trap_frames.proofs.platform_frame.ram_in.Given as goal
-
-abbrev pub invariant-loop-i : goal.invariant-loop-i
-invariant-loop-i l = l.ram.items ≡ ram_in l.bytes l.i

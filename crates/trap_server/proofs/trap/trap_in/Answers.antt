@@ -1,0 +1,17 @@
+use Rattle.std.proofs.Common.{◌∙◌, arith, sym, subst}
+use Rattle.trap_server.specs.Traps.{IsTagOf}
+use Rattle.trap_server.proofs.Traps.{no_event}
+use Rattle.trap_server.proofs.trap.trap_in.Goals as goal
+
+pub returns-in_err-event-clause-none : goal.returns-in_err-event-clause-none
+returns-in_err-event-clause-none c = no_event c.from_residual.result c.args.bytes.now c.args.harts c.word.result c.word.ensures c.in_err-event.ensures.none
+
+pub returns-clause-trap : goal.returns-clause-trap
+returns-clause-trap c = record {
+  tag = subst (IsTagOf c.in_ok-event.event) c.word.ensures c.in_ok-event.ensures.some;
+  hart = sym c.word-hart.ensures;
+  known = omega (arith, c.if-hart-from.false, c.from.ensures);
+  registers = c.registers_in.ensures;
+  control_follows = sym c.word-2.ensures ∙ c.if-word-ne-TAG_CONTROL.false;
+  control = c.control_in.ensures;
+}

@@ -1,0 +1,81 @@
+-- The frame of an answer.
+use Rattle.std.specs.Prelude.{ℕ, ◌+◌, ◌*◌, zero, suc, Bool, true, false, List, [], ◌∷◌, ◌++◌, length, slice_index_or, slice_get, Option, None, Some}
+use Rattle.byteorder.specs.Endian.{little_bytes}
+use Rattle.pmp_encoding.specs.declared.pages.PageRange.{PageRange}
+use Rattle.pmp_encoding.specs.declared.region.Entry.{Entry}
+use Rattle.pmp_encoding.specs.Encoding.{address_of, cfg_of}
+use Rattle.sbi_decode.specs.Registers.{RegisterFile, x_of}
+use Rattle.trap_server.specs.declared.words.ControlWords.{ControlWords}
+use Rattle.sbi_decode.specs.declared.world.World.{World}
+use Rattle.sbi_decode.specs.declared.world.World.TheVariants.{Host, Enclave as InEnclave}
+use Rattle.trap_server.specs.Words.{answer_tag, bytes_of, control_tag}
+use Rattle.trap_server.specs.declared.answer.Head.{Head}
+
+-- the number of a world
+abbrev pub number_of : World → ℕ
+number_of Host = 0
+number_of (InEnclave id) = id
+
+-- the word whose bit h is of hart h
+abbrev pub bit_of : Bool → ℕ
+bit_of false = 0
+bit_of true = 1
+
+-- the harts that are woken, a bit for each
+abbrev pub wake_word : List Bool → ℕ
+wake_word woken =
+    bit_of (slice_index_or woken 0 false) + 2 * bit_of (slice_index_or woken 1 false) + 4 * bit_of (slice_index_or woken 2 false) + 8 * bit_of (slice_index_or woken 3 false)
+
+-- pages, or none from page 0 on
+abbrev pub pages_of : Option PageRange → PageRange
+pages_of None = record { first = 0; count = 0 }
+pages_of (Some range) = range
+
+-- what stands before the registers
+abbrev pub head_bytes : Head → ℕ → List ℕ
+head_bytes head used =
+    bytes_of (answer_tag ∷ (head.hart ∷ (number_of head.world ∷ (head.status ∷ (head.value ∷ (used ∷ ((pages_of head.zero).first ∷ ((pages_of head.zero).count ∷ (wake_word head.woken ∷ [])))))))))
+
+-- the program counter, and the registers from x1 to before xn
+abbrev pub register_bytes : RegisterFile → ℕ → List ℕ
+register_bytes file zero = []
+register_bytes file (suc zero) = little_bytes 8 file.pc
+register_bytes file (suc (suc n)) = register_bytes file (suc n) ++ little_bytes 8 (x_of file (suc n))
+
+-- the configuration byte of an entry, 0 where there is none
+abbrev pub cfg_in : Option Entry → ℕ
+cfg_in None = 0
+cfg_in (Some e) = cfg_of e
+
+-- its address register
+abbrev pub address_in : Option Entry → ℕ
+address_in None = 0
+address_in (Some e) = address_of e
+
+-- the configuration byte of entry i of a list, 0 after its end
+abbrev pub cfg_at : List Entry → ℕ → ℕ
+cfg_at entries i = cfg_in (slice_get entries i)
+
+-- its address register
+abbrev pub address_at : List Entry → ℕ → ℕ
+address_at entries i = address_in (slice_get entries i)
+
+-- those of the entries below n
+abbrev pub cfg_bytes : List Entry → ℕ → List ℕ
+cfg_bytes entries zero = []
+cfg_bytes entries (suc n) = cfg_bytes entries n ++ (cfg_at entries n ∷ [])
+
+-- the address registers of the entries below n
+abbrev pub address_bytes : List Entry → ℕ → List ℕ
+address_bytes entries zero = []
+address_bytes entries (suc n) = address_bytes entries n ++ little_bytes 8 (address_at entries n)
+
+-- the control words in their order, after their tag
+abbrev pub control_bytes : ControlWords → List ℕ
+control_bytes words =
+    bytes_of (control_tag ∷ (words.status ∷ (words.satp ∷ (words.mie ∷ (words.scounteren ∷ (words.senvcfg ∷ (words.hstatus ∷ (words.medeleg ∷ (words.mideleg ∷ (words.mode ∷ []))))))))))
+
+-- the bytes of the frame
+abbrev pub answer_bytes : Head → RegisterFile → List Entry → ControlWords → List ℕ
+answer_bytes head file entries control =
+    head_bytes head (length entries) ++ register_bytes file 32 ++ cfg_bytes entries 64 ++ address_bytes entries 64 ++ control_bytes control

@@ -1,0 +1,68 @@
+-- The frame of a trap.
+use Rattle.std.specs.Prelude.{◌≡◌, ◌⊎◌, ℕ, ◌+◌, ◌<◌, ◌≤◌, List, [], length, Option, Some, None, Result, Ok, Err}
+use Rattle.std.specs.Io.KnownBytes.{Consumes, IsAtEnd}
+use Rattle.byte_streams.specs.Streams.{WriteFails, one_failure_more}
+use Rattle.sbi_decode.specs.Registers.{RegisterFile, x_of}
+use Rattle.trap_server.specs.declared.words.ControlWords.{ControlWords}
+use Rattle.trap_server.specs.Words.{word_at, call_tag, control_tag, stop_tag}
+use Rattle.trap_server.specs.FrameBytes.{Breaks}
+use Rattle.trap_server.specs.declared.trap.Event.{Event}
+use Rattle.trap_server.specs.declared.trap.Event.TheVariants.{Call, Stop}
+use Rattle.trap_server.specs.declared.trap.Trap.{Trap}
+use Rattle.trap_server.specs.declared.frame_fault.FrameFault.{FrameFault}
+use Rattle.trap_server.specs.declared.frame_fault.FrameFault.TheVariants as faults
+
+-- the tag says what happened
+abbrev pub IsTagOf : Event → ℕ → Type 0
+IsTagOf Call tag = tag ≡ call_tag
+IsTagOf Stop tag = tag ≡ stop_tag
+
+-- the words from the third on are the program counter, and x1 to x31
+pub record HasRegisters (bytes : List ℕ) (file : RegisterFile) : Type 0 where
+  pub pc : file.pc ≡ word_at bytes 2
+  pub xs : (n : ℕ) → 1 ≤ n → n < 32 → x_of file n ≡ word_at bytes (n + 2)
+
+-- the words from number 35 on are the control words, each in its place
+pub record HasControl (bytes : List ℕ) (words : ControlWords) : Type 0 where
+  pub status : words.status ≡ word_at bytes 35
+  pub satp : words.satp ≡ word_at bytes 36
+  pub mie : words.mie ≡ word_at bytes 37
+  pub scounteren : words.scounteren ≡ word_at bytes 38
+  pub senvcfg : words.senvcfg ≡ word_at bytes 39
+  pub hstatus : words.hstatus ≡ word_at bytes 40
+  pub medeleg : words.medeleg ≡ word_at bytes 41
+  pub mideleg : words.mideleg ≡ word_at bytes 42
+  pub mode : words.mode ≡ word_at bytes 43
+
+-- the bytes are the frame of a trap on one of so many harts
+pub record IsTrapFrame (bytes : List ℕ) (harts : ℕ) (trap : Trap) : Type 0 where
+  pub tag : IsTagOf trap.event (word_at bytes 0)
+  pub hart : word_at bytes 1 ≡ trap.hart
+  pub known : trap.hart < harts
+  pub registers : HasRegisters bytes trap.registers
+  pub control_follows : word_at bytes 34 ≡ control_tag
+  pub control : HasControl bytes trap.control
+
+-- bytes that are no frame of a trap: they have its size and are none, or the input ends within it
+abbrev pub IsNoTrap : List ℕ → ℕ → Option (List ℕ) → Type 0
+IsNoTrap bytes harts after =
+    ((length bytes ≡ 352) × ((trap : Trap) → IsTrapFrame bytes harts trap → ⊥))
+    ⊎ ((0 < length bytes) × (length bytes < 352) × IsAtEnd after)
+
+-- what the next read of a trap answers, by what it consumed
+abbrev pub ReadsTrap : Result (Option Trap) FrameFault → ℕ → Option (List ℕ) → Option (List ℕ) → Type 0
+ReadsTrap (Ok (Some trap)) harts before after = (bytes : List ℕ) × (length bytes ≡ 352) × IsTrapFrame bytes harts trap × Consumes before after bytes
+ReadsTrap (Ok None) harts before after = Consumes before after [] × IsAtEnd after
+ReadsTrap (Err faults.NotUnderstood) harts before after = (bytes : List ℕ) × IsNoTrap bytes harts after × Consumes before after bytes
+ReadsTrap (Err faults.Read) harts before after = Breaks 352 before after
+ReadsTrap (Err faults.Write) harts before after = ⊥
+
+-- a read failed where that is the answer, and otherwise none did
+abbrev pub CountsRead : {X : Type 0} → Result X FrameFault → ℕ → ℕ → Type 0
+CountsRead (Err faults.Read) before after = after ≡ one_failure_more before
+CountsRead _ before after = after ≡ before
+
+-- a write failed, or took none of some bytes, where that is the answer, and otherwise none did
+abbrev pub CountsWrite : {X : Type 0} → Result X FrameFault → ℕ → ℕ → ℕ → ℕ → Type 0
+CountsWrite (Err faults.Write) failures failed stalls stalled = WriteFails failures failed stalls stalled
+CountsWrite _ failures failed stalls stalled = (failed ≡ failures) × (stalled ≡ stalls)

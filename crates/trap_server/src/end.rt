@@ -1,0 +1,53 @@
+//! The last frame, which says why nothing more is served.
+
+ghost use Rattle.std.specs.Prelude.{◌≡◌};
+ghost use Rattle.trap_server.specs.EndFrames.{end_bytes, reason_of, detail_of};
+
+use crate::frame::{ShortBytes, TAG_END, three_words};
+use platforms::PlatformFault;
+
+/// Why nothing more is served.
+#[derive(Clone, Copy, Debug, PartialEq, Eq)]
+pub enum Refusal {
+    /// A frame is not understood.
+    NotUnderstood,
+    /// The numbers of the first frame are no platform.
+    Platform(PlatformFault),
+    /// The host's view on the platform needs that many entries, more than a hart has.
+    NeedsEntries(u64),
+    /// Memory was refused at boot.
+    Memory,
+}
+
+impl Refusal {
+    /// Its number in the frame.
+    fn reason(self) -> u64
+        ensures { result ≡ reason_of self }
+    {
+        match self {
+            Refusal::NotUnderstood => 1,
+            Refusal::Platform(_) => 2,
+            Refusal::NeedsEntries(_) => 3,
+            Refusal::Memory => 4,
+        }
+    }
+
+    /// What stands beside it: the number of the fault, or of entries.
+    fn detail(self) -> u64
+        ensures { result ≡ detail_of self }
+    {
+        match self {
+            Refusal::Platform(fault) => u64::from(fault.number()),
+            Refusal::NeedsEntries(count) => count,
+            Refusal::NotUnderstood | Refusal::Memory => 0,
+        }
+    }
+}
+
+/// The last frame.
+#[inline(never)]
+pub fn end_frame(refusal: Refusal) -> ShortBytes
+    ensures { result ≡ end_bytes refusal }
+{
+    three_words(TAG_END, refusal.reason(), refusal.detail())
+}

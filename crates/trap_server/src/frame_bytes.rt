@@ -1,0 +1,23 @@
+//! A frame is read whole.
+
+ghost use Rattle.trap_server.specs.FrameBytes.{Fills};
+ghost use Rattle.byte_streams.specs.Streams.{CountsFailure};
+
+use byte_streams::{DeviceFault, Source};
+
+/// Fills a buffer from the source, and says how many bytes came: fewer than there is room for at the end of the input alone.
+pub(crate) fn read_whole<R: Source>(source: &mut R, buffer: &mut [u8]) -> Result<usize, DeviceFault>
+    ensures bytes { Fills result buffer.old buffer.new (R.remaining source.old)
+        (R.remaining source.new) }
+    ensures failures { CountsFailure result (R.failures source.old) (R.failures source.new) }
+{
+    let mut done = 0;
+    while done < buffer.len() {
+        let n = source.read(&mut buffer[done..])?;
+        if n == 0 {
+            return Ok(done);
+        }
+        done += n;
+    }
+    Ok(done)
+}

@@ -1,0 +1,127 @@
+//! The frame of a trap.
+
+ghost use Rattle.std.specs.Prelude.{◌≡◌, ℕ, ◌+◌, ◌≤◌, IfSome, IfNone, MatchOption, MatchResult};
+ghost use Rattle.sbi_decode.specs.Registers.{RegisterFile, x_of};
+ghost use Rattle.trap_server.specs.declared.trap.Trap.{Trap as TrapOf};
+ghost use Rattle.trap_server.specs.Words.{word_at};
+ghost use Rattle.trap_server.specs.Traps.{HasControl, HasRegisters, IsTrapFrame, ReadsTrap, CountsRead};
+
+use crate::frame_fault::FrameFault;
+use crate::frame::{TAG_CALL, TAG_CONTROL, TAG_STOP, word};
+use crate::frame_bytes::read_whole;
+use byte_streams::Source;
+use crate::ControlWords;
+use sbi_decode::Registers;
+
+/// The bytes of its frame: its tag, the hart, the registers, and the control words after a tag of their own.
+const TRAP_BYTES: usize = 352;
+
+/// What happened to the world that runs on a hart.
+#[derive(Clone, Copy)]
+pub enum Event {
+    /// It made a call.
+    Call,
+    /// It was interrupted, or did what an enclave may not: an enclave stops.
+    Stop,
+}
+
+/// A trap of a hart, with the registers and control words of the world that ran there; the program counter is that of the
+/// instruction that trapped.
+#[derive(Clone, Copy)]
+pub struct Trap {
+    /// What happened.
+    pub event: Event,
+    /// The hart on which it did, below the number of harts.
+    pub hart: u8,
+    /// The registers as they were.
+    pub registers: Registers,
+    /// The control registers as they were.
+    pub control: ControlWords,
+}
+
+/// The registers in a frame: the program counter, then x1 to x31.
+fn registers_in(bytes: &[u8; 352]) -> Registers
+    ensures { HasRegisters bytes.now result }
+{
+    let mut registers = Registers::new();
+    registers.set_pc(word(bytes, 2));
+    for n in 1..32 {
+        registers.set(n, word(bytes, n + 2));
+    }
+    registers
+}
+
+/// The control words in a frame, in their order.
+fn control_in(bytes: &[u8; 352]) -> ControlWords
+    ensures { HasControl bytes.now result }
+{
+    ControlWords {
+        status: word(bytes, 35),
+        satp: word(bytes, 36),
+        mie: word(bytes, 37),
+        scounteren: word(bytes, 38),
+        senvcfg: word(bytes, 39),
+        hstatus: word(bytes, 40),
+        medeleg: word(bytes, 41),
+        mideleg: word(bytes, 42),
+        mode: word(bytes, 43),
+    }
+}
+
+/// What happened, by the tag.
+fn event_in(tag: u64) -> Option<Event>
+    ensures some { IfSome result (λ event. IsTagOf event tag) }
+    ensures none { IfNone result ((event : EventOf) → IsTagOf event tag → ⊥) }
+{
+    match tag {
+        TAG_CALL => Some(Event::Call),
+        TAG_STOP => Some(Event::Stop),
+        _ => None,
+    }
+}
+
+/// The trap that a frame is of, on one of so many harts.
+fn trap_in(bytes: &[u8; 352], harts: u8) -> Option<Trap>
+    ensures trap { IfSome result (λ trap. IsTrapFrame bytes.now harts trap) }
+    ensures none { IfNone result ((trap : TrapOf) → IsTrapFrame bytes.now harts trap → ⊥) }
+{
+    let event = event_in(word(bytes, 0))?;
+    let hart = word(bytes, 1);
+    if hart >= u64::from(harts) {
+        return None;
+    }
+    if word(bytes, 34) != TAG_CONTROL {
+        return None;
+    }
+    Some(Trap {
+        event,
+        hart: hart as u8,
+        registers: registers_in(bytes),
+        control: control_in(bytes),
+    })
+}
+
+/// Reads the next trap, on one of so many harts; none at the end of the input.
+#[inline(never)]
+pub fn read_trap<R: Source>(source: &mut R, harts: u8) -> Result<Option<Trap>, FrameFault>
+    ensures trap { ReadsTrap result harts (R.remaining source.old) (R.remaining source.new) }
+    ensures failures { CountsRead result (R.failures source.old) (R.failures source.new) }
+{
+    let mut frame = [0; TRAP_BYTES];
+    let Ok(n) = read_whole(source, &mut frame) else {
+        return Err(FrameFault::Read);
+    };
+    if n == 0 {
+        return Ok(None);
+    }
+    if n < TRAP_BYTES {
+        return Err(FrameFault::NotUnderstood);
+    }
+    match trap_in(&frame, harts) {
+        Some(trap) => Ok(Some(trap)),
+        None => Err(FrameFault::NotUnderstood),
+    }
+}
+
+ghost use Rattle.trap_server.specs.Traps.{IsTagOf};
+ghost use Rattle.trap_server.specs.declared.trap.Event.{Event as EventOf};
